@@ -1,0 +1,150 @@
+-- The maps of rows have the keys of the rows, and a further row is one further entry.
+use Rattle.std.proofs.Common.{◌≡◌, ℕ, suc, ◌+◌, ◌<◌, Bool, true, false, ◌&&◌, ◌||◌, cond, List, [], ◌∷◌, ◌++◌, map, length, get_or, take, drop, Option, Some, None, is_some, is_none, option_map, refl, sym, ap, ◌∙◌, arith, append-nil}
+use Rattle.std.specs.Option.{option_or}
+use Rattle.std.specs.List.{list_any, filter_map, cons_option}
+use Rattle.std.specs.Str.{bytes_eq}
+use Rattle.std.specs.Ordering.{nat_cmp, eq_by_cmp}
+use Rattle.std.specs.Cmp.{both_tied}
+use Rattle.std.specs.Cmp.Lexicographic.{slice_cmp, texts_ties}
+use Rattle.std.specs.FinMap.{FinMap, find, from_entries, from_entries_push, get-from_entries}
+use Rattle.std.proofs.lemmas.List.{map-append, take_more, length-take}
+use Rattle.std.proofs.lemmas.List.Elements.{filter_map-append}
+use Rattle.std.proofs.Math.Seq.{drop-cons}
+use Rattle.bin_routes.specs.declared.fault.RoutesFault.{RoutesFault}
+use Rattle.bin_routes.specs.declared.fault.RoutesFault.TheVariants.{SameRow}
+use Rattle.bin_routes.specs.Row.{Row, filled_row, same_pcn, same_key}
+use Rattle.bin_routes.specs.Fault.{row_fault, text_fault, is_taken, fault_behind}
+use Rattle.bin_routes.specs.Table.{RouteMaps, bin_cmp, processor_cmp, exact_entry, other_entry, routes_of, has_key, with_row}
+use Rattle.bin_routes.proofs.Maps.{processors_total, exact_processors, bins_total, exact_bins}
+
+bin_tied : (a b : List ℕ) → bytes_eq a b ≡ eq_by_cmp bin_cmp a b
+bin_tied a b = texts_ties a b
+
+processor_tied : (a b : List ℕ × List ℕ) → (bytes_eq a.0 b.0 && bytes_eq a.1 b.1) ≡ eq_by_cmp processor_cmp a b
+processor_tied a b = both_tied _ _ (slice_cmp nat_cmp a.0 b.0) (slice_cmp nat_cmp a.1 b.1) (texts_ties a.0 b.0) (texts_ties a.1 b.1)
+
+found_first : (t s : Bool) (x : ℕ) (o : Option ℕ) (rest : Bool) → s ≡ t → is_some o ≡ rest → is_some (cond t (Some x) o) ≡ (s || rest)
+found_first true s x o rest e f = rw e refl
+found_first false s x o rest e f = rw e f
+
+never : (b : Bool) → (b && false) ≡ false
+never true = refl
+never false = refl
+
+always : (b : Bool) → (b && true) ≡ b
+always true = refl
+always false = refl
+
+-- one row, for a key without a processor control number
+other_step : (bin other : List ℕ) (payer : ℕ) (pcn : Option (List ℕ)) (rest : List (List ℕ × ℕ)) (any : Bool) → is_some (find bin_cmp bin rest) ≡ any
+    → is_some (find bin_cmp bin (cons_option (cond (is_none pcn) (Some (other, payer)) None) rest)) ≡ ((bytes_eq bin other && same_pcn None pcn) || any)
+other_step bin other payer None rest any e =
+    found_first (eq_by_cmp bin_cmp bin other) (bytes_eq bin other && true) payer (find bin_cmp bin rest) any (always (bytes_eq bin other) ∙ bin_tied bin other) e
+other_step bin other payer (Some pcn) rest any e = e ∙ sym (ap (λ (b : Bool). b || any) (never (bytes_eq bin other)))
+
+other_found : (bin : List ℕ) (payer : ℕ) (rows : List Row) → is_some (find bin_cmp bin (filter_map other_entry rows)) ≡ list_any (same_key (record { bin = bin; pcn = None; payer = payer })) rows
+other_found bin payer [] = refl
+other_found bin payer (r ∷ rs) = other_step bin r.bin r.payer r.pcn (filter_map other_entry rs) _ (other_found bin payer rs)
+
+-- one row, for a key with one
+exact_step : (bin other key : List ℕ) (payer : ℕ) (pcn : Option (List ℕ)) (rest : List ((List ℕ × List ℕ) × ℕ)) (any : Bool) → is_some (find processor_cmp (bin, key) rest) ≡ any
+    → is_some (find processor_cmp (bin, key) (cons_option (option_map (λ p. ((other, p), payer)) pcn) rest)) ≡ ((bytes_eq bin other && same_pcn (Some key) pcn) || any)
+exact_step bin other key payer None rest any e = e ∙ sym (ap (λ (b : Bool). b || any) (never (bytes_eq bin other)))
+exact_step bin other key payer (Some pcn) rest any e =
+    found_first (eq_by_cmp processor_cmp (bin, key) (other, pcn)) (bytes_eq bin other && bytes_eq key pcn) payer (find processor_cmp (bin, key) rest) any (processor_tied (bin, key) (other, pcn)) e
+
+exact_found : (bin key : List ℕ) (payer : ℕ) (rows : List Row) → is_some (find processor_cmp (bin, key) (filter_map exact_entry rows)) ≡ list_any (same_key (record { bin = bin; pcn = Some key; payer = payer })) rows
+exact_found bin key payer [] = refl
+exact_found bin key payer (r ∷ rs) = exact_step bin r.bin key r.payer r.pcn (filter_map exact_entry rs) _ (exact_found bin key payer rs)
+
+key_is : (bin : List ℕ) (pcn : Option (List ℕ)) (payer : ℕ) (earlier : List Row) → list_any (same_key (record { bin = bin; pcn = pcn; payer = payer })) (map filled_row earlier) ≡ has_key (routes_of earlier) (record { bin = bin; pcn = pcn; payer = payer })
+unfolding routes_of
+key_is bin None payer earlier =
+    sym (ap is_some (get-from_entries bins_total (filter_map other_entry (map filled_row earlier)) bin) ∙ other_found bin payer (map filled_row earlier))
+key_is bin (Some pcn) payer earlier =
+    sym (ap is_some (get-from_entries processors_total (filter_map exact_entry (map filled_row earlier)) (bin, pcn)) ∙ exact_found bin pcn payer (map filled_row earlier))
+
+-- the maps of the earlier rows have the key of a row where an earlier row has it
+pub taken_is : (earlier : List Row) (row : Row) → is_taken earlier row ≡ has_key (routes_of earlier) (filled_row row)
+taken_is earlier row = key_is (filled_row row).bin (filled_row row).pcn (filled_row row).payer earlier
+
+none_of : (o : Option ℕ) → is_some o ≡ false → o ≡ None
+none_of None e = refl
+none_of (Some x) e = absurd cc
+
+abbrev maps : FinMap processor_cmp ℕ → FinMap bin_cmp ℕ → RouteMaps
+maps exact others = record { exact = exact; others = others }
+
+rows_more : (earlier : List Row) (row : Row) → map filled_row (earlier ++ row ∷ []) ≡ map filled_row earlier ++ filled_row row ∷ []
+rows_more earlier row = map-append filled_row earlier (row ∷ [])
+
+-- the maps of filled rows
+abbrev maps_of : List Row → RouteMaps
+maps_of rows = maps (from_entries (filter_map exact_entry rows)) (from_entries (filter_map other_entry rows))
+
+pushed : (bin : List ℕ) (pcn : Option (List ℕ)) (payer : ℕ) (rows : List Row) → has_key (maps_of rows) (record { bin = bin; pcn = pcn; payer = payer }) ≡ false
+    → with_row (maps_of rows) (record { bin = bin; pcn = pcn; payer = payer }) ≡ maps_of (rows ++ record { bin = bin; pcn = pcn; payer = payer } ∷ [])
+pushed bin None payer rows free =
+    let row : Row = record { bin = bin; pcn = None; payer = payer } in
+    let es = filter_map other_entry rows in
+    let absent : find bin_cmp bin (filter_map other_entry rows) ≡ None = none_of _ (ap is_some (sym (get-from_entries bins_total (filter_map other_entry rows) bin)) ∙ free) in
+    rw (filter_map-append exact_entry rows (row ∷ []), filter_map-append other_entry rows (row ∷ []), append-nil (filter_map exact_entry rows))
+    (ap (maps (from_entries (filter_map exact_entry rows))) (sym (from_entries_push bins_total exact_bins (filter_map other_entry rows) bin payer absent)))
+pushed bin (Some pcn) payer rows free =
+    let row : Row = record { bin = bin; pcn = Some pcn; payer = payer } in
+    let absent : find processor_cmp (bin, pcn) (filter_map exact_entry rows) ≡ None = none_of _ (ap is_some (sym (get-from_entries processors_total (filter_map exact_entry rows) (bin, pcn))) ∙ free) in
+    rw (filter_map-append exact_entry rows (row ∷ []), filter_map-append other_entry rows (row ∷ []), append-nil (filter_map other_entry rows))
+    (ap (λ (m : FinMap processor_cmp ℕ). maps m (from_entries (filter_map other_entry rows))) (sym (from_entries_push processors_total exact_processors (filter_map exact_entry rows) (bin, pcn) payer absent)))
+
+-- a row whose key is free is one further entry
+pub row_added : (earlier : List Row) (row : Row) → has_key (routes_of earlier) (filled_row row) ≡ false → with_row (routes_of earlier) (filled_row row) ≡ routes_of (earlier ++ row ∷ [])
+unfolding routes_of
+row_added earlier row free =
+    pushed (filled_row row).bin (filled_row row).pcn (filled_row row).payer (map filled_row earlier) free ∙ ap maps_of (sym (rows_more earlier row))
+
+abbrev fault_if : Bool → ℕ → Option RoutesFault
+fault_if same place = cond same (Some (SameRow place)) None
+
+free_if : (o : Option RoutesFault) (same : Bool) (place : ℕ) → option_or o (fault_if same place) ≡ None → same ≡ false
+free_if None false place e = refl
+free_if None true place e = absurd cc
+free_if (Some f) same place e = absurd cc
+
+-- a row without a fault has a free key
+pub free : (payers place : ℕ) (row : Row) (same : Bool) → row_fault payers place row same ≡ None → same ≡ false
+free payers place row same e = free_if (text_fault payers place row) same place e
+
+-- the first fault behind the rows before a place is that of the row there, else that behind it
+pub fault_step : (payers : ℕ) (rows : List Row) (i : ℕ) (d : Row) → i < length rows
+    → fault_behind payers (take i rows) (drop i rows) ≡ option_or (row_fault payers i (get_or rows i d) (has_key (routes_of (take i rows)) (filled_row (get_or rows i d)))) (fault_behind payers (take (i + 1) rows) (drop (i + 1) rows))
+fault_step payers rows i d h =
+    let long : length (take i rows) ≡ i = omega (arith, length-take i rows) in
+    let next : i + 1 ≡ suc i = omega arith in
+    rw (← taken_is (take i rows) (get_or rows i d), take_more rows i d h, next, drop-cons rows i d h, long) refl
+
+-- what a loop over rows keeps, where the row at place i is added
+pub record Goes (payers : ℕ) (rows : List Row) (i : ℕ) (new : RouteMaps) : Type 0 where
+  pub so_far : new ≡ routes_of (take (i + 1) rows)
+  pub rest : fault_behind payers (take i rows) (drop i rows) ≡ fault_behind payers (take (i + 1) rows) (drop (i + 1) rows)
+
+-- the fault of the row at place i, as the loop asks for it
+asked : (payers : ℕ) (rows : List Row) (i : ℕ) (row : Row) (old : RouteMaps) → i < length rows → row ≡ get_or rows i row → old ≡ routes_of (take i rows)
+    → fault_behind payers (take i rows) (drop i rows) ≡ option_or (row_fault payers i row (has_key old (filled_row row))) (fault_behind payers (take (i + 1) rows) (drop (i + 1) rows))
+asked payers rows i row old h is so =
+    fault_step payers rows i row h
+    ∙ ap (λ (r : Row). option_or (row_fault payers i r (has_key (routes_of (take i rows)) (filled_row r))) (fault_behind payers (take (i + 1) rows) (drop (i + 1) rows))) (sym is)
+    ∙ ap (λ (m : RouteMaps). option_or (row_fault payers i row (has_key m (filled_row row))) (fault_behind payers (take (i + 1) rows) (drop (i + 1) rows))) (sym so)
+
+pub goes : (payers : ℕ) (rows : List Row) (i : ℕ) (row : Row) (old new : RouteMaps) → i < length rows → row ≡ get_or rows i row → old ≡ routes_of (take i rows)
+    → new ≡ with_row old (filled_row row) → row_fault payers i row (has_key old (filled_row row)) ≡ None → Goes payers rows i new
+goes payers rows i row old new h is so made none =
+    let key : has_key (routes_of (take i rows)) (filled_row row) ≡ false = ap (λ (m : RouteMaps). has_key m (filled_row row)) (sym so) ∙ free payers i row (has_key old (filled_row row)) none in
+    record {
+      so_far = made ∙ (ap (λ (m : RouteMaps). with_row m (filled_row row)) so ∙ (row_added (take i rows) row key ∙ ap routes_of (ap (λ (r : Row). take i rows ++ r ∷ []) is ∙ sym (take_more rows i row h))));
+      rest = asked payers rows i row old h is so ∙ ap (λ (o : Option RoutesFault). option_or o (fault_behind payers (take (i + 1) rows) (drop (i + 1) rows))) none;
+    }
+
+pub stops : (payers : ℕ) (rows : List Row) (i : ℕ) (row : Row) (old : RouteMaps) (fault : RoutesFault) → i < length rows → row ≡ get_or rows i row → old ≡ routes_of (take i rows)
+    → row_fault payers i row (has_key old (filled_row row)) ≡ Some fault → fault_behind payers (take i rows) (drop i rows) ≡ Some fault
+stops payers rows i row old fault h is so e =
+    asked payers rows i row old h is so ∙ ap (λ (o : Option RoutesFault). option_or o (fault_behind payers (take (i + 1) rows) (drop (i + 1) rows))) e

@@ -1,0 +1,4 @@
+pub mod Payer
+pub mod Row
+pub mod Fault
+pub mod Table

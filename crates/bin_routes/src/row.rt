@@ -1,0 +1,78 @@
+//! The rows that a table is made of.
+
+ghost use Rattle.std.specs.Prelude.{◌≡◌, IfOk};
+ghost use Rattle.std.specs.Option.{option_map};
+ghost use Rattle.bin_routes.specs.Row.{Row};
+
+use octets::Octets;
+use std::alloc::AllocError;
+use std::marker::Model;
+
+/// A row as a settings document spells it. Nothing of it is tested yet.
+#[derive(Debug, Drop, PartialEq, Eq)]
+pub struct RouteRow {
+    bin: Octets,
+    pcn: Option<Octets>,
+    payer: u16,
+}
+
+impl Model for RouteRow {
+    ghost use Rattle.bin_routes.specs.Row.{Row};
+
+    ghost Value = { Row };
+
+    ghost view = { λ a. record { bin = a.bin; pcn = a.pcn; payer = a.payer } };
+
+    ghost inverse = { λ a. record { bin = a.bin; pcn = a.pcn; payer = a.payer } };
+}
+
+impl RouteRow {
+    /// The row of these texts: the BIN number (101-A1), the processor control number (104-A4) without its
+    /// padding, and the payer's number. Without a processor control number the row is for every one that no other
+    /// row of the BIN names; an empty one is a field of ten spaces.
+    pub fn new(bin: Octets, pcn: Option<Octets>, payer: u16) -> RouteRow
+        ensures { result ≡ record { bin = bin; pcn = pcn; payer = payer } }
+    {
+        RouteRow { bin, pcn, payer }
+    }
+
+    /// The text of the BIN number (101-A1).
+    pub fn bin(&self) -> &[u8]
+        ensures { result.now ≡ self.now.bin }
+    {
+        self.bin.as_slice()
+    }
+
+    /// The text of the processor control number (104-A4).
+    pub fn pcn(&self) -> Option<&[u8]>
+        ensures { option_map (λ pcn. pcn.now) result ≡ self.now.pcn }
+    {
+        match &self.pcn {
+            Some(pcn) => Some(pcn.as_slice()),
+            None => None,
+        }
+    }
+
+    /// The payer's number.
+    pub fn payer(&self) -> u16
+        ensures { result ≡ self.now.payer }
+    {
+        self.payer
+    }
+
+    /// A copy in memory of its own, from the allocator of the original.
+    pub fn copy(&self) -> Result<RouteRow, AllocError>
+        ensures { IfOk result (λ copy. copy ≡ self.now) }
+    {
+        let bin = self.bin.copy()?;
+        let pcn = match &self.pcn {
+            Some(pcn) => Some(pcn.copy()?),
+            None => None,
+        };
+        Ok(RouteRow {
+            bin,
+            pcn,
+            payer: self.payer,
+        })
+    }
+}

@@ -1,0 +1,111 @@
+//! The table of routes.
+
+ghost use Rattle.std.specs.Prelude.{◌≡◌, ◌⊎◌, [], None, Some, IfOk, IfErr, OnOk};
+ghost use Rattle.bin_routes.specs.declared.fault.RoutesFault.TheVariants.{OutOfMemory};
+ghost use Rattle.bin_routes.specs.Row.{filled_row};
+ghost use Rattle.bin_routes.specs.Fault.{first_fault, row_fault};
+ghost use Rattle.bin_routes.specs.Table.{RouteMaps, routes_of, payer_at, has_key, with_row};
+
+use crate::fault::RoutesFault;
+use crate::payer::PayerNo;
+use crate::route::{Bin, Pcn, Route};
+use crate::row::RouteRow;
+use std::alloc::Global;
+use std::collections::BTreeMap;
+use std::marker::Model;
+
+/// The routes of the rows that it was made from.
+#[derive(Debug, Drop)]
+pub struct Routes {
+    exact: BTreeMap<(Bin, Pcn), PayerNo>,
+    others: BTreeMap<Bin, PayerNo>,
+}
+
+impl Model for Routes {
+    ghost use Rattle.std.specs.FinMap.{from_entries};
+    ghost use Rattle.bin_routes.specs.Table.{RouteMaps, coded_maps};
+
+    ghost Value = { RouteMaps };
+
+    ghost coded = { coded_maps };
+
+    ghost view = { λ a. record { exact = from_entries a.exact.entries; others = from_entries a.others.entries } };
+}
+
+impl Routes {
+    /// The table of these rows, for payers numbered from 1 to `payers`. The first bad row decides, and in it the
+    /// first of [`RoutesFault::BadBin`], [`RoutesFault::BadPcn`], [`RoutesFault::NoSuchPayer`] and
+    /// [`RoutesFault::SameRow`]. Each row costs the logarithm of their number.
+    pub fn new(alloc: Global, rows: &[RouteRow], payers: u16) -> Result<Routes, RoutesFault>
+        ensures made { IfOk result (λ routes. (routes ≡ routes_of rows.now) × (first_fault payers rows.now ≡ None)) }
+        ensures fault { IfErr result (λ fault. (fault ≡ OutOfMemory) ⊎ (first_fault payers rows.now ≡ Some fault)) }
+    {
+        let mut routes = Routes::empty(alloc);
+        for (place, row) in rows.iter().enumerate() {
+            routes.add(place, row, payers)?;
+        }
+        Ok(routes)
+    }
+
+    /// The payer of a header's BIN number and processor control number: that of the row of both, else that of the
+    /// BIN's row without a processor control number.
+    #[tactic(auto, unfolding(crate::specs::Table::payer_at))]
+    pub fn route(&self, bin: &[u8; 6], pcn: &[u8; 10]) -> Option<PayerNo>
+        ensures { result ≡ payer_at self.now bin.now pcn.now }
+    {
+        match self.exact.get(&(*bin, *pcn)) {
+            Some(payer) => Some(*payer),
+            None => self.others.get(bin).copied(),
+        }
+    }
+
+    /// The table of no rows.
+    fn empty(alloc: Global) -> Routes
+        ensures { result ≡ routes_of [] }
+    {
+        Routes {
+            exact: BTreeMap::new(alloc),
+            others: BTreeMap::new(alloc),
+        }
+    }
+
+    /// Adds the row at a place.
+    fn add(&mut self, place: usize, row: &RouteRow, payers: u16) -> Result<(), RoutesFault>
+        ensures ok { OnOk result ((self.new ≡ with_row self.old (filled_row row.now)) × (row_fault payers place row.now (has_key self.old (filled_row row.now)) ≡ None)) }
+        ensures fault { IfErr result (λ fault. (fault ≡ OutOfMemory) ⊎ (row_fault payers place row.now (has_key self.old (filled_row row.now)) ≡ Some fault)) }
+    {
+        let route = Route::of_row(place, row, payers)?;
+        if self.has(&route) {
+            return Err(RoutesFault::SameRow(place));
+        }
+        self.put(route)
+    }
+
+    /// Whether there is a route for the same BIN number and processor control number.
+    fn has(&self, route: &Route) -> bool
+        ensures { result ≡ has_key self.now route.now }
+    {
+        match route.pcn {
+            Some(pcn) => self.exact.contains_key(&(route.bin, pcn)),
+            None => self.others.contains_key(&route.bin),
+        }
+    }
+
+    /// Adds a route.
+    fn put(&mut self, route: Route) -> Result<(), RoutesFault>
+        ensures ok { OnOk result (self.new ≡ with_row self.old route) }
+        ensures fault { IfErr result (λ fault. fault ≡ OutOfMemory) }
+    {
+        let bin = route.bin;
+        match route.pcn {
+            Some(pcn) => {
+                self.exact.insert((bin, pcn), route.payer)?;
+                Ok(())
+            }
+            None => {
+                self.others.insert(bin, route.payer)?;
+                Ok(())
+            }
+        }
+    }
+}

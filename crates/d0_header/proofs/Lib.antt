@@ -1,0 +1,6 @@
+mod Cutting
+mod Bytes
+mod Passing
+mod Calendar
+mod RequestLemmas
+mod ResponseLemmas

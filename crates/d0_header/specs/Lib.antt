@@ -1,0 +1,4 @@
+pub mod Field
+pub mod Request
+pub mod Response
+pub mod Date

@@ -1,0 +1,3 @@
+pub mod Txn
+pub mod Envelope
+pub mod Opening

@@ -1,0 +1,5 @@
+pub mod Decimals
+pub mod Lines
+pub mod Printing
+pub mod Unprinting
+pub mod Words

@@ -1,0 +1,50 @@
+-- Texts of digits: their value place by place, its bound, and where the first other byte stands.
+use Rattle.std.proofs.Common.{◌≡◌, ℕ, suc, ◌+◌, ◌-◌, ◌*◌, ◌^◌, ◌<◌, ◌≤◌, Bool, false, not, List, [], ◌∷◌, length, take, get_or, None, arith}
+use Rattle.std.proofs.Math.Nat.{pow-le-pow_right}
+use Rattle.std.proofs.lemmas.List.{take_more, map-append, length-map, get_or-take, length-take-le}
+use Rattle.std.specs.List.{AllByRecursion, position, position_or_len}
+use Rattle.std.proofs.lemmas.List.Sums.{fails_before_first}
+use Rattle.std.proofs.lemmas.Bool.Decides.{nat_tests}
+use Rattle.std.specs.Char.{IsAsciiDigit, is_ascii_digit}
+use Rattle.overpunch.specs.Number.{digits_in, number_value, first_other}
+use Rattle.overpunch.proofs.Places.{places_value_push, places_value-lt}
+
+-- each byte is a digit
+abbrev pub AreDigits : List ℕ → Type 0
+AreDigits text = (k : ℕ) → k < length text → IsAsciiDigit (get_or text k 0)
+
+-- one more byte of the text
+pub number_value_more : (text : List ℕ) (i : ℕ) → i < length text → number_value (take (i + 1) text) ≡ number_value (take i text) * 10 + (get_or text i 0 - 48)
+number_value_more text i h =
+    rw (take_more text i 0 h, map-append (λ byte. byte - 48) (take i text) (get_or text i 0 ∷ []))
+    (places_value_push (digits_in (take i text)) (get_or text i 0 - 48))
+
+pub digits_below : (text : List ℕ) → AreDigits text → AllByRecursion (λ d. d < 10) (digits_in text)
+digits_below [] h = tt
+digits_below (x ∷ xs) h =
+    let here : IsAsciiDigit x = h 0 (omega arith) in
+    (omega arith, digits_below xs (λ k q. h (suc k) (omega arith)))
+
+-- so many digits spell less than ten to that power
+pub number_value-lt : (text : List ℕ) → AreDigits text → number_value text < 10 ^ length text
+number_value-lt text h = rw (← length-map text (λ byte. byte - 48)) (places_value-lt (digits_in text) (digits_below text h))
+
+pub number_value_take-lt : (text : List ℕ) (i k : ℕ) → AreDigits text → i ≤ length text → i ≤ k → number_value (take i text) < 10 ^ k
+number_value_take-lt text i k h within below =
+    let long : length (take i text) ≡ i = length-take-le i text within in
+    let digits : AreDigits (take i text) = λ j q. (let lt : j < i = omega arith in rw (get_or-take i text j 0 lt) (h j (omega arith))) in
+    let power : 10 ^ i ≤ 10 ^ k = pow-le-pow_right (omega arith) below in
+    let bound : number_value (take i text) < 10 ^ i = rw long at (number_value-lt (take i text) digits) in
+    omega arith
+
+-- where no byte is another, each is a digit
+pub digits_from_none : (text : List ℕ) → first_other text ≡ None → AreDigits text
+digits_from_none text none = λ k h.
+    let past : length text ≤ position_or_len (λ byte. not (is_ascii_digit byte)) text = past_from_none (λ byte. not (is_ascii_digit byte)) text none in
+    digit_from_test (get_or text k 0) (fails_before_first (λ byte. not (is_ascii_digit byte)) text k 0 (omega arith))
+  where
+    past_from_none : (p : ℕ → Bool) (xs : List ℕ) → position p xs ≡ None → length xs ≤ position_or_len p xs
+    past_from_none p xs e = grind (arith, nat_tests)
+
+    digit_from_test : (byte : ℕ) → not (is_ascii_digit byte) ≡ false → IsAsciiDigit byte
+    digit_from_test byte e = grind (arith, nat_tests)
