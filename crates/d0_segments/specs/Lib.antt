@@ -1,0 +1,12 @@
+pub mod Separators
+pub mod Parts
+pub mod Texts
+pub mod Faults
+pub mod Pieces
+pub mod Framing
+pub mod Views
+pub mod Address
+pub mod Lending
+pub mod Taking
+pub mod Transmissions
+pub mod Least

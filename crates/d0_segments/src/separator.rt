@@ -1,0 +1,54 @@
+//! The three separators, and the search for the next one.
+
+ghost use Rattle.std.specs.Prelude.{◌≡◌, ◌<◌, ◌+◌, ◌++◌, true, IfSome, length};
+ghost use Rattle.d0_segments.specs.Separators.{is_separator, ends_here, is_plain, first_separator};
+
+use memchr::memchr3;
+
+/// Stands in front of every field (hexadecimal 1C).
+pub const FIELD_SEPARATOR: u8 = 0x1c;
+
+/// Stands in front of every group, the segments of one transaction (hexadecimal 1D).
+pub const GROUP_SEPARATOR: u8 = 0x1d;
+
+/// Stands in front of every segment (hexadecimal 1E).
+pub const SEGMENT_SEPARATOR: u8 = 0x1e;
+
+/// Whether a byte is one of the three separators.
+pub fn is_separator(byte: u8) -> bool
+    ensures { result ≡ is_separator byte }
+{
+    matches!(byte, FIELD_SEPARATOR | GROUP_SEPARATOR | SEGMENT_SEPARATOR)
+}
+
+/// Whether nothing stands in front of the next separator or the end.
+pub fn is_at_end(bytes: &[u8]) -> bool
+    ensures { result ≡ ends_here bytes.now }
+{
+    match bytes {
+        [] => true,
+        [next, ..] => is_separator(*next),
+    }
+}
+
+/// The place of the first separator.
+pub fn separator_in(bytes: &[u8]) -> Option<usize>
+    ensures place { result ≡ first_separator bytes.now }
+    ensures within { IfSome result (λ place. place < length bytes.now) }
+{
+    memchr3(FIELD_SEPARATOR, GROUP_SEPARATOR, SEGMENT_SEPARATOR, bytes)
+}
+
+/// The bytes in front of the next separator or the end, and those from there on.
+pub fn split(bytes: &[u8]) -> (&[u8], &[u8])
+    ensures plain { is_plain result.0.now ≡ true }
+    ensures ends { ends_here result.1.now ≡ true }
+    ensures parts { bytes.now ≡ result.0.now ++ result.1.now }
+    ensures front { result.0.ref_ptr ≡ bytes.entry.ref_ptr }
+    ensures back { result.1.ref_ptr ≡ (bytes.entry.ref_ptr.0, bytes.entry.ref_ptr.1 + length result.0.now) }
+{
+    match separator_in(bytes) {
+        Some(place) => (&bytes[..place], &bytes[place..]),
+        None => (bytes, &bytes[bytes.len()..]),
+    }
+}
