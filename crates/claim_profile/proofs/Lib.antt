@@ -1,0 +1,11 @@
+pub mod Room
+pub mod Trimming
+pub mod Counting
+pub mod OrderCounting
+pub mod OrderLemmas
+pub mod AuthorizationLemmas
+pub mod AnswerTexts
+pub mod AnswerCounting
+pub mod CodeCounting
+pub mod RulingLemmas
+pub mod RulingList

@@ -1,0 +1,21 @@
+use Rattle.std.proofs.Common.{◌≡◌, ◌-◌, ◌++◌, drop, ap, sym, ◌∙◌, ◌+◌, ◌%◌, arith}
+use Rattle.std.proofs.lemmas.List.{length-set}
+use Rattle.claim_profile.specs.Authorization.{padded_number}
+use Rattle.claim_profile.proofs.AuthorizationLemmas.{digit_written}
+use Rattle.claim_profile.proofs.authorization.put_digits.Goals as goal
+
+pub loop-place-preserved : goal.loop-place-preserved
+loop-place-preserved c =
+    let digits = c.loop-place.digits in
+    let place = c.loop-place.place in
+    let within = c.loop-place.invariant.within in
+    record {
+      within = omega (arith, length-set digits (place - 1) (48 + c.loop-place.rest % 10));
+      written = digit_written place c.loop-place.rest digits _ (omega arith) (omega arith) c.loop-place.invariant.written;
+    }
+
+pub returns : goal.returns
+unfolding padded_number
+returns c =
+    let none : c.loop-place.place ≡ 0 = omega arith in
+    ap (λ n. padded_number n c.loop-place.rest ++ drop n c.loop-place.digits) (sym none) ∙ c.loop-place.invariant.written

@@ -1,0 +1,12 @@
+use Rattle.std.proofs.Common.{◌≡◌, ◌≤◌, ◌++◌, length, drop}
+use Rattle.claim_profile.specs.Authorization.{padded_number}
+use Rattle.claim_profile.proofs.authorization.put_digits.Given as goal
+
+abbrev pub invariant-loop-place : goal.invariant-loop-place
+invariant-loop-place l = record {
+  within : l.place ≤ length l.digits;
+  written : padded_number l.place l.rest ++ drop l.place l.digits ≡ padded_number (length l.fn.digits) l.fn.number;
+}
+
+abbrev pub decreases-loop-place : goal.decreases-loop-place
+decreases-loop-place l = l.place

@@ -1,0 +1,14 @@
+pub mod Fields
+pub mod Tally
+pub mod OrderTally
+pub mod Text
+pub mod Authorization
+pub mod Money
+pub mod Reject
+pub mod Comparing
+pub mod Order
+pub mod OrderSeen
+pub mod Answer
+pub mod AnswerTally
+pub mod Ruling
+pub mod RulingSeen

@@ -1,0 +1,315 @@
+//! Reading answers.
+
+ghost use Rattle.std.specs.Prelude.{◌≡◌, [], Some, Ok, IfOk, IfErr, codes};
+ghost use Rattle.d0_segments.specs.Views.{segments_parts, groups_parts};
+ghost use Rattle.claim_profile.specs.Fields.{values_in};
+ghost use Rattle.claim_profile.specs.Tally.{seen};
+ghost use Rattle.claim_profile.specs.Order.{number_up_to};
+ghost use Rattle.claim_profile.specs.OrderSeen.{required_seen};
+ghost use Rattle.claim_profile.specs.AnswerTally.{answer_seen};
+ghost use Rattle.claim_profile.specs.Ruling.{ruling_in, rulings_in, answer_of, FailsAs, fault_of_framing, status_of, stands_beside, stands_under};
+ghost use Rattle.claim_profile.specs.RulingSeen.{ruled_seen, status_seen, payment_seen, authorization_seen, claim_number_seen, money_seen, all_money_seen, rejection_with, or_rejection, some_codes, codes_counted};
+ghost use Rattle.claim_profile.specs.declared.answer_reading.AnswerFault.TheVariants.{OutOfMemory};
+
+use crate::answer_values::{AnswerValues, FoundCodes};
+use crate::authorization::Auth;
+use crate::found::Found;
+use crate::paid::Amounts;
+use crate::ruling::Ruling;
+use crate::values::{cents, is_exactly, number};
+use d0_header::ResponseHeader;
+use d0_segments::{FramingFault, Segment, read_response};
+use std::alloc::{AllocError, AllocFailed, Global};
+use std::marker::Model;
+use thiserror::Error;
+
+/// Why bytes are no answer: framing first, then the first group with a fault decides. Within a group
+/// the order is NoStatus, BadStatus, BadAuthorization, BadClaim, BadAmount, BadRejects.
+#[derive(Clone, Copy, Debug, PartialEq, Eq, Error)]
+pub enum AnswerFault {
+    /// There was no memory for the lists of groups, segments, fields and rulings.
+    #[error("out of memory")]
+    OutOfMemory,
+    /// The bytes are no response transmission.
+    #[error("the bytes are no response")]
+    Framing,
+    /// A group has no transaction response status (112-AN), or several.
+    #[error("a transaction has not exactly one response status")]
+    NoStatus,
+    /// The status is none of `P`, `D`, `A` and `R`; or the version is not `D0`; or the header
+    /// response status (501-F1) is neither `A` nor `R`, or is `R` beside a status other than `R`.
+    #[error("a response status is unknown or contradicts the header")]
+    BadStatus,
+    /// One of the four amounts is missing, doubled, no amount or negative, or they don't go together.
+    #[error("the amounts of a transaction are missing or don't go together")]
+    BadAmount,
+    /// The authorization number (503-F3) is missing, doubled or not sixteen digits of a payer and
+    /// a serial above zero.
+    #[error("an authorization number is missing or invalid")]
+    BadAuthorization,
+    /// The reject codes are missing, more than five, unknown or not as many as the reject count says.
+    #[error("the reject codes of a transaction are missing or invalid")]
+    BadRejects,
+    /// The prescription number or its qualifier is missing or invalid.
+    #[error("the prescription number of a transaction is missing or invalid")]
+    BadClaim,
+}
+
+impl From<AllocError> for AnswerFault {
+    ghost from_gives = { λ _ e. e ≡ OutOfMemory };
+
+    fn from(_error: AllocError) -> AnswerFault {
+        AnswerFault::OutOfMemory
+    }
+}
+
+impl<T: Drop> From<AllocFailed<T>> for AnswerFault {
+    ghost from_gives = { λ _ e. e ≡ OutOfMemory };
+
+    fn from(_error: AllocFailed<T>) -> AnswerFault {
+        AnswerFault::OutOfMemory
+    }
+}
+
+/// An answer: its header, and one ruling for each transaction, in order.
+#[derive(Debug, Drop)]
+pub struct Answer {
+    header: ResponseHeader,
+    rulings: Vec<Ruling>,
+}
+
+impl Model for Answer {
+    ghost use Rattle.claim_profile.specs.Ruling.{AnswerParts};
+
+    ghost Value = { AnswerParts };
+
+    ghost view = { λ a. record { header = a.header; rulings = a.rulings.items } };
+}
+
+impl Answer {
+    /// The header of the response.
+    pub fn header(&self) -> &ResponseHeader
+        ensures { result.now ≡ self.now.header }
+    {
+        &self.header
+    }
+
+    /// The rulings, one for each transaction.
+    pub fn rulings(&self) -> &[Ruling]
+        ensures { result.now ≡ self.now.rulings }
+    {
+        &self.rulings
+    }
+
+    /// The rulings, one for each transaction.
+    pub fn into_rulings(self) -> Vec<Ruling>
+        ensures { result.items ≡ self.rulings }
+    {
+        let Answer { header: _, rulings } = self;
+        rulings
+    }
+}
+
+/// Reads an answer. Fields and segments come in any order, unknown ones and fields that a ruling
+/// does not have are ignored, and empty values don't count.
+pub fn read_answer(alloc: Global, bytes: &[u8]) -> Result<Answer, AnswerFault>
+    ensures read { IfOk result (λ answer. answer_of bytes.now ≡ Ok answer) }
+    // The first fault, unless memory ran out.
+    ensures fault { IfErr result (λ fault. FailsAs fault (answer_of bytes.now)) }
+{
+    let response = match read_response(alloc, bytes) {
+        Ok(response) => response,
+        Err(fault) => return Err(fault_of_framing(fault)),
+    };
+    let header = *response.header();
+    let rulings = rulings_of(alloc, &header, response.groups())?;
+    Ok(Answer { header, rulings })
+}
+
+// The fault of an answer whose framing has this fault.
+fn fault_of_framing(fault: FramingFault) -> AnswerFault
+    ensures { result ≡ fault_of_framing fault }
+{
+    match fault {
+        FramingFault::OutOfMemory => AnswerFault::OutOfMemory,
+        _ => AnswerFault::Framing,
+    }
+}
+
+// The rulings of the groups, in order.
+fn rulings_of(
+    alloc: Global,
+    header: &ResponseHeader,
+    groups: &[Vec<Segment<'_>>],
+) -> Result<Vec<Ruling>, AnswerFault>
+    ensures read { IfOk result (λ rulings. rulings_in header.now (groups_parts groups.now) ≡ Ok rulings.items) }
+    ensures fault { IfErr result (λ fault. FailsAs fault (rulings_in header.now (groups_parts groups.now))) }
+{
+    let mut rulings = Vec::new(alloc);
+    for group in groups {
+        let ruling = ruling(header, group)?;
+        rulings.push(ruling)?;
+    }
+    Ok(rulings)
+}
+
+// The status of a transaction (112-AN).
+#[derive(Clone, Copy, Debug, PartialEq, Eq)]
+enum Status {
+    Paid,
+    Duplicate,
+    Reversed,
+    Rejected,
+}
+
+/// The ruling that the segments of one transaction spell. Takes no memory.
+pub fn ruling(header: &ResponseHeader, group: &[Segment<'_>]) -> Result<Ruling, AnswerFault>
+    ensures { result ≡ ruling_in header.now (segments_parts group.now) }
+{
+    ruling_of(header, &AnswerValues::of(group), group)
+}
+
+// The ruling that these values of a group spell.
+fn ruling_of(
+    header: &ResponseHeader,
+    values: &AnswerValues<'_>,
+    group: &[Segment<'_>],
+) -> Result<Ruling, AnswerFault>
+    ensures { result ≡ or_rejection (ruled_seen header.now (answer_seen values.now))
+        (rejection_with (some_codes (codes_counted (Some []) (values_in (codes "21") (codes "FB") (segments_parts group.now)))) (required_seen (number_up_to 2) (seen values.now.reject_count))) }
+{
+    match ruled(header, values)? {
+        Some(ruling) => Ok(ruling),
+        None => rejected(values.reject_count, group),
+    }
+}
+
+// The ruling that these values spell, None where the transaction is rejected.
+fn ruled(header: &ResponseHeader, values: &AnswerValues<'_>) -> Result<Option<Ruling>, AnswerFault>
+    ensures { result ≡ ruled_seen header.now (answer_seen values.now) }
+{
+    match status_beside(header, values.status)? {
+        Status::Paid => {
+            let (auth, prescription, amounts) = payment(values)?;
+            Ok(Some(Ruling::Paid {
+                auth,
+                prescription,
+                amounts,
+            }))
+        }
+        Status::Duplicate => {
+            let (auth, prescription, amounts) = payment(values)?;
+            Ok(Some(Ruling::Duplicate {
+                auth,
+                prescription,
+                amounts,
+            }))
+        }
+        Status::Reversed => {
+            let auth = authorization(values.authorization)?;
+            let prescription = prescription(values)?;
+            Ok(Some(Ruling::Reversed { auth, prescription }))
+        }
+        Status::Rejected => Ok(None),
+    }
+}
+
+// The status of the transaction, where it may stand beside the header.
+fn status_beside(header: &ResponseHeader, found: Found<'_>) -> Result<Status, AnswerFault>
+    ensures { result ≡ status_seen header.now (seen found.entry) }
+{
+    let Some(text) = found.one() else {
+        return Err(AnswerFault::NoStatus);
+    };
+    match status_of(text) {
+        Some(status) if stands_beside(header, status) => Ok(status),
+        _ => Err(AnswerFault::BadStatus),
+    }
+}
+
+fn status_of(text: &[u8]) -> Option<Status>
+    ensures { result ≡ status_of text.now }
+{
+    match text {
+        b"P" => Some(Status::Paid),
+        b"D" => Some(Status::Duplicate),
+        b"A" => Some(Status::Reversed),
+        b"R" => Some(Status::Rejected),
+        _ => None,
+    }
+}
+
+// Whether the header has version `D0` and a status beside which this one may stand.
+fn stands_beside(header: &ResponseHeader, status: Status) -> bool
+    ensures { result ≡ stands_beside header.now status }
+{
+    header.version() == *b"D0" && stands_under(header.status(), status)
+}
+
+// Whether a status may stand under this header response status (501-F1).
+fn stands_under(header: u8, status: Status) -> bool
+    ensures { result ≡ stands_under header status }
+{
+    match header {
+        b'A' => true,
+        b'R' => matches!(status, Status::Rejected),
+        _ => false,
+    }
+}
+
+// What a paid claim has: authorization number, prescription number and amounts.
+fn payment(values: &AnswerValues<'_>) -> Result<(Auth, u64, Amounts), AnswerFault>
+    ensures { result ≡ payment_seen (answer_seen values.now) }
+{
+    let auth = authorization(values.authorization)?;
+    let prescription = prescription(values)?;
+    let amounts = amounts(values)?;
+    Ok((auth, prescription, amounts))
+}
+
+fn authorization(found: Found<'_>) -> Result<Auth, AnswerFault>
+    ensures { result ≡ authorization_seen (seen found.entry) }
+{
+    match found.one() {
+        Some(text) => Auth::read(text).ok_or(AnswerFault::BadAuthorization),
+        None => Err(AnswerFault::BadAuthorization),
+    }
+}
+
+fn prescription(values: &AnswerValues<'_>) -> Result<u64, AnswerFault>
+    ensures { result ≡ claim_number_seen (answer_seen values.now) }
+{
+    if !is_exactly(values.prescription_qualifier, b"1") {
+        return Err(AnswerFault::BadClaim);
+    }
+    number(values.prescription, 12).ok_or(AnswerFault::BadClaim)
+}
+
+fn amounts(values: &AnswerValues<'_>) -> Result<Amounts, AnswerFault>
+    ensures { result ≡ money_seen (answer_seen values.now) }
+{
+    all_amounts(values).ok_or(AnswerFault::BadAmount)
+}
+
+// The four amounts, where they go together.
+fn all_amounts(values: &AnswerValues<'_>) -> Option<Amounts>
+    ensures { result ≡ all_money_seen (answer_seen values.now) }
+{
+    let cost = cents(values.cost)?;
+    let fee = cents(values.fee)?;
+    let copay = cents(values.copay)?;
+    let total = cents(values.total)?;
+    Amounts::of_cents(cost, fee, copay, total)
+}
+
+// A rejection, where the count is that of the codes.
+fn rejected(count: Found<'_>, group: &[Segment<'_>]) -> Result<Ruling, AnswerFault>
+    ensures { result ≡ rejection_with (some_codes (codes_counted (Some []) (values_in (codes "21") (codes "FB") (segments_parts group.now)))) (required_seen (number_up_to 2) (seen count.entry)) }
+{
+    match (FoundCodes::of(group).all(), number(count, 2)) {
+        (Some(rejects), Some(count)) if count == rejects.as_slice().len() as u64 => {
+            Ok(Ruling::Rejected { rejects })
+        }
+        _ => Err(AnswerFault::BadRejects),
+    }
+}

@@ -1,0 +1,199 @@
+//! The values of the fields that the answer to one transaction has.
+
+ghost use Rattle.std.specs.Prelude.{◌≡◌, [], ◌∷◌, map, Some, codes};
+ghost use Rattle.d0_segments.specs.Views.{field_parts, segment_parts, segments_parts};
+
+use crate::found::Found;
+use crate::reject::{Code, FewCodes, Rejects};
+use d0_segments::{Field, Segment};
+
+/// The reject codes (511-FB) of an answer, as far as fields were read.
+#[derive(Clone, Copy, Debug)]
+pub struct FoundCodes {
+    codes: FewCodes,
+    // Every value so far is a code, and there are at most five.
+    sound: bool,
+}
+
+impl FoundCodes {
+    ghost use Rattle.claim_profile.specs.RulingSeen.{codes_seen, codes_counted, code_more, some_codes};
+    ghost use Rattle.claim_profile.specs.Ruling.{code_of};
+    ghost use Rattle.claim_profile.specs.Fields.{untrimmed, values, fields_of};
+
+    /// The codes in the segments of a group.
+    pub fn of(group: &[Segment<'_>]) -> FoundCodes
+        ensures { codes_seen result ≡ codes_counted (Some []) (values untrimmed (codes "FB") (fields_of (codes "21") (segments_parts group.now))) }
+    {
+        let mut found = FoundCodes::new();
+        for segment in group {
+            found.count_segment(segment);
+        }
+        found
+    }
+
+    // Before any field was read.
+    fn new() -> FoundCodes
+        ensures { codes_seen result ≡ Some [] }
+    {
+        FoundCodes {
+            codes: FewCodes::new(),
+            sound: true,
+        }
+    }
+
+    // Counts the fields of a segment.
+    fn count_segment(&mut self, segment: &Segment<'_>)
+        ensures { codes_seen self.new ≡ codes_counted (codes_seen self.old) (values untrimmed (codes "FB") (fields_of (codes "21") (segment_parts segment.now ∷ []))) }
+    {
+        if segment.id() == *b"21" {
+            self.count_status(segment.fields());
+        }
+    }
+
+    // Counts the fields of a response status segment (AM21).
+    fn count_status(&mut self, fields: &[Field<'_>])
+        ensures { codes_seen self.new ≡ codes_counted (codes_seen self.old) (values untrimmed (codes "FB") (map field_parts fields.now)) }
+    {
+        for field in fields {
+            self.count(field);
+        }
+    }
+
+    // Counts the value of a reject code field. Empty values don't count.
+    #[tactic(auto, unfolding(crate::specs::Fields::values, crate::specs::RulingSeen::codes_counted))]
+    fn count(&mut self, field: &Field<'_>)
+        ensures { codes_seen self.new ≡ codes_counted (codes_seen self.old) (values untrimmed (codes "FB") (field_parts field.now ∷ [])) }
+    {
+        let value = field.value();
+        if field.id() == *b"FB" && !value.is_empty() {
+            self.add(value);
+        }
+    }
+
+    // One value more.
+    fn add(&mut self, value: &[u8])
+        ensures { codes_seen self.new ≡ code_more (codes_seen self.old) (code_of value.now) }
+    {
+        match Code::read(value) {
+            Some(code) if self.codes.len() < 5 => self.codes.push(code),
+            _ => self.sound = false,
+        }
+    }
+
+    /// The codes, where there are one to five and each is known.
+    pub fn all(&self) -> Option<Rejects>
+        ensures { result ≡ some_codes (codes_seen self.now) }
+    {
+        if self.sound { self.codes.some() } else { None }
+    }
+}
+
+/// The values of the fields of an answer, as far as segments were read. Its reject codes (511-FB),
+/// of which there are several, stand apart.
+#[derive(Clone, Copy, Debug)]
+pub struct AnswerValues<'a> {
+    /// Transaction response status (112-AN).
+    pub status: Found<'a>,
+    /// Authorization number (503-F3).
+    pub authorization: Found<'a>,
+    /// Reject count (510-FA).
+    pub reject_count: Found<'a>,
+    /// Prescription/service reference number qualifier (455-EM).
+    pub prescription_qualifier: Found<'a>,
+    /// Prescription/service reference number (402-D2).
+    pub prescription: Found<'a>,
+    /// Patient pay amount (505-F5).
+    pub copay: Found<'a>,
+    /// Ingredient cost paid (506-F6).
+    pub cost: Found<'a>,
+    /// Dispensing fee paid (507-F7).
+    pub fee: Found<'a>,
+    /// Total amount paid (509-F9).
+    pub total: Found<'a>,
+}
+
+impl<'a> AnswerValues<'a> {
+    ghost use Rattle.claim_profile.specs.AnswerTally.{answer_seen, no_answer_seen, answer_fields_counted, answer_counted};
+
+    /// The values in the segments of a group.
+    pub fn of(group: &[Segment<'a>]) -> AnswerValues<'a>
+        ensures { answer_seen result ≡ answer_counted no_answer_seen (segments_parts group.now) }
+    {
+        let mut values = AnswerValues::new();
+        values.count_all(group);
+        values
+    }
+
+    // Before any segment was read.
+    fn new() -> AnswerValues<'a>
+        ensures { answer_seen result ≡ no_answer_seen }
+    {
+        AnswerValues {
+            status: Found::Nothing,
+            authorization: Found::Nothing,
+            reject_count: Found::Nothing,
+            prescription_qualifier: Found::Nothing,
+            prescription: Found::Nothing,
+            copay: Found::Nothing,
+            cost: Found::Nothing,
+            fee: Found::Nothing,
+            total: Found::Nothing,
+        }
+    }
+
+    // Counts the fields of all these segments, each in its own segment.
+    fn count_all(&mut self, segments: &[Segment<'a>])
+        ensures { answer_seen self.new ≡ answer_counted (answer_seen self.old) (segments_parts segments.now) }
+    {
+        for segment in segments {
+            self.count_segment(segment);
+        }
+    }
+
+    // Counts the fields of a segment.
+    fn count_segment(&mut self, segment: &Segment<'a>)
+        ensures { answer_seen self.new ≡ answer_counted (answer_seen self.old) (segment_parts segment.now ∷ []) }
+    {
+        let id = segment.id();
+        if id == *b"21" {
+            self.count_status(segment.fields());
+        } else if id == *b"22" {
+            self.count_claim(segment.fields());
+        } else if id == *b"23" {
+            self.count_pricing(segment.fields());
+        }
+    }
+
+    // Counts the fields of a response status segment (AM21).
+    fn count_status(&mut self, fields: &[Field<'a>])
+        ensures { answer_seen self.new ≡ answer_fields_counted (answer_seen self.old) (map field_parts fields.now) [] [] }
+    {
+        for field in fields {
+            self.status.count(b"AN", field);
+            self.authorization.count(b"F3", field);
+            self.reject_count.count(b"FA", field);
+        }
+    }
+
+    // Counts the fields of a response claim segment (AM22).
+    fn count_claim(&mut self, fields: &[Field<'a>])
+        ensures { answer_seen self.new ≡ answer_fields_counted (answer_seen self.old) [] (map field_parts fields.now) [] }
+    {
+        for field in fields {
+            self.prescription_qualifier.count_text(b"EM", field);
+            self.prescription.count(b"D2", field);
+        }
+    }
+
+    // Counts the fields of a response pricing segment (AM23).
+    fn count_pricing(&mut self, fields: &[Field<'a>])
+        ensures { answer_seen self.new ≡ answer_fields_counted (answer_seen self.old) [] [] (map field_parts fields.now) }
+    {
+        for field in fields {
+            self.copay.count(b"F5", field);
+            self.cost.count(b"F6", field);
+            self.fee.count(b"F7", field);
+            self.total.count(b"F9", field);
+        }
+    }
+}

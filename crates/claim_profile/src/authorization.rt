@@ -1,0 +1,105 @@
+//! Authorization numbers.
+
+ghost use Rattle.std.specs.Prelude.{◌≡◌, ◌≤◌, ◌↔◌, length, IsSome, IfSome};
+ghost use Rattle.claim_profile.specs.Authorization.{IsAuthorization, authorization_text, authorization_of, authorization_with, padded_number};
+
+use overpunch::read_number;
+use std::marker::Model;
+
+/// An authorization number (503-F3): the payer that gave it, from 1 to 9,999, and its serial there,
+/// from 1 to 999,999,999,999 (own).
+#[derive(Clone, Copy, Debug, PartialEq, Eq, PartialOrd, Ord)]
+pub struct Auth {
+    payer: u16,
+    serial: u64,
+}
+
+impl Model for Auth {
+    ghost use Rattle.claim_profile.specs.Authorization.{Authorization, IsAuthorization};
+
+    ghost Value = { Authorization };
+
+    ghost view = { λ a. record { payer = a.payer; serial = a.serial } };
+
+    ghost invariant = { λ a. IsAuthorization a.payer a.serial };
+
+    ghost inverse = { λ v. record { payer = v.payer; serial = v.serial } };
+}
+
+impl Auth {
+    /// The authorization of a payer with a serial, None outside the ranges.
+    pub fn new(payer: u16, serial: u64) -> Option<Auth>
+        ensures variant { IsSome result ↔ IsAuthorization payer serial }
+        ensures given { IfSome result (λ a. (a.payer ≡ payer) × (a.serial ≡ serial)) }
+    {
+        if payer == 0 || payer > 9_999 || serial == 0 || serial > 999_999_999_999 {
+            return None;
+        }
+        Some(Auth { payer, serial })
+    }
+
+    /// The number of the payer.
+    pub fn payer(self) -> u16
+        ensures value { result ≡ self.payer }
+        ensures range { (1 ≤ result) × (result ≤ 9999) }
+    {
+        self.payer
+    }
+
+    /// The serial at that payer.
+    pub fn serial(self) -> u64
+        ensures value { result ≡ self.serial }
+        ensures range { (1 ≤ result) × (result ≤ 999999999999) }
+    {
+        self.serial
+    }
+
+    /// The sixteen digits of the number (own): four of the payer, then twelve of the serial.
+    pub fn digits(self) -> [u8; 16]
+        ensures { result ≡ authorization_text self }
+    {
+        let mut digits = [b'0'; 16];
+        put_digits(u64::from(self.payer), &mut digits[..4]);
+        put_digits(self.serial, &mut digits[4..]);
+        digits
+    }
+
+    /// The authorization that sixteen digits spell, None for any other bytes.
+    #[tactic(auto, unfolding(crate::specs::Authorization::authorization_of))]
+    pub fn read(text: &[u8]) -> Option<Auth>
+        ensures { result ≡ authorization_of text.now }
+    {
+        if text.len() != 16 {
+            return None;
+        }
+        let payer = read_number(&text[..4], 4).ok()?;
+        let serial = read_number(&text[4..], 12).ok()?;
+        authorization(payer, serial)
+    }
+}
+
+// The authorization of these parts, where there is one.
+fn authorization(payer: u64, serial: u64) -> Option<Auth>
+    ensures { result ≡ authorization_with payer serial }
+{
+    if payer == 0 || payer > 9_999 || serial == 0 || serial > 999_999_999_999 {
+        return None;
+    }
+    Some(Auth {
+        payer: payer as u16,
+        serial,
+    })
+}
+
+// Writes the last decimal digits of a number, as many as there is room.
+fn put_digits(number: u64, digits: &mut [u8])
+    ensures { digits.new ≡ padded_number (length digits.old) number }
+{
+    let mut rest = number;
+    let mut place = digits.len();
+    while place > 0 {
+        place -= 1;
+        digits[place] = b'0' + (rest % 10) as u8;
+        rest /= 10;
+    }
+}

@@ -1,0 +1,34 @@
+//! Orders and answers of a pharmacy claim switch: what a billing or a reversal asks for, what a
+//! processor rules about it, and the bytes that carry both.
+#![tactic(auto)]
+
+mod answer_reading;
+mod answer_values;
+mod answer_writing;
+mod authorization;
+mod building;
+mod found;
+mod order;
+mod order_fields;
+mod order_reading;
+mod order_values;
+mod paid;
+mod reject;
+mod ruling;
+mod texts;
+mod values;
+
+pub use answer_reading::{Answer, AnswerFault, read_answer};
+pub use answer_writing::write_answer;
+pub use authorization::Auth;
+pub use building::{BillingParts, BuildFault, ReversalParts, billing, reversal};
+pub use order::{Claim, Fill, Order, Reversal};
+pub use order_reading::{OrderFault, read_order};
+pub use overpunch::{Amount, AmountFault, NumberFault, read_number};
+pub use paid::Amounts;
+pub use reject::{Code, Rejects};
+pub use ruling::{HeaderStatus, Ruling};
+pub use texts::Text;
+
+#[cfg(test)]
+mod tests;

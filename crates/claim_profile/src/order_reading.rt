@@ -1,0 +1,82 @@
+//! Reading what a transaction asks for.
+
+ghost use Rattle.std.specs.Prelude.{◌≡◌, ◌<◌, [], length, slice_index_or};
+ghost use Rattle.d0_segments.specs.Views.{segments_parts, groups_parts};
+ghost use Rattle.claim_profile.specs.Order.{claim_order, reversal_order, order_of};
+ghost use Rattle.claim_profile.specs.OrderTally.{order_seen};
+
+use crate::order::Order;
+use crate::order_fields::{ClaimFields, ReversalFields};
+use crate::order_values::OrderValues;
+use crate::reject::Rejects;
+use d0_header::RequestHeader;
+use d0_segments::{Segment, Transmission};
+use thiserror::Error;
+
+/// Why a transaction has no order.
+#[derive(Clone, Copy, Debug, PartialEq, Eq, Error)]
+pub enum OrderFault {
+    /// Fields are missing or invalid: their reject codes, in order, the first five.
+    #[error("fields of the order are missing or invalid")]
+    Rejected(Rejects),
+}
+
+/// Reads the order of the transaction at `place`, from 0. A header with code `B1` asks for a claim,
+/// one with `B2` for a reversal.
+///
+/// Of each field the values count that are not empty, wherever they stand in segments of the field's
+/// identification at its level; texts lose trailing spaces first. A required field has exactly one
+/// value, an optional one at most one, and each passes its test. Takes no memory.
+pub fn read_order(
+    transmission: &Transmission<'_, RequestHeader>,
+    place: usize,
+) -> Result<Order, OrderFault>
+    requires { place < length transmission.now.groups.items }
+    ensures { result ≡ order_of transmission.now.header (segments_parts transmission.now.shared.items) (slice_index_or (groups_parts transmission.now.groups.items) place []) }
+{
+    read_group_order(
+        transmission.header(),
+        transmission.shared(),
+        transmission.group(place),
+    )
+}
+
+// Reads the order in the shared segments and those of a group.
+#[tactic(auto, unfolding(crate::specs::Order::order_of))]
+fn read_group_order(
+    header: &RequestHeader,
+    shared: &[Segment<'_>],
+    group: &[Segment<'_>],
+) -> Result<Order, OrderFault>
+    ensures { result ≡ order_of header.now (segments_parts shared.now) (segments_parts group.now) }
+{
+    if header.code() == *b"B1" {
+        claim(header, shared, group)
+    } else {
+        reversal(header, group)
+    }
+}
+
+fn claim(
+    header: &RequestHeader,
+    shared: &[Segment<'_>],
+    group: &[Segment<'_>],
+) -> Result<Order, OrderFault>
+    ensures { result ≡ claim_order header.now (segments_parts shared.now) (segments_parts group.now) }
+{
+    let fields = ClaimFields::of(header, &OrderValues::of(shared, group));
+    match fields.whole(header) {
+        Some(claim) => Ok(Order::Claim(claim)),
+        None => Err(OrderFault::Rejected(fields.rejects())),
+    }
+}
+
+fn reversal(header: &RequestHeader, group: &[Segment<'_>]) -> Result<Order, OrderFault>
+    ensures { result ≡ reversal_order header.now (segments_parts group.now) }
+{
+    let fields = ReversalFields::of(header, &OrderValues::of(&[], group));
+    match fields.whole(header) {
+        Some(reversal) => Ok(Order::Reversal(reversal)),
+        None => Err(OrderFault::Rejected(fields.rejects())),
+    }
+}

@@ -1,0 +1,6 @@
+mod ByBytes
+mod Keeping
+mod MapLaws
+mod Order
+mod Search
+mod Storing

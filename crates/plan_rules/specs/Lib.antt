@@ -1,0 +1,4 @@
+pub mod Prices
+pub mod Pricing
+pub mod Searching
+pub mod Terms
