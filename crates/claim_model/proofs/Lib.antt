@@ -1,0 +1,28 @@
+mod Small
+mod Schedules
+pub mod Lists
+pub mod Tests
+pub mod Journals
+pub mod Options
+pub mod Sound
+pub mod Given
+pub mod PharmacyStep
+pub mod Written
+pub mod Decided
+pub mod SwitchStep
+pub mod PayerStep
+pub mod Runs
+pub mod Held
+pub mod Marks
+pub mod Ledger
+pub mod Books
+pub mod Owners
+pub mod Providers
+pub mod Counting
+pub mod Stays
+pub mod Phases
+pub mod Addressed
+pub mod Posts
+pub mod Deliverable
+mod Premises
+pub mod BytesLaws

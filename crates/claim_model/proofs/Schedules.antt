@@ -1,0 +1,366 @@
+-- Schedules of events that compute: what the definitions say of whole stories.
+use Rattle.std.proofs.Common.{◌≡◌, ℕ, ◌+◌, List, [], ◌∷◌, ◌++◌, map, Option, Some, None, Result, Ok, Err, refl}
+use Rattle.std.specs.Prelude.{option_map}
+use Rattle.claim_model.specs.Words.{TxnId, Envelope, Auth, Ruling, Paid, Duplicate, Reversed, Rejected, BadBin, DuplicateClaim, ReversalNotProcessed}
+use Rattle.claim_model.specs.Context.{Context}
+use Rattle.claim_model.specs.Readable.{readable, rulings_in, request_envelope, answer_envelope}
+use Rattle.claim_model.specs.Refusal.{Refusal, Down, AlreadyUp, NoSuchNode, NoSuchPacket, NotWaiting, AlreadySettled, JournalFull, SerialsUsedUp, BookFull, NumberReused, NotOurs, Unreadable, NotMine, NoSuchNumber, Differs}
+use Rattle.claim_model.specs.Rows.{Row, Book}
+use Rattle.claim_model.specs.Judgement.{judged, ruling}
+use Rattle.claim_model.specs.Book.{Answered, answered}
+use Rattle.claim_model.specs.Journal.{PharmacySettings, Kept, JournalAtRest, Journal, Sending, Waits, Has, submitted, ticked, due, heard, stopped, started}
+use Rattle.claim_model.specs.Counted.{Counted, counted}
+use Rattle.claim_model.specs.Table.{Table, Routed, Forward, Back, Requested, requested, Responded, responded}
+use Rattle.claim_model.specs.Node.{Pharmacy, Switch, Payer, Up, Outcome, Done, Refused}
+use Rattle.claim_model.specs.World.{World, Event, Submission, Ticking, Delivery, Stopping, Starting, PlanChange, step, run, world_after}
+use Rattle.claim_model.specs.Settings.{opening}
+use Rattle.claim_model.specs.Held.{journal_at, book_at, held}
+use Rattle.claim_model.proofs.Small.{small, all_amounts}
+
+unfoldable pub pharmacy : ℕ → List ℕ → ℕ → PharmacySettings
+pharmacy provider nodes cap = record { qualifier = []; provider = provider ∷ []; nodes = nodes; again = 1; tries = 1; cap = cap }
+
+-- a pharmacy, two switches and a payer
+unfoldable pub one : World
+unfolding pharmacy
+one = opening (record { pharmacies = pharmacy 7 (1 ∷ 2 ∷ []) 100 ∷ []; switches = 64 ∷ 64 ∷ []; payers = record { book = record { serial = 1; cap = 1000 }; plan = record { fee = 150; copay = 1000; prices = [] } } ∷ [] })
+
+-- what became of each event: none where it was accepted
+abbrev pub refusal_in : Outcome World → Option Refusal
+refusal_in (Done next sent) = None
+refusal_in (Refused why) = Some why
+
+unfoldable pub refusals_by : Context → World → List Event → List (Option Refusal)
+refusals_by ctx w [] = []
+refusals_by ctx w (e ∷ es) = refusal_in (step ctx w e) ∷ refusals_by ctx (world_after w (step ctx w e)) es
+
+abbrev pub refusals : World → List Event → List (Option Refusal)
+refusals w es = refusals_by small w es
+
+-- the billing of fill 0, its reversal, and the same billing for a BIN without a route
+abbrev pub c1 : List ℕ
+c1 = 1 ∷ 7 ∷ 4 ∷ 10 ∷ []
+
+abbrev pub v1 : List ℕ
+v1 = 2 ∷ 7 ∷ 4 ∷ 0 ∷ []
+
+abbrev pub cn : List ℕ
+cn = 1 ∷ 7 ∷ 9 ∷ 10 ∷ []
+
+abbrev pub auth_1 : Auth
+auth_1 = record { payer = 1; serial = 1 }
+
+abbrev pub auth_2 : Auth
+auth_2 = record { payer = 1; serial = 2 }
+
+-- a row without its request
+abbrev pub brief : Row → TxnId × List Ruling
+brief r = (r.id, r.rulings)
+
+abbrev pub briefs : Option Book → List (TxnId × List Ruling)
+briefs None = []
+briefs (Some b) = map brief b.rows
+
+abbrev pub rows_after : List Event → List (TxnId × List Ruling)
+rows_after es = briefs (book_at (run small one es) 1)
+
+-- a reversal that overtakes its billing is rejected, and the billing is then paid
+overtaking : List Event
+overtaking = Submission 1 c1 ∷ Submission 1 v1 ∷ Delivery 2 ∷ Delivery 3 ∷ Delivery 1 ∷ Delivery 5 ∷ []
+
+overtaken : rows_after overtaking ≡ (record { pharmacy = 1; number = 2 }, Rejected (ReversalNotProcessed ∷ []) ∷ []) ∷ (record { pharmacy = 1; number = 1 }, Paid auth_1 123456 all_amounts ∷ []) ∷ []
+unfolding overtaking one step answered readable ruling judged submitted ticked due requested responded heard stopped started counted held refusals_by pharmacy
+overtaken = refl
+
+-- the rulings of a payer's book after some events
+
+abbrev pub id : ℕ → ℕ → TxnId
+id pharmacy number = record { pharmacy = pharmacy; number = number }
+
+-- requests that go straight to an empty book of payer 1
+abbrev pub book : ℕ → ℕ → Book
+book serial cap = record { payer = 1; settings = record { serial = serial; cap = cap }; plan = record { fee = 150; copay = 1000; prices = [] }; rows = [] }
+
+abbrev pub book_next : Book → Result Answered Refusal → Book
+book_next b (Ok a) = a.book
+book_next b (Err why) = b
+
+abbrev pub told_by : Result Answered Refusal → Result (List Ruling) Refusal
+told_by (Ok a) = Ok (rulings_in (small.read_answer a.bytes))
+told_by (Err why) = Err why
+
+-- what a book answers to requests, by pharmacy 1, one number after another
+unfoldable pub replies : Book → ℕ → List (List ℕ) → List (Result (List Ruling) Refusal)
+replies b n [] = []
+replies b n (r ∷ rs) = told_by (answered small b (id 1 n) r) ∷ replies (book_next b (answered small b (id 1 n) r)) (n + 1) rs
+
+-- the same claim again is a duplicate, another one for its fill is rejected, another fill is paid; a reversal of several fills without a
+-- fill number is rejected, one with it is done, and done once
+duplicates : replies (book 1 100) 1 (c1 ∷ c1 ∷ (1 ∷ 7 ∷ 4 ∷ 20 ∷ []) ∷ (1 ∷ 7 ∷ 4 ∷ 11 ∷ []) ∷ (2 ∷ 7 ∷ 4 ∷ 99 ∷ []) ∷ v1 ∷ v1 ∷ [])
+    ≡ Ok (Paid auth_1 123456 all_amounts ∷ []) ∷ Ok (Duplicate auth_1 123456 all_amounts ∷ []) ∷ Ok (Rejected (DuplicateClaim ∷ []) ∷ [])
+    ∷ Ok (Paid auth_2 123456 all_amounts ∷ []) ∷ Ok (Rejected (ReversalNotProcessed ∷ []) ∷ []) ∷ Ok (Reversed auth_1 123456 ∷ []) ∷ Ok (Rejected (ReversalNotProcessed ∷ []) ∷ []) ∷ []
+unfolding replies one step answered readable ruling judged submitted ticked due requested responded heard stopped started counted held refusals_by pharmacy
+duplicates = refl
+
+-- a reversal before any payment is rejected; after a reversal the fill is paid again, with the next serial
+paid_again : replies (book 1 100) 1 (v1 ∷ c1 ∷ v1 ∷ v1 ∷ c1 ∷ [])
+    ≡ Ok (Rejected (ReversalNotProcessed ∷ []) ∷ []) ∷ Ok (Paid auth_1 123456 all_amounts ∷ []) ∷ Ok (Reversed auth_1 123456 ∷ []) ∷ Ok (Rejected (ReversalNotProcessed ∷ []) ∷ []) ∷ Ok (Paid auth_2 123456 all_amounts ∷ []) ∷ []
+unfolding replies one step answered readable ruling judged submitted ticked due requested responded heard stopped started counted held refusals_by pharmacy
+paid_again = refl
+
+-- the last serial is given once; a ruling that pays nothing needs none
+serials_end : replies (book 999999999999 100) 1 (c1 ∷ (1 ∷ 7 ∷ 4 ∷ 11 ∷ []) ∷ (1 ∷ 7 ∷ 4 ∷ 20 ∷ []) ∷ [])
+    ≡ Ok (Paid (record { payer = 1; serial = 999999999999 }) 123456 all_amounts ∷ []) ∷ Err SerialsUsedUp ∷ Ok (Rejected (DuplicateClaim ∷ []) ∷ []) ∷ []
+unfolding replies one step answered readable ruling judged submitted ticked due requested responded heard stopped started counted held refusals_by pharmacy
+serials_end = refl
+
+-- four claims in one request: the third repeats the first, within the request
+abbrev pub c17 : List ℕ
+c17 = 1 ∷ 7 ∷ 4 ∷ 10 ∷ 11 ∷ 10 ∷ 12 ∷ []
+
+four_claims : replies (book 1 100) 1 (c17 ∷ (2 ∷ 7 ∷ 4 ∷ 0 ∷ 0 ∷ []) ∷ [])
+    ≡ Ok (Paid auth_1 123456 all_amounts ∷ Paid auth_2 123456 all_amounts ∷ Duplicate auth_1 123456 all_amounts ∷ Paid (record { payer = 1; serial = 3 }) 123456 all_amounts ∷ [])
+    ∷ Ok (Reversed auth_1 123456 ∷ Rejected (ReversalNotProcessed ∷ []) ∷ []) ∷ []
+unfolding replies one step answered readable ruling judged submitted ticked due requested responded heard stopped started counted held refusals_by pharmacy
+four_claims = refl
+
+-- a request is one row, all or nothing: where a place would need a serial over the limit, nothing is kept, and another request is paid with the first
+all_or_nothing : replies (book 999999999998 100) 1 (c17 ∷ c1 ∷ []) ≡ Err SerialsUsedUp ∷ Ok (Paid (record { payer = 1; serial = 999999999998 }) 123456 all_amounts ∷ []) ∷ []
+unfolding replies one step answered readable ruling judged submitted ticked due requested responded heard stopped started counted held refusals_by pharmacy
+all_or_nothing = refl
+
+-- in a full book a known number with its request is answered again, and no new one
+full_book : told_by (answered small (book_next (book 1 1) (answered small (book 1 1) (id 1 1) c1)) (id 1 1) c1) ≡ Ok (Paid auth_1 123456 all_amounts ∷ [])
+unfolding replies one step answered readable ruling judged submitted ticked due requested responded heard stopped started counted held refusals_by pharmacy
+full_book = refl
+
+full_book_new : told_by (answered small (book_next (book 1 1) (answered small (book 1 1) (id 1 1) c1)) (id 1 2) c1) ≡ Err BookFull
+unfolding replies one step answered readable ruling judged submitted ticked due requested responded heard stopped started counted held refusals_by pharmacy
+full_book_new = refl
+
+number_reused : told_by (answered small (book_next (book 1 1) (answered small (book 1 1) (id 1 1) c1)) (id 1 1) v1) ≡ Err NumberReused
+unfolding replies one step answered readable ruling judged submitted ticked due requested responded heard stopped started counted held refusals_by pharmacy
+number_reused = refl
+
+not_ours : told_by (answered small (book 1 1) (id 1 1) cn) ≡ Err NotOurs
+unfolding replies one step answered readable ruling judged submitted ticked due requested responded heard stopped started counted held refusals_by pharmacy
+not_ours = refl
+
+-- a reversal whose answer is never delivered stays open at its pharmacy, which goes on counting the payment beside the new one
+abbrev pub lost_answer : List Event
+lost_answer =
+    Submission 1 c1 ∷ Delivery 1 ∷ Delivery 2 ∷ Delivery 3 ∷ Delivery 4 ∷ Submission 1 v1 ∷ Delivery 5 ∷ Delivery 6 ∷ Submission 1 c1 ∷ Delivery 8 ∷ Delivery 9 ∷ Delivery 10 ∷ Delivery 11 ∷ []
+
+abbrev pub auths : Option JournalAtRest → List Auth
+auths None = []
+auths (Some j) = map (λ (c : Counted). c.auth) (counted small j)
+
+abbrev pub answers : Option JournalAtRest → List (Option (List Ruling))
+answers None = []
+answers (Some j) = map (λ (k : Kept). option_map (λ a. rulings_in (small.read_answer a)) k.answer) j.entries
+
+lost_answer_counted : auths (journal_at (run small one lost_answer) 1) ≡ auth_1 ∷ auth_2 ∷ []
+unfolding one step answered readable ruling judged submitted ticked due requested responded heard stopped started counted held refusals_by pharmacy
+lost_answer_counted = refl
+
+lost_answer_entries : answers (journal_at (run small one lost_answer) 1) ≡ Some (Paid auth_1 123456 all_amounts ∷ []) ∷ None ∷ Some (Paid auth_2 123456 all_amounts ∷ []) ∷ []
+unfolding one step answered readable ruling judged submitted ticked due requested responded heard stopped started counted held refusals_by pharmacy
+lost_answer_entries = refl
+
+lost_answer_rows : rows_after lost_answer ≡ (id 1 1, Paid auth_1 123456 all_amounts ∷ []) ∷ (id 1 2, Reversed auth_1 123456 ∷ []) ∷ (id 1 3, Paid auth_2 123456 all_amounts ∷ []) ∷ []
+unfolding one step answered readable ruling judged submitted ticked due requested responded heard stopped started counted held refusals_by pharmacy
+lost_answer_rows = refl
+
+-- once the reversal's answer came, the first payment counts no more
+answered_counted : auths (journal_at (run small one (lost_answer ++ Delivery 7 ∷ Delivery 12 ∷ [])) 1) ≡ auth_2 ∷ []
+unfolding one step answered readable ruling judged submitted ticked due requested responded heard stopped started counted held refusals_by pharmacy
+answered_counted = refl
+
+-- a switch that stops loses its table; the retry goes to the next switch, and the payer gives the answer that it kept
+abbrev pub failover : List Event
+failover = Submission 1 c1 ∷ Delivery 1 ∷ Delivery 2 ∷ Stopping (Switch 1) ∷ Delivery 3 ∷ Starting (Switch 1) ∷ Delivery 3 ∷ Ticking 1 ∷ Delivery 4 ∷ Delivery 5 ∷ Delivery 6 ∷ Delivery 7 ∷ []
+
+failover_refusals : refusals one failover ≡ None ∷ None ∷ None ∷ None ∷ Some Down ∷ None ∷ Some NotWaiting ∷ None ∷ None ∷ None ∷ None ∷ None ∷ []
+unfolding one step answered readable ruling judged submitted ticked due requested responded heard stopped started counted held refusals_by pharmacy
+failover_refusals = refl
+
+failover_rows : rows_after failover ≡ (id 1 1, Paid auth_1 123456 all_amounts ∷ []) ∷ []
+unfolding one step answered readable ruling judged submitted ticked due requested responded heard stopped started counted held refusals_by pharmacy
+failover_rows = refl
+
+failover_entries : answers (journal_at (run small one failover) 1) ≡ Some (Paid auth_1 123456 all_amounts ∷ []) ∷ []
+unfolding one step answered readable ruling judged submitted ticked due requested responded heard stopped started counted held refusals_by pharmacy
+failover_entries = refl
+
+-- without a route both switches answer alike, and make no entry
+abbrev pub unrouted : List Event
+unrouted = Submission 1 cn ∷ Ticking 1 ∷ Delivery 1 ∷ Delivery 2 ∷ Delivery 3 ∷ Delivery 4 ∷ []
+
+unrouted_refusals : refusals one unrouted ≡ None ∷ None ∷ None ∷ None ∷ None ∷ Some AlreadySettled ∷ []
+unfolding one step answered readable ruling judged submitted ticked due requested responded heard stopped started counted held refusals_by pharmacy
+unrouted_refusals = refl
+
+unrouted_entries : answers (journal_at (run small one unrouted) 1) ≡ Some (Rejected (BadBin ∷ []) ∷ []) ∷ []
+unfolding one step answered readable ruling judged submitted ticked due requested responded heard stopped started counted held refusals_by pharmacy
+unrouted_entries = refl
+
+unrouted_switches : (run small one unrouted).switches ≡ Up (record { cap = 64; entries = [] }) ∷ Up (record { cap = 64; entries = [] }) ∷ []
+unfolding one step answered readable ruling judged submitted ticked due requested responded heard stopped started counted held refusals_by pharmacy
+unrouted_switches = refl
+
+-- numbers go on after a stop and a start, up to the cap
+abbrev pub small_journal : World
+small_journal = opening (record { pharmacies = pharmacy 7 (1 ∷ 2 ∷ []) 2 ∷ []; switches = 64 ∷ 64 ∷ []; payers = [] })
+
+numbers_go_on : refusals small_journal (Submission 1 c1 ∷ Stopping (Pharmacy 1) ∷ Submission 1 c1 ∷ Starting (Pharmacy 1) ∷ Submission 1 c1 ∷ Submission 1 c1 ∷ []) ≡ None ∷ None ∷ Some Down ∷ None ∷ None ∷ Some JournalFull ∷ []
+unfolding one step answered readable ruling judged submitted ticked due requested responded heard stopped started counted held refusals_by pharmacy
+numbers_go_on = refl
+
+-- refusals that the world itself gives
+world_refusals : refusals one (Delivery 99 ∷ Stopping (Switch 2) ∷ Stopping (Switch 2) ∷ Starting (Pharmacy 1) ∷ Ticking 9 ∷ Delivery 0 ∷ PlanChange 2 [] None ∷ Stopping (Payer 1) ∷ PlanChange 1 [] None ∷ [])
+    ≡ Some NoSuchPacket ∷ None ∷ Some Down ∷ Some AlreadyUp ∷ Some NoSuchNode ∷ Some NoSuchPacket ∷ Some NoSuchNode ∷ None ∷ Some Down ∷ []
+unfolding one step answered readable ruling judged submitted ticked due requested responded heard stopped started counted held refusals_by pharmacy
+world_refusals = refl
+
+-- a repeat does not make an entry young: the oldest leaves a full table
+abbrev pub narrow : World
+narrow = opening (record { pharmacies = pharmacy 7 (1 ∷ []) 100 ∷ []; switches = 2 ∷ []; payers = record { book = record { serial = 1; cap = 1000 }; plan = record { fee = 150; copay = 1000; prices = [] } } ∷ [] })
+
+oldest_leaves : refusals narrow (Submission 1 c1 ∷ Submission 1 (1 ∷ 7 ∷ 4 ∷ 11 ∷ []) ∷ Submission 1 (1 ∷ 7 ∷ 4 ∷ 12 ∷ []) ∷ Delivery 1 ∷ Delivery 2 ∷ Delivery 1 ∷ Delivery 3 ∷ Delivery 4 ∷ Delivery 8 ∷ Delivery 5 ∷ Delivery 9 ∷ [])
+    ≡ None ∷ None ∷ None ∷ None ∷ None ∷ None ∷ None ∷ None ∷ Some NotWaiting ∷ None ∷ None ∷ []
+unfolding one step answered readable ruling judged submitted ticked due requested responded heard stopped started counted held refusals_by pharmacy
+oldest_leaves = refl
+
+-- the retry rule: again 2, tries 2, two switches; of eight ticks the second goes to switch 1, the fourth and the sixth to switch 2, the eighth to switch 1
+abbrev pub patient : Journal
+patient = record { number = 1; settings = record { qualifier = []; provider = 7 ∷ []; nodes = 1 ∷ 2 ∷ []; again = 2; tries = 2; cap = 9 }; entries = record { request = c1; state = Waits 0 } ∷ [] }
+
+unfoldable pub ticks : Journal → List ℕ → List (List ℕ)
+ticks j [] = []
+ticks j (_ ∷ more) = map (λ (s : Sending). s.switch) (due small (ticked j)) ∷ ticks (ticked j) more
+
+retries : ticks patient (0 ∷ 0 ∷ 0 ∷ 0 ∷ 0 ∷ 0 ∷ 0 ∷ 0 ∷ []) ≡ [] ∷ (1 ∷ []) ∷ [] ∷ (2 ∷ []) ∷ [] ∷ (2 ∷ []) ∷ [] ∷ (1 ∷ []) ∷ []
+unfolding ticks one step answered readable ruling judged submitted ticked due requested responded heard stopped started counted held refusals_by pharmacy
+retries = refl
+
+retries_after_start : ticks (started (stopped patient)) (0 ∷ 0 ∷ 0 ∷ 0 ∷ 0 ∷ 0 ∷ []) ≡ [] ∷ (1 ∷ []) ∷ [] ∷ (1 ∷ []) ∷ [] ∷ (2 ∷ []) ∷ []
+unfolding ticks one step answered readable ruling judged submitted ticked due requested responded heard stopped started counted held refusals_by pharmacy
+retries_after_start = refl
+
+-- a reversal by another pharmacy reverses nothing
+abbrev pub two : World
+two = opening (record { pharmacies = pharmacy 7 (1 ∷ 2 ∷ []) 100 ∷ pharmacy 8 (2 ∷ 1 ∷ []) 100 ∷ []; switches = 64 ∷ 64 ∷ []; payers = record { book = record { serial = 1; cap = 1000 }; plan = record { fee = 150; copay = 1000; prices = [] } } ∷ [] })
+
+abbrev pub others : List Event
+others = Submission 1 c1 ∷ Delivery 1 ∷ Delivery 2 ∷ Delivery 3 ∷ Delivery 4 ∷ Submission 2 (2 ∷ 8 ∷ 4 ∷ 0 ∷ []) ∷ Delivery 5 ∷ Delivery 6 ∷ Delivery 7 ∷ Delivery 8 ∷ []
+
+others_rows : briefs (book_at (run small two others) 1) ≡ (id 1 1, Paid auth_1 123456 all_amounts ∷ []) ∷ (id 2 1, Rejected (ReversalNotProcessed ∷ []) ∷ []) ∷ []
+unfolding one step answered readable ruling judged submitted ticked due requested responded heard stopped started counted held refusals_by pharmacy
+others_rows = refl
+
+-- the pharmacy, the switch and the payer hold the same answer
+others_held : map (λ node. held small (run small two others) node (id 1 1)) (Pharmacy 1 ∷ Switch 1 ∷ Payer 1 ∷ []) ≡ Some (7 ∷ 1 ∷ 65 ∷ 1 ∷ 1 ∷ 1 ∷ 123456 ∷ []) ∷ Some (7 ∷ 1 ∷ 65 ∷ 1 ∷ 1 ∷ 1 ∷ 123456 ∷ []) ∷ Some (7 ∷ 1 ∷ 65 ∷ 1 ∷ 1 ∷ 1 ∷ 123456 ∷ []) ∷ []
+unfolding one step answered readable ruling judged submitted ticked due requested responded heard stopped started counted held refusals_by pharmacy
+others_held = refl
+
+-- four claims through the world: three are counted
+four_counted : auths (journal_at (run small one (Submission 1 c17 ∷ Delivery 1 ∷ Delivery 2 ∷ Delivery 3 ∷ Delivery 4 ∷ [])) 1) ≡ auth_1 ∷ auth_2 ∷ record { payer = 1; serial = 3 } ∷ []
+unfolding one step answered readable ruling judged submitted ticked due requested responded heard stopped started counted held refusals_by pharmacy
+four_counted = refl
+
+-- a switch alone: what it forwards, what it refuses, and what it loses at a stop
+
+abbrev pub request_of_1 : List ℕ → Envelope
+request_of_1 text = request_envelope (id 1 1) text
+
+abbrev pub response_of : ℕ → List ℕ → Envelope
+response_of number answer = answer_envelope (id 1 number) answer
+
+abbrev pub table_next : Table → Result Requested Refusal → Table
+table_next t (Ok r) = r.table
+table_next t (Err why) = t
+
+abbrev pub table_told : Table → Result Responded Refusal → Table
+table_told t (Ok r) = r.table
+table_told t (Err why) = t
+
+abbrev pub empty_table : Table
+empty_table = record { cap = 2; entries = [] }
+
+-- the table after the first request, and after its answer
+abbrev pub waiting : Table
+waiting = table_next empty_table (requested small empty_table (request_of_1 c1))
+
+abbrev pub a1 : List ℕ
+a1 = 7 ∷ 1 ∷ 65 ∷ 1 ∷ 1 ∷ 1 ∷ 123456 ∷ []
+
+abbrev pub a1_again : List ℕ
+a1_again = 7 ∷ 1 ∷ 65 ∷ 2 ∷ 1 ∷ 1 ∷ 123456 ∷ []
+
+abbrev pub has_it : Table
+has_it = table_told waiting (responded small waiting (response_of 1 a1))
+
+-- whether a call was refused, and why
+abbrev pub why_not : {A : Type 0} → Result A Refusal → Option Refusal
+why_not (Ok a) = None
+why_not (Err why) = Some why
+
+abbrev pub routed_in : Result Requested Refusal → Option Routed
+routed_in (Ok r) = Some r.routed
+routed_in (Err why) = None
+
+forwards : routed_in (requested small empty_table (request_of_1 c1)) ≡ Some (Forward 1 (1 ∷ 1 ∷ 1 ∷ c1))
+unfolding requested readable
+forwards = refl
+
+another_request : why_not (requested small waiting (request_of_1 v1)) ≡ Some NumberReused
+unfolding requested readable
+another_request = refl
+
+another_answer : why_not (responded small has_it (response_of 1 a1_again)) ≡ Some Differs
+unfolding requested responded readable
+another_answer = refl
+
+same_answer_again : why_not (responded small has_it (response_of 1 a1)) ≡ None
+unfolding requested responded readable
+same_answer_again = refl
+
+not_waited_for : why_not (responded small has_it (response_of 2 a1)) ≡ Some NotWaiting
+unfolding requested responded readable
+not_waited_for = refl
+
+no_response : map (λ e. why_not (responded small has_it e)) (response_of 1 (5 ∷ []) ∷ request_of_1 a1 ∷ []) ≡ Some Unreadable ∷ Some Unreadable ∷ []
+unfolding requested responded readable
+no_response = refl
+
+no_request : why_not (requested small has_it (request_of_1 (5 ∷ []))) ≡ Some Unreadable
+unfolding requested responded readable
+no_request = refl
+
+answers_itself : routed_in (requested small has_it (request_of_1 c1)) ≡ Some (Back (2 ∷ 1 ∷ 1 ∷ a1))
+unfolding requested responded readable
+answers_itself = refl
+
+lost_at_a_stop : why_not (responded small empty_table (response_of 1 a1)) ≡ Some NotWaiting
+unfolding responded
+lost_at_a_stop = refl
+
+-- a pharmacy alone: what it refuses to hear
+
+abbrev pub one_open : Journal
+one_open = record { number = 1; settings = record { qualifier = []; provider = 7 ∷ []; nodes = 1 ∷ []; again = 1; tries = 1; cap = 9 }; entries = record { request = c1; state = Waits 0 } ∷ [] }
+
+abbrev pub one_settled : Journal
+one_settled = record { number = 1; settings = record { qualifier = []; provider = 7 ∷ []; nodes = 1 ∷ []; again = 1; tries = 1; cap = 9 }; entries = record { request = c1; state = Has a1 } ∷ [] }
+
+hears : heard small one_open (response_of 1 a1) ≡ Ok one_settled
+unfolding heard
+hears = refl
+
+hears_not : map (λ e. why_not (heard small one_open e)) (answer_envelope (id 2 1) a1 ∷ response_of 5 a1 ∷ response_of 1 (5 ∷ []) ∷ request_of_1 a1 ∷ []) ≡ Some NotMine ∷ Some NoSuchNumber ∷ Some Unreadable ∷ Some Unreadable ∷ []
+unfolding heard
+hears_not = refl
+
+hears_once : map (λ e. why_not (heard small one_settled e)) (response_of 1 a1 ∷ response_of 1 a1_again ∷ []) ≡ Some AlreadySettled ∷ Some Differs ∷ []
+unfolding heard
+hears_once = refl

@@ -1,0 +1,105 @@
+-- The rulings of a new row can be written.
+use Rattle.std.proofs.Common.{◌≡◌, ℕ, ◌+◌, ◌<◌, ◌≤◌, Bool, true, false, ◌&&◌, cond, List, [], ◌∷◌, ◌++◌, length, Option, Some, None, Result, Ok, Err, refl, sym, ap, ◌∙◌, subst, arith, leb-true}
+use Rattle.std.specs.List.{AllByRecursion, list_all}
+use Rattle.std.proofs.lemmas.Bool.{and_parts}
+use Rattle.claim_model.specs.Words.{TxnId, Amounts, Claim, Reversal, Order, Bills, Reverses, Code, Ruling, Paid, Duplicate, Reversed, Rejected, RequestHeader}
+use Rattle.claim_model.specs.Context.{Context}
+use Rattle.claim_model.specs.Laws.{Laws, IsClaimOf, IsOrderOf, IsAuth, IsAmounts, IsRuling, IsPrescription, IsRejects}
+use Rattle.claim_model.specs.Ruled.{Ruled, ruled, ruled_from}
+use Rattle.claim_model.specs.Payments.{Payment, payment_by, payments, is_standing, standing}
+use Rattle.claim_model.specs.Rows.{Row, Book, ruled_row, ruled_rows}
+use Rattle.claim_model.specs.Judgement.{standing_for, only, undone_by, Settled, same_claim, is_for, judged_claim, judged_reversal, judged, next_serial, next_auth, priced, ruling_of, ruling, rulings_from}
+use Rattle.claim_model.specs.Book.{serial_fits}
+use Rattle.claim_model.proofs.Lists.{all_append, all_filter, find_all}
+
+-- what a payment has can be written
+abbrev pub IsWritten : Payment → Type 0
+IsWritten p = IsAuth p.auth × IsAmounts p.amounts
+
+abbrev pub RuledWritten : Ruled → Type 0
+RuledWritten r = IsRuling r.ruling
+
+payment_by_written : (r : Ruled) (later : List Ruled) (order : Result Order (List Code)) (given : Ruling) → IsRuling given → AllByRecursion IsWritten (payment_by r later order given)
+payment_by_written r later (Ok (Bills c)) (Paid auth n m) w = ((w.0, w.2), tt)
+payment_by_written r later (Ok (Bills c)) (Duplicate auth n m) w = tt
+payment_by_written r later (Ok (Bills c)) (Reversed auth n) w = tt
+payment_by_written r later (Ok (Bills c)) (Rejected codes) w = tt
+payment_by_written r later (Ok (Reverses v)) given w = tt
+payment_by_written r later (Err codes) given w = tt
+
+pub payments_written : (rs : List Ruled) → AllByRecursion RuledWritten rs → AllByRecursion IsWritten (payments rs)
+payments_written [] w = tt
+payments_written (r ∷ rs) w = all_append IsWritten _ (payments rs) (payment_by_written r rs r.order r.ruling w.0) (payments_written rs w.1)
+
+standing_written : (rs : List Ruled) → AllByRecursion RuledWritten rs → AllByRecursion IsWritten (standing rs)
+standing_written rs w = all_filter IsWritten is_standing (payments rs) (payments_written rs w)
+
+pub only_all : {A : Type 0} (P : A → Type 0) (xs : List A) (a : A) → AllByRecursion P xs → only xs ≡ Some a → P a
+only_all P [] a all h = absurd cc
+only_all P (x ∷ []) a all h = let e : x ≡ a = cc in subst P e all.0
+only_all P (x ∷ y ∷ more) a all h = absurd cc
+
+-- the book's payer and its next serial make an authorization
+pub record MayPay (b : Book) : Type 0 where
+  pub payer : 0 < b.payer
+  pub payer_fits : b.payer ≤ 9999
+  pub serial : 0 < b.settings.serial
+
+one_code : (code : Code) → IsRejects (code ∷ [])
+one_code code = record { some = omega arith; few = omega arith }
+
+priced_written : (ctx : Context) (h : RequestHeader) (b : Book) (before : List Ruled) (c : Claim) (o : Option Amounts) → MayPay b
+    → IsPrescription c.fill.prescription → ((m : Amounts) → o ≡ Some m → IsAmounts m) → serial_fits (priced (next_auth b before) c o) ≡ true → IsRuling (priced (next_auth b before) c o)
+priced_written ctx h b before c None may n fits s = one_code _
+priced_written ctx h b before c (Some m) may n fits s =
+    let le : next_serial b before ≤ 999999999999 = leb-true _ _ s in
+    (record { payer = may.payer; payer_fits = may.payer_fits; serial = omega (arith, may.serial); serial_fits = le }, n, fits m refl)
+
+judged_claim_written : (ctx : Context) (laws : Laws ctx) (b : Book) (before : List Ruled) (c : Claim) (h : RequestHeader) (o : Option Payment) → MayPay b → IsClaimOf h c
+    → ((p : Payment) → o ≡ Some p → IsWritten p) → serial_fits (ruling_of ctx b before (judged_claim c o)) ≡ true → IsRuling (ruling_of ctx b before (judged_claim c o))
+judged_claim_written ctx laws b before c h None may of_it w s = priced_written ctx h b before c (ctx.price b.plan c) may of_it.prescription (λ m e. laws.prices b.plan h c m of_it e) s
+judged_claim_written ctx laws b before c h (Some p) may of_it w s = go (same_claim p.claim c)
+  where
+    go : (t : Bool) → IsRuling (ruling_of ctx b before (cond t (Settled (Duplicate p.auth c.fill.prescription p.amounts)) (Settled (Rejected (Code.DuplicateClaim ∷ [])))))
+    go true = let q = w p refl in (q.0, of_it.prescription, q.1)
+    go false = one_code _
+
+judged_reversal_written : (ctx : Context) (b : Book) (before : List Ruled) (v : Reversal) (o : Option Payment) → IsPrescription v.prescription
+    → ((p : Payment) → o ≡ Some p → IsWritten p) → IsRuling (ruling_of ctx b before (judged_reversal v o))
+judged_reversal_written ctx b before v None n w = one_code _
+judged_reversal_written ctx b before v (Some p) n w = ((w p refl).0, n)
+
+pub ruling_written : (ctx : Context) (laws : Laws ctx) (b : Book) (before : List Ruled) (h : RequestHeader) (order : Result Order (List Code)) → MayPay b → AllByRecursion RuledWritten before
+    → IsOrderOf h order → serial_fits (ruling ctx b before order) ≡ true → IsRuling (ruling ctx b before order)
+unfolding ruling judged
+ruling_written ctx laws b before h (Err codes) may w o s = o
+ruling_written ctx laws b before h (Ok (Bills c)) may w o s =
+    judged_claim_written ctx laws b before c h (standing_for c.fill before) may o
+    (λ p e. find_all IsWritten _ (standing before) p (standing_written before w) e) s
+ruling_written ctx laws b before h (Ok (Reverses v)) may w o s =
+    judged_reversal_written ctx b before v (undone_by v before) o.prescription
+    (λ p e. only_all IsWritten _ p (all_filter IsWritten (λ (q : Payment). is_for v q.claim) (standing before) (standing_written before w)) e)
+
+pub rulings_written : (ctx : Context) (laws : Laws ctx) (b : Book) (before : List Ruled) (h : RequestHeader) (id : TxnId) (place : ℕ) (orders : List (Result Order (List Code))) → MayPay b
+    → AllByRecursion RuledWritten before → AllByRecursion (IsOrderOf h) orders → list_all serial_fits (rulings_from ctx b before id place orders) ≡ true
+    → AllByRecursion IsRuling (rulings_from ctx b before id place orders)
+rulings_written ctx laws b before h id place [] may w o s = tt
+rulings_written ctx laws b before h id place (order ∷ orders) may w o s =
+    let p = and_parts (serial_fits (ruling ctx b before order)) (list_all serial_fits (rulings_from ctx b (before ++ ruled id place order (ruling ctx b before order) ∷ []) id (place + 1) orders)) s in
+    let r : IsRuling (ruling ctx b before order) = ruling_written ctx laws b before h order may w o.0 p.0 in
+    (r, rulings_written ctx laws b (before ++ ruled id place order (ruling ctx b before order) ∷ []) h id (place + 1) orders may (all_append RuledWritten before _ w (r, tt)) o.1 p.1)
+
+pub length_rulings : (ctx : Context) (b : Book) (before : List Ruled) (id : TxnId) (place : ℕ) (orders : List (Result Order (List Code))) → length (rulings_from ctx b before id place orders) ≡ length orders
+length_rulings ctx b before id place [] = refl
+length_rulings ctx b before id place (order ∷ orders) = ap Rattle.std.proofs.Common.suc (length_rulings ctx b (before ++ ruled id place order (ruling ctx b before order) ∷ []) id (place + 1) orders)
+
+-- rows with rulings that can be written make such a list of rulings
+
+ruled_from_written : (id : TxnId) (place : ℕ) (orders : List (Result Order (List Code))) (rs : List Ruling) → AllByRecursion IsRuling rs → AllByRecursion RuledWritten (ruled_from id place orders rs)
+ruled_from_written id place [] rs w = tt
+ruled_from_written id place (o ∷ os) [] w = tt
+ruled_from_written id place (o ∷ os) (r ∷ rs) w = (w.0, ruled_from_written id (place + 1) os rs w.1)
+
+pub rows_written : (ctx : Context) (rows : List Row) → AllByRecursion (λ (row : Row). AllByRecursion IsRuling row.rulings) rows → AllByRecursion RuledWritten (ruled_rows ctx rows)
+rows_written ctx [] w = tt
+rows_written ctx (row ∷ rows) w = all_append RuledWritten (ruled_row ctx row) (ruled_rows ctx rows) (ruled_from_written row.id 1 (ctx.orders row.request) row.rulings w.0) (rows_written ctx rows w.1)

@@ -1,0 +1,23 @@
+-- How bytes are read and written, which the model takes as it is: every definition and theorem is for any such reading.
+use Rattle.std.specs.Prelude.{ℕ, List, Option, Result}
+use Rattle.claim_model.specs.Words.{RequestHeader, Order, Code, Plan, Claim, Amounts, PlanFault, Status, Ruling, Answer, Envelope, EnvelopeFault}
+
+pub record Context : Type 0 where
+  -- the header of a text that is framed as a request; none where the framing refuses it
+  pub header : List ℕ → Option RequestHeader
+  -- what each group of such a text asks for, in order: a claim or a reversal, or the codes that reject the group
+  pub orders : List ℕ → List (Result Order (List Code))
+  -- the payer of a BIN and a PCN, by the one route table
+  pub route : List ℕ → List ℕ → Option ℕ
+  -- what a plan pays for a claim; none where the product is not on the plan
+  pub price : Plan → Claim → Option Amounts
+  -- the plan with a new price for a product, or without the product
+  pub reprice : Plan → List ℕ → Option ℕ → Result Plan PlanFault
+  -- the text of an answer to a request with this header
+  pub answer : RequestHeader → Status → List Ruling → List ℕ
+  -- the answer that a text spells; none where the text is no answer
+  pub read_answer : List ℕ → Option Answer
+  -- the bytes of an envelope
+  pub envelope : Envelope → List ℕ
+  -- the envelope that bytes are, or what is wrong with them
+  pub read_envelope : List ℕ → Result Envelope EnvelopeFault

@@ -1,0 +1,95 @@
+-- How one group is ruled, over all that was ruled before it.
+use Rattle.std.specs.Prelude.{ℕ, ◌+◌, Bool, true, false, cond, ◌&&◌, ◌==◌, List, [], ◌∷◌, ◌++◌, Option, Some, None, Result, Ok, Err, find, filter, count_by, bytes_eq}
+use Rattle.claim_model.specs.Words.{TxnId, Auth, Amounts, Fill, Claim, Reversal, Order, Bills, Reverses, Code, NotCovered, DuplicateClaim, ReversalNotProcessed, Ruling, Paid, Duplicate, Reversed, Rejected}
+use Rattle.claim_model.specs.Context.{Context}
+use Rattle.claim_model.specs.Ruled.{Ruled, ruled}
+use Rattle.claim_model.specs.Payments.{Payment, standing}
+use Rattle.claim_model.specs.Rows.{Book}
+
+abbrev pub same_fill : Fill → Fill → Bool
+same_fill a b =
+    bytes_eq a.bin b.bin && (bytes_eq a.pcn b.pcn && (bytes_eq a.qualifier b.qualifier && (bytes_eq a.provider b.provider
+    && ((a.prescription == b.prescription) && (a.fill == b.fill)))))
+
+-- two claims of one fill ask for the same: date, cardholder, product, quantity, cost and fee
+abbrev pub same_claim : Claim → Claim → Bool
+same_claim a b =
+    bytes_eq a.date b.date && (bytes_eq a.cardholder b.cardholder && (bytes_eq a.product b.product
+    && ((a.quantity == b.quantity) && ((a.cost == b.cost) && (a.fee == b.fee)))))
+
+abbrev pub is_fill_number : ℕ → Option ℕ → Bool
+is_fill_number fill None = true
+is_fill_number fill (Some n) = n == fill
+
+-- a reversal is for a claim of its BIN, PCN, qualifier, provider, prescription number and date, and of its fill number where it has one
+abbrev pub is_for : Reversal → Claim → Bool
+is_for v c =
+    bytes_eq v.bin c.fill.bin && (bytes_eq v.pcn c.fill.pcn && (bytes_eq v.qualifier c.fill.qualifier && (bytes_eq v.provider c.fill.provider
+    && ((v.prescription == c.fill.prescription) && (bytes_eq v.date c.date && is_fill_number c.fill.fill v.fill)))))
+
+-- the standing payment of a fill
+abbrev pub standing_for : Fill → List Ruled → Option Payment
+standing_for fill before = find (λ p. same_fill fill p.claim.fill) (standing before)
+
+-- the only one, where there is exactly one
+abbrev pub only : {A : Type 0} → List A → Option A
+only [] = None
+only (a ∷ []) = Some a
+only (a ∷ b ∷ more) = None
+
+-- the payment that a reversal undoes: the only standing one that it is for
+abbrev pub undone_by : Reversal → List Ruled → Option Payment
+undone_by v before = only (filter (λ p. is_for v p.claim) (standing before))
+
+-- what is known of a ruling before a plan is asked
+pub data Judged : Type 0 where
+  Settled : Ruling → Judged
+  ToPrice : Claim → Judged
+
+-- a fill with a standing payment: the same claim again gets that payment again, another one is rejected with 83
+abbrev pub judged_claim : Claim → Option Payment → Judged
+judged_claim c None = ToPrice c
+judged_claim c (Some p) = cond (same_claim p.claim c) (Settled (Duplicate p.auth c.fill.prescription p.amounts)) (Settled (Rejected (DuplicateClaim ∷ [])))
+
+-- a reversal that undoes no payment is rejected with 87
+abbrev pub judged_reversal : Reversal → Option Payment → Judged
+judged_reversal v None = Settled (Rejected (ReversalNotProcessed ∷ []))
+judged_reversal v (Some p) = Settled (Reversed p.auth v.prescription)
+
+-- the judgement of an order over what was ruled before it
+unfoldable pub judged : List Ruled → Result Order (List Code) → Judged
+judged before (Err codes) = Settled (Rejected codes)
+judged before (Ok (Bills c)) = judged_claim c (standing_for c.fill before)
+judged before (Ok (Reverses v)) = judged_reversal v (undone_by v before)
+
+abbrev pub is_paid : Ruling → Bool
+is_paid (Paid auth prescription amounts) = true
+is_paid (Duplicate auth prescription amounts) = false
+is_paid (Reversed auth prescription) = false
+is_paid (Rejected codes) = false
+
+-- the serial of the next payment: the settings' serial plus the number of Paid rulings before
+abbrev pub next_serial : Book → List Ruled → ℕ
+next_serial b before = b.settings.serial + count_by (λ (r : Ruled). is_paid r.ruling) before
+
+abbrev pub next_auth : Book → List Ruled → Auth
+next_auth b before = record { payer = b.payer; serial = next_serial b before }
+
+-- a claim whose product is not on the plan is rejected with 70, any other is paid
+abbrev pub priced : Auth → Claim → Option Amounts → Ruling
+priced auth c None = Rejected (NotCovered ∷ [])
+priced auth c (Some amounts) = Paid auth c.fill.prescription amounts
+
+abbrev pub ruling_of : Context → Book → List Ruled → Judged → Ruling
+ruling_of ctx b before (Settled ruling) = ruling
+ruling_of ctx b before (ToPrice c) = priced (next_auth b before) c (ctx.price b.plan c)
+
+-- the ruling of an order over what was ruled before it
+unfoldable pub ruling : Context → Book → List Ruled → Result Order (List Code) → Ruling
+ruling ctx b before order = ruling_of ctx b before (judged before order)
+
+-- the rulings of a request's groups: each over all rows before and the earlier places of its own request
+abbrev pub rulings_from : Context → Book → List Ruled → TxnId → ℕ → List (Result Order (List Code)) → List Ruling
+rulings_from ctx b before id place [] = []
+rulings_from ctx b before id place (order ∷ orders) =
+    let r = ruling ctx b before order in r ∷ rulings_from ctx b (before ++ ruled id place order r ∷ []) id (place + 1) orders

@@ -1,0 +1,21 @@
+-- In the order in which one explains them.
+pub mod Words
+pub mod Context
+pub mod Refusal
+pub mod Readable
+pub mod Laws
+pub mod Ruled
+pub mod Payments
+pub mod Rows
+pub mod Judgement
+pub mod Book
+pub mod Numbered
+pub mod Journal
+pub mod Counted
+pub mod Table
+pub mod Node
+pub mod World
+pub mod Settings
+pub mod Held
+pub mod Promises
+pub mod Bytes

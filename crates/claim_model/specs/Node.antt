@@ -1,0 +1,152 @@
+-- One call on one node, up or at rest.
+use Rattle.std.specs.Prelude.{ℕ, cond, List, [], ◌∷◌, map, Option, Result, Ok, Err}
+use Rattle.claim_model.specs.Words.{TxnId, Envelope, EnvelopeFault, Plan, PlanFault}
+use Rattle.claim_model.specs.Context.{Context}
+use Rattle.claim_model.specs.Readable.{is_request, answer_envelope}
+use Rattle.claim_model.specs.Refusal.{Refusal, NoSuchNode, Down, AlreadyUp, NoEnvelope, NotPriced, Unreadable}
+use Rattle.claim_model.specs.Rows.{Book}
+use Rattle.claim_model.specs.Book.{Answered, answered}
+use Rattle.claim_model.specs.Journal.{Journal, JournalAtRest, Sending, Submitted, submitted, ticked, due, heard, stopped, started}
+use Rattle.claim_model.specs.Table.{Table, Routed, Forward, Back, Requested, requested, Responded, responded}
+
+-- a node by its kind and its number, from 1
+pub data Node : Type 0 where
+  Pharmacy : (number : ℕ) → Node
+  Switch : (number : ℕ) → Node
+  Payer : (number : ℕ) → Node
+
+-- what a node sends
+pub record Sent : Type 0 where
+  pub to : Node
+  pub bytes : List ℕ
+
+-- a call on one node
+pub data Call : Type 0 where
+  Submit : (text : List ℕ) → Call
+  Tick : Call
+  Take : (from : Node) → (bytes : List ℕ) → Call
+  Stop : Call
+  Start : Call
+  Reprice : (product : List ℕ) → (price : Option ℕ) → Call
+
+-- a node is up, or at rest with what it keeps
+pub data Power (A B : Type 0) : Type 0 where
+  Up : A → Power A B
+  AtRest : B → Power A B
+
+-- a call was made, with what the node is then and what it sent; or it was refused, and nothing changed
+pub data Outcome (A : Type 0) : Type 0 where
+  Done : (next : A) → (sent : List Sent) → Outcome A
+  Refused : Refusal → Outcome A
+
+-- pharmacies
+
+abbrev pub to_switch : Sending → Sent
+to_switch s = record { to = Switch s.switch; bytes = s.bytes }
+
+abbrev pub after_submit : Result Submitted Refusal → Outcome (Power Journal JournalAtRest)
+after_submit (Err fault) = Refused fault
+after_submit (Ok s) = Done (Up s.journal) (to_switch s.sent ∷ [])
+
+abbrev pub after_hearing : Result Journal Refusal → Outcome (Power Journal JournalAtRest)
+after_hearing (Err fault) = Refused fault
+after_hearing (Ok j) = Done (Up j) []
+
+abbrev pub pharmacy_takes : Context → Journal → Result Envelope EnvelopeFault → Outcome (Power Journal JournalAtRest)
+pharmacy_takes ctx j (Err fault) = Refused (NoEnvelope fault)
+pharmacy_takes ctx j (Ok e) = after_hearing (heard ctx j e)
+
+abbrev pub pharmacy_up : Context → Journal → Call → Outcome (Power Journal JournalAtRest)
+pharmacy_up ctx j (Submit text) = after_submit (submitted ctx j text)
+pharmacy_up ctx j Tick = Done (Up (ticked j)) (map to_switch (due ctx (ticked j)))
+pharmacy_up ctx j (Take from bytes) = pharmacy_takes ctx j (ctx.read_envelope bytes)
+pharmacy_up ctx j Stop = Done (AtRest (stopped j)) []
+pharmacy_up ctx j Start = Refused AlreadyUp
+pharmacy_up ctx j (Reprice product price) = Refused NoSuchNode
+
+abbrev pub pharmacy_at_rest : JournalAtRest → Call → Outcome (Power Journal JournalAtRest)
+pharmacy_at_rest j (Submit text) = Refused Down
+pharmacy_at_rest j Tick = Refused Down
+pharmacy_at_rest j (Take from bytes) = Refused Down
+pharmacy_at_rest j Stop = Refused Down
+pharmacy_at_rest j Start = Done (Up (started j)) []
+pharmacy_at_rest j (Reprice product price) = Refused NoSuchNode
+
+-- a call on a pharmacy
+abbrev pub pharmacy_step : Context → Power Journal JournalAtRest → Call → Outcome (Power Journal JournalAtRest)
+pharmacy_step ctx (Up j) call = pharmacy_up ctx j call
+pharmacy_step ctx (AtRest j) call = pharmacy_at_rest j call
+
+-- switches, of which only the cap outlives a stop
+
+abbrev pub to_payer_or_back : Node → Routed → Sent
+to_payer_or_back from (Forward payer bytes) = record { to = Payer payer; bytes = bytes }
+to_payer_or_back from (Back bytes) = record { to = from; bytes = bytes }
+
+abbrev pub after_request : TxnId → Result Requested Refusal → Outcome (Power Table ℕ)
+after_request id (Err fault) = Refused fault
+after_request id (Ok r) = Done (Up r.table) (to_payer_or_back (Pharmacy id.pharmacy) r.routed ∷ [])
+
+abbrev pub after_response : TxnId → Result Responded Refusal → Outcome (Power Table ℕ)
+after_response id (Err fault) = Refused fault
+after_response id (Ok r) = Done (Up r.table) (record { to = Pharmacy id.pharmacy; bytes = r.bytes } ∷ [])
+
+abbrev pub switch_takes : Context → Table → Result Envelope EnvelopeFault → Outcome (Power Table ℕ)
+switch_takes ctx t (Err fault) = Refused (NoEnvelope fault)
+switch_takes ctx t (Ok e) = cond (is_request e) (after_request e.id (requested ctx t e)) (after_response e.id (responded ctx t e))
+
+abbrev pub switch_up : Context → Table → Call → Outcome (Power Table ℕ)
+switch_up ctx t (Submit text) = Refused NoSuchNode
+switch_up ctx t Tick = Refused NoSuchNode
+switch_up ctx t (Take from bytes) = switch_takes ctx t (ctx.read_envelope bytes)
+switch_up ctx t Stop = Done (AtRest t.cap) []
+switch_up ctx t Start = Refused AlreadyUp
+switch_up ctx t (Reprice product price) = Refused NoSuchNode
+
+abbrev pub switch_at_rest : ℕ → Call → Outcome (Power Table ℕ)
+switch_at_rest cap (Submit text) = Refused NoSuchNode
+switch_at_rest cap Tick = Refused NoSuchNode
+switch_at_rest cap (Take from bytes) = Refused Down
+switch_at_rest cap Stop = Refused Down
+switch_at_rest cap Start = Done (Up (record { cap = cap; entries = [] })) []
+switch_at_rest cap (Reprice product price) = Refused NoSuchNode
+
+-- a call on a switch
+abbrev pub switch_step : Context → Power Table ℕ → Call → Outcome (Power Table ℕ)
+switch_step ctx (Up t) call = switch_up ctx t call
+switch_step ctx (AtRest cap) call = switch_at_rest cap call
+
+-- payers, whose books are kept whole
+
+abbrev pub after_answer : Context → Node → TxnId → Result Answered Refusal → Outcome (Power Book Book)
+after_answer ctx from id (Err fault) = Refused fault
+after_answer ctx from id (Ok a) = Done (Up a.book) (record { to = from; bytes = ctx.envelope (answer_envelope id a.bytes) } ∷ [])
+
+abbrev pub payer_takes : Context → Book → Node → Result Envelope EnvelopeFault → Outcome (Power Book Book)
+payer_takes ctx b from (Err fault) = Refused (NoEnvelope fault)
+payer_takes ctx b from (Ok e) = cond (is_request e) (after_answer ctx from e.id (answered ctx b e.id e.payload)) (Refused Unreadable)
+
+abbrev pub after_reprice : Book → Result Plan PlanFault → Outcome (Power Book Book)
+after_reprice b (Err fault) = Refused (NotPriced fault)
+after_reprice b (Ok plan) = Done (Up (record { payer = b.payer; settings = b.settings; plan = plan; rows = b.rows })) []
+
+abbrev pub payer_up : Context → Book → Call → Outcome (Power Book Book)
+payer_up ctx b (Submit text) = Refused NoSuchNode
+payer_up ctx b Tick = Refused NoSuchNode
+payer_up ctx b (Take from bytes) = payer_takes ctx b from (ctx.read_envelope bytes)
+payer_up ctx b Stop = Done (AtRest b) []
+payer_up ctx b Start = Refused AlreadyUp
+payer_up ctx b (Reprice product price) = after_reprice b (ctx.reprice b.plan product price)
+
+abbrev pub payer_at_rest : Book → Call → Outcome (Power Book Book)
+payer_at_rest b (Submit text) = Refused NoSuchNode
+payer_at_rest b Tick = Refused NoSuchNode
+payer_at_rest b (Take from bytes) = Refused Down
+payer_at_rest b Stop = Refused Down
+payer_at_rest b Start = Done (Up b) []
+payer_at_rest b (Reprice product price) = Refused Down
+
+-- a call on a payer
+abbrev pub payer_step : Context → Power Book Book → Call → Outcome (Power Book Book)
+payer_step ctx (Up b) call = payer_up ctx b call
+payer_step ctx (AtRest b) call = payer_at_rest b call

@@ -1,0 +1,76 @@
+-- Which requests a payer or a switch takes, where they are routed, and which answers fit them.
+use Rattle.std.specs.Prelude.{ℕ, Bool, true, false, cond, ◌&&◌, ◌||◌, ◌==◌, nat_le, List, [], ◌∷◌, length, replicate, Option, Some, None, bytes_eq, option_and_then}
+use Rattle.claim_model.specs.Words.{TxnId, RequestHeader, Answer, Ruling, Rejected, BadBin, AcceptedStatus, RejectedStatus, Envelope, Request, Response}
+use Rattle.claim_model.specs.Context.{Context}
+
+-- "D0"
+abbrev pub version_d0 : List ℕ
+version_d0 = 68 ∷ 48 ∷ []
+
+-- "B1"
+abbrev pub billing_code : List ℕ
+billing_code = 66 ∷ 49 ∷ []
+
+-- "B2"
+abbrev pub reversal_code : List ℕ
+reversal_code = 66 ∷ 50 ∷ []
+
+abbrev pub has_version : RequestHeader → Bool
+has_version h = bytes_eq h.version version_d0
+
+abbrev pub has_code : RequestHeader → Bool
+has_code h = bytes_eq h.code billing_code || bytes_eq h.code reversal_code
+
+-- no payload of an envelope is longer
+abbrev pub longest : ℕ
+longest = 32768
+
+abbrev pub if_carried : RequestHeader → Option RequestHeader
+if_carried h = cond (has_version h && has_code h) (Some h) None
+
+-- the header of a readable request: framed, of version D0, with code B1 or B2, and at most 32,768 bytes
+unfoldable pub readable : Context → List ℕ → Option RequestHeader
+readable ctx text = cond (nat_le (length text) longest) (option_and_then if_carried (ctx.header text)) None
+
+-- the payer to which a request is routed
+abbrev pub payer_for : Context → RequestHeader → Option ℕ
+payer_for ctx h = ctx.route h.bin h.pcn
+
+abbrev pub is_payer : ℕ → Option ℕ → Bool
+is_payer payer None = false
+is_payer payer (Some p) = p == payer
+
+-- a payer's answer: header status A and the rulings
+abbrev pub answer_text : Context → RequestHeader → List Ruling → List ℕ
+answer_text ctx h rulings = ctx.answer h AcceptedStatus rulings
+
+-- the fixed rejection of a request that has no route: header status R, and code 01 for each transaction
+abbrev pub rejection : Context → RequestHeader → List ℕ
+rejection ctx h = ctx.answer h RejectedStatus (replicate h.count (Rejected (BadBin ∷ [])))
+
+abbrev pub fits : Option RequestHeader → Option Answer → Bool
+fits (Some h) (Some a) = bytes_eq a.header.code h.code && (a.header.count == h.count)
+fits (Some h) None = false
+fits None (Some a) = false
+fits None None = false
+
+-- an answer settles a request where it reads as an answer with the request's code and count
+abbrev pub settles : Context → List ℕ → List ℕ → Bool
+settles ctx request answer = fits (ctx.header request) (ctx.read_answer answer)
+
+-- the rulings of an answer; none where the text is no answer
+abbrev pub rulings_in : Option Answer → List Ruling
+rulings_in None = []
+rulings_in (Some a) = a.rulings
+
+abbrev pub same_id : TxnId → TxnId → Bool
+same_id a b = (a.pharmacy == b.pharmacy) && (a.number == b.number)
+
+abbrev pub request_envelope : TxnId → List ℕ → Envelope
+request_envelope id request = record { kind = Request; id = id; payload = request }
+
+abbrev pub answer_envelope : TxnId → List ℕ → Envelope
+answer_envelope id answer = record { kind = Response; id = id; payload = answer }
+
+abbrev pub is_request : Envelope → Bool
+is_request e = elim e.kind [ Request ↦ true | Response ↦ false ]

@@ -1,0 +1,30 @@
+-- A payer's book, and the list of all that it ruled.
+use Rattle.std.specs.Prelude.{ℕ, List, flat_map}
+use Rattle.claim_model.specs.Words.{TxnId, Ruling, Plan}
+use Rattle.claim_model.specs.Context.{Context}
+use Rattle.claim_model.specs.Ruled.{Ruled, ruled_groups}
+
+-- a decided request: its id, its text, and one ruling for each of its groups
+pub record Row : Type 0 where
+  pub id : TxnId
+  pub request : List ℕ
+  pub rulings : List Ruling
+
+-- the serial of the first payment, and how many rows the book may have
+pub record BookSettings : Type 0 where
+  pub serial : ℕ
+  pub cap : ℕ
+
+-- a book, oldest row first
+pub record Book : Type 0 where
+  pub payer : ℕ
+  pub settings : BookSettings
+  pub plan : Plan
+  pub rows : List Row
+
+abbrev pub ruled_row : Context → Row → List Ruled
+ruled_row ctx row = ruled_groups ctx row.id row.request row.rulings
+
+-- all rulings of some rows, in the order of rows and then of places
+abbrev pub ruled_rows : Context → List Row → List Ruled
+ruled_rows ctx rows = flat_map (ruled_row ctx) rows

@@ -1,0 +1,27 @@
+ghost use Rattle.std.specs.Prelude.{List};
+ghost use Rattle.claim_model.specs.Context.{Context};
+ghost use Rattle.claim_model.specs.Settings.{WorldSettings};
+ghost use Rattle.claim_model.specs.World.{World, Event, run};
+ghost use Rattle.claim_model.specs.Promises.{Reached, RequestsAreSubmitted, AnswersAreDecided, OneAnswer, StaysDecided};
+
+/// Each request for an id, in a packet, a switch's table or a payer's book, is the request of that
+/// number in that pharmacy's journal.
+pub fn requests_are_submitted()
+    ensures { (ctx : Context) (settings : WorldSettings) (w : World) → Reached ctx settings w → RequestsAreSubmitted ctx w }
+{}
+
+/// Each answer for an id, in a packet, a table, a journal or a book, is the answer of that id's row in
+/// the book of the payer to which its request is routed, or the fixed rejection where it has no route.
+pub fn answers_are_decided()
+    ensures { (ctx : Context) (settings : WorldSettings) (w : World) → Reached ctx settings w → AnswersAreDecided ctx w }
+{}
+
+/// No two nodes hold different answers to one numbered transaction, now or after any further events.
+pub fn one_answer()
+    ensures { (ctx : Context) (settings : WorldSettings) (w : World) (events : List Event) → Reached ctx settings w → OneAnswer ctx w (run ctx w events) }
+{}
+
+/// What a journal or a book had decided stays decided, whatever events come.
+pub fn decisions_stay()
+    ensures { (ctx : Context) (w : World) (events : List Event) → StaysDecided w (run ctx w events) }
+{}

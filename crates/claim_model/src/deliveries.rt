@@ -1,0 +1,10 @@
+ghost use Rattle.claim_model.specs.Context.{Context};
+ghost use Rattle.claim_model.specs.Settings.{WorldSettings};
+ghost use Rattle.claim_model.specs.World.{World};
+ghost use Rattle.claim_model.specs.Promises.{Reached, DeliveriesMeet};
+
+/// A delivery is refused only because the packet was never sent or the node is down, because the switch
+/// does not wait for the answer or the pharmacy has it, or because the book or its serials are used up.
+pub fn deliveries_meet_few_refusals()
+    ensures { (ctx : Context) (settings : WorldSettings) (w : World) → Reached ctx settings w → DeliveriesMeet ctx w }
+{}

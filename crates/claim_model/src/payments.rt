@@ -1,0 +1,20 @@
+ghost use Rattle.claim_model.specs.Context.{Context};
+ghost use Rattle.claim_model.specs.Settings.{WorldSettings};
+ghost use Rattle.claim_model.specs.World.{World};
+ghost use Rattle.claim_model.specs.Promises.{Reached, OneStandingPayment, ReversedByOwner, CountedPaymentsStand};
+
+/// No fill has two standing payments, over all books together.
+pub fn one_standing_payment()
+    ensures { (ctx : Context) (settings : WorldSettings) (w : World) → Reached ctx settings w → OneStandingPayment ctx w }
+{}
+
+/// Each Reversed ruling came from the pharmacy whose provider identity the payment has.
+pub fn reversed_by_owner()
+    ensures { (ctx : Context) (settings : WorldSettings) (w : World) → Reached ctx settings w → ReversedByOwner ctx w }
+{}
+
+/// Each payment that a pharmacy counts stands in the book of its payer with the same fill and amounts, or
+/// was reversed there by a reversal that this pharmacy asked for and still holds open.
+pub fn counted_payments_stand()
+    ensures { (ctx : Context) (settings : WorldSettings) (w : World) → Reached ctx settings w → CountedPaymentsStand ctx w }
+{}
