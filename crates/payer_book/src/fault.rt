@@ -1,0 +1,47 @@
+//! What a book refuses, by name.
+
+use std::alloc::{AllocError, AllocFailed};
+use thiserror::Error;
+
+/// Why a book gave no answer. The book is as it was before the call.
+#[derive(Clone, Copy, Debug, PartialEq, Eq, Error)]
+pub enum BookFault {
+    /// Memory was refused.
+    #[error("out of memory")]
+    OutOfMemory,
+    /// The request is longer than 32,768 bytes, is no transmission of version `D0`, or is neither a billing (B1) nor a reversal (B2).
+    #[error("the request is unreadable")]
+    Unreadable,
+    /// The request's BIN and processor control number lead to another payer, or to none.
+    #[error("the request is for another payer")]
+    NotOurs,
+    /// The number stands in the book with another request.
+    #[error("the number was used for another request")]
+    NumberReused,
+    /// The number is new and the book has as many rows as its settings allow.
+    #[error("the book is full")]
+    BookFull,
+    /// A place of the request would be paid, and no serial number is left.
+    #[error("the serial numbers are used up")]
+    SerialsUsedUp,
+}
+
+impl From<AllocError> for BookFault {
+    fn from(_refused: AllocError) -> BookFault {
+        BookFault::OutOfMemory
+    }
+}
+
+impl<T: Drop> From<AllocFailed<T>> for BookFault {
+    fn from(_refused: AllocFailed<T>) -> BookFault {
+        BookFault::OutOfMemory
+    }
+}
+
+/// Why settings were refused.
+#[derive(Clone, Copy, Debug, PartialEq, Eq, Error)]
+pub enum SettingFault {
+    /// A number lies outside its range.
+    #[error("a setting is out of its range")]
+    BadSetting,
+}

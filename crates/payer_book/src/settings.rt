@@ -1,0 +1,36 @@
+//! What a book is opened with, beside its payer and its plan.
+
+use crate::fault::SettingFault;
+
+/// The largest serial number of an authorization, in twelve digits (own).
+pub const LAST_SERIAL: u64 = 999_999_999_999;
+/// The most rows that a book's settings may allow (own).
+pub const MOST_ROWS: u32 = 65_536;
+
+/// The first serial number and the most rows of a book (own).
+#[derive(Clone, Copy, Debug, PartialEq, Eq)]
+pub struct BookSettings {
+    serial: u64,
+    cap: u32,
+}
+
+impl BookSettings {
+    /// Settings of a book whose first payment has the serial number `serial`, 1 to 999,999,999,999,
+    /// and which holds at most `cap` rows, 1 to 65,536. Other numbers are `BadSetting`.
+    pub fn new(serial: u64, cap: u32) -> Result<BookSettings, SettingFault> {
+        if serial == 0 || serial > LAST_SERIAL || cap == 0 || cap > MOST_ROWS {
+            return Err(SettingFault::BadSetting);
+        }
+        Ok(BookSettings { serial, cap })
+    }
+
+    /// The serial number of the first payment.
+    pub fn serial(&self) -> u64 {
+        self.serial
+    }
+
+    /// The most rows.
+    pub fn cap(&self) -> u32 {
+        self.cap
+    }
+}
