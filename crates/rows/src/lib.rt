@@ -1,0 +1,9 @@
+//! Tests that cross crates: whole requests and whole answers, named by what they show.
+#![tactic(auto)]
+
+#[cfg(test)]
+mod book;
+#[cfg(test)]
+mod program;
+#[cfg(test)]
+mod vectors;

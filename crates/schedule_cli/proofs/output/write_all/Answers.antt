@@ -1,0 +1,14 @@
+use Rattle.std.proofs.Common.{◌≡◌, ◌+◌, ◌≤◌, ◌++◌, List, ℕ, take, drop, length, arith, sym, ◌∙◌, ap, subst}
+use Rattle.std.proofs.lemmas.Grind.{common_steps}
+use Rattle.std.specs.Io.KnownBytes.{Appends}
+use Rattle.schedule_cli.proofs.KnownOutput.{Appends-append, Appends-keeps, take-next}
+use Rattle.schedule_cli.proofs.output.write_all.Goals as goal
+
+pub loop-written-preserved : goal.loop-written-preserved
+loop-written-preserved g c = record {
+  within = grind (arith, common_steps);
+  front =
+      let all = Appends-append _ _ _ _ _ c.loop-written.invariant.front c.in-Ok.ensures.bytes in
+      let e = take-next c.loop-written.written c.in-Ok.count c.args.bytes.now (grind (arith, common_steps)) in
+      rw e at all;
+}

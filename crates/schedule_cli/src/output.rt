@@ -1,0 +1,34 @@
+//! Writing a finished output.
+
+ghost use Rattle.std.specs.Prelude.{◌≡◌, ℕ, take, IfErr, OnOk, OnErr};
+ghost use Rattle.std.specs.Io.KnownBytes.{Appends};
+
+use crate::fault::ProgramFault;
+use crate::sink::Sink;
+
+/// Writes all of the bytes, in as many calls as the sink wants.
+///
+/// # Errors
+/// `Write` where a call failed or took nothing; what was written until then is a beginning of the bytes.
+pub(crate) fn write_all<K: Sink>(sink: &mut K, bytes: &[u8]) -> Result<(), ProgramFault>
+    ensures all { OnOk result (Appends (K.contents sink.old) (K.contents sink.new) bytes.now) }
+    ensures front { OnErr result ((count : ℕ) × Appends (K.contents sink.old) (K.contents sink.new) (take count bytes.now)) }
+    ensures faults { IfErr result (λ fault. fault ≡ ProgramFault.Write) }
+{
+    let mut written = 0;
+    while written < bytes.len() {
+        let rest = &bytes[written..];
+        let count = match sink.write(rest) {
+            Ok(count) => count,
+            Err(_) => return Err(ProgramFault::Write),
+        };
+        if count == 0 {
+            return Err(ProgramFault::Write);
+        }
+        written += count;
+    }
+    match sink.flush() {
+        Ok(()) => Ok(()),
+        Err(_) => Err(ProgramFault::Write),
+    }
+}
