@@ -2,3 +2,4 @@ mod Places
 mod Reading
 mod RoundTrip
 mod Splitting
+mod Runs

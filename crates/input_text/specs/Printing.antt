@@ -1,10 +1,14 @@
 -- Bytes spelled in printable characters, both ways.
-use Rattle.std.specs.Prelude.{ℕ, zero, suc, ◌+◌, ◌*◌, ◌-◌, ◌/◌, ◌%◌, List, [], ◌∷◌, Bool, ◌&&◌, ◌==◌, nat_le, nat_lt, Option, Some, None, Result, Ok, Err, if◌then◌else◌}
+use Rattle.std.specs.Prelude.{ℕ, zero, suc, ◌+◌, ◌*◌, ◌-◌, ◌/◌, ◌%◌, List, [], ◌∷◌, Bool, not, ◌&&◌, ◌==◌, nat_le, nat_lt, Option, Some, None, Result, Ok, Err, if◌then◌else◌}
 use Rattle.std.specs.List.{flat_map}
 
 -- the byte is a printable character of ASCII
 abbrev pub is_printable : ℕ → Bool
 is_printable byte = nat_le 32 byte && nat_le byte 126
+
+-- the byte is written as it is: it is printable, and not the backslash
+abbrev pub stands_for_itself : ℕ → Bool
+stands_for_itself byte = is_printable byte && not (byte == 92)
 
 -- the lower-case hexadecimal digit of a number below 16
 abbrev pub hex_digit : ℕ → ℕ

@@ -1,6 +1,7 @@
 ghost use Rattle.std.specs.Prelude.{◌≡◌, ◌++◌, ◌<◌, length, take, OnOk, OnErr};
 ghost use Rattle.input_text.specs.Printing.{hex_digit, printed, printed_byte};
 
+use crate::search::plain_run;
 use std::alloc::AllocError;
 
 /// Appends bytes spelled in printable characters.
@@ -24,8 +25,16 @@ fn put_all(out: &mut Vec<u8>, bytes: &[u8]) -> Result<(), AllocError>
     ensures err { OnErr result (take (length out.old.items) out.new.items ≡ out.old.items) }
 {
     out.reserve(bytes.len())?;
-    for byte in bytes {
-        put_byte(out, *byte)?;
+    let mut place = 0;
+    while place < bytes.len() {
+        let run = plain_run(&bytes[place..]);
+        if run > 0 {
+            out.extend_from_slice(&bytes[place..place + run])?;
+            place += run;
+        } else {
+            put_byte(out, bytes[place])?;
+            place += 1;
+        }
     }
     Ok(())
 }

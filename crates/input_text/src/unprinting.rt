@@ -3,6 +3,7 @@ ghost use Rattle.input_text.specs.declared.unprinting.PrintedFault.TheVariants.{
 ghost use Rattle.input_text.specs.Printing.{escaped, first_spelling, hex_value, printed, spelling_behind_x, unprinted};
 ghost use Rattle.input_text.specs.Unprinting.{FailsFor};
 
+use crate::search::plain_run;
 use std::alloc::{AllocError, AllocFailed, Global};
 use thiserror::Error;
 
@@ -42,6 +43,12 @@ pub fn unprint(alloc: Global, text: &[u8]) -> Result<Vec<u8>, PrintedFault>
     let mut bytes = Vec::with_capacity(alloc, text.len())?;
     let mut place = 0;
     while place < text.len() {
+        let run = plain_run(&text[place..]);
+        if run > 0 {
+            bytes.extend_from_slice(&text[place..place + run])?;
+            place += run;
+            continue;
+        }
         match first_spelling(&text[place..]) {
             Some((byte, size)) => {
                 bytes.push(byte)?;
