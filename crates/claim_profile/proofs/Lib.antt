@@ -9,3 +9,13 @@ pub mod AnswerCounting
 pub mod CodeCounting
 pub mod RulingLemmas
 pub mod RulingList
+pub mod ReadableLemmas
+pub mod PaddedNumbers
+pub mod PlainTexts
+pub mod WrittenGroups
+pub mod WrittenAnswers
+pub mod CarriedHeaders
+pub mod BuildingTexts
+pub mod BuiltFrames
+pub mod BuiltOrders
+pub mod BuiltLengths

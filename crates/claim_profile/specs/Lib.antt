@@ -7,8 +7,11 @@ pub mod Money
 pub mod Reject
 pub mod Comparing
 pub mod Order
+pub mod Readable
 pub mod OrderSeen
 pub mod Answer
 pub mod AnswerTally
 pub mod Ruling
 pub mod RulingSeen
+pub mod Answering
+pub mod Building

@@ -1,10 +1,13 @@
-//! Writing billings and reversals.
+//! Billings and reversals of one transaction, from their parts.
 
-ghost use Rattle.std.specs.Prelude.{◌≡◌};
+ghost use Rattle.std.specs.Prelude.{◌≡◌, Some, None, IfOk, IfErr, IfSome};
 ghost use Rattle.claim_profile.specs.declared.building.BuildFault.TheVariants.{OutOfMemory};
+ghost use Rattle.claim_profile.specs.Building.{billing_said, reversal_said, billing_text, reversal_text, is_billing_too_long, is_reversal_too_long, is_fill_too_long, has_separator, billing_fault, reversal_fault, told};
 
+use crate::building_writing::{write_billing, write_reversal};
 use d0_header::RequestHeader;
-use overpunch::{Amount, write_number};
+use d0_segments::{FIELD_SEPARATOR, GROUP_SEPARATOR, SEGMENT_SEPARATOR};
+use overpunch::Amount;
 use std::alloc::{AllocError, Global};
 use thiserror::Error;
 
@@ -65,106 +68,117 @@ pub struct ReversalParts<'a> {
     pub product: &'a [u8],
 }
 
-/// The longest text of a billing.
-const LONGEST: usize = 56 + 6 + 23 + 1 + 6 + 4 + 15 + 5 + 5 + 22 + 13 + 6 + 11 + 11;
+/// The most bytes of a cardholder ID (own).
+const CARDHOLDER_LIMIT: usize = 20;
 
-/// The largest prescription number, of twelve digits.
-const PRESCRIPTIONS: u64 = 1_000_000_000_000;
+/// The most bytes of a product (own).
+const PRODUCT_LIMIT: usize = 19;
+
+/// The first prescription number of more than twelve digits.
+const PRESCRIPTION_END: u64 = 1_000_000_000_000;
 
 /// The first fill number of more than two digits.
-const FILLS: u8 = 100;
+const FILL_END: u8 = 100;
 
 /// The first quantity of more than ten digits.
-const QUANTITIES: u64 = 10_000_000_000;
+const QUANTITY_END: u64 = 10_000_000_000;
 
 /// Writes a billing of one transaction: the insurance segment, and a group of the claim segment and
 /// the pricing segment.
-pub fn billing(alloc: Global, parts: &BillingParts<'_>) -> Result<Vec<u8>, BuildFault> {
-    if parts.cardholder.len() > 20
-        || parts.prescription >= PRESCRIPTIONS
-        || parts.fill >= FILLS
-        || parts.product.len() > 19
-        || parts.quantity >= QUANTITIES
-    {
-        return Err(BuildFault::FieldTooLong);
+///
+/// # Errors
+/// `FieldTooLong` where a part is longer than its field, else `Separator` where one stands in the
+/// cardholder or the product; only parts without either fault need memory.
+pub fn billing(alloc: Global, parts: &BillingParts<'_>) -> Result<Vec<u8>, BuildFault>
+    ensures text { IfOk result (λ v. v.items ≡ billing_text (billing_said parts.now)) }
+    ensures sound { IfOk result (λ v. billing_fault (billing_said parts.now) ≡ None) }
+    ensures fault { IfErr result (λ e. billing_fault (billing_said parts.now) ≡ told e) }
+{
+    match fault_of_billing(parts) {
+        Some(fault) => Err(fault),
+        None => Ok(write_billing(alloc, parts)?),
     }
-    if has_separator(parts.cardholder) || has_separator(parts.product) {
-        return Err(BuildFault::Separator);
-    }
-    Ok(billing_text(alloc, parts)?)
 }
 
 /// Writes a reversal of one transaction: a group of the claim segment.
-pub fn reversal(alloc: Global, parts: &ReversalParts<'_>) -> Result<Vec<u8>, BuildFault> {
-    let fill = parts.fill.unwrap_or(0);
-    if parts.prescription >= PRESCRIPTIONS || fill >= FILLS || parts.product.len() > 19 {
-        return Err(BuildFault::FieldTooLong);
+///
+/// # Errors
+/// `FieldTooLong` where a part is longer than its field, else `Separator` where one stands in the
+/// product; only parts without either fault need memory.
+pub fn reversal(alloc: Global, parts: &ReversalParts<'_>) -> Result<Vec<u8>, BuildFault>
+    ensures text { IfOk result (λ v. v.items ≡ reversal_text (reversal_said parts.now)) }
+    ensures sound { IfOk result (λ v. reversal_fault (reversal_said parts.now) ≡ None) }
+    ensures fault { IfErr result (λ e. reversal_fault (reversal_said parts.now) ≡ told e) }
+{
+    match fault_of_reversal(parts) {
+        Some(fault) => Err(fault),
+        None => Ok(write_reversal(alloc, parts)?),
+    }
+}
+
+// What is wrong with the parts of a billing.
+#[tactic(auto, unfolding(crate::specs::Building::billing_fault))]
+fn fault_of_billing(parts: &BillingParts<'_>) -> Option<BuildFault>
+    ensures value { result ≡ billing_fault (billing_said parts.now) }
+    ensures named { IfSome result (λ e. told e ≡ Some e) }
+{
+    if is_billing_too_long(parts) {
+        return Some(BuildFault::FieldTooLong);
+    }
+    if has_separator(parts.cardholder) || has_separator(parts.product) {
+        return Some(BuildFault::Separator);
+    }
+    None
+}
+
+// What is wrong with the parts of a reversal.
+#[tactic(auto, unfolding(crate::specs::Building::reversal_fault))]
+fn fault_of_reversal(parts: &ReversalParts<'_>) -> Option<BuildFault>
+    ensures value { result ≡ reversal_fault (reversal_said parts.now) }
+    ensures named { IfSome result (λ e. told e ≡ Some e) }
+{
+    if is_reversal_too_long(parts) {
+        return Some(BuildFault::FieldTooLong);
     }
     if has_separator(parts.product) {
-        return Err(BuildFault::Separator);
+        return Some(BuildFault::Separator);
     }
-    Ok(reversal_text(alloc, parts)?)
+    None
 }
 
-fn billing_text(alloc: Global, parts: &BillingParts<'_>) -> Result<Vec<u8>, AllocError> {
-    let mut text = Vec::with_capacity(alloc, LONGEST)?;
-    text.extend_from_slice(&parts.header.to_bytes())?;
-    text.extend_from_slice(b"\x1e\x1cAM04\x1cC2")?;
-    text.extend_from_slice(parts.cardholder)?;
-    put_claim(
-        &mut text,
-        parts.prescription,
-        Some(parts.fill),
-        parts.product,
-    )?;
-    text.extend_from_slice(b"\x1cE7")?;
-    put_number(&mut text, parts.quantity)?;
-    text.extend_from_slice(b"\x1e\x1cAM11\x1cD9")?;
-    put_amount(&mut text, parts.cost)?;
-    text.extend_from_slice(b"\x1cDC")?;
-    put_amount(&mut text, parts.fee)?;
-    Ok(text)
+// Whether a part of a billing is longer than its field.
+fn is_billing_too_long(parts: &BillingParts<'_>) -> bool
+    ensures { result ≡ is_billing_too_long (billing_said parts.now) }
+{
+    parts.cardholder.len() > CARDHOLDER_LIMIT
+        || parts.prescription >= PRESCRIPTION_END
+        || parts.fill >= FILL_END
+        || parts.product.len() > PRODUCT_LIMIT
+        || parts.quantity >= QUANTITY_END
 }
 
-fn reversal_text(alloc: Global, parts: &ReversalParts<'_>) -> Result<Vec<u8>, AllocError> {
-    let mut text = Vec::with_capacity(alloc, LONGEST)?;
-    text.extend_from_slice(&parts.header.to_bytes())?;
-    put_claim(&mut text, parts.prescription, parts.fill, parts.product)?;
-    Ok(text)
+// Whether a part of a reversal is longer than its field.
+fn is_reversal_too_long(parts: &ReversalParts<'_>) -> bool
+    ensures { result ≡ is_reversal_too_long (reversal_said parts.now) }
+{
+    parts.prescription >= PRESCRIPTION_END
+        || is_fill_too_long(parts.fill)
+        || parts.product.len() > PRODUCT_LIMIT
 }
 
-// Appends the group separator and the claim segment (AM07), up to the product.
-fn put_claim(
-    text: &mut Vec<u8>,
-    prescription: u64,
-    fill: Option<u8>,
-    product: &[u8],
-) -> Result<(), AllocError> {
-    text.extend_from_slice(b"\x1d\x1e\x1cAM07\x1cEM1\x1cD2")?;
-    put_number(text, prescription)?;
-    if let Some(fill) = fill {
-        text.extend_from_slice(b"\x1cD3")?;
-        put_number(text, u64::from(fill))?;
+// Whether a fill number, where there is one, has more than two digits.
+fn is_fill_too_long(fill: Option<u8>) -> bool
+    ensures { result ≡ is_fill_too_long fill }
+{
+    match fill {
+        Some(fill) => fill >= FILL_END,
+        None => false,
     }
-    text.extend_from_slice(b"\x1cE103\x1cD7")?;
-    text.extend_from_slice(product)
 }
 
-// Appends a number in its shortest text.
-fn put_number(text: &mut Vec<u8>, number: u64) -> Result<(), AllocError> {
-    let mut digits = [0; 20];
-    let len = write_number(number, &mut digits);
-    text.extend_from_slice(&digits[..len])
-}
-
-// Appends an amount in its shortest text.
-fn put_amount(text: &mut Vec<u8>, amount: Amount) -> Result<(), AllocError> {
-    let mut digits = [0; 8];
-    let len = amount.write(&mut digits);
-    text.extend_from_slice(&digits[..len])
-}
-
-// Whether a field separator, group separator or segment separator stands in these bytes.
-fn has_separator(bytes: &[u8]) -> bool {
-    bytes.iter().any(|byte| matches!(*byte, 0x1c..=0x1e))
+// Whether a separator stands in these bytes.
+fn has_separator(bytes: &[u8]) -> bool
+    ensures { result ≡ has_separator bytes.now }
+{
+    bytes.iter().any(|byte| matches!(*byte, FIELD_SEPARATOR | GROUP_SEPARATOR | SEGMENT_SEPARATOR))
 }

@@ -7,12 +7,16 @@ mod answer_values;
 mod answer_writing;
 mod authorization;
 mod building;
+mod building_laws;
+mod building_writing;
 mod found;
+mod laws;
 mod order;
 mod order_fields;
 mod order_reading;
 mod order_values;
 mod paid;
+mod readable;
 mod reject;
 mod ruling;
 mod texts;
@@ -22,13 +26,30 @@ pub use answer_reading::{Answer, AnswerFault, read_answer};
 pub use answer_writing::write_answer;
 pub use authorization::Auth;
 pub use building::{BillingParts, BuildFault, ReversalParts, billing, reversal};
+pub use building_laws::{billing_laws, reversal_laws};
+pub use laws::{answer_laws, readable_laws, unrouted_laws};
 pub use order::{Claim, Fill, Order, Reversal};
 pub use order_reading::{OrderFault, read_order};
 pub use overpunch::{Amount, AmountFault, NumberFault, read_number};
 pub use paid::Amounts;
+pub use readable::{LONGEST_REQUEST, RequestFault, read_readable};
 pub use reject::{Code, Rejects};
 pub use ruling::{HeaderStatus, Ruling};
 pub use texts::Text;
 
+#[cfg(test)]
+mod answer_law_tests;
+#[cfg(test)]
+mod answer_table_tests;
+#[cfg(test)]
+mod answer_writing_tests;
+#[cfg(test)]
+mod building_tests;
+#[cfg(test)]
+mod order_table_tests;
+#[cfg(test)]
+mod reversal_table_tests;
+#[cfg(test)]
+mod tables;
 #[cfg(test)]
 mod tests;
