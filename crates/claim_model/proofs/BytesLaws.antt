@@ -21,6 +21,7 @@ use Rattle.claim_profile.specs.declared.reject.Code.TheVariants as code
 use Rattle.claim_profile.specs.Reject.{held, first_five_held}
 use Rattle.claim_profile.specs.Fields.{values_in, texts_in, required, optional}
 use Rattle.claim_profile.specs.Order.{number_up_to, not_negative, amount_in_cents, the_text, prescription_in, claim_fields, reversal_fields, claim_of, claim_codes, reversal_of, reversal_codes, or_rejected, claim_order, reversal_order, order_of}
+use Rattle.claim_profile.specs.Readable.{readable_header}
 use Rattle.plan_rules.specs.Prices.{price_of}
 use Rattle.plan_rules.specs.Pricing.{amounts_at, paid, worth}
 use Rattle.claim_model.specs.Words.{Amounts, Claim, Reversal, Bills, Reverses, Code, RequestHeader, Kind, Envelope, Plan}
@@ -96,7 +97,7 @@ read_as routes text h e =
     let m = map_some (λ (t : TransmissionParts RequestHeader). t.header) (transmission_of request_kind text) h (readable_parts (bytes_with routes) text h e).1 in
     record { parts = m.0; spells = m.1; header = m.2 }
 
-groups_counted : (routes : RouteMaps) (text : List ℕ) (h : RequestHeader) → readable (bytes_with routes) text ≡ Some h → length ((bytes_with routes).orders text) ≡ h.count
+pub groups_counted : (routes : RouteMaps) (text : List ℕ) (h : RequestHeader) → readable (bytes_with routes) text ≡ Some h → length ((bytes_with routes).orders text) ≡ h.count
 groups_counted routes text h e =
     let r = read_as routes text h e in
     ap (λ (o : Option (TransmissionParts RequestHeader)). length (orders_in o)) r.spells
@@ -253,7 +254,7 @@ readable_code : (ctx : Context) (text : List ℕ) (h : RequestHeader) → readab
 unfolding readable
 readable_code ctx text h e = carried_code (ctx.header text) h (if_short_parts (Rattle.std.specs.Prelude.nat_le (length text) longest) (option_and_then if_carried (ctx.header text)) h e).1
 
-orders_are : NumbersInRange → AmountsInRange → (routes : RouteMaps) (text : List ℕ) (h : RequestHeader) → readable (bytes_with routes) text ≡ Some h → AllByRecursion (IsOrderOf h) ((bytes_with routes).orders text)
+pub orders_are : NumbersInRange → AmountsInRange → (routes : RouteMaps) (text : List ℕ) (h : RequestHeader) → readable (bytes_with routes) text ≡ Some h → AllByRecursion (IsOrderOf h) ((bytes_with routes).orders text)
 orders_are numbers amounts routes text h e =
     let r = read_as routes text h e in
     let code : has_code h ≡ true = readable_code (bytes_with routes) text h e in
@@ -268,7 +269,7 @@ amounts_fit : (fee plan_fee cost worth' copay : ℕ) → fee ≤ 99999999
     (c ≤ 99999999) × (f ≤ 99999999) × (p ≤ 99999999) × (c + f - p ≤ 99999999) × (c + f - p + p ≡ c + f)
 amounts_fit fee plan_fee cost worth' copay h = (omega arith, omega arith, omega arith, omega arith, omega arith)
 
-prices_fit : (plan : Plan) (h : RequestHeader) (c : Claim) (amounts : Amounts) → IsClaimOf h c → paid plan c ≡ Some amounts → IsAmounts amounts
+pub prices_fit : (plan : Plan) (h : RequestHeader) (c : Claim) (amounts : Amounts) → IsClaimOf h c → paid plan c ≡ Some amounts → IsAmounts amounts
 prices_fit plan h c amounts of_it e =
     let p = map_some (amounts_at plan c) (price_of plan.prices c.product) amounts e in
     let f = amounts_fit c.fee plan.fee c.cost (worth c.quantity p.0) plan.copay of_it.fee in
@@ -283,3 +284,7 @@ bytes_laws envelopes numbers amounts routes answers =
       prices = prices_fit;
       answers = answers;
     }
+
+pub readable_alike : (routes : RouteMaps) (text : List ℕ) → readable (bytes_with routes) text ≡ readable_header text
+unfolding readable readable_header
+readable_alike routes text = refl

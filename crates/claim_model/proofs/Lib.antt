@@ -26,3 +26,5 @@ pub mod Posts
 pub mod Deliverable
 mod Premises
 pub mod BytesLaws
+pub mod AnswersBack
+pub mod Tabled

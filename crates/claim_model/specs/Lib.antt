@@ -19,3 +19,4 @@ pub mod Settings
 pub mod Held
 pub mod Promises
 pub mod Bytes
+pub mod InFlight

@@ -1,22 +1,28 @@
-ghost use Rattle.std.specs.Prelude.{◌≡◌, ◌<◌, ◌≤◌, ℕ, List, None, Some};
+ghost use Rattle.std.specs.Prelude.{◌≡◌, ◌<◌, ◌≤◌, ℕ, List, length, None, Some};
 ghost use Rattle.bin_routes.specs.Row.{Row};
 ghost use Rattle.bin_routes.specs.Fault.{first_fault};
 ghost use Rattle.bin_routes.specs.Table.{RouteMaps, routes_of};
-ghost use Rattle.claim_model.specs.Laws.{AnswersReadBack, Laws};
+ghost use Rattle.std.specs.List.{AllByRecursion};
+ghost use Rattle.claim_profile.specs.Readable.{readable_header};
+ghost use Rattle.claim_model.specs.Words.{RequestHeader, Plan, Claim, Amounts};
+ghost use Rattle.claim_model.specs.Readable.{readable};
+ghost use Rattle.claim_model.specs.Laws.{Laws, IsOrderOf, IsClaimOf, IsAmounts};
 ghost use Rattle.claim_model.specs.Bytes.{bytes_with};
 
 use bin_routes::route_laws;
+use claim_profile::{answer_laws, readable_laws};
 use envelope::envelope_reads_back;
 use overpunch::{amount_in_range, number_in_range};
 
-/// The crates below read and write bytes as the theorems ask for, where the answers that they write
-/// read back.
+/// The crates below read and write bytes as the theorems ask for.
 pub fn bytes_keep_laws()
-    ensures { (routes : RouteMaps) → AnswersReadBack (bytes_with routes) → Laws (bytes_with routes) }
+    ensures { (routes : RouteMaps) → Laws (bytes_with routes) }
 {
     envelope_reads_back();
     number_in_range();
     amount_in_range();
+    answer_laws();
+    readable_laws();
 }
 
 /// Rows without a fault lead to payers that are there.
@@ -24,4 +30,20 @@ pub fn routes_lead_to_payers()
     ensures { (payers : ℕ) (rows : List Row) (bin pcn : List ℕ) (payer : ℕ) → first_fault payers rows ≡ None → (bytes_with (routes_of rows)).route bin pcn ≡ Some payer → (0 < payer) × (payer ≤ payers) }
 {
     route_laws();
+}
+
+/// The requests that the model takes are those that the reader of the profile takes.
+pub fn readable_requests()
+    ensures { (routes : RouteMaps) (text : List ℕ) → readable (bytes_with routes) text ≡ readable_header text }
+{}
+
+/// What a readable request asks for: an order of its header, or one to five reject codes, for each of its
+/// transactions; and what a plan pays for such a claim can be written.
+pub fn orders_of_requests()
+    ensures groups { (routes : RouteMaps) (text : List ℕ) (h : RequestHeader) → readable (bytes_with routes) text ≡ Some h → length ((bytes_with routes).orders text) ≡ h.count }
+    ensures orders { (routes : RouteMaps) (text : List ℕ) (h : RequestHeader) → readable (bytes_with routes) text ≡ Some h → AllByRecursion (IsOrderOf h) ((bytes_with routes).orders text) }
+    ensures prices { (routes : RouteMaps) (plan : Plan) (h : RequestHeader) (c : Claim) (amounts : Amounts) → IsClaimOf h c → (bytes_with routes).price plan c ≡ Some amounts → IsAmounts amounts }
+{
+    number_in_range();
+    amount_in_range();
 }

@@ -7,8 +7,10 @@ mod answers;
 mod bytes;
 mod deliveries;
 mod payments;
+mod tables;
 
 pub use answers::{answers_are_decided, decisions_stay, one_answer, requests_are_submitted};
-pub use bytes::{bytes_keep_laws, routes_lead_to_payers};
+pub use bytes::{bytes_keep_laws, orders_of_requests, readable_requests, routes_lead_to_payers};
 pub use deliveries::deliveries_meet_few_refusals;
 pub use payments::{counted_payments_stand, one_standing_payment, reversed_by_owner};
+pub use tables::tables_keep_their_cap;
