@@ -1,23 +1,25 @@
 //! Answering a request: the kept answer of a known number, or a new row.
 
-ghost use Rattle.std.specs.Prelude.{◌↔◌, IsTrue};
-ghost use Rattle.claim_profile.specs.Answer.{AreWritable, IsWritable};
+ghost use Rattle.std.specs.Prelude.{◌≡◌, true, false, bytes_eq, OnErr, IfOk, IfErr, Ok, Err, Some, None};
+ghost use Rattle.d0_segments.specs.Framing.{request_kind, transmission_of};
+ghost use Rattle.d0_segments.specs.Transmissions.{transmission_parts};
+ghost use Rattle.claim_profile.specs.Readable.{readable_header};
+ghost use Rattle.claim_model.specs.Bytes.{bytes_with};
+ghost use Rattle.claim_model.specs.Readable.{is_payer, payer_for};
+ghost use Rattle.claim_model.specs.Book.{answered};
+ghost use Rattle.payer_book.specs.declared.fault.BookFault.TheVariants.{OutOfMemory, Unreadable, NumberReused};
+ghost use Rattle.payer_book.specs.Faults.{RefusedFor, IsUnread, IsReused};
+ghost use Rattle.payer_book.specs.Kept.{IsAnswered};
 
 use crate::book::{Book, Reply};
 use crate::fault::BookFault;
-use crate::readable::readable;
-use crate::rows::Row;
-use crate::rulings::{Draft, Ground};
-use bin_routes::Routes;
-use claim_profile::{HeaderStatus, Ruling, read_order, write_answer};
+use crate::row::Row;
+use bin_routes::{PayerNo, Routes};
+use claim_profile::{RequestFault, read_readable};
 use d0_header::RequestHeader;
 use d0_segments::Transmission;
 use envelope::TxnId;
-use octets::Octets;
 use std::alloc::Global;
-
-/// How many prescription numbers of at most twelve digits there are.
-const PRESCRIPTIONS: u64 = 1_000_000_000_000;
 
 impl Book {
     /// Answers the request that came under that id.
@@ -28,16 +30,14 @@ impl Book {
     /// # Errors
     /// In this order: `Unreadable`, `NotOurs`, `NumberReused`, `BookFull`, `SerialsUsedUp`. `OutOfMemory` may
     /// stand in place of any answer. The book is as it was after each of them.
-    pub fn answer(
-        &mut self,
-        routes: &Routes,
-        id: TxnId,
-        request: &[u8],
-    ) -> Result<Reply, BookFault> {
+    pub fn answer(&mut self, routes: &Routes, id: TxnId, request: &[u8]) -> Result<Reply, BookFault>
+        ensures ok { IfOk result (λ reply. answered (bytes_with routes.now) self.old id request.now ≡ Ok (record { book = self.new; bytes = reply.bytes.items; kept = reply.kept })) }
+        ensures fault { IfErr result (λ fault. RefusedFor fault (answered (bytes_with routes.now) self.old id request.now)) }
+        ensures err { OnErr result (self.new ≡ self.old) }
+    {
         let alloc = self.rows.allocator();
-        let transmission = readable(alloc, request)?;
-        let header = transmission.header();
-        if routes.route(&header.bin(), &header.pcn()) != Some(self.payer) {
+        let transmission = read(alloc, request)?;
+        if !is_routed(routes, transmission.header(), self.payer) {
             return Err(BookFault::NotOurs);
         }
         if let Some(row) = self.rows.find(id) {
@@ -46,110 +46,41 @@ impl Book {
         if self.rows.len() >= self.settings.cap() as usize {
             return Err(BookFault::BookFull);
         }
-        self.decide(alloc, id, &transmission, request)
-    }
-
-    /// Rules on each group of a new request, and enters the row.
-    fn decide(
-        &mut self,
-        alloc: Global,
-        id: TxnId,
-        transmission: &Transmission<'_, RequestHeader>,
-        request: &[u8],
-    ) -> Result<Reply, BookFault> {
-        let draft = self.draft(alloc, transmission)?;
-        let bytes = answer_bytes(alloc, transmission.header(), draft.rulings.as_slice())?;
-        let request = Octets::copy_of(alloc, request)?;
-        let answer = Octets::copy_of(alloc, bytes.as_slice())?;
-        self.payments.reserve(draft.paid.len())?;
-        self.enter(id, request, answer, draft)?;
-        Ok(Reply { bytes, kept: false })
-    }
-
-    fn draft(
-        &self,
-        alloc: Global,
-        transmission: &Transmission<'_, RequestHeader>,
-    ) -> Result<Draft, BookFault> {
-        let ground = Ground {
-            payer: self.payer,
-            settings: self.settings,
-            plan: &self.plan,
-            payments: &self.payments,
-        };
-        let places = transmission.groups().len();
-        let mut draft = Draft::with_room(alloc, places)?;
-        for place in 0..places {
-            draft.rule(&ground, read_order(transmission, place))?;
-        }
-        Ok(draft)
-    }
-
-    /// Adds the row and what its places change.
-    fn enter(
-        &mut self,
-        id: TxnId,
-        request: Octets,
-        answer: Octets,
-        draft: Draft,
-    ) -> Result<(), BookFault> {
-        let Draft {
-            rulings,
-            paid,
-            undone,
-        } = draft;
-        self.rows.push(Row {
-            id,
-            request,
-            rulings,
-            answer,
-        })?;
-        for payment in paid.iter() {
-            self.payments.push(*payment)?;
-        }
-        for place in undone.iter() {
-            self.payments.reverse(*place, id);
-        }
-        Ok(())
+        let entry = self.prepare(alloc, id, &transmission, request)?;
+        self.enter(entry)
     }
 }
 
-/// The answer with these rulings. A request's own rulings can always be written; the test says so to the proof.
-fn answer_bytes(
-    alloc: Global,
-    header: &RequestHeader,
-    rulings: &[Ruling],
-) -> Result<Vec<u8>, BookFault> {
-    if rulings.len() != header.count() as usize || !are_writable(rulings) {
-        return Err(BookFault::Unreadable);
-    }
-    Ok(write_answer(alloc, header, HeaderStatus::Accepted, rulings)?)
-}
-
-/// Whether every ruling can be written.
-fn are_writable(rulings: &[Ruling]) -> bool
-    ensures { IsTrue result → AreWritable HeaderStatus.Accepted rulings.now }
+/// The transmission of a request that a book answers.
+fn read(alloc: Global, request: &[u8]) -> Result<Transmission<'_, RequestHeader>, BookFault>
+    ensures parts { IfOk result (λ t. transmission_of request_kind request.now ≡ Some (transmission_parts t)) }
+    ensures readable { IfOk result (λ t. readable_header request.now ≡ Some t.header) }
+    ensures fault { IfErr result (λ e. IsUnread e (readable_header request.now)) }
 {
-    match rulings.split_first() {
-        None => true,
-        Some((first, rest)) => is_writable(first) && are_writable(rest),
+    match read_readable(alloc, request) {
+        Ok(transmission) => Ok(transmission),
+        Err(RequestFault::OutOfMemory) => Err(BookFault::OutOfMemory),
+        Err(RequestFault::Unreadable) => Err(BookFault::Unreadable),
     }
 }
 
-/// Whether the prescription number (402-D2) of a ruling has at most twelve digits.
-fn is_writable(ruling: &Ruling) -> bool
-    ensures { IsTrue result ↔ IsWritable ruling.now }
+/// Whether a request of this header is routed to the payer.
+fn is_routed(routes: &Routes, header: &RequestHeader, payer: PayerNo) -> bool
+    ensures { (result ≡ is_payer payer (payer_for (bytes_with routes.now) header.now)) }
 {
-    match ruling {
-        Ruling::Paid { prescription, .. } => *prescription < PRESCRIPTIONS,
-        Ruling::Duplicate { prescription, .. } => *prescription < PRESCRIPTIONS,
-        Ruling::Reversed { prescription, .. } => *prescription < PRESCRIPTIONS,
-        Ruling::Rejected { .. } => true,
+    match routes.route(&header.bin(), &header.pcn()) {
+        Some(other) => other.get() == payer.get(),
+        None => false,
     }
 }
 
 /// The kept answer, where the request is the one of the row.
-fn kept_reply(alloc: Global, row: &Row, request: &[u8]) -> Result<Reply, BookFault> {
+fn kept_reply(alloc: Global, row: &Row, request: &[u8]) -> Result<Reply, BookFault>
+    ensures same { IfOk result (λ reply. bytes_eq row.now.request request.now ≡ true) }
+    ensures bytes { IfOk result (λ reply. IsAnswered row.now.request row.now.rulings reply.bytes.items) }
+    ensures kept { IfOk result (λ reply. reply.kept ≡ true) }
+    ensures fault { IfErr result (λ e. IsReused e (bytes_eq row.now.request request.now)) }
+{
     if row.request() != request {
         return Err(BookFault::NumberReused);
     }

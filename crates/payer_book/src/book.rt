@@ -1,13 +1,27 @@
 //! The book, and what is read from it.
 
-use crate::payments::{Payment, Payments};
-use crate::rows::{Row, Rows};
+ghost use Rattle.std.specs.Prelude.{◌≡◌, [], slice_get, Ok, OnOk, OnErr, IfErr};
+ghost use Rattle.std.specs.Option.{option_map, option_copied, option_and_then};
+ghost use Rattle.bin_routes.specs.Table.{RouteMaps};
+ghost use Rattle.plan_rules.specs.Terms.{RefusedFor};
+ghost use Rattle.claim_model.specs.Bytes.{bytes_with, reprice};
+ghost use Rattle.claim_model.specs.Payments.{payment_of};
+ghost use Rattle.claim_model.specs.Rows.{ruled_rows};
+ghost use Rattle.claim_model.specs.Book.{row_of};
+ghost use Rattle.claim_model.specs.Held.{row_answer};
+ghost use Rattle.payer_book.specs.Views.{payment_view, view_of};
+
+use crate::payment::Payment;
+use crate::payments::Payments;
+use crate::row::Row;
+use crate::rows::Rows;
 use crate::settings::BookSettings;
 use bin_routes::PayerNo;
 use claim_profile::{Amounts, Auth, Fill};
 use envelope::TxnId;
 use plan_rules::{Plan, PlanFault};
 use std::alloc::Global;
+use std::marker::Model;
 
 /// The book of one processor: its number, its settings, its plan and every request that it decided.
 #[derive(Drop)]
@@ -17,6 +31,17 @@ pub struct Book {
     pub(crate) plan: Plan,
     pub(crate) rows: Rows,
     pub(crate) payments: Payments,
+}
+
+impl Model for Book {
+    ghost use Rattle.claim_model.specs.Rows.{Book as BookParts};
+    ghost use Rattle.payer_book.specs.Books.{IsBook};
+
+    ghost Value = { BookParts };
+
+    ghost view = { λ b. record { payer = b.payer; settings = b.settings; plan = b.plan; rows = b.rows } };
+
+    ghost invariant = { λ b. IsBook b.payer b.settings.serial b.rows b.payments };
 }
 
 /// The answer to a request, and whether the book had it already.
@@ -41,34 +66,51 @@ pub struct PaymentView {
 
 impl Book {
     /// An empty book, with memory from `alloc`. Nothing is taken before the first row.
-    pub fn new(alloc: Global, payer: PayerNo, settings: BookSettings, plan: Plan) -> Book {
+    pub fn new(alloc: Global, payer: PayerNo, settings: BookSettings, plan: Plan) -> Book
+        ensures { result ≡ record { payer = payer; settings = settings; plan = plan; rows = [] } }
+    {
         Book {
             payer,
             settings,
             plan,
             rows: Rows::new(alloc),
-            payments: Payments::new(alloc),
+            payments: Payments::new(alloc, payer, settings.serial()),
         }
     }
 
     /// The payer whose book it is.
-    pub fn payer(&self) -> PayerNo {
+    pub fn payer(&self) -> PayerNo
+        ensures { result ≡ self.now.payer }
+    {
         self.payer
     }
 
     /// What the book was opened with.
-    pub fn settings(&self) -> BookSettings {
+    pub fn settings(&self) -> BookSettings
+        ensures { result ≡ self.now.settings }
+    {
         self.settings
     }
 
     /// The plan in force.
-    pub fn plan(&self) -> &Plan {
+    pub fn plan(&self) -> &Plan
+        ensures { result.now ≡ self.now.plan }
+    {
         &self.plan
     }
 
     /// The decided requests, oldest first.
-    pub fn rows(&self) -> &[Row] {
+    pub fn rows(&self) -> &[Row]
+        ensures { result.now ≡ self.now.rows }
+    {
         self.rows.as_slice()
+    }
+
+    /// The decided request at a place, from 0.
+    pub fn row(&self, place: usize) -> Option<&Row>
+        ensures { option_copied result ≡ slice_get self.now.rows place }
+    {
+        self.rows.as_slice().get(place)
     }
 
     /// Sets the price of a product, in ten-thousandths of a dollar a unit, or with `None` takes the product off the plan.
@@ -76,7 +118,12 @@ impl Book {
     ///
     /// # Errors
     /// Those of `Plan::set`; `None` never refuses.
-    pub fn change_plan(&mut self, product: &[u8], price: Option<u32>) -> Result<(), PlanFault> {
+    pub fn change_plan(&mut self, product: &[u8], price: Option<u32>) -> Result<(), PlanFault>
+        ensures rest { (self.new.payer ≡ self.old.payer) × (self.new.settings ≡ self.old.settings) × (self.new.rows ≡ self.old.rows) }
+        ensures ok { OnOk result (reprice self.old.plan product.now price ≡ Ok self.new.plan) }
+        ensures err { OnErr result (self.new ≡ self.old) }
+        ensures cause { IfErr result (λ fault. RefusedFor fault (reprice self.old.plan product.now price)) }
+    {
         match price {
             Some(price) => self.plan.set(product, price),
             None => {
@@ -87,29 +134,40 @@ impl Book {
     }
 
     /// The bytes of the answer to the request of that id.
-    pub fn held(&self, id: TxnId) -> Option<&[u8]> {
-        let row = self.rows.find(id)?;
-        Some(row.answer())
+    pub fn held(&self, id: TxnId) -> Option<&[u8]>
+        ensures { (routes : RouteMaps) → option_copied result ≡ option_and_then (row_answer (bytes_with routes)) (row_of id self.now.rows) }
+    {
+        match self.rows.find(id) {
+            Some(row) => Some(row.answer()),
+            None => None,
+        }
     }
 
     /// The payment of that authorization.
-    pub fn payment(&self, auth: Auth) -> Option<PaymentView> {
-        if auth.payer() != self.payer.get() {
-            return None;
+    pub fn payment(&self, auth: Auth) -> Option<PaymentView>
+        ensures { (routes : RouteMaps) → result ≡ option_map payment_view (payment_of auth (ruled_rows (bytes_with routes) self.now.rows)) }
+    {
+        match self.payments.find(auth) {
+            Some(payment) => Some(view_of(payment)),
+            None => None,
         }
-        let place = auth.serial().checked_sub(self.settings.serial())?;
-        let payment = self.payments.get(usize::try_from(place).ok()?)?;
-        Some(match payment {
-            Payment::Standing(payment) => PaymentView {
-                fill: payment.claim().fill,
-                amounts: payment.amounts(),
-                reversed_by: None,
-            },
-            Payment::Reversed(payment) => PaymentView {
-                fill: payment.claim().fill,
-                amounts: payment.amounts(),
-                reversed_by: Some(payment.by()),
-            },
-        })
+    }
+}
+
+/// What is known of a payment.
+fn view_of(payment: &Payment) -> PaymentView
+    ensures { result ≡ view_of payment.now }
+{
+    match payment {
+        Payment::Standing(payment) => PaymentView {
+            fill: payment.claim().fill,
+            amounts: payment.amounts(),
+            reversed_by: None,
+        },
+        Payment::Reversed(payment) => PaymentView {
+            fill: payment.claim().fill,
+            amounts: payment.amounts(),
+            reversed_by: Some(payment.by()),
+        },
     }
 }

@@ -1,5 +1,8 @@
 //! What a book refuses, by name.
 
+ghost use Rattle.std.specs.Prelude.{◌≡◌};
+ghost use Rattle.payer_book.specs.declared.fault.BookFault.TheVariants.{OutOfMemory};
+
 use std::alloc::{AllocError, AllocFailed};
 use thiserror::Error;
 
@@ -27,12 +30,16 @@ pub enum BookFault {
 }
 
 impl From<AllocError> for BookFault {
+    ghost from_gives = { λ _ e. e ≡ OutOfMemory };
+
     fn from(_refused: AllocError) -> BookFault {
         BookFault::OutOfMemory
     }
 }
 
 impl<T: Drop> From<AllocFailed<T>> for BookFault {
+    ghost from_gives = { λ _ e. e ≡ OutOfMemory };
+
     fn from(_refused: AllocFailed<T>) -> BookFault {
         BookFault::OutOfMemory
     }

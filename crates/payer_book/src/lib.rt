@@ -5,18 +5,30 @@
 
 mod answering;
 mod book;
+mod changes;
+mod drafting;
+mod entering;
+mod entry;
 mod fault;
+mod judging;
+mod matches;
+mod payment;
 mod payments;
-mod readable;
+mod pricing;
+mod rest;
+mod row;
 mod rows;
-mod rulings;
 mod settings;
 
 pub use bin_routes::PayerNo;
 pub use book::{Book, PaymentView, Reply};
 pub use envelope::TxnId;
 pub use fault::{BookFault, SettingFault};
-pub use payments::{Payment, Reversed, Standing};
+pub use payment::{Payment, Reversed, Standing};
 pub use plan_rules::{Plan, PlanFault};
-pub use rows::Row;
+pub use rest::BookAtRest;
+pub use row::Row;
 pub use settings::BookSettings;
+
+#[cfg(test)]
+mod tests;

@@ -1,170 +1,250 @@
-//! Payments: standing, or reversed by a later request. `Standing::reverse` is the only way between the two.
+//! The payments of a book in the order of their serial numbers, with the place of each fill's standing one.
 
-use claim_profile::{Amounts, Claim, Fill, Reversal};
+ghost use Rattle.std.specs.Prelude.{◌≡◌, ◌+◌, ◌<◌, ◌≤◌, [], ◌∷◌, ◌++◌, map, find, filter, length, slice_get, option_and_then, None, Some, IsSome, MatchOption, OnOk, OnErr};
+ghost use Rattle.std.specs.Option.{option_copied};
+ghost use Rattle.claim_model.specs.Payments.{same_auth};
+ghost use Rattle.payer_book.specs.declared.payment.Payment.TheVariants.{Standing as Stands};
+ghost use Rattle.payer_book.specs.Ledger.{IsLedger, still, payment_with, standing_in, standing_of, taken_back, HasFillNumber};
+ghost use Rattle.claim_model.specs.Book.{last_serial};
+ghost use Rattle.payer_book.specs.Drafts.{auth_after};
+ghost use Rattle.payer_book.specs.Matches.{tally, is_match, matched, matches_between, fill_for};
+
+use crate::changes::{Change, payments_in};
+use crate::matches::{Matches, is_match};
+use crate::payment::{Payment, Standing};
+use bin_routes::PayerNo;
+use claim_profile::{Auth, Fill, Reversal};
 use envelope::TxnId;
 use std::alloc::{AllocError, Global};
 use std::collections::HashMap;
+use std::marker::Model;
 
-/// The largest fill number that a claim may have (403-D3, one or two digits).
-const LAST_FILL: u8 = 99;
+/// How many fill numbers there are: 0 to 99 (403-D3, one or two digits).
+const FILLS: u16 = 100;
 
-/// A payment that no later request has reversed.
-#[derive(Clone, Copy, Debug, PartialEq, Eq)]
-pub struct Standing {
-    claim: Claim,
-    amounts: Amounts,
-}
-
-/// A payment and the request that reversed it.
-#[derive(Clone, Copy, Debug, PartialEq, Eq)]
-pub struct Reversed {
-    claim: Claim,
-    amounts: Amounts,
-    by: TxnId,
-}
-
-/// A payment of a book.
-#[derive(Clone, Copy, Debug, PartialEq, Eq)]
-pub enum Payment {
-    /// No later request has reversed it.
-    Standing(Standing),
-    /// A later request has.
-    Reversed(Reversed),
-}
-
-impl Standing {
-    /// The payment of a claim, in these amounts.
-    pub fn new(claim: Claim, amounts: Amounts) -> Standing {
-        Standing { claim, amounts }
-    }
-
-    /// What was billed.
-    pub fn claim(&self) -> &Claim {
-        &self.claim
-    }
-
-    /// What was paid.
-    pub fn amounts(&self) -> Amounts {
-        self.amounts
-    }
-
-    /// The same payment, reversed by the request of that id.
-    pub fn reverse(self, by: TxnId) -> Reversed {
-        Reversed {
-            claim: self.claim,
-            amounts: self.amounts,
-            by,
-        }
-    }
-}
-
-impl Reversed {
-    /// What was billed.
-    pub fn claim(&self) -> &Claim {
-        &self.claim
-    }
-
-    /// What was paid.
-    pub fn amounts(&self) -> Amounts {
-        self.amounts
-    }
-
-    /// The request that reversed the payment.
-    pub fn by(&self) -> TxnId {
-        self.by
-    }
-}
-
-/// The payments of a book in the order of their serial numbers, with the place of each fill's standing one.
+/// The payments of a payer, whose first one has the serial number `first`, and where each fill's standing one is.
 #[derive(Drop)]
 pub(crate) struct Payments {
+    payer: PayerNo,
+    first: u64,
     list: Vec<Payment>,
     standing: HashMap<Fill, usize>,
 }
 
+impl Model for Payments {
+    ghost use Rattle.std.specs.Prelude.{◌-◌, min, vec_len, vec_capacity};
+    ghost use Rattle.std.specs.HashMap.{get, spare};
+    ghost use Rattle.payer_book.specs.Ledger.{Ledger};
+    ghost use Rattle.payer_book.specs.PaymentPlaces.{IsIndexed};
+
+    ghost Value = { Ledger };
+
+    ghost view = { λ p. record { payer = p.payer; first = p.first; payments = p.list.items; room = min (vec_capacity p.list - vec_len p.list) (spare p.standing) } };
+
+    ghost invariant = { λ p. IsIndexed p.payer p.first p.list.items (get ⟦<Fill as PartialEq>⟧.eq p.standing) };
+}
+
 impl Payments {
-    pub(crate) fn new(alloc: Global) -> Payments {
+    /// No payments, with memory from `alloc`.
+    pub(crate) fn new(alloc: Global, payer: PayerNo, first: u64) -> Payments
+        requires { 1 ≤ first }
+        ensures payer { result.payer ≡ payer }
+        ensures first { result.first ≡ first }
+        ensures none { result.payments ≡ [] }
+    {
         Payments {
+            payer,
+            first,
             list: Vec::new(alloc),
             standing: HashMap::new(alloc),
         }
     }
 
-    pub(crate) fn len(&self) -> usize {
+    /// How many payments there are.
+    pub(crate) fn len(&self) -> usize
+        ensures value { result ≡ length self.now.payments }
+        ensures ledger { IsLedger self.now }
+    {
         self.list.len()
     }
 
-    pub(crate) fn get(&self, place: usize) -> Option<&Payment> {
-        self.list.get(place)
+    /// The authorization of the next payment after some changes; None where its serial number would be over 999,999,999,999.
+    pub(crate) fn next_auth(&self, changes: &[Change]) -> Option<Auth>
+        ensures { MatchOption result (last_serial < (auth_after self.now changes.now).serial) (λ a. (a ≡ auth_after self.now changes.now) × (a.serial ≤ last_serial)) }
+    {
+        let before = self.first.saturating_add(self.list.len() as u64);
+        let serial = before.saturating_add(payments_in(changes) as u64);
+        Auth::new(self.payer.get(), serial)
     }
 
-    /// The fill's standing payment and its place.
-    pub(crate) fn standing_of(&self, fill: &Fill) -> Option<(usize, Standing)> {
-        let place = *self.standing.get(fill)?;
-        match self.list.get(place)? {
-            Payment::Standing(payment) => Some((place, *payment)),
-            Payment::Reversed(_) => None,
+    /// The place of the payment of that authorization.
+    fn place_of(&self, auth: Auth) -> Option<usize>
+        ensures { MatchOption result (payment_with auth self.now.payments ≡ None) (λ place. (place < length self.now.payments) × (slice_get self.now.payments place ≡ payment_with auth self.now.payments)) }
+    {
+        if auth.payer() != self.payer.get() {
+            return None;
         }
-    }
-
-    /// The place of the one standing payment that the reversal matches, those of the places `undone` left out.
-    /// None where there is no such payment, or more than one.
-    pub(crate) fn only_match(&self, reversal: &Reversal, undone: &[usize]) -> Option<usize> {
-        let (first, last) = match reversal.fill {
-            Some(number) => (number, number),
-            None => (0, LAST_FILL),
-        };
-        let mut found = None;
-        for number in first..=last {
-            if let Some(place) = self.matching(reversal, number, undone) {
-                if found.is_some() {
-                    return None;
-                }
-                found = Some(place);
-            }
+        let serial = auth.serial();
+        if serial < self.first {
+            return None;
         }
-        found
-    }
-
-    fn matching(&self, reversal: &Reversal, number: u8, undone: &[usize]) -> Option<usize> {
-        let fill = Fill {
-            bin: reversal.bin,
-            pcn: reversal.pcn,
-            qualifier: reversal.qualifier,
-            provider: reversal.provider,
-            prescription: reversal.prescription,
-            fill: number,
-        };
-        let (place, payment) = self.standing_of(&fill)?;
-        if payment.claim().date == reversal.date && !undone.contains(&place) {
+        let place = (serial - self.first) as usize;
+        if place < self.list.len() {
             Some(place)
         } else {
             None
         }
     }
 
+    /// The payment of that authorization.
+    pub(crate) fn find(&self, auth: Auth) -> Option<&Payment>
+        ensures { option_copied result ≡ payment_with auth self.now.payments }
+    {
+        match self.place_of(auth) {
+            Some(place) => self.list.get(place),
+            None => None,
+        }
+    }
+
+    /// The fill's standing payment.
+    pub(crate) fn standing_of(&self, fill: &Fill) -> Option<Standing>
+        ensures value { result ≡ standing_of fill.now (standing_in self.now.payments) }
+        ensures ledger { IsLedger self.now }
+    {
+        match self.standing.get(fill) {
+            Some(place) => standing_at(&self.list, *place),
+            None => None,
+        }
+    }
+
+    /// The standing payments that the reversal is for, those left out that the changes undo.
+    pub(crate) fn matching(&self, reversal: &Reversal, changes: &[Change]) -> Matches
+        ensures { result ≡ tally (filter (is_match reversal.now changes.now) (standing_in self.now.payments)) }
+    {
+        match reversal.fill {
+            Some(number) => {
+                let first = u16::from(number);
+                self.matching_from(reversal, changes, first, first + 1)
+            }
+            None => self.matching_from(reversal, changes, 0, FILLS),
+        }
+    }
+
+    /// Those whose fill number is `first` or more, and below `end`.
+    fn matching_from(
+        &self,
+        reversal: &Reversal,
+        changes: &[Change],
+        first: u16,
+        end: u16,
+    ) -> Matches
+        requires in_order { first ≤ end }
+        requires bytes { end ≤ 256 }
+        ensures value { result ≡ tally (matches_between reversal.now changes.now first end (standing_in self.now.payments)) }
+        ensures ledger { IsLedger self.now }
+    {
+        let _ = self.len();
+        let mut matches = Matches::Nothing;
+        for number in first..end {
+            matches = self.matching_number(reversal, changes, number as u8, matches);
+        }
+        matches
+    }
+
+    /// The matches, and the one of that fill number.
+    fn matching_number(
+        &self,
+        reversal: &Reversal,
+        changes: &[Change],
+        number: u8,
+        matches: Matches,
+    ) -> Matches
+        ensures value { result ≡ matched reversal.now changes.now (standing_of (fill_for reversal.now number) (standing_in self.now.payments)) matches }
+        ensures ledger { IsLedger self.now }
+    {
+        match self.standing_of(&fill_for(reversal, number)) {
+            Some(payment) => {
+                if is_match(reversal, changes, &payment) {
+                    matches.with(payment)
+                } else {
+                    matches
+                }
+            }
+            None => matches,
+        }
+    }
+
     /// Room for so many more payments: so many calls of `push` then take no memory.
-    pub(crate) fn reserve(&mut self, more: usize) -> Result<(), AllocError> {
+    pub(crate) fn reserve(&mut self, more: usize) -> Result<(), AllocError>
+        ensures same { (self.new.payer ≡ self.old.payer) × (self.new.first ≡ self.old.first) × (self.new.payments ≡ self.old.payments) }
+        ensures ok { OnOk result (more ≤ self.new.room) }
+    {
         self.list.reserve(more)?;
         self.standing.reserve(more)
     }
 
-    /// Adds a payment at the end.
-    pub(crate) fn push(&mut self, payment: Standing) -> Result<(), AllocError> {
+    /// Adds a payment at the end. There is room for it, it has the next serial number, and its fill has no standing payment.
+    pub(crate) fn push(&mut self, payment: Standing)
+        requires room { 1 ≤ self.old.room }
+        requires auth { payment.auth ≡ record { payer = self.old.payer; serial = self.old.first + length self.old.payments } }
+        requires number { HasFillNumber payment.claim }
+        requires none { standing_of payment.claim.fill (standing_in self.old.payments) ≡ None }
+        ensures same { (self.new.payer ≡ self.old.payer) × (self.new.first ≡ self.old.first) }
+        ensures payments { self.new.payments ≡ self.old.payments ++ Stands payment ∷ [] }
+        ensures room { self.old.room ≤ self.new.room + 1 }
+    {
         let place = self.list.len();
-        self.standing.insert(payment.claim().fill, place)?;
-        self.list.push(Payment::Standing(payment))?;
-        Ok(())
+        let _ = self.standing.insert(payment.claim().fill, place);
+        self.list.push_reserved(Payment::Standing(payment));
     }
 
-    /// Reverses the standing payment at that place.
-    pub(crate) fn reverse(&mut self, place: usize, by: TxnId) {
-        let Some(Payment::Standing(payment)) = self.list.get(place).copied() else {
+    /// Reverses the standing payment of that authorization.
+    pub(crate) fn reverse(&mut self, auth: Auth, by: TxnId)
+        requires { IsSome (find (λ s. same_auth s.auth auth) (standing_in self.old.payments)) }
+        ensures same { (self.new.payer ≡ self.old.payer) × (self.new.first ≡ self.old.first) }
+        ensures payments { self.new.payments ≡ map (taken_back auth by) self.old.payments }
+        ensures room { self.old.room ≤ self.new.room }
+    {
+        let Some(place) = self.place_of(auth) else {
             return;
         };
-        let _ = self.standing.remove(&payment.claim().fill);
-        if place < self.list.len() {
+        if let Some(payment) = standing_at(&self.list, place) {
+            let _ = self.standing.remove(&payment.claim().fill);
             self.list[place] = Payment::Reversed(payment.reverse(by));
         }
+    }
+}
+
+/// The standing payment at a place.
+fn standing_at(payments: &[Payment], place: usize) -> Option<Standing>
+    ensures { result ≡ option_and_then still (slice_get payments.now place) }
+{
+    match payments.get(place) {
+        Some(payment) => still(payment),
+        None => None,
+    }
+}
+
+/// The payment, where it stands.
+fn still(payment: &Payment) -> Option<Standing>
+    ensures { result ≡ still payment.now }
+{
+    match payment {
+        Payment::Standing(payment) => Some(payment.copy()),
+        Payment::Reversed(_) => None,
+    }
+}
+
+/// The fill of a reversal with that number.
+fn fill_for(reversal: &Reversal, number: u8) -> Fill
+    ensures { result ≡ fill_for reversal.now number }
+{
+    Fill {
+        bin: reversal.bin,
+        pcn: reversal.pcn,
+        qualifier: reversal.qualifier,
+        provider: reversal.provider,
+        prescription: reversal.prescription,
+        fill: number,
     }
 }

@@ -1,41 +1,14 @@
 //! The rows of a book, in the order in which they were decided, found by their id.
 
-use claim_profile::Ruling;
+ghost use Rattle.std.specs.Prelude.{◌≡◌, [], ◌∷◌, ◌++◌, length, None, OnOk, OnErr};
+ghost use Rattle.std.specs.Option.{option_copied};
+ghost use Rattle.claim_model.specs.Book.{row_of};
+
+use crate::row::Row;
 use envelope::TxnId;
-use octets::Octets;
 use std::alloc::{AllocError, Global};
 use std::collections::BTreeMap;
-
-/// One decided request: its id, its bytes, the ruling of each place and the answer's bytes.
-#[derive(Drop)]
-pub struct Row {
-    pub(crate) id: TxnId,
-    pub(crate) request: Octets,
-    pub(crate) rulings: Vec<Ruling>,
-    pub(crate) answer: Octets,
-}
-
-impl Row {
-    /// The pharmacy and number that the request came under.
-    pub fn id(&self) -> TxnId {
-        self.id
-    }
-
-    /// The request's bytes.
-    pub fn request(&self) -> &[u8] {
-        self.request.as_slice()
-    }
-
-    /// The ruling of each place, in the order of the request's groups.
-    pub fn rulings(&self) -> &[Ruling] {
-        self.rulings.as_slice()
-    }
-
-    /// The answer's bytes.
-    pub fn answer(&self) -> &[u8] {
-        self.answer.as_slice()
-    }
-}
+use std::marker::Model;
 
 /// The list of rows, with an index from id to place.
 #[derive(Drop)]
@@ -44,8 +17,25 @@ pub(crate) struct Rows {
     places: BTreeMap<TxnId, usize>,
 }
 
+impl Model for Rows {
+    ghost use Rattle.std.specs.Prelude.{List};
+    ghost use Rattle.claim_model.specs.Rows.{Row as RowParts};
+
+    ghost Value = { List RowParts };
+
+    ghost use Rattle.std.specs.BTreeMap.{get};
+    ghost use Rattle.payer_book.specs.RowPlaces.{IsPlaced};
+
+    ghost view = { λ r. r.list.items };
+
+    ghost invariant = { λ r. IsPlaced r.list.items (get ⟦<TxnId as Ord>⟧.cmp r.places) };
+}
+
 impl Rows {
-    pub(crate) fn new(alloc: Global) -> Rows {
+    /// No rows, with memory from `alloc`.
+    pub(crate) fn new(alloc: Global) -> Rows
+        ensures { result ≡ [] }
+    {
         Rows {
             list: Vec::new(alloc),
             places: BTreeMap::new(alloc),
@@ -57,25 +47,44 @@ impl Rows {
         *self.list.allocator()
     }
 
-    pub(crate) fn len(&self) -> usize {
+    /// How many rows there are.
+    pub(crate) fn len(&self) -> usize
+        ensures { result ≡ length self.now }
+    {
         self.list.len()
     }
 
-    pub(crate) fn as_slice(&self) -> &[Row] {
+    /// The rows, oldest first.
+    pub(crate) fn as_slice(&self) -> &[Row]
+        ensures { result.now ≡ self.now }
+    {
         self.list.as_slice()
     }
 
-    pub(crate) fn find(&self, id: TxnId) -> Option<&Row> {
-        let place = *self.places.get(&id)?;
-        self.list.get(place)
+    /// The row of an id.
+    pub(crate) fn find(&self, id: TxnId) -> Option<&Row>
+        ensures { option_copied result ≡ row_of id self.now }
+    {
+        match self.places.get(&id) {
+            Some(place) => self.list.get(*place),
+            None => None,
+        }
     }
 
     /// Adds a row at the end.
-    pub(crate) fn push(&mut self, row: Row) -> Result<(), AllocError> {
+    pub(crate) fn push(&mut self, row: Row) -> Result<(), AllocError>
+        requires { row_of row.id self.old ≡ None }
+        ensures ok { OnOk result (self.new ≡ self.old ++ row ∷ []) }
+        ensures err { OnErr result (self.new ≡ self.old) }
+    {
         self.list.reserve(1)?;
         let place = self.list.len();
-        self.places.insert(row.id, place)?;
-        self.list.push(row)?;
-        Ok(())
+        match self.places.insert(row.id(), place) {
+            Ok(_) => {
+                self.list.push_reserved(row);
+                Ok(())
+            }
+            Err(_) => Err(AllocError),
+        }
     }
 }

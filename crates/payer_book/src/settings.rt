@@ -1,6 +1,10 @@
 //! What a book is opened with, beside its payer and its plan.
 
+ghost use Rattle.std.specs.Prelude.{◌≡◌, ◌≤◌};
+ghost use Rattle.payer_book.specs.Settings.{settings_of};
+
 use crate::fault::SettingFault;
+use std::marker::Model;
 
 /// The largest serial number of an authorization, in twelve digits (own).
 pub const LAST_SERIAL: u64 = 999_999_999_999;
@@ -14,10 +18,25 @@ pub struct BookSettings {
     cap: u32,
 }
 
+impl Model for BookSettings {
+    ghost use Rattle.claim_model.specs.Rows.{BookSettings as SettingParts};
+    ghost use Rattle.payer_book.specs.Settings.{IsSettings};
+
+    ghost Value = { SettingParts };
+
+    ghost view = { λ s. record { serial = s.serial; cap = s.cap } };
+
+    ghost invariant = { λ s. IsSettings s.serial s.cap };
+
+    ghost inverse = { λ s. record { serial = s.serial; cap = s.cap } };
+}
+
 impl BookSettings {
     /// Settings of a book whose first payment has the serial number `serial`, 1 to 999,999,999,999,
     /// and which holds at most `cap` rows, 1 to 65,536. Other numbers are `BadSetting`.
-    pub fn new(serial: u64, cap: u32) -> Result<BookSettings, SettingFault> {
+    pub fn new(serial: u64, cap: u32) -> Result<BookSettings, SettingFault>
+        ensures { result ≡ settings_of serial cap }
+    {
         if serial == 0 || serial > LAST_SERIAL || cap == 0 || cap > MOST_ROWS {
             return Err(SettingFault::BadSetting);
         }
@@ -25,12 +44,20 @@ impl BookSettings {
     }
 
     /// The serial number of the first payment.
-    pub fn serial(&self) -> u64 {
+    pub fn serial(&self) -> u64
+        ensures value { result ≡ self.now.serial }
+        ensures least { 1 ≤ result }
+        ensures most { result ≤ 999999999999 }
+    {
         self.serial
     }
 
     /// The most rows.
-    pub fn cap(&self) -> u32 {
+    pub fn cap(&self) -> u32
+        ensures value { result ≡ self.now.cap }
+        ensures least { 1 ≤ result }
+        ensures most { result ≤ 65536 }
+    {
         self.cap
     }
 }

@@ -1,0 +1,15 @@
+pub mod Lists
+pub mod Sameness
+pub mod Readings
+pub mod RowIndex
+pub mod Numbering
+pub mod PaymentIndex
+pub mod Matching
+pub mod Overlay
+pub mod Places
+pub mod Growth
+pub mod Ruling
+pub mod Numbers
+pub mod Replies
+pub mod Told
+pub mod Entered

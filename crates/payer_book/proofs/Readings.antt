@@ -1,0 +1,20 @@
+-- The reading of requests does not ask for the routes.
+use Rattle.std.proofs.Common.{◌≡◌, ℕ, List, Some, refl, sym, ap, ◌∙◌}
+use Rattle.std.specs.Prelude.{option_map}
+use Rattle.bin_routes.specs.Table.{RouteMaps}
+use Rattle.claim_profile.specs.Readable.{readable_header}
+use Rattle.claim_model.specs.Words.{RequestHeader, Ruling}
+use Rattle.claim_model.specs.Bytes.{bytes_with}
+use Rattle.claim_model.specs.Readable.{readable, answer_text}
+use Rattle.claim_model.specs.Rows.{Row}
+use Rattle.claim_model.specs.Held.{row_answer}
+use Rattle.payer_book.specs.Kept.{IsAnswered}
+
+pub readable_alike : (routes : RouteMaps) (text : List ℕ) → readable (bytes_with routes) text ≡ readable_header text
+unfolding readable readable_header
+readable_alike routes text = refl
+
+-- the answer that a row keeps is the answer of its row
+pub answered_row : (routes : RouteMaps) (row : Row) (answer : List ℕ) → IsAnswered row.request row.rulings answer → Some answer ≡ row_answer (bytes_with routes) row
+answered_row routes row answer is =
+    ap (λ (t : List ℕ). Some t) is.text ∙ sym (ap (option_map (λ (h : RequestHeader). answer_text (bytes_with routes) h row.rulings)) (readable_alike routes row.request ∙ is.reads))

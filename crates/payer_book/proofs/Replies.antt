@@ -1,0 +1,99 @@
+-- What the model answers, by what the code finds.
+use Rattle.std.proofs.Common.{◌≡◌, ℕ, ◌+◌, ◌<◌, ◌≤◌, Bool, true, false, cond, List, [], ◌∷◌, ◌++◌, length, Option, Some, None, Result, Ok, Err, refl, sym, ap, ◌∙◌, subst, arith}
+use Rattle.std.specs.Prelude.{bytes_eq, nat_lt}
+use Rattle.std.specs.List.{list_all}
+use Rattle.std.proofs.lemmas.Bool.{cond-true, cond-false}
+use Rattle.bin_routes.specs.Table.{RouteMaps}
+use Rattle.claim_profile.specs.Readable.{readable_header}
+use Rattle.claim_model.specs.Words.{TxnId, RequestHeader}
+use Rattle.claim_model.specs.Bytes.{bytes_with}
+use Rattle.claim_model.specs.Readable.{readable, payer_for, is_payer, answer_text}
+use Rattle.claim_model.specs.Refusal.{Refusal}
+use Rattle.claim_model.specs.Rows.{Row, Book}
+use Rattle.claim_model.specs.Book.{serial_fits, row_of, new_row, Answered, entered_row, answered_by, answered_readable, answered}
+use Rattle.payer_book.specs.declared.fault.BookFault.{BookFault}
+use Rattle.payer_book.specs.declared.fault.BookFault.TheVariants.{OutOfMemory, Unreadable, NotOurs, NumberReused, BookFull, SerialsUsedUp}
+use Rattle.payer_book.specs.Faults.{RefusedFor, IsUnread, IsReused}
+use Rattle.payer_book.specs.Kept.{IsAnswered}
+use Rattle.payer_book.specs.Books.{reading}
+use Rattle.payer_book.specs.Entries.{with_row}
+use Rattle.payer_book.proofs.Readings.{readable_alike}
+use Rattle.payer_book.proofs.Lists.{same_some}
+use Rattle.payer_book.proofs.Sameness.{bytes_same}
+
+module _ (routes : RouteMaps) (b : Book) (id : TxnId) (request : List ℕ) where
+  pub unreadable : readable_header request ≡ None → answered (bytes_with routes) b id request ≡ Err Refusal.Unreadable
+  unfolding answered
+  unreadable e = ap (answered_readable (bytes_with routes) b id request) (readable_alike routes request ∙ e)
+
+  module _ (h : RequestHeader) (reads : readable_header request ≡ Some h) where
+    read : answered (bytes_with routes) b id request ≡ answered_readable (bytes_with routes) b id request (Some h)
+    unfolding answered
+    read = ap (answered_readable (bytes_with routes) b id request) (readable_alike routes request ∙ reads)
+
+    pub not_ours : is_payer b.payer (payer_for (bytes_with routes) h) ≡ false → answered (bytes_with routes) b id request ≡ Err Refusal.NotOurs
+    not_ours e = read ∙ cond-false (is_payer b.payer (payer_for (bytes_with routes) h)) (answered_by (bytes_with routes) b id request h (row_of id b.rows)) (Err Refusal.NotOurs) e
+
+    module _ (ours : is_payer b.payer (payer_for (bytes_with routes) h) ≡ true) where
+      pub at_rows : (o : Option Row) → row_of id b.rows ≡ o → answered (bytes_with routes) b id request ≡ answered_by (bytes_with routes) b id request h o
+      at_rows o e =
+          read ∙ (cond-true (is_payer b.payer (payer_for (bytes_with routes) h)) (answered_by (bytes_with routes) b id request h (row_of id b.rows)) (Err Refusal.NotOurs) ours
+          ∙ ap (answered_by (bytes_with routes) b id request h) e)
+
+      pub reused : (row : Row) → row_of id b.rows ≡ Some row → bytes_eq row.request request ≡ false → answered (bytes_with routes) b id request ≡ Err Refusal.NumberReused
+      reused row e other = at_rows (Some row) e ∙ cond-false (bytes_eq row.request request) _ (Err Refusal.NumberReused) other
+
+      pub again : (row : Row) → row_of id b.rows ≡ Some row → bytes_eq row.request request ≡ true
+          → answered (bytes_with routes) b id request ≡ Ok (record { book = b; bytes = answer_text (bytes_with routes) h row.rulings; kept = true })
+      again row e same = at_rows (Some row) e ∙ cond-true (bytes_eq row.request request) _ (Err Refusal.NumberReused) same
+
+      pub full : row_of id b.rows ≡ None → nat_lt (length b.rows) b.settings.cap ≡ false → answered (bytes_with routes) b id request ≡ Err Refusal.BookFull
+      full e no_room = at_rows None e ∙ cond-false (nat_lt (length b.rows) b.settings.cap) (entered_row (bytes_with routes) b h (new_row (bytes_with routes) b id request)) (Err Refusal.BookFull) no_room
+
+      pub new : row_of id b.rows ≡ None → nat_lt (length b.rows) b.settings.cap ≡ true → answered (bytes_with routes) b id request ≡ entered_row (bytes_with routes) b h (new_row (bytes_with routes) b id request)
+      new e room = at_rows None e ∙ cond-true (nat_lt (length b.rows) b.settings.cap) (entered_row (bytes_with routes) b h (new_row (bytes_with routes) b id request)) (Err Refusal.BookFull) room
+
+-- what the code finds
+
+module _ (routes : RouteMaps) (b : Book) (id : TxnId) (request : List ℕ) where
+  pub unread_refused : (fault : BookFault) → IsUnread fault (readable_header request) → RefusedFor fault (answered (bytes_with routes) b id request)
+  unread_refused OutOfMemory h = tt
+  unread_refused Unreadable h = unreadable routes b id request h
+  unread_refused NotOurs h = absurd h
+  unread_refused NumberReused h = absurd h
+  unread_refused BookFull h = absurd h
+  unread_refused SerialsUsedUp h = absurd h
+
+  module _ (h : RequestHeader) (reads : readable_header request ≡ Some h) (ours : is_payer b.payer (payer_for (bytes_with routes) h) ≡ true) where
+    pub reused_refused : (row : Row) → row_of id b.rows ≡ Some row → (fault : BookFault) → IsReused fault (bytes_eq row.request request) → RefusedFor fault (answered (bytes_with routes) b id request)
+    reused_refused row at OutOfMemory h = tt
+    reused_refused row at Unreadable h = absurd h
+    reused_refused row at NotOurs h = absurd h
+    reused_refused row at NumberReused other = reused routes b id request h reads ours row at other
+    reused_refused row at BookFull h = absurd h
+    reused_refused row at SerialsUsedUp h = absurd h
+
+    pub answered_again : (row : Row) → row_of id b.rows ≡ Some row → (bytes : List ℕ) (kept : Bool) → bytes_eq row.request request ≡ true → IsAnswered row.request row.rulings bytes → kept ≡ true
+        → answered (bytes_with routes) b id request ≡ Ok (record { book = b; bytes = bytes; kept = kept })
+    answered_again row at bytes kept same is known =
+        let one : row.request ≡ request = bytes_same row.request request same in
+        let header : is.header ≡ h = same_some is.header h (sym is.reads ∙ ap readable_header one ∙ reads) in
+        let text : answer_text (bytes_with routes) h row.rulings ≡ bytes = sym (is.text ∙ ap (λ (x : RequestHeader). answer_text (bytes_with routes) x row.rulings) header) in
+        again routes b id request h reads ours row at same
+        ∙ (ap (λ (t : List ℕ). Ok (record { book = b; bytes = t; kept = true })) text ∙ ap (λ k. Ok (record { book = b; bytes = bytes; kept = k })) (sym known))
+
+    module _ (fresh : row_of id b.rows ≡ None) (room : nat_lt (length b.rows) b.settings.cap ≡ true) (same : new_row reading b id request ≡ new_row (bytes_with routes) b id request) where
+      entered_same : answered (bytes_with routes) b id request ≡ entered_row (bytes_with routes) b h (new_row reading b id request)
+      entered_same = new routes b id request h reads ours fresh room ∙ ap (entered_row (bytes_with routes) b h) (sym same)
+
+      pub used_up : list_all serial_fits (new_row reading b id request).rulings ≡ false → answered (bytes_with routes) b id request ≡ Err Refusal.SerialsUsedUp
+      used_up no_serial = entered_same ∙ cond-false (list_all serial_fits (new_row reading b id request).rulings) _ (Err Refusal.SerialsUsedUp) no_serial
+
+      pub answered_new : (after : Book) (row : Row) (bytes : List ℕ) (kept : Bool) → row ≡ new_row reading b id request → list_all serial_fits row.rulings ≡ true → after ≡ with_row b row → bytes ≡ answer_text (bytes_with routes) h row.rulings → kept ≡ false
+          → answered (bytes_with routes) b id request ≡ Ok (record { book = after; bytes = bytes; kept = kept })
+      answered_new after row bytes kept is fit book text known =
+          entered_same
+          ∙ (ap (entered_row (bytes_with routes) b h) (sym is)
+          ∙ (cond-true (list_all serial_fits row.rulings) (Ok (record { book = with_row b row; bytes = answer_text (bytes_with routes) h row.rulings; kept = false })) (Err Refusal.SerialsUsedUp) fit
+          ∙ (ap (λ (x : Book). Ok (record { book = x; bytes = answer_text (bytes_with routes) h row.rulings; kept = false })) (sym book)
+          ∙ (ap (λ (t : List ℕ). Ok (record { book = after; bytes = t; kept = false })) (sym text) ∙ ap (λ k. Ok (record { book = after; bytes = bytes; kept = k })) (sym known)))))

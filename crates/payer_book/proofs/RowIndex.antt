@@ -1,0 +1,44 @@
+-- The index of the rows, as the list grows.
+use Rattle.std.proofs.Common.{◌≡◌, ℕ, ◌<◌, Bool, true, false, cond, List, [], ◌∷◌, ◌++◌, length, Option, Some, None, slice_get, refl, sym, ap, ◌∙◌, subst, arith, length-append}
+use Rattle.std.specs.Prelude.{find, option_and_then}
+use Rattle.std.proofs.lemmas.Bool.{cond-true, cond-false}
+use Rattle.claim_model.specs.Words.{TxnId}
+use Rattle.claim_model.specs.Rows.{Row}
+use Rattle.claim_model.specs.Readable.{same_id}
+use Rattle.claim_model.specs.Book.{row_of}
+use Rattle.payer_book.specs.RowPlaces.{IsPlaced}
+use Rattle.payer_book.proofs.Lists.{get_append, get_last, find_append, find_beyond, same_some}
+use Rattle.envelope.specs.contracts.txn.TxnIdOrd.TheImpl as id_order
+use Rattle.std.specs.Ordering.{is_eq}
+use Rattle.payer_book.proofs.Sameness.{id_same, id_order_same}
+
+module _ (rows : List Row) (row : Row) (old new : TxnId → Option ℕ) (h : IsPlaced rows old) (fresh : row_of row.id rows ≡ None)
+    (more : (id : TxnId) → new id ≡ cond (same_id row.id id) (Some (length rows)) (old id)) where
+  more_found : (id : TxnId) (b : Bool) (o : Option ℕ) → same_id row.id id ≡ b → old id ≡ o → option_and_then (slice_get rows) o ≡ row_of id rows
+      → option_and_then (slice_get (rows ++ row ∷ [])) (cond b (Some (length rows)) o) ≡ row_of id (rows ++ row ∷ [])
+  more_found id true o is at f =
+      let none : row_of id rows ≡ None = subst (λ (i : TxnId). row_of i rows ≡ None) (id_same row.id id is) fresh in
+      get_last rows row ∙ sym (find_beyond (λ (r : Row). same_id r.id id) rows (row ∷ []) none ∙ cond-true (same_id row.id id) (Some row) None is)
+  more_found id false None is at f = sym (find_beyond (λ (r : Row). same_id r.id id) rows (row ∷ []) (sym f) ∙ cond-false (same_id row.id id) (Some row) None is)
+  more_found id false (Some k) is at f = get_append rows (row ∷ []) k (h.within id k at) ∙ by_row (slice_get rows k) refl
+    where
+      by_row : (r : Option Row) → slice_get rows k ≡ r → slice_get rows k ≡ row_of id (rows ++ row ∷ [])
+      by_row (Some r) e = e ∙ sym (find_append (λ (q : Row). same_id q.id id) rows (row ∷ []) r (sym f ∙ e))
+      by_row None e = e ∙ sym (find_beyond (λ (q : Row). same_id q.id id) rows (row ∷ []) (sym f ∙ e) ∙ cond-false (same_id row.id id) (Some row) None is)
+
+  more_within : (id : TxnId) (place : ℕ) (b : Bool) → cond b (Some (length rows)) (old id) ≡ Some place → place < length (rows ++ row ∷ [])
+  more_within id place true e = let s = same_some (length rows) place e in omega (arith, s, length-append rows (row ∷ []))
+  more_within id place false e = let s = h.within id place e in omega (arith, s, length-append rows (row ∷ []))
+
+  pub placed_more : IsPlaced (rows ++ row ∷ []) new
+  placed_more = record {
+    found = λ id. ap (option_and_then (slice_get (rows ++ row ∷ []))) (more id) ∙ more_found id (same_id row.id id) (old id) refl refl (h.found id);
+    within = λ id place e. more_within id place (same_id row.id id) (sym (more id) ∙ e);
+  }
+
+-- what an insertion makes of the index
+pub placed_by : (rows : List Row) (row : Row) (key : TxnId) (place : ℕ) (old new : TxnId → Option ℕ) → key ≡ row.id → place ≡ length rows
+    → ((id : TxnId) → new id ≡ cond (is_eq (id_order.ghosts.cmp key id)) (Some place) (old id)) → (id : TxnId) → new id ≡ cond (same_id row.id id) (Some (length rows)) (old id)
+placed_by rows row key place old new is at updates id =
+    updates id ∙ (ap (λ b. cond b (Some place) (old id)) (id_order_same key id)
+    ∙ (ap (λ (k : TxnId). cond (same_id k id) (Some place) (old id)) is ∙ ap (λ n. cond (same_id row.id id) (Some n) (old id)) at))

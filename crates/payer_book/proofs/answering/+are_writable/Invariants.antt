@@ -1,5 +1,0 @@
-use Rattle.std.proofs.Common.{length}
-use Rattle.payer_book.proofs.answering.+are_writable.Given as goal
-
-abbrev pub decreases-are_writable : goal.decreases-are_writable
-decreases-are_writable l = length l.rulings.now

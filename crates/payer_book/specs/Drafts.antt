@@ -1,0 +1,82 @@
+-- The rulings of a request over the payments of a book, and what they change, place by place.
+use Rattle.std.specs.Prelude.{◌≡◌, ℕ, ◌+◌, Bool, true, cond, List, [], ◌∷◌, ◌++◌, length, filter, count_by, slice_get, Option, Some, None, Result, Ok, Err}
+use Rattle.claim_model.specs.Words.{Auth, Amounts, Claim, Reversal, Order, Bills, Reverses, Code, DuplicateClaim, ReversalNotProcessed, Ruling, Paid, Duplicate, Reversed, Rejected, Plan}
+use Rattle.claim_model.specs.Judgement.{same_claim, only, Judged, Settled, ToPrice, priced}
+use Rattle.plan_rules.specs.Pricing.{paid}
+use Rattle.payer_book.specs.declared.payment.Standing.{Standing}
+use Rattle.payer_book.specs.declared.changes.Change.{Change}
+use Rattle.claim_model.specs.Book.{serial_fits}
+use Rattle.std.specs.List.{list_all}
+use Rattle.payer_book.specs.declared.drafting.Draft.{Draft}
+use Rattle.payer_book.specs.declared.judging.Verdict.{Verdict}
+use Rattle.payer_book.specs.declared.judging.Verdict.TheVariants.{Settled as IsSettled, ToPrice as IsToPrice}
+use Rattle.payer_book.specs.declared.pricing.Prices.{Prices}
+use Rattle.payer_book.specs.declared.pricing.Prices.TheVariants.{Plan as OfPlan, Kept as OfAnswer}
+use Rattle.payer_book.specs.Ledger.{Ledger, standing_in, standing_of, takes_back}
+use Rattle.payer_book.specs.Changes.{change_by, changes_by, pays, standing_after}
+
+-- the judgement of a claim, where its fill has this standing payment
+abbrev pub claim_on : Claim → Option Standing → Judged
+claim_on c None = ToPrice c
+claim_on c (Some s) = cond (same_claim s.claim c) (Settled (Duplicate s.auth c.fill.prescription s.amounts)) (Settled (Rejected (DuplicateClaim ∷ [])))
+
+-- the judgement of a reversal, which is for this payment alone
+abbrev pub reversal_on : Reversal → Option Standing → Judged
+reversal_on v None = Settled (Rejected (ReversalNotProcessed ∷ []))
+reversal_on v (Some s) = Settled (Reversed s.auth v.prescription)
+
+-- the judgement of an order over the standing payments
+abbrev pub judged_on : List Standing → Result Order (List Code) → Judged
+judged_on standing (Err codes) = Settled (Rejected codes)
+judged_on standing (Ok (Bills c)) = claim_on c (standing_of c.fill standing)
+judged_on standing (Ok (Reverses v)) = reversal_on v (only (filter (takes_back v) standing))
+
+abbrev pub verdict : Verdict → Judged
+verdict (IsSettled ruling) = Settled ruling
+verdict (IsToPrice c) = ToPrice c
+
+-- where prices come from: a plan, or the rulings of a kept answer
+pub data Pricing : Type 0 where
+  ByPlan : Plan → Pricing
+  AsKept : List Ruling → Pricing
+
+abbrev pub pricing : Prices → Pricing
+pricing (OfPlan plan) = ByPlan plan.now
+pricing (OfAnswer rulings) = AsKept rulings.now
+
+-- what a ruling paid
+abbrev pub amounts_in : Option Ruling → Option Amounts
+amounts_in None = None
+amounts_in (Some (Paid auth prescription amounts)) = Some amounts
+amounts_in (Some (Duplicate auth prescription amounts)) = None
+amounts_in (Some (Reversed auth prescription)) = None
+amounts_in (Some (Rejected codes)) = None
+
+-- what is paid for the claim at a place
+abbrev pub price_at : Pricing → ℕ → Claim → Option Amounts
+price_at (ByPlan plan) place c = paid plan c
+price_at (AsKept rulings) place c = amounts_in (slice_get rulings place)
+
+-- the authorization of the next payment after some changes
+abbrev pub auth_after : Ledger → List Change → Auth
+auth_after l changes = record { payer = l.payer; serial = l.first + length l.payments + count_by pays changes }
+
+abbrev pub settled_by : Auth → Pricing → ℕ → Judged → Ruling
+settled_by auth prices place (Settled ruling) = ruling
+settled_by auth prices place (ToPrice c) = priced auth c (price_at prices place c)
+
+-- the ruling of the next place, after the changes of the places before
+unfoldable pub ruling_on : Ledger → Pricing → List Change → Result Order (List Code) → Ruling
+ruling_on l prices changes order = settled_by (auth_after l changes) prices (length changes) (judged_on (standing_after (standing_in l.payments) changes) order)
+
+-- the rulings of some orders, each after the changes of the places before
+abbrev pub rulings_on : Ledger → Pricing → List Change → List (Result Order (List Code)) → List Ruling
+rulings_on l prices changes [] = []
+rulings_on l prices changes (order ∷ orders) =
+    ruling_on l prices changes order ∷ rulings_on l prices (changes ++ change_by order (ruling_on l prices changes order) ∷ []) orders
+
+-- a draft of all places: their rulings, each with a serial that there is, and what each changes
+pub record IsDraft (l : Ledger) (prices : Pricing) (orders : List (Result Order (List Code))) (d : Draft) : Type 0 where
+  pub ruled : d.rulings.items ≡ rulings_on l prices [] orders
+  pub changed : d.changes.items ≡ changes_by orders d.rulings.items
+  pub fit : list_all serial_fits d.rulings.items ≡ true

@@ -1,0 +1,34 @@
+-- Which refusal of the model a fault of a book is.
+use Rattle.std.specs.Prelude.{◌≡◌, Bool, false, Option, None, Result, Ok, Err, ⊤}
+use Rattle.claim_model.specs.Words.{RequestHeader}
+use Rattle.claim_model.specs.Refusal as refusal
+use Rattle.claim_model.specs.Refusal.{Refusal}
+use Rattle.payer_book.specs.declared.fault.BookFault.{BookFault}
+use Rattle.payer_book.specs.declared.fault.BookFault.TheVariants.{OutOfMemory, Unreadable, NotOurs, NumberReused, BookFull, SerialsUsedUp}
+
+-- a request is refused for this cause; want of memory says nothing of it
+abbrev pub RefusedFor : {A : Type 0} → BookFault → Result A Refusal → Type 0
+RefusedFor OutOfMemory answer = ⊤
+RefusedFor Unreadable answer = answer ≡ Err refusal.Unreadable
+RefusedFor NotOurs answer = answer ≡ Err refusal.NotOurs
+RefusedFor NumberReused answer = answer ≡ Err refusal.NumberReused
+RefusedFor BookFull answer = answer ≡ Err refusal.BookFull
+RefusedFor SerialsUsedUp answer = answer ≡ Err refusal.SerialsUsedUp
+
+-- the text is no readable request
+abbrev pub IsUnread : BookFault → Option RequestHeader → Type 0
+IsUnread OutOfMemory header = ⊤
+IsUnread Unreadable header = header ≡ None
+IsUnread NotOurs header = ⊥
+IsUnread NumberReused header = ⊥
+IsUnread BookFull header = ⊥
+IsUnread SerialsUsedUp header = ⊥
+
+-- the request is not the one of the row
+abbrev pub IsReused : BookFault → Bool → Type 0
+IsReused OutOfMemory same = ⊤
+IsReused Unreadable same = ⊥
+IsReused NotOurs same = ⊥
+IsReused NumberReused same = same ≡ false
+IsReused BookFull same = ⊥
+IsReused SerialsUsedUp same = ⊥

@@ -1,0 +1,54 @@
+-- Whether a reversal is for no standing payment, for one, or for several.
+use Rattle.std.specs.Prelude.{ℕ, Bool, not, ◌&&◌, nat_le, nat_lt, cond, List, [], ◌∷◌, filter, Option, Some, None}
+use Rattle.claim_model.specs.Words.{Fill, Reversal}
+use Rattle.payer_book.specs.declared.payment.Standing.{Standing}
+use Rattle.payer_book.specs.declared.changes.Change.{Change}
+use Rattle.payer_book.specs.declared.matches.Matches.{Matches}
+use Rattle.payer_book.specs.declared.matches.Matches.TheVariants.{Nothing, One, Several}
+use Rattle.payer_book.specs.Ledger.{takes_back}
+use Rattle.payer_book.specs.Changes.{is_undone}
+
+-- how many payments there are, as far as it matters, and which one where there is one
+abbrev pub tally : List Standing → Matches
+tally [] = Nothing
+tally (s ∷ []) = One s
+tally (s ∷ t ∷ more) = Several
+
+-- one payment more
+abbrev pub added : Matches → Standing → Matches
+added Nothing s = One s
+added (One t) s = Several
+added Several s = Several
+
+-- the payments of two tallies together
+abbrev pub together : Matches → Matches → Matches
+together Nothing b = b
+together (One s) b = added b s
+together Several b = Several
+
+-- the payment, where there is exactly one
+abbrev pub only_of : Matches → Option Standing
+only_of Nothing = None
+only_of (One s) = Some s
+only_of Several = None
+
+-- the fill of a reversal with this number
+abbrev pub fill_for : Reversal → ℕ → Fill
+fill_for v number = record { bin = v.bin; pcn = v.pcn; qualifier = v.qualifier; provider = v.provider; prescription = v.prescription; fill = number }
+
+-- the reversal is for this payment, which none of the changes undoes
+abbrev pub is_match : Reversal → List Change → Standing → Bool
+is_match v changes s = takes_back v s && not (is_undone s.auth changes)
+
+-- the tally with this payment, where the reversal is for it
+abbrev pub matched : Reversal → List Change → Option Standing → Matches → Matches
+matched v changes None matches = matches
+matched v changes (Some s) matches = cond (is_match v changes s) (added matches s) matches
+
+-- a fill number from one number to below another
+abbrev pub is_between : ℕ → ℕ → Standing → Bool
+is_between first end s = nat_le first s.claim.fill.fill && nat_lt s.claim.fill.fill end
+
+-- the payments with such a number that the reversal is for
+abbrev pub matches_between : Reversal → List Change → ℕ → ℕ → List Standing → List Standing
+matches_between v changes first end standing = filter (λ s. is_match v changes s && is_between first end s) standing

@@ -1,0 +1,22 @@
+-- The index of a list of payments.
+use Rattle.std.specs.Prelude.{◌≡◌, ℕ, ◌≤◌, List, slice_get, Option, Some, option_and_then}
+use Rattle.std.specs.List.{AllByRecursion}
+use Rattle.claim_model.specs.Words.{Fill}
+use Rattle.payer_book.specs.declared.payment.Standing.{Standing}
+use Rattle.payer_book.specs.declared.payment.Payment.{Payment}
+use Rattle.payer_book.specs.declared.payment.Payment.TheVariants.{Standing as Stands}
+use Rattle.payer_book.specs.Ledger.{still, standing_in, AreNumbered, IsNumbered}
+
+-- a fill's standing payment is at this place
+pub record StandsAt (ps : List Payment) (fill : Fill) (place : ℕ) : Type 0 where
+  pub payment : Standing
+  pub there : slice_get ps place ≡ Some (Stands payment)
+  pub is_of : payment.claim.fill ≡ fill
+
+-- each standing payment is in the index by its fill, and the index has nothing else
+pub record IsIndexed (payer first : ℕ) (ps : List Payment) (place_of : Fill → Option ℕ) : Type 0 where
+  pub least : 1 ≤ first
+  pub numbered : AreNumbered payer first ps
+  pub numbers : AllByRecursion IsNumbered (standing_in ps)
+  pub found : (fill : Fill) (place : ℕ) → place_of fill ≡ Some place → StandsAt ps fill place
+  pub there : (s : Standing) (place : ℕ) → slice_get ps place ≡ Some (Stands s) → place_of s.claim.fill ≡ Some place

@@ -1,0 +1,82 @@
+//! The standing payments that a reversal is for, counted as far as it matters.
+
+ghost use Rattle.std.specs.Prelude.{◌≡◌};
+ghost use Rattle.claim_model.specs.Judgement.{is_for, is_fill_number};
+ghost use Rattle.payer_book.specs.Matches.{added, together, only_of, is_match};
+
+use crate::changes::{Change, is_undone};
+use crate::payment::Standing;
+use claim_profile::{Claim, Reversal};
+
+/// No payment, one, or several.
+#[derive(Drop)]
+pub(crate) enum Matches {
+    Nothing,
+    One(Standing),
+    Several,
+}
+
+impl Matches {
+    /// One payment more.
+    pub(crate) fn with(self, payment: Standing) -> Matches
+        ensures { result ≡ added self payment }
+    {
+        match self {
+            Matches::Nothing => Matches::One(payment),
+            Matches::One(_) => Matches::Several,
+            Matches::Several => Matches::Several,
+        }
+    }
+
+    /// The payments of both together.
+    pub(crate) fn and(self, other: Matches) -> Matches
+        ensures { result ≡ together self other }
+    {
+        match self {
+            Matches::Nothing => other,
+            Matches::One(payment) => other.with(payment),
+            Matches::Several => Matches::Several,
+        }
+    }
+
+    /// The payment, where there is exactly one.
+    pub(crate) fn only(self) -> Option<Standing>
+        ensures { result ≡ only_of self }
+    {
+        match self {
+            Matches::Nothing => None,
+            Matches::One(payment) => Some(payment),
+            Matches::Several => None,
+        }
+    }
+}
+
+/// Whether the reversal is for this payment, which none of the changes undoes.
+pub(crate) fn is_match(reversal: &Reversal, changes: &[Change], payment: &Standing) -> bool
+    ensures { result ≡ is_match reversal.now changes.now payment.now }
+{
+    takes_back(reversal, payment.claim()) && !is_undone(payment.auth(), changes)
+}
+
+/// Whether the reversal is for this claim.
+pub(crate) fn takes_back(reversal: &Reversal, claim: &Claim) -> bool
+    ensures { result ≡ is_for reversal.now claim.now }
+{
+    reversal.bin == claim.fill.bin
+        && (reversal.pcn == claim.fill.pcn
+            && (reversal.qualifier == claim.fill.qualifier
+                && (reversal.provider == claim.fill.provider
+                    && (reversal.prescription == claim.fill.prescription
+                        && (reversal.date == claim.date
+                            && is_fill_number(claim.fill.fill, reversal.fill))))))
+}
+
+/// Whether the fill number is the one that is asked for, or none is.
+fn is_fill_number(fill: u8, asked: Option<u8>) -> bool
+    ensures { result ≡ is_fill_number fill asked }
+{
+    match asked {
+        None => true,
+        Some(number) => number == fill,
+    }
+}

@@ -1,0 +1,76 @@
+//! One decided request.
+
+ghost use Rattle.std.specs.Prelude.{◌≡◌, Some};
+ghost use Rattle.bin_routes.specs.Table.{RouteMaps};
+ghost use Rattle.claim_model.specs.Bytes.{bytes_with};
+ghost use Rattle.claim_model.specs.Held.{row_answer};
+ghost use Rattle.payer_book.specs.Kept.{IsAnswered};
+
+use claim_profile::Ruling;
+use envelope::TxnId;
+use octets::Octets;
+use std::marker::Model;
+
+/// One decided request: its id, its bytes, the ruling of each place and the answer's bytes.
+#[derive(Drop)]
+pub struct Row {
+    id: TxnId,
+    request: Octets,
+    rulings: Vec<Ruling>,
+    answer: Octets,
+}
+
+impl Model for Row {
+    ghost use Rattle.claim_model.specs.Rows.{Row as RowParts};
+    ghost use Rattle.payer_book.specs.Kept.{IsAnswered};
+
+    ghost Value = { RowParts };
+
+    ghost view = { λ r. record { id = r.id; request = r.request; rulings = r.rulings.items } };
+
+    ghost invariant = { λ r. IsAnswered r.request r.rulings.items r.answer };
+}
+
+impl Row {
+    /// The row of a readable request with these rulings, and its answer.
+    pub(crate) fn new(id: TxnId, request: Octets, rulings: Vec<Ruling>, answer: Octets) -> Row
+        requires { IsAnswered request rulings.items answer }
+        ensures { result ≡ record { id = id; request = request; rulings = rulings.items } }
+    {
+        Row {
+            id,
+            request,
+            rulings,
+            answer,
+        }
+    }
+
+    /// The pharmacy and number that the request came under.
+    pub fn id(&self) -> TxnId
+        ensures { result ≡ self.now.id }
+    {
+        self.id
+    }
+
+    /// The request's bytes.
+    pub fn request(&self) -> &[u8]
+        ensures { result.now ≡ self.now.request }
+    {
+        self.request.as_slice()
+    }
+
+    /// The ruling of each place, in the order of the request's groups.
+    pub fn rulings(&self) -> &[Ruling]
+        ensures { result.now ≡ self.now.rulings }
+    {
+        self.rulings.as_slice()
+    }
+
+    /// The answer's bytes: header status `A` (501-F1) and one group for each ruling.
+    pub fn answer(&self) -> &[u8]
+        ensures kept { IsAnswered self.now.request self.now.rulings result.now }
+        ensures value { (routes : RouteMaps) → Some result.now ≡ row_answer (bytes_with routes) self.now }
+    {
+        self.answer.as_slice()
+    }
+}
