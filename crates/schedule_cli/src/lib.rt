@@ -3,6 +3,8 @@
 //! the lines for standard error stand here too, so that `main` is thin.
 #![tactic(auto)]
 
+mod answers;
+mod entries;
 mod fault;
 mod input;
 mod output;
@@ -18,3 +20,6 @@ pub use read::read_claims;
 pub use sink::{Sink, WriterSink};
 pub use source::{Failed, ReaderSource, Source};
 pub use words::{Stop, Word, word_of};
+
+#[cfg(test)]
+mod tests;

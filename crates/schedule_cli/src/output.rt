@@ -1,6 +1,6 @@
 //! Writing a finished output.
 
-ghost use Rattle.std.specs.Prelude.{◌≡◌, ℕ, take, IfErr, OnOk, OnErr};
+ghost use Rattle.std.specs.Prelude.{◌≡◌, ℕ, take, IfErr, IsTrue, OnOk, OnErr};
 ghost use Rattle.std.specs.Io.KnownBytes.{Appends};
 
 use crate::fault::ProgramFault;
@@ -9,11 +9,12 @@ use crate::sink::Sink;
 /// Writes all of the bytes, in as many calls as the sink wants.
 ///
 /// # Errors
-/// `Write` where a call failed or took nothing; what was written until then is a beginning of the bytes.
+/// `Write` where a call of the sink failed; what was written until then is a beginning of the bytes.
 pub(crate) fn write_all<K: Sink>(sink: &mut K, bytes: &[u8]) -> Result<(), ProgramFault>
     ensures all { OnOk result (Appends (K.contents sink.old) (K.contents sink.new) bytes.now) }
     ensures front { OnErr result ((count : ℕ) × Appends (K.contents sink.old) (K.contents sink.new) (take count bytes.now)) }
     ensures faults { IfErr result (λ fault. fault ≡ ProgramFault.Write) }
+    ensures failed { OnErr result (IsTrue (K.has_failed sink.new)) }
 {
     let mut written = 0;
     while written < bytes.len() {
@@ -22,9 +23,6 @@ pub(crate) fn write_all<K: Sink>(sink: &mut K, bytes: &[u8]) -> Result<(), Progr
             Ok(count) => count,
             Err(_) => return Err(ProgramFault::Write),
         };
-        if count == 0 {
-            return Err(ProgramFault::Write);
-        }
         written += count;
     }
     match sink.flush() {

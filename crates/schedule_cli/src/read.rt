@@ -1,30 +1,16 @@
 //! Lines of billings and reversals for one book: each line's answer, or the name of its refusal.
 
+ghost use Rattle.std.specs.Prelude.{◌≡◌, ◌≢◌, ◌+◌, ◌<◌, ◌≤◌, ◌⊎◌, length, IfErr, IfSome, IsTrue, IsErrOf, OnOk, OnErr};
+ghost use Rattle.schedule_cli.specs.Lines.{output_of};
+ghost use Rattle.schedule_cli.specs.Stops.{BeginningWritten, IsBadLine, Written};
+
+use crate::answers::answers;
 use crate::fault::ProgramFault;
-use crate::input::read_all;
+use crate::input::{MOST_CALLS, MOST_INPUT, read_all};
 use crate::output::write_all;
-use crate::sample;
 use crate::sink::Sink;
 use crate::source::Source;
-use bin_routes::Routes;
-use envelope::TxnId;
-use input_text::{
-    Lines, PrintedFault, is_skipped, put_decimal, put_printed, read_decimal, split_word, unprint,
-};
-use payer_book::{Book, BookFault};
 use std::alloc::Global;
-
-/// The pharmacy under whose number all lines stand.
-const PHARMACY: u16 = 1;
-/// The most digits of a line's number (own).
-const MOST_DIGITS: usize = 18;
-
-/// A request and the id that it comes under.
-#[derive(Drop)]
-struct Entry {
-    id: TxnId,
-    request: Vec<u8>,
-}
 
 /// Answers the lines of `source` from one empty book, and writes a line for each to `sink`.
 ///
@@ -34,93 +20,29 @@ struct Entry {
 ///
 /// # Errors
 /// `Read`, then `Line` of the first line that is no entry, before anything is written; then `Write`.
-/// `OutOfMemory` may stand in place of any answer.
+/// `OutOfMemory` may stand in place of any answer, and then nothing was written.
 pub fn read_claims<S: Source, K: Sink>(
     alloc: Global,
     source: &mut S,
     sink: &mut K,
-) -> Result<(), ProgramFault> {
+) -> Result<(), ProgramFault>
+    // Exactly the lines that the book's answers give were written.
+    ensures lines { OnOk result (IfSome (S.remaining source.old) (λ input. Written (K.contents sink.old) (K.contents sink.new) (output_of input))) }
+    // A call of the source failed, or the input is too long.
+    ensures read { IsErrOf result ProgramFault.Read → IsTrue (S.has_failed source.new)
+        ⊎ IfSome (S.remaining source.old) (λ input. MOST_INPUT < length input) }
+    // A line is refused only where it is the first that spells no entry.
+    ensures line { IfErr result (λ fault. IfSome (S.remaining source.old) (λ input. IsBadLine fault (output_of input))) }
+    // Nothing is written before all is answered.
+    ensures quiet { IfErr result (λ fault. fault ≢ ProgramFault.Write → sink.new ≡ sink.old) }
+    // A call of the sink failed, and a beginning of the lines was written.
+    ensures write { IsErrOf result ProgramFault.Write → IsTrue (K.has_failed sink.new) }
+    ensures beginning { IsErrOf result ProgramFault.Write → IfSome (S.remaining source.old) (λ input. BeginningWritten (K.contents sink.old) (K.contents sink.new) (output_of input)) }
+    // There are no settings that could be refused.
+    ensures faults { IfErr result (λ fault. fault ≢ ProgramFault.Settings) }
+    ensures calls { S.calls source.new ≤ S.calls source.old + MOST_CALLS }
+{
     let input = read_all(alloc, source)?;
     let output = answers(alloc, input.as_slice())?;
     write_all(sink, output.as_slice())
-}
-
-/// The whole output for an input.
-fn answers(alloc: Global, input: &[u8]) -> Result<Vec<u8>, ProgramFault> {
-    let entries = entries(alloc, input)?;
-    let routes = sample::routes(alloc)?;
-    let mut book = sample::book(alloc)?;
-    let mut output = Vec::new(alloc);
-    for entry in entries.iter() {
-        put_answer(&mut output, &mut book, &routes, entry)?;
-    }
-    Ok(output)
-}
-
-/// The entries of all lines that are not skipped.
-fn entries(alloc: Global, input: &[u8]) -> Result<Vec<Entry>, ProgramFault> {
-    let mut entries = Vec::new(alloc);
-    for line in Lines::new(input) {
-        if !is_skipped(line.text) {
-            match entry_of(alloc, line.text)? {
-                Some(entry) => entries.push(entry)?,
-                None => return Err(ProgramFault::Line(line.number as u64)),
-            }
-        }
-    }
-    Ok(entries)
-}
-
-/// The entry that a line spells, if it spells one.
-fn entry_of(alloc: Global, line: &[u8]) -> Result<Option<Entry>, ProgramFault> {
-    let Some((word, text)) = split_word(line) else {
-        return Ok(None);
-    };
-    let number = read_decimal(word, MOST_DIGITS);
-    let Some(id) = number.and_then(|number| TxnId::new(PHARMACY, number)) else {
-        return Ok(None);
-    };
-    match unprint(alloc, text) {
-        Ok(request) => Ok(Some(Entry { id, request })),
-        Err(PrintedFault::BadByte(_)) => Ok(None),
-        Err(PrintedFault::OutOfMemory) => Err(ProgramFault::OutOfMemory),
-    }
-}
-
-/// Appends the line of one entry.
-fn put_answer(
-    output: &mut Vec<u8>,
-    book: &mut Book,
-    routes: &Routes,
-    entry: &Entry,
-) -> Result<(), ProgramFault> {
-    let answer = book.answer(routes, entry.id, entry.request.as_slice());
-    if let Err(BookFault::OutOfMemory) = answer {
-        return Err(ProgramFault::OutOfMemory);
-    }
-    put_decimal(output, entry.id.number())?;
-    match answer {
-        Ok(reply) => {
-            output.extend_from_slice(b" ")?;
-            put_printed(output, reply.bytes.as_slice())?;
-        }
-        Err(fault) => {
-            output.extend_from_slice(b" refused ")?;
-            output.extend_from_slice(name_of(fault).as_bytes())?;
-        }
-    }
-    output.extend_from_slice(b"\n")?;
-    Ok(())
-}
-
-/// The name of a refusal, as it is printed.
-fn name_of(fault: BookFault) -> &'static str {
-    match fault {
-        BookFault::OutOfMemory => "OutOfMemory",
-        BookFault::Unreadable => "Unreadable",
-        BookFault::NotOurs => "NotOurs",
-        BookFault::NumberReused => "NumberReused",
-        BookFault::BookFull => "BookFull",
-        BookFault::SerialsUsedUp => "SerialsUsedUp",
-    }
 }

@@ -1,5 +1,9 @@
 //! The one book that `read` answers from.
 
+ghost use Rattle.std.specs.Prelude.{◌≡◌, [], IfOk, IfErr};
+ghost use Rattle.schedule_cli.specs.declared.fault.ProgramFault.TheVariants.{OutOfMemory};
+ghost use Rattle.schedule_cli.specs.Sample.{opening_book, sample_plan, sample_routes};
+
 use crate::fault::ProgramFault;
 use bin_routes::{PayerNo, RouteRow, Routes};
 use octets::Octets;
@@ -24,30 +28,50 @@ const FIRST_SERIAL: u64 = 1;
 const MOST_ROWS: u32 = 1_000;
 
 /// An empty book of payer 1, of at most 1,000 rows, whose plan has the one product.
-pub(crate) fn book(alloc: Global) -> Result<Book, ProgramFault> {
-    let (Some(payer), Some(fee), Some(copay)) = (
-        PayerNo::new(1),
-        Amount::new(FEE),
-        Amount::new(COPAY),
-    ) else {
-        return Err(ProgramFault::Settings);
+pub(crate) fn book(alloc: Global) -> Result<Book, ProgramFault>
+    ensures made { IfOk result (λ book. book ≡ opening_book) }
+    ensures fault { IfErr result (λ fault. fault ≡ OutOfMemory) }
+{
+    let Some(payer) = PayerNo::new(1) else {
+        unreachable!()
     };
     let Ok(settings) = BookSettings::new(FIRST_SERIAL, MOST_ROWS) else {
-        return Err(ProgramFault::Settings);
+        unreachable!()
     };
-    let mut plan = match Plan::new(alloc, fee, copay) {
-        Ok(plan) => plan,
-        Err(_) => return Err(ProgramFault::Settings),
-    };
-    match plan.set(PRODUCT, PRICE) {
-        Ok(()) => {}
-        Err(_) => return Err(ProgramFault::OutOfMemory),
-    }
+    let plan = plan(alloc)?;
     Ok(Book::new(alloc, payer, settings, plan))
 }
 
+/// The plan with the one product.
+fn plan(alloc: Global) -> Result<Plan, ProgramFault>
+    ensures made { IfOk result (λ plan. plan ≡ sample_plan) }
+    ensures fault { IfErr result (λ fault. fault ≡ OutOfMemory) }
+{
+    let mut plan = empty_plan(alloc);
+    match plan.set(PRODUCT, PRICE) {
+        Ok(()) => Ok(plan),
+        Err(_) => Err(ProgramFault::OutOfMemory),
+    }
+}
+
+/// The plan without products.
+fn empty_plan(alloc: Global) -> Plan
+    ensures { result ≡ record { fee = 150; copay = 1000; prices = [] } }
+{
+    let (Some(fee), Some(copay)) = (Amount::new(FEE), Amount::new(COPAY)) else {
+        unreachable!()
+    };
+    match Plan::new(alloc, fee, copay) {
+        Ok(plan) => plan,
+        Err(_) => unreachable!(),
+    }
+}
+
 /// The routes: the one BIN to payer 1.
-pub(crate) fn routes(alloc: Global) -> Result<Routes, ProgramFault> {
+pub(crate) fn routes(alloc: Global) -> Result<Routes, ProgramFault>
+    ensures made { IfOk result (λ routes. routes ≡ sample_routes) }
+    ensures fault { IfErr result (λ fault. fault ≡ OutOfMemory) }
+{
     let bin = Octets::copy_of(alloc, BIN)?;
     let row = RouteRow::new(bin, None, 1);
     match Routes::new(alloc, &[row], 1) {

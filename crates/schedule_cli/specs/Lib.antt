@@ -1,0 +1,5 @@
+pub mod Entries
+pub mod Sample
+pub mod Lines
+pub mod Said
+pub mod Stops

@@ -1,0 +1,31 @@
+-- Why a program stops, and what was written until then.
+use Rattle.std.specs.Prelude.{ℕ, ◌≡◌, List, take, Option, Result, Ok, Err}
+use Rattle.std.specs.Io.KnownBytes.{Appends}
+use Rattle.schedule_cli.specs.declared.fault.ProgramFault.{ProgramFault}
+use Rattle.schedule_cli.specs.declared.fault.ProgramFault.TheVariants.{OutOfMemory, Read, Settings, Line, Write}
+
+-- what is spelled line by line stops at the first line that spells nothing, or for want of memory, which says nothing
+abbrev pub StopsFor : {A : Type 0} → ProgramFault → Result A ℕ → Type 0
+StopsFor OutOfMemory spelled = Unit {0}
+StopsFor (Line number) spelled = spelled ≡ Err number
+StopsFor Read spelled = ⊥
+StopsFor Settings spelled = ⊥
+StopsFor Write spelled = ⊥
+
+-- an input has this output, and all of it was written
+abbrev pub Written : Option (List ℕ) → Option (List ℕ) → Result (List ℕ) ℕ → Type 0
+Written before after (Ok output) = Appends before after output
+Written before after (Err line) = ⊥
+
+-- an input has this output, and a beginning of it was written
+abbrev pub BeginningWritten : Option (List ℕ) → Option (List ℕ) → Result (List ℕ) ℕ → Type 0
+BeginningWritten before after (Ok output) = (count : ℕ) × Appends before after (take count output)
+BeginningWritten before after (Err line) = ⊥
+
+-- where a line is refused, it is the first that spells no entry; other faults say nothing of lines
+abbrev pub IsBadLine : {A : Type 0} → ProgramFault → Result A ℕ → Type 0
+IsBadLine OutOfMemory spelled = Unit {0}
+IsBadLine (Line number) spelled = spelled ≡ Err number
+IsBadLine Read spelled = Unit {0}
+IsBadLine Settings spelled = Unit {0}
+IsBadLine Write spelled = Unit {0}

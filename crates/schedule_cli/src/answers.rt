@@ -1,0 +1,97 @@
+//! The lines that the book's answers make.
+
+ghost use Rattle.std.specs.Prelude.{◌≡◌, ◌≢◌, ◌++◌, Ok, Err, IfOk, IfErr, OnOk};
+ghost use Rattle.payer_book.specs.declared.fault.BookFault.TheVariants.{OutOfMemory as NoMemory};
+ghost use Rattle.schedule_cli.specs.declared.fault.ProgramFault.TheVariants.{OutOfMemory};
+ghost use Rattle.schedule_cli.specs.Lines.{answer_lines, book_after, line_of, output_of, said_to};
+ghost use Rattle.schedule_cli.specs.Sample.{opening_book, sample_routes};
+ghost use Rattle.schedule_cli.specs.Said.{fault_name, said_text};
+ghost use Rattle.schedule_cli.specs.Stops.{StopsFor};
+
+use crate::entries::{Entry, entries};
+use crate::fault::ProgramFault;
+use crate::sample;
+use bin_routes::Routes;
+use input_text::{put_decimal, put_printed};
+use payer_book::{Book, BookFault, Reply};
+use std::alloc::Global;
+
+/// The whole output for an input.
+///
+/// # Errors
+/// `Line` of the first line that spells no entry; `OutOfMemory`.
+pub(crate) fn answers(alloc: Global, input: &[u8]) -> Result<Vec<u8>, ProgramFault>
+    ensures all { IfOk result (λ output. output_of input.now ≡ Ok output.items) }
+    ensures fault { IfErr result (λ fault. StopsFor fault (output_of input.now)) }
+{
+    match entries(alloc, input) {
+        Ok(entries) => all_lines(alloc, entries.as_slice()),
+        Err(fault) => Err(fault),
+    }
+}
+
+/// The lines of all entries, from the book as it opens.
+fn all_lines(alloc: Global, entries: &[Entry]) -> Result<Vec<u8>, ProgramFault>
+    ensures ok { IfOk result (λ output. output.items ≡ answer_lines sample_routes opening_book entries.now) }
+    ensures err { IfErr result (λ fault. fault ≡ OutOfMemory) }
+{
+    let routes = sample::routes(alloc)?;
+    let mut book = sample::book(alloc)?;
+    let mut output = Vec::new(alloc);
+    for entry in entries {
+        put_line(&mut output, &mut book, &routes, entry)?;
+    }
+    Ok(output)
+}
+
+/// Appends the line of one entry.
+fn put_line(
+    output: &mut Vec<u8>,
+    book: &mut Book,
+    routes: &Routes,
+    entry: &Entry,
+) -> Result<(), ProgramFault>
+    ensures line { OnOk result (output.new.items ≡ output.old.items ++ line_of entry.now.id.number (said_to routes.now book.old entry.now)) }
+    ensures book { OnOk result (book.new ≡ book_after book.old (said_to routes.now book.old entry.now)) }
+    ensures err { IfErr result (λ fault. fault ≡ OutOfMemory) }
+{
+    put_decimal(output, entry.id.number())?;
+    let said = book.answer(routes, entry.id, entry.request.as_slice());
+    put_said(output, &said)?;
+    output.extend_from_slice(b"\n")?;
+    Ok(())
+}
+
+/// Appends what stands behind the number: the answer, or the name of the refusal.
+fn put_said(output: &mut Vec<u8>, said: &Result<Reply, BookFault>) -> Result<(), ProgramFault>
+    ensures text { OnOk result (output.new.items ≡ output.old.items ++ said_text said.now) }
+    ensures known { OnOk result (said.now ≢ Err NoMemory) }
+    ensures err { IfErr result (λ fault. fault ≡ OutOfMemory) }
+{
+    match said {
+        Ok(reply) => {
+            output.extend_from_slice(b" ")?;
+            put_printed(output, reply.bytes.as_slice())?;
+        }
+        Err(BookFault::OutOfMemory) => return Err(ProgramFault::OutOfMemory),
+        Err(fault) => {
+            output.extend_from_slice(b" refused ")?;
+            output.extend_from_slice(name_of(*fault))?;
+        }
+    }
+    Ok(())
+}
+
+/// The name of a refusal, as it is printed.
+fn name_of(fault: BookFault) -> &'static [u8]
+    ensures { result.now ≡ fault_name fault }
+{
+    match fault {
+        BookFault::OutOfMemory => b"OutOfMemory",
+        BookFault::Unreadable => b"Unreadable",
+        BookFault::NotOurs => b"NotOurs",
+        BookFault::NumberReused => b"NumberReused",
+        BookFault::BookFull => b"BookFull",
+        BookFault::SerialsUsedUp => b"SerialsUsedUp",
+    }
+}

@@ -1,0 +1,72 @@
+//! The entries that the lines of an input spell.
+
+ghost use Rattle.std.specs.Prelude.{◌≡◌, IfOk, IfErr};
+ghost use Rattle.schedule_cli.specs.Entries.{id_in, entry_of, entries_of};
+ghost use Rattle.schedule_cli.specs.Stops.{StopsFor};
+
+use crate::fault::ProgramFault;
+use envelope::TxnId;
+use input_text::{Lines, PrintedFault, is_skipped, read_decimal, split_word, unprint};
+use octets::Octets;
+use std::alloc::{AllocError, Global};
+
+/// The pharmacy under whose number all lines stand (own).
+const PHARMACY: u16 = 1;
+/// The most digits of a line's number (own).
+const MOST_DIGITS: usize = 18;
+
+/// A request and the id that it comes under.
+#[derive(Drop)]
+pub(crate) struct Entry {
+    pub(crate) id: TxnId,
+    pub(crate) request: Octets,
+}
+
+/// The entries of all lines that are not skipped.
+///
+/// # Errors
+/// `Line` of the first line that spells no entry; `OutOfMemory`.
+pub(crate) fn entries(alloc: Global, input: &[u8]) -> Result<Vec<Entry>, ProgramFault>
+    ensures read { IfOk result (λ entries. entries_of input.now ≡ Ok entries.items) }
+    ensures fault { IfErr result (λ fault. StopsFor fault (entries_of input.now)) }
+{
+    let mut entries = Vec::new(alloc);
+    for line in Lines::new(input) {
+        if !is_skipped(line.text) {
+            match entry_of(alloc, line.text)? {
+                Some(entry) => entries.push(entry)?,
+                None => return Err(ProgramFault::Line(line.number as u64)),
+            }
+        }
+    }
+    Ok(entries)
+}
+
+/// The entry that a line spells, if it spells one.
+#[tactic(auto, unfolding(crate::specs::Entries::entry_of))]
+fn entry_of(alloc: Global, line: &[u8]) -> Result<Option<Entry>, AllocError>
+    ensures { IfOk result (λ entry. entry ≡ entry_of line.now) }
+{
+    let Some((word, text)) = split_word(line) else {
+        return Ok(None);
+    };
+    let Some(id) = id_in(word) else {
+        return Ok(None);
+    };
+    match unprint(alloc, text) {
+        Ok(request) => Ok(Some(Entry {
+            id,
+            request: Octets::from_vec(request),
+        })),
+        Err(PrintedFault::BadByte(_)) => Ok(None),
+        Err(PrintedFault::OutOfMemory) => Err(AllocError),
+    }
+}
+
+/// The id that the number of a line stands for, if the word is a number.
+fn id_in(word: &[u8]) -> Option<TxnId>
+    ensures { result ≡ id_in word.now }
+{
+    let number = read_decimal(word, MOST_DIGITS)?;
+    TxnId::new(PHARMACY, number)
+}
