@@ -1,0 +1,11 @@
+pub mod Circle
+pub mod PlaceLemmas
+pub mod Turning
+pub mod ReadingLemmas
+pub mod Entering
+pub mod Dues
+pub mod Standing
+pub mod Hearings
+pub mod Answering
+pub mod StopStart
+pub mod Payable

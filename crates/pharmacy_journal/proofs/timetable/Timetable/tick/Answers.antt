@@ -1,0 +1,7 @@
+use Rattle.std.proofs.Common.{sym, ap, ◌∙◌}
+use Rattle.pharmacy_journal.specs.Timetable.{Rounds, seen_phases}
+use Rattle.pharmacy_journal.proofs.Turning.{seen_phases-turned}
+use Rattle.pharmacy_journal.proofs.timetable.Timetable.tick.Goals as goal
+
+pub returns : goal.returns
+returns c = rw (← c.self.view_is, c.tick.ensures, seen_phases-turned c.self.inside.retry c.self.inside.leads.items)

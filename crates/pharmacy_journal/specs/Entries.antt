@@ -1,0 +1,57 @@
+-- The entries of a journal: as the code keeps them, and as the model sees them.
+use Rattle.std.specs.Prelude.{◌≡◌, ℕ, ◌+◌, ◌<◌, ◌≤◌, Bool, true, false, List, [], ◌∷◌, length, map, Option, Some, None, is_some}
+use Rattle.claim_model.specs.Words.{TxnId}
+use Rattle.claim_model.specs.Journal.{PharmacySettings, State, Waits, Has, Entry, Kept}
+use Rattle.pharmacy_journal.specs.Reading.{is_own_request, settles_with}
+use Rattle.pharmacy_journal.specs.Settings.{AreSettings, rule_of}
+use Rattle.pharmacy_journal.specs.Timetable.{Rounds}
+use Rattle.pharmacy_journal.specs.declared.slot.Slot.{Slot}
+use Rattle.pharmacy_journal.specs.declared.slot.Slot.TheVariants.{Waiting, Settled}
+
+-- the phase of an open entry
+abbrev pub phase_or_start : Option ℕ → ℕ
+phase_or_start None = 0
+phase_or_start (Some phase) = phase
+
+-- an entry and its phase
+abbrev pub entry_of : Slot → Option ℕ → Entry
+entry_of (Waiting t) phase = record { request = t.request; state = Waits (phase_or_start phase) }
+entry_of (Settled t) phase = record { request = t.request; state = Has t.answer }
+
+abbrev pub entries_of : List Slot → List (Option ℕ) → List Entry
+entries_of [] phases = []
+entries_of (slot ∷ slots) [] = entry_of slot None ∷ entries_of slots []
+entries_of (slot ∷ slots) (phase ∷ phases) = entry_of slot phase ∷ entries_of slots phases
+
+-- an entry at rest
+abbrev pub kept_of : Slot → Kept
+kept_of (Waiting t) = record { request = t.request; answer = None }
+kept_of (Settled t) = record { request = t.request; answer = Some t.answer }
+
+abbrev pub is_waiting : Slot → Bool
+is_waiting (Waiting t) = true
+is_waiting (Settled t) = false
+
+-- an entry of this pharmacy and number: its request is readable and the pharmacy's own, and an answer fits it and has at most 32,768 bytes
+abbrev pub IsEntry : PharmacySettings → TxnId → Slot → Type 0
+IsEntry s id (Waiting t) = (t.id ≡ id) × (is_own_request s t.request ≡ true)
+IsEntry s id (Settled t) = (t.id ≡ id) × (is_own_request s t.request ≡ true) × (settles_with t.request t.answer ≡ true) × (length t.answer ≤ 32768)
+
+-- entries numbered from n on
+abbrev pub AreEntries : PharmacySettings → ℕ → ℕ → List Slot → Type 0
+AreEntries s pharmacy n [] = Unit {0}
+AreEntries s pharmacy n (slot ∷ slots) = IsEntry s (record { pharmacy = pharmacy; number = n }) slot × AreEntries s pharmacy (n + 1) slots
+
+-- a journal at rest
+pub record IsAtRest (number : ℕ) (s : PharmacySettings) (slots : List Slot) : Type 0 where
+  pub some_number : 0 < number
+  pub some_node : 0 < length s.nodes
+  pub settings : AreSettings s
+  pub entries : AreEntries s number 1 slots
+  pub in_limit : length slots ≤ s.cap
+
+-- a journal that is up: exactly the open entries have a phase
+pub record IsUp (number : ℕ) (s : PharmacySettings) (rounds : Rounds) (slots : List Slot) : Type 0 where
+  pub kept : IsAtRest number s slots
+  pub rule : rounds.rule ≡ rule_of s
+  pub phases : map is_waiting slots ≡ map is_some rounds.phases

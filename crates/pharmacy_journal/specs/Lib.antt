@@ -1,0 +1,13 @@
+pub mod Retry
+pub mod Places
+pub mod Timetable
+pub mod Settings
+pub mod Reading
+pub mod Transactions
+pub mod Refusing
+pub mod Entries
+pub mod Sendings
+pub mod Hearing
+pub mod Resting
+pub mod Counting
+pub mod Listing

@@ -1,0 +1,34 @@
+-- Journals at rest, made record by record.
+use Rattle.std.specs.Prelude.{ℕ, ◌-◌, Bool, true, ◌&&◌, nat_le, nat_lt, List, [], ◌∷◌, ◌++◌, length, Option, Some, None, if◌then◌else◌}
+use Rattle.claim_model.specs.Journal.{JournalAtRest, Kept}
+use Rattle.pharmacy_journal.specs.Retry.{Rule, phases_of}
+use Rattle.pharmacy_journal.specs.Reading.{is_own_request, settles_with}
+use Rattle.pharmacy_journal.specs.declared.slot.Slot.{Slot}
+use Rattle.pharmacy_journal.specs.declared.slot.Slot.TheVariants.{Waiting, Settled}
+
+-- an answer that a kept entry may have: at most 32,768 bytes, and one that settles the request
+abbrev pub is_kept_answer : List ℕ → Option (List ℕ) → Bool
+is_kept_answer request None = true
+is_kept_answer request (Some answer) = settles_with request answer && nat_le (length answer) 32768
+
+-- there is room, the request is readable and the pharmacy's own, and the answer can stand beside it
+abbrev pub is_row : JournalAtRest → List ℕ → Option (List ℕ) → Bool
+is_row j request answer = nat_lt (length j.entries) j.settings.cap && (is_own_request j.settings request && is_kept_answer request answer)
+
+-- the journal with one more entry, at the next number; none where it cannot stand there
+unfoldable pub added : JournalAtRest → List ℕ → Option (List ℕ) → Option JournalAtRest
+added j request answer =
+    if is_row j request answer
+    then Some (record { number = j.number; settings = j.settings; entries = j.entries ++ record { request = request; answer = answer } ∷ [] })
+    else None
+
+-- the journal with all these entries more, in order
+abbrev pub added_all : Option JournalAtRest → List Kept → Option JournalAtRest
+added_all None entries = None
+added_all (Some j) [] = Some j
+added_all (Some j) (k ∷ entries) = added_all (added j k.request k.answer) entries
+
+-- the phase with which an entry starts: one round of waiting before the circle's beginning
+abbrev pub restarted_phase : Rule → Slot → Option ℕ
+restarted_phase r (Waiting t) = Some (phases_of r - r.again)
+restarted_phase r (Settled t) = None

@@ -1,0 +1,27 @@
+-- Which settings a pharmacy takes.
+use Rattle.std.specs.Prelude.{ℕ, ◌<◌, ◌≤◌, List, length, IsTrue}
+use Rattle.std.specs.List.{list_all}
+use Rattle.d0_header.specs.Field.{is_plain}
+use Rattle.claim_model.specs.Journal.{PharmacySettings}
+use Rattle.pharmacy_journal.specs.Retry.{Rule}
+
+-- waits of 1 to 1,000 ticks, 1 to 1,000 tries, 1 to 65,536 entries, and an identity without separators
+pub record AreSettings (s : PharmacySettings) : Type 0 where
+  pub some_ticks : 0 < s.again
+  pub ticks_in_limit : s.again ≤ 1000
+  pub some_try : 0 < s.tries
+  pub tries_in_limit : s.tries ≤ 1000
+  pub some_entry : 0 < s.cap
+  pub entries_in_limit : s.cap ≤ 65536
+  pub plain_qualifier : IsTrue (list_all is_plain s.qualifier)
+  pub plain_provider : IsTrue (list_all is_plain s.provider)
+
+-- the widths of an identity, and as many nodes as the circle of phases has room for
+pub record AreSized (s : PharmacySettings) : Type 0 where
+  pub qualifier : length s.qualifier ≤ 2
+  pub provider : length s.provider ≤ 15
+  pub nodes : length s.nodes ≤ 4294967295
+
+-- the rule of retries in settings
+abbrev pub rule_of : PharmacySettings → Rule
+rule_of s = record { again = s.again; tries = s.tries; nodes = length s.nodes }

@@ -1,0 +1,255 @@
+//! The journal of a stopped pharmacy, and how a pharmacy stops and starts.
+
+ghost use Rattle.std.specs.Prelude.{◌≡◌, ◌≢◌, ◌<◌, ◌≤◌, ◌+◌, ◌-◌, ◌++◌, ◌∷◌, [], length, map, None, Some, IsSome, IfOk, IfErr, OnOk, OnErr, true, false};
+ghost use Rattle.std.specs.Option.{option_copied};
+ghost use Rattle.claim_profile.specs.Readable.{readable_header};
+ghost use Rattle.claim_model.specs.Journal.{stopped, started, is_own};
+ghost use Rattle.pharmacy_journal.specs.Settings.{rule_of};
+ghost use Rattle.pharmacy_journal.specs.Retry.{phases_of};
+ghost use Rattle.pharmacy_journal.specs.Reading.{is_own_request};
+ghost use Rattle.pharmacy_journal.specs.Resting.{added, added_all, is_row, is_kept_answer, restarted_phase};
+ghost use Rattle.pharmacy_journal.specs.Entries.{kept_of, IsEntry};
+ghost use Rattle.pharmacy_journal.specs.declared.fault.RowFault.TheVariants.{OutOfMemory};
+
+use crate::fault::{RowFault, SettleFault};
+use crate::pharmacy::{Pharmacy, first_timetable};
+use crate::settings::PharmacySettings;
+use crate::slot::Slot;
+use crate::timetable::Timetable;
+use crate::transaction::{OpenTxn, judge};
+use claim_profile::{RequestFault, read_readable};
+use d0_header::RequestHeader;
+use envelope::{LARGEST_PAYLOAD, TxnId};
+use octets::Octets;
+use std::alloc::{AllocError, Global};
+use std::marker::Model;
+
+/// A journal without phases: its requests, numbered from 1, each with its answer if there is one.
+#[derive(Drop)]
+pub struct JournalAtRest {
+    pub(crate) number: u16,
+    pub(crate) settings: PharmacySettings,
+    pub(crate) slots: Vec<Slot>,
+}
+
+impl Model for JournalAtRest {
+    ghost use Rattle.std.specs.Prelude.{map};
+    ghost use Rattle.claim_model.specs.Journal.{JournalAtRest as Resting};
+
+    ghost Value = { Resting };
+
+    ghost use Rattle.pharmacy_journal.specs.Entries.{kept_of, IsAtRest};
+
+    ghost view = { λ j. record { number = j.number; settings = j.settings; entries = map kept_of j.slots.items } };
+
+    ghost invariant = { λ j. IsAtRest j.number j.settings j.slots.items };
+}
+
+impl Pharmacy {
+    /// Stops the pharmacy. Every entry is kept, and no phase.
+    pub fn stop(self) -> JournalAtRest
+        ensures { result ≡ stopped self }
+    {
+        let Pharmacy {
+            number,
+            settings,
+            timetable: _,
+            slots,
+        } = self;
+        JournalAtRest {
+            number,
+            settings,
+            slots,
+        }
+    }
+}
+
+impl JournalAtRest {
+    /// A journal without entries of the pharmacy of this number. Number and list of switches are not
+    /// empty. Nothing is taken from `alloc` before the first entry.
+    pub fn new(alloc: Global, number: u16, settings: PharmacySettings) -> JournalAtRest
+        requires some_number { 0 < number }
+        requires some_node { 0 < length settings.nodes }
+        ensures { result ≡ record { number = number; settings = settings; entries = [] } }
+    {
+        let _again = settings.again();
+        JournalAtRest {
+            number,
+            settings,
+            slots: Vec::new(alloc),
+        }
+    }
+
+    /// Starts the pharmacy: each open entry is one round of waiting before its first send. Where memory
+    /// is refused, the journal comes back.
+    pub fn start(self) -> Result<Pharmacy, (JournalAtRest, AllocError)>
+        ensures ok { IfOk result (λ p. p ≡ started self) }
+        ensures err { IfErr result (λ e. e.0 ≡ self) }
+    {
+        match restarted(*self.slots.allocator(), &self.settings, &self.slots) {
+            Ok(timetable) => {
+                let JournalAtRest {
+                    number,
+                    settings,
+                    slots,
+                } = self;
+                Ok(Pharmacy {
+                    number,
+                    settings,
+                    timetable,
+                    slots,
+                })
+            }
+            Err(error) => Err((self, error)),
+        }
+    }
+
+    /// The pharmacy's number.
+    pub fn number(&self) -> u16
+        ensures value { result ≡ self.now.number }
+        ensures some { 0 < result }
+    {
+        self.number
+    }
+
+    /// What it was opened with.
+    pub fn settings(&self) -> &PharmacySettings
+        ensures value { result.now ≡ self.now.settings }
+        ensures some_node { 0 < length result.now.nodes }
+    {
+        &self.settings
+    }
+
+    /// How many entries there are.
+    pub fn entries(&self) -> usize
+        ensures value { result ≡ length self.now.entries }
+        ensures in_limit { result ≤ self.now.settings.cap }
+        ensures small { result ≤ 65536 }
+        // The entries are such that the journal at rest is made by adding them one by one.
+        ensures made { added_all (Some (record { number = self.now.number; settings = self.now.settings; entries = [] })) self.now.entries ≡ Some self.now }
+    {
+        self.slots.len()
+    }
+
+    /// Adds an entry at the next number.
+    ///
+    /// # Errors
+    /// `BadRow` where the journal is full, the request is not readable or of another provider, or the
+    /// answer has more than 32,768 bytes or is none to the request; the journal is then as it was.
+    pub fn add(&mut self, request: &[u8], answer: Option<&[u8]>) -> Result<(), RowFault>
+        ensures ok { OnOk result (added self.old request.now (option_copied answer.entry) ≡ Some self.new) }
+        ensures err { OnErr result (self.new ≡ self.old) }
+        ensures fault { IfErr result (λ e. e ≢ OutOfMemory → added self.old request.now (option_copied answer.entry) ≡ None) }
+    {
+        self.admit_row(request, answer)?;
+        let slot = self.row(request, answer)?;
+        self.slots.push(slot)?;
+        Ok(())
+    }
+
+    /// Whether an entry may be added.
+    fn admit_row(&self, request: &[u8], answer: Option<&[u8]>) -> Result<(), RowFault>
+        ensures ok { OnOk result (is_row self.now request.now (option_copied answer.entry) ≡ true) }
+        ensures fault { IfErr result (λ e. e ≢ OutOfMemory → is_row self.now request.now (option_copied answer.entry) ≡ false) }
+    {
+        if self.entries() >= self.settings.cap() as usize {
+            return Err(RowFault::BadRow);
+        }
+        let alloc = *self.slots.allocator();
+        own_request(alloc, &self.settings, request)?;
+        match answer {
+            None => Ok(()),
+            Some(answer) => kept_answer(alloc, request, answer),
+        }
+    }
+
+    /// The next entry, of a request and an answer that may be added.
+    fn row(&self, request: &[u8], answer: Option<&[u8]>) -> Result<Slot, AllocError>
+        requires { is_row self.now request.now (option_copied answer) ≡ true }
+        ensures kept { IfOk result (λ slot. kept_of slot ≡ record { request = request.now; answer = option_copied answer.entry }) }
+        ensures entry { IfOk result (λ slot. IsEntry self.now.settings (record { pharmacy = self.now.number; number = length self.now.entries + 1 }) slot) }
+    {
+        let number = self.entries() as u64 + 1;
+        let Some(id) = TxnId::new(self.number, number) else {
+            unreachable!()
+        };
+        let alloc = *self.slots.allocator();
+        let txn = OpenTxn::new(id, Vec::from_slice(alloc, request)?);
+        match answer {
+            None => Ok(Slot::Waiting(txn)),
+            Some(answer) => {
+                let answer = Octets::copy_of(alloc, answer)?;
+                Ok(Slot::Settled(txn.settled(answer)))
+            }
+        }
+    }
+}
+
+/// Whether a request is readable and the pharmacy's own.
+fn own_request(alloc: Global, settings: &PharmacySettings, request: &[u8]) -> Result<(), RowFault>
+    ensures ok { OnOk result (is_own_request settings.now request.now ≡ true) }
+    ensures fault { IfErr result (λ e. e ≢ OutOfMemory → is_own_request settings.now request.now ≡ false) }
+{
+    match read_readable(alloc, request) {
+        Ok(transmission) => own_header(settings, transmission.header()),
+        Err(RequestFault::OutOfMemory) => Err(RowFault::OutOfMemory),
+        Err(RequestFault::Unreadable) => Err(RowFault::BadRow),
+    }
+}
+
+/// Whether a header is of this provider.
+fn own_header(settings: &PharmacySettings, header: &RequestHeader) -> Result<(), RowFault>
+    ensures ok { OnOk result (is_own settings.now header.now ≡ true) }
+    ensures fault { OnErr result (is_own settings.now header.now ≡ false) }
+{
+    if header.qualifier() == settings.qualifier() && header.provider() == settings.provider() {
+        Ok(())
+    } else {
+        Err(RowFault::BadRow)
+    }
+}
+
+/// Whether an answer may stand beside a readable request.
+fn kept_answer(alloc: Global, request: &[u8], answer: &[u8]) -> Result<(), RowFault>
+    requires { IsSome (readable_header request.now) }
+    ensures ok { OnOk result (is_kept_answer request.now (Some answer.now) ≡ true) }
+    ensures fault { IfErr result (λ e. e ≢ OutOfMemory → is_kept_answer request.now (Some answer.now) ≡ false) }
+{
+    if answer.len() > LARGEST_PAYLOAD {
+        return Err(RowFault::BadRow);
+    }
+    match judge(alloc, request, answer) {
+        Ok(()) => Ok(()),
+        Err(SettleFault::OutOfMemory) => Err(RowFault::OutOfMemory),
+        Err(SettleFault::Unreadable) => Err(RowFault::BadRow),
+    }
+}
+
+/// The timetable of a pharmacy that starts.
+fn restarted(
+    alloc: Global,
+    settings: &PharmacySettings,
+    slots: &[Slot],
+) -> Result<Timetable, AllocError>
+    requires { 0 < length settings.now.nodes }
+    ensures { IfOk result (λ t. t ≡ record { rule = rule_of settings.now; phases = map (restarted_phase (rule_of settings.now)) slots.now }) }
+{
+    let mut timetable = first_timetable(alloc, settings)?;
+    let phase = timetable.last_round();
+    for slot in slots {
+        enter_again(&mut timetable, slot, phase)?;
+    }
+    Ok(timetable)
+}
+
+/// Adds an entry, in this phase where it is open.
+fn enter_again(timetable: &mut Timetable, slot: &Slot, phase: u64) -> Result<(), AllocError>
+    requires phase { phase ≡ phases_of timetable.old.rule - timetable.old.rule.again }
+    requires on_circle { phase < phases_of timetable.old.rule }
+    ensures { OnOk result (timetable.new ≡ record timetable.old { phases = timetable.old.phases ++ restarted_phase timetable.old.rule slot.now ∷ [] }) }
+{
+    match slot {
+        Slot::Waiting(_) => timetable.enter(phase),
+        Slot::Settled(_) => timetable.enter_settled(),
+    }
+}

@@ -1,0 +1,319 @@
+//! The payments that a pharmacy counts.
+
+ghost use Rattle.std.specs.Prelude.{◌≡◌, ◌≢◌, ◌<◌, ◌++◌, ◌∷◌, ◌||◌, [], if◌then◌else◌, length, map, not, Some, IfOk, OnOk, slice_index_or};
+ghost use Rattle.std.specs.Option.{option_to_list};
+ghost use Rattle.std.specs.List.{list_any, filter_map};
+ghost use Rattle.bin_routes.specs.Table.{RouteMaps};
+ghost use Rattle.d0_segments.specs.Views.{segments_parts, groups_parts};
+ghost use Rattle.d0_segments.specs.Transmissions.{transmission_parts};
+ghost use Rattle.claim_profile.specs.Order.{order_of};
+ghost use Rattle.claim_model.specs.Words.{Auth as AuthSeen};
+ghost use Rattle.claim_model.specs.Bytes.{bytes_with, order_in, orders_in};
+ghost use Rattle.claim_model.specs.Payments.{same_auth, undone, is_auth};
+ghost use Rattle.claim_model.specs.Counted.{counted, firsts};
+ghost use Rattle.claim_model.specs.Journal.{stopped};
+ghost use Rattle.pharmacy_journal.specs.Entries.{kept_of};
+ghost use Rattle.pharmacy_journal.specs.Counting.{fill_billed, outcomes_between, fills_in, rulings_told, outcomes_of, outcomes, payment_of, named_in, takes_back, has_auth, without, counted_in};
+ghost use Rattle.claim_profile.specs.declared.answer_reading.AnswerFault.TheVariants.{OutOfMemory as NoAnswerMemory};
+ghost use Rattle.d0_segments.specs.declared.fault.FramingFault.TheVariants.{OutOfMemory as NoRequestMemory};
+
+use crate::at_rest::JournalAtRest;
+use crate::pharmacy::Pharmacy;
+use crate::slot::Slot;
+use claim_profile::{Amounts, AnswerFault, Auth, Fill, Order, Ruling, read_answer, read_order};
+use d0_header::RequestHeader;
+use d0_segments::{FramingFault, Transmission, read_request};
+use std::alloc::{AllocError, Global};
+use std::collections::BTreeSet;
+use std::marker::Model;
+
+/// A payment as the pharmacy was told of it.
+#[derive(Clone, Copy, Debug)]
+pub struct CountedPayment {
+    auth: Auth,
+    fill: Fill,
+    amounts: Amounts,
+}
+
+impl Model for CountedPayment {
+    ghost use Rattle.claim_model.specs.Counted.{Counted};
+
+    ghost Value = { Counted };
+
+    ghost view = { λ p. record { auth = p.auth; fill = p.fill; amounts = p.amounts } };
+
+    ghost inverse = { λ v. record { auth = v.auth; fill = v.fill; amounts = v.amounts } };
+}
+
+impl CountedPayment {
+    /// The authorization number (503-F3).
+    pub fn auth(&self) -> Auth
+        ensures { result ≡ self.now.auth }
+    {
+        self.auth
+    }
+
+    /// What was paid for.
+    pub fn fill(&self) -> Fill
+        ensures { result ≡ self.now.fill }
+    {
+        self.fill
+    }
+
+    /// What was paid.
+    pub fn amounts(&self) -> Amounts
+        ensures { result ≡ self.now.amounts }
+    {
+        self.amounts
+    }
+}
+
+impl Pharmacy {
+    /// The payments that the pharmacy counts: those that a Paid or Duplicate answer to one of its claims
+    /// names, unless a Reversed answer names them. Fill and amounts are those of the first such answer; the
+    /// order is that of numbers and then of places.
+    pub fn paid(&self, alloc: Global) -> Result<Vec<CountedPayment>, AllocError>
+        ensures { (routes : RouteMaps) → IfOk result (λ paid. paid.items ≡ counted (bytes_with routes) (stopped self.now)) }
+    {
+        paid_in(alloc, self.slots.as_slice())
+    }
+}
+
+impl JournalAtRest {
+    /// The payments that the pharmacy counts, as for one that is up.
+    pub fn paid(&self, alloc: Global) -> Result<Vec<CountedPayment>, AllocError>
+        ensures { (routes : RouteMaps) → IfOk result (λ paid. paid.items ≡ counted (bytes_with routes) self.now) }
+    {
+        paid_in(alloc, self.slots.as_slice())
+    }
+}
+
+/// The payments that these entries count.
+fn paid_in(alloc: Global, slots: &[Slot]) -> Result<Vec<CountedPayment>, AllocError>
+    ensures { IfOk result (λ paid. paid.items ≡ counted_in (outcomes (map kept_of slots.now))) }
+{
+    let Told { named, reversed } = read_all(alloc, slots)?;
+    first_of_each(alloc, named.as_slice(), reversed)
+}
+
+/// What entries tell: the payments that are named, in order, and the authorizations that are taken back.
+#[derive(Drop)]
+struct Told {
+    named: Vec<CountedPayment>,
+    reversed: BTreeSet<Auth>,
+}
+
+/// What these entries tell.
+fn read_all(alloc: Global, slots: &[Slot]) -> Result<Told, AllocError>
+    ensures named { IfOk result (λ t. t.named.items ≡ filter_map named_in (outcomes (map kept_of slots.now))) }
+    ensures reversed { IfOk result (λ t. (a : AuthSeen) → has_auth t.reversed.keys a ≡ list_any (takes_back a) (outcomes (map kept_of slots.now))) }
+{
+    let mut told = Told {
+        named: Vec::new(alloc),
+        reversed: BTreeSet::new(alloc),
+    };
+    for slot in slots {
+        read_slot(alloc, slot, &mut told)?;
+    }
+    Ok(told)
+}
+
+/// Adds what an entry tells.
+fn read_slot(alloc: Global, slot: &Slot, told: &mut Told) -> Result<(), AllocError>
+    ensures named { OnOk result (told.new.named.items ≡ told.old.named.items ++ filter_map named_in (outcomes_of (kept_of slot.now).request (kept_of slot.now).answer)) }
+    ensures reversed { OnOk result ((a : AuthSeen) → has_auth told.new.reversed.keys a ≡ (has_auth told.old.reversed.keys a || list_any (takes_back a) (outcomes_of (kept_of slot.now).request (kept_of slot.now).answer))) }
+{
+    match slot {
+        Slot::Waiting(_) => Ok(()),
+        Slot::Settled(txn) => {
+            let fills = fills_in(alloc, txn.request())?;
+            let rulings = rulings_in(alloc, txn.answer())?;
+            take_all(told, fills.as_slice(), rulings.as_slice())
+        }
+    }
+}
+
+/// Adds what the rulings on these groups tell.
+fn take_all(told: &mut Told, fills: &[Option<Fill>], rulings: &[Ruling]) -> Result<(), AllocError>
+    ensures named { OnOk result (told.new.named.items ≡ told.old.named.items ++ filter_map named_in (outcomes_between fills.now rulings.now)) }
+    ensures reversed { OnOk result ((a : AuthSeen) → has_auth told.new.reversed.keys a ≡ (has_auth told.old.reversed.keys a || list_any (takes_back a) (outcomes_between fills.now rulings.now))) }
+{
+    let count = fills.len().min(rulings.len());
+    for place in 0..count {
+        take_one(told, fills[place], &rulings[place])?;
+    }
+    Ok(())
+}
+
+/// Adds what the ruling on one group tells.
+fn take_one(told: &mut Told, fill: Option<Fill>, ruling: &Ruling) -> Result<(), AllocError>
+    ensures named { OnOk result (told.new.named.items ≡ told.old.named.items ++ option_to_list (payment_of fill ruling.now)) }
+    ensures reversed { OnOk result ((a : AuthSeen) → has_auth told.new.reversed.keys a ≡ (has_auth told.old.reversed.keys a || is_auth a (undone ruling.now))) }
+{
+    let payment = payment_of(fill, ruling);
+    let auth = undone(ruling);
+    take_payment(&mut told.named, payment)?;
+    take_reversal(&mut told.reversed, auth)
+}
+
+/// Adds a payment, where there is one.
+fn take_payment(
+    named: &mut Vec<CountedPayment>,
+    payment: Option<CountedPayment>,
+) -> Result<(), AllocError>
+    ensures { OnOk result (named.new.items ≡ named.old.items ++ option_to_list payment) }
+{
+    if let Some(payment) = payment {
+        named.push(payment)?;
+    }
+    Ok(())
+}
+
+/// Adds an authorization, where there is one.
+fn take_reversal(reversed: &mut BTreeSet<Auth>, auth: Option<Auth>) -> Result<(), AllocError>
+    ensures { OnOk result ((a : AuthSeen) → has_auth reversed.new.keys a ≡ (has_auth reversed.old.keys a || is_auth a auth)) }
+{
+    if let Some(auth) = auth {
+        take_auth(reversed, auth)?;
+    }
+    Ok(())
+}
+
+/// Adds an authorization, and tells whether it is new.
+fn take_auth(auths: &mut BTreeSet<Auth>, auth: Auth) -> Result<bool, AllocError>
+    ensures new { IfOk result (λ new. new ≡ not (has_auth auths.old.keys auth)) }
+    ensures has { OnOk result ((a : AuthSeen) → has_auth auths.new.keys a ≡ (has_auth auths.old.keys a || same_auth auth a)) }
+{
+    let new = auths.insert(auth)?;
+    Ok(new)
+}
+
+/// The payment that a ruling names on a group that bills this fill.
+fn payment_of(fill: Option<Fill>, ruling: &Ruling) -> Option<CountedPayment>
+    ensures { result ≡ payment_of fill ruling.now }
+{
+    let fill = fill?;
+    match ruling {
+        Ruling::Paid { auth, amounts, .. } | Ruling::Duplicate { auth, amounts, .. } => {
+            Some(CountedPayment {
+                auth: *auth,
+                fill,
+                amounts: *amounts,
+            })
+        }
+        _ => None,
+    }
+}
+
+/// The authorization that a ruling takes back.
+fn undone(ruling: &Ruling) -> Option<Auth>
+    ensures { result ≡ undone ruling.now }
+{
+    match ruling {
+        Ruling::Reversed { auth, .. } => Some(*auth),
+        _ => None,
+    }
+}
+
+/// The first payment of each authorization that is not among `seen`.
+fn first_of_each(
+    alloc: Global,
+    named: &[CountedPayment],
+    seen: BTreeSet<Auth>,
+) -> Result<Vec<CountedPayment>, AllocError>
+    ensures { IfOk result (λ counted. counted.items ≡ without seen.keys (firsts named.now)) }
+{
+    let mut seen = seen;
+    let mut counted = Vec::new(alloc);
+    for payment in named {
+        count(&mut counted, &mut seen, *payment)?;
+    }
+    Ok(counted)
+}
+
+/// Counts a payment, where its authorization was not seen.
+fn count(
+    counted: &mut Vec<CountedPayment>,
+    seen: &mut BTreeSet<Auth>,
+    payment: CountedPayment,
+) -> Result<(), AllocError>
+    ensures counted { OnOk result (counted.new.items ≡ (if has_auth seen.old.keys payment.auth then counted.old.items else counted.old.items ++ payment ∷ [])) }
+    ensures seen { OnOk result ((a : AuthSeen) → has_auth seen.new.keys a ≡ (has_auth seen.old.keys a || same_auth payment.auth a)) }
+{
+    if take_auth(seen, payment.auth())? {
+        counted.push(payment)?;
+    }
+    Ok(())
+}
+
+/// The rulings of an answer, none where the bytes are no answer.
+pub(crate) fn rulings_in(alloc: Global, answer: &[u8]) -> Result<Vec<Ruling>, AllocError>
+    ensures { IfOk result (λ rulings. rulings.items ≡ rulings_told answer.now) }
+{
+    match read_answer(alloc, answer) {
+        Ok(answer) => Ok(answer.into_rulings()),
+        Err(fault) => {
+            answer_memory(fault)?;
+            Ok(Vec::new(alloc))
+        }
+    }
+}
+
+/// Whether an answer was not read for its own sake.
+fn answer_memory(fault: AnswerFault) -> Result<(), AllocError>
+    ensures { OnOk result (fault ≢ NoAnswerMemory) }
+{
+    match fault {
+        AnswerFault::OutOfMemory => Err(AllocError),
+        _ => Ok(()),
+    }
+}
+
+/// The fills that a request bills, by its groups, none where the bytes are no request.
+fn fills_in(alloc: Global, request: &[u8]) -> Result<Vec<Option<Fill>>, AllocError>
+    ensures { IfOk result (λ fills. fills.items ≡ fills_in request.now) }
+{
+    match read_request(alloc, request) {
+        Ok(transmission) => fills_of(alloc, &transmission),
+        Err(fault) => {
+            request_memory(fault)?;
+            Ok(Vec::new(alloc))
+        }
+    }
+}
+
+/// Whether a request was not read for its own sake.
+fn request_memory(fault: FramingFault) -> Result<(), AllocError>
+    ensures { OnOk result (fault ≢ NoRequestMemory) }
+{
+    match fault {
+        FramingFault::OutOfMemory => Err(AllocError),
+        _ => Ok(()),
+    }
+}
+
+/// The fills that the groups of a request bill.
+fn fills_of(
+    alloc: Global,
+    transmission: &Transmission<'_, RequestHeader>,
+) -> Result<Vec<Option<Fill>>, AllocError>
+    ensures { IfOk result (λ fills. fills.items ≡ map fill_billed (orders_in (Some (transmission_parts transmission.now)))) }
+{
+    let mut fills = Vec::new(alloc);
+    for place in 0..transmission.groups().len() {
+        fills.push(fill_at(transmission, place))?;
+    }
+    Ok(fills)
+}
+
+/// The fill that the group at a place bills, where it reads as a claim.
+fn fill_at(transmission: &Transmission<'_, RequestHeader>, place: usize) -> Option<Fill>
+    requires { place < length transmission.now.groups.items }
+    ensures { result ≡ fill_billed (order_in (order_of transmission.now.header (segments_parts transmission.now.shared.items) (slice_index_or (groups_parts transmission.now.groups.items) place []))) }
+{
+    match read_order(transmission, place) {
+        Ok(Order::Claim(claim)) => Some(claim.fill),
+        Ok(Order::Reversal(_)) => None,
+        Err(_) => None,
+    }
+}

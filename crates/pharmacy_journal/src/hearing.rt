@@ -1,0 +1,117 @@
+//! Hearing an answer.
+
+ghost use Rattle.std.specs.Prelude.{◌≡◌, ◌<◌, ℕ, length, true, Option, Some, Ok, IfOk, IfErr, IfSome, OnOk, OnErr, bytes_eq, if◌then◌else◌};
+ghost use Rattle.std.specs.List.{slice_get};
+ghost use Rattle.bin_routes.specs.Table.{RouteMaps};
+ghost use Rattle.claim_model.specs.Bytes.{bytes_with};
+ghost use Rattle.claim_model.specs.Journal.{Has, heard, settle_by};
+ghost use Rattle.claim_model.specs.Refusal.{AlreadySettled, Differs};
+ghost use Rattle.pharmacy_journal.specs.Reading.{settles_with};
+ghost use Rattle.pharmacy_journal.specs.Refusing.{IsRefused, refusal_to_hear};
+ghost use Rattle.pharmacy_journal.specs.Entries.{entry_of, is_waiting, kept_of};
+ghost use Rattle.pharmacy_journal.specs.Hearing.{envelope_seen, state_after, IsAnsweredBy, state_by, settled_slot, settled_at};
+
+use crate::fault::{HearFault, SettleFault};
+use crate::kept::place_of;
+use crate::pharmacy::Pharmacy;
+use crate::slot::Slot;
+use crate::transaction::judge;
+use core::mem::replace_with;
+use envelope::{Envelope, Kind};
+use octets::Octets;
+use std::alloc::Global;
+
+impl Pharmacy {
+    /// Settles the entry of an answer's number, for good.
+    ///
+    /// # Errors
+    /// `NotMine`, `NoSuchNumber`, `Unreadable`, `AlreadySettled`, `Differs`, the first of these that
+    /// stands; the journal is then as it was.
+    pub fn hear(&mut self, envelope: &Envelope<'_>) -> Result<(), HearFault>
+        ensures ok { (routes : RouteMaps) → OnOk result (heard (bytes_with routes) self.old (envelope_seen envelope.now) ≡ Ok self.new) }
+        ensures err { OnErr result (self.new ≡ self.old) }
+        ensures fault { (routes : RouteMaps) → IfErr result (λ e. IsRefused (refusal_to_hear e) (heard (bytes_with routes) self.old (envelope_seen envelope.now))) }
+    {
+        let id = envelope.id();
+        if id.pharmacy() != self.number {
+            return Err(HearFault::NotMine);
+        }
+        let Some(place) = place_of(id.number(), self.slots.len()) else {
+            return Err(HearFault::NoSuchNumber);
+        };
+        let alloc = *self.slots.allocator();
+        verdict(alloc, &self.slots[place], envelope)?;
+        let answer = Octets::copy_of(alloc, envelope.payload())?;
+        self.timetable.settle(place);
+        settle_at(&mut self.slots, place, answer);
+        Ok(())
+    }
+}
+
+/// Whether an envelope settles an entry.
+fn verdict(alloc: Global, slot: &Slot, envelope: &Envelope<'_>) -> Result<(), HearFault>
+    ensures open { OnOk result (IsAnsweredBy slot.now envelope.now.payload) }
+    ensures ok { (phase : Option ℕ) → OnOk result (state_after (kept_of slot.now).request (entry_of slot.now phase).state (envelope_seen envelope.now) ≡ Ok (Has envelope.now.payload)) }
+    ensures fault { (phase : Option ℕ) → IfErr result (λ e. IsRefused (refusal_to_hear e) (state_after (kept_of slot.now).request (entry_of slot.now phase).state (envelope_seen envelope.now))) }
+{
+    match envelope.kind() {
+        Kind::Request => Err(HearFault::Unreadable),
+        Kind::Answer => verdict_on(alloc, slot, envelope.payload()),
+    }
+}
+
+/// Whether a payload of kind 2 settles an entry.
+fn verdict_on(alloc: Global, slot: &Slot, payload: &[u8]) -> Result<(), HearFault>
+    ensures open { OnOk result (IsAnsweredBy slot.now payload.now) }
+    ensures ok { (phase : Option ℕ) → OnOk result (state_by (kept_of slot.now).request (entry_of slot.now phase).state payload.now ≡ Ok (Has payload.now)) }
+    ensures fault { (phase : Option ℕ) → IfErr result (λ e. IsRefused (refusal_to_hear e) (state_by (kept_of slot.now).request (entry_of slot.now phase).state payload.now)) }
+{
+    match judge(alloc, slot.request(), payload) {
+        Ok(()) => beside(slot, payload),
+        Err(SettleFault::OutOfMemory) => Err(HearFault::OutOfMemory),
+        Err(SettleFault::Unreadable) => Err(HearFault::Unreadable),
+    }
+}
+
+/// Whether an entry waits, beside an answer that fits its request.
+fn beside(slot: &Slot, answer: &[u8]) -> Result<(), HearFault>
+    ensures open { OnOk result (is_waiting slot.now ≡ true) }
+    ensures ok { (phase : Option ℕ) → OnOk result (settle_by answer.now (entry_of slot.now phase).state ≡ Ok (Has answer.now)) }
+    ensures fault { (phase : Option ℕ) → IfErr result (λ e. IsRefused (refusal_to_hear e) (settle_by answer.now (entry_of slot.now phase).state)) }
+{
+    match slot {
+        Slot::Waiting(_) => Ok(()),
+        Slot::Settled(txn) => Err(fault_beside(txn.answer(), answer)),
+    }
+}
+
+/// Why an answer to a settled entry is refused.
+fn fault_beside(held: &[u8], answer: &[u8]) -> HearFault
+    ensures { refusal_to_hear result ≡ Some (if bytes_eq held.now answer.now then AlreadySettled else Differs) }
+{
+    if held == answer {
+        HearFault::AlreadySettled
+    } else {
+        HearFault::Differs
+    }
+}
+
+/// Gives the open entry at a place its answer.
+fn settle_at(slots: &mut Vec<Slot>, place: usize, answer: Octets)
+    requires in_range { place < length slots.old.items }
+    requires fits { IfSome (slice_get slots.old.items place) (λ slot. IsAnsweredBy slot answer) }
+    ensures { slots.new.items ≡ settled_at slots.old.items place answer }
+{
+    replace_with(&mut slots[place], answer, settled);
+}
+
+/// An open entry with its answer.
+fn settled(slot: Slot, answer: Octets) -> (Slot, ())
+    requires { IsAnsweredBy slot answer }
+    ensures { result.0 ≡ settled_slot slot answer }
+{
+    match slot {
+        Slot::Waiting(txn) => (Slot::Settled(txn.settled(answer)), ()),
+        Slot::Settled(txn) => (Slot::Settled(txn), ()),
+    }
+}

@@ -1,0 +1,32 @@
+//! The journal of one pharmacy: what it submitted under which number, which answers it heard, when an
+//! open entry is sent again and to which switch, and which payments it counts. Whoever calls it carries
+//! the packets.
+#![tactic(auto)]
+
+mod at_rest;
+mod counting;
+mod fault;
+mod hearing;
+mod kept;
+mod listing;
+mod pharmacy;
+mod retry;
+mod sent;
+mod settings;
+mod slot;
+mod submitting;
+mod timetable;
+mod transaction;
+
+pub use at_rest::JournalAtRest;
+pub use counting::CountedPayment;
+pub use fault::{HearFault, RowFault, SettingFault, SettleFault, SubmitFault};
+pub use kept::KeptEntry;
+pub use listing::EntryView;
+pub use pharmacy::Pharmacy;
+pub use sent::Sent;
+pub use settings::PharmacySettings;
+pub use transaction::{OpenTxn, SettledTxn};
+
+#[cfg(test)]
+mod tests;

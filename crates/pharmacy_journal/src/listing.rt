@@ -1,0 +1,119 @@
+//! The entries of a journal, one by one.
+
+ghost use Rattle.std.specs.Prelude.{◌≡◌, ◌∷◌, [], IfOk, map};
+ghost use Rattle.claim_model.specs.Journal.{stopped};
+ghost use Rattle.pharmacy_journal.specs.Entries.{kept_of};
+ghost use Rattle.pharmacy_journal.specs.Listing.{listed, listed_from, listed_by, rulings_of};
+ghost use Rattle.pharmacy_journal.specs.Reading.{header_of};
+
+use crate::at_rest::JournalAtRest;
+use crate::counting::rulings_in;
+use crate::pharmacy::Pharmacy;
+use crate::slot::Slot;
+use crate::transaction::header_of;
+use claim_profile::Ruling;
+use std::alloc::{AllocError, Global};
+use std::marker::Model;
+
+/// What is told of an entry: its number, the code (103-A3) and the count (109-A9) of its request, and
+/// the rulings of its answer, none where it is open.
+#[derive(Debug, Drop)]
+pub struct EntryView {
+    number: u64,
+    code: [u8; 2],
+    count: u8,
+    rulings: Vec<Ruling>,
+}
+
+impl Model for EntryView {
+    ghost use Rattle.pharmacy_journal.specs.Listing.{Listed};
+
+    ghost Value = { Listed };
+
+    ghost view = { λ v. record { number = v.number; code = v.code; count = v.count; rulings = v.rulings.items } };
+}
+
+impl EntryView {
+    /// The number of the entry.
+    pub fn number(&self) -> u64
+        ensures { result ≡ self.now.number }
+    {
+        self.number
+    }
+
+    /// The code of the request.
+    pub fn code(&self) -> [u8; 2]
+        ensures { result ≡ self.now.code }
+    {
+        self.code
+    }
+
+    /// How many transactions the request has.
+    pub fn count(&self) -> u8
+        ensures { result ≡ self.now.count }
+    {
+        self.count
+    }
+
+    /// The rulings of the answer, by place.
+    pub fn rulings(&self) -> &[Ruling]
+        ensures { result.now ≡ self.now.rulings }
+    {
+        self.rulings.as_slice()
+    }
+}
+
+impl Pharmacy {
+    /// All entries, in order of their numbers.
+    pub fn list(&self, alloc: Global) -> Result<Vec<EntryView>, AllocError>
+        ensures { IfOk result (λ views. views.items ≡ listed (stopped self.now)) }
+    {
+        list_of(alloc, self.slots.as_slice())
+    }
+}
+
+impl JournalAtRest {
+    /// All entries, in order of their numbers.
+    pub fn list(&self, alloc: Global) -> Result<Vec<EntryView>, AllocError>
+        ensures { IfOk result (λ views. views.items ≡ listed self.now) }
+    {
+        list_of(alloc, self.slots.as_slice())
+    }
+}
+
+/// What is told of these entries.
+fn list_of(alloc: Global, slots: &[Slot]) -> Result<Vec<EntryView>, AllocError>
+    ensures { IfOk result (λ views. views.items ≡ listed_from 1 (map kept_of slots.now)) }
+{
+    let mut views = Vec::new(alloc);
+    let mut number = 1;
+    for slot in slots {
+        views.push(view_of(alloc, number, slot)?)?;
+        number += 1;
+    }
+    Ok(views)
+}
+
+/// What is told of an entry.
+fn view_of(alloc: Global, number: u64, slot: &Slot) -> Result<EntryView, AllocError>
+    ensures { IfOk result (λ view. listed_by number (kept_of slot.now).answer (header_of (kept_of slot.now).request) ≡ view ∷ []) }
+{
+    let header = header_of(slot.request());
+    let rulings = rulings_of(alloc, slot)?;
+    Ok(EntryView {
+        number,
+        code: header.code(),
+        count: header.count(),
+        rulings,
+    })
+}
+
+/// The rulings of an entry's answer.
+fn rulings_of(alloc: Global, slot: &Slot) -> Result<Vec<Ruling>, AllocError>
+    ensures { IfOk result (λ rulings. rulings.items ≡ rulings_of (kept_of slot.now).answer) }
+{
+    match slot {
+        Slot::Waiting(_) => Ok(Vec::new(alloc)),
+        Slot::Settled(txn) => rulings_in(alloc, txn.answer()),
+    }
+}

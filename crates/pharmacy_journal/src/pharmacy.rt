@@ -1,0 +1,141 @@
+//! The journal of a pharmacy that is up, and what it sends with time.
+
+ghost use Rattle.std.specs.Prelude.{◌≡◌, ◌<◌, ◌≤◌, ◌++◌, length, [], Some, IfOk, OnErr, OnOk};
+ghost use Rattle.bin_routes.specs.Table.{RouteMaps};
+ghost use Rattle.claim_model.specs.Bytes.{bytes_with};
+ghost use Rattle.claim_model.specs.Journal.{ticked, due, stopped};
+ghost use Rattle.pharmacy_journal.specs.Resting.{added_all};
+ghost use Rattle.pharmacy_journal.specs.Sendings.{due_packets, packet_at};
+ghost use Rattle.pharmacy_journal.specs.Settings.{rule_of};
+
+use crate::sent::Sent;
+use crate::settings::PharmacySettings;
+use crate::slot::Slot;
+use crate::timetable::Timetable;
+use std::alloc::{AllocError, Global};
+use std::marker::Model;
+
+/// The journal of one pharmacy: its requests, numbered from 1, each with its answer or with its phase
+/// on the circle of retries.
+#[derive(Drop)]
+pub struct Pharmacy {
+    pub(crate) number: u16,
+    pub(crate) settings: PharmacySettings,
+    pub(crate) timetable: Timetable,
+    pub(crate) slots: Vec<Slot>,
+}
+
+impl Model for Pharmacy {
+    ghost use Rattle.claim_model.specs.Journal.{Journal};
+
+    ghost Value = { Journal };
+
+    ghost use Rattle.pharmacy_journal.specs.Entries.{entries_of, IsUp};
+
+    ghost view = { λ p. record { number = p.number; settings = p.settings; entries = entries_of p.slots.items p.timetable.phases } };
+
+    ghost invariant = { λ p. IsUp p.number p.settings p.timetable p.slots.items };
+}
+
+impl Pharmacy {
+    /// An empty journal of the pharmacy of this number, with memory from `alloc`. Number and list of
+    /// switches are not empty.
+    pub fn new(
+        alloc: Global,
+        number: u16,
+        settings: PharmacySettings,
+    ) -> Result<Pharmacy, AllocError>
+        requires some_number { 0 < number }
+        requires some_node { 0 < length settings.nodes }
+        ensures { IfOk result (λ p. p ≡ record { number = number; settings = settings; entries = [] }) }
+    {
+        let timetable = first_timetable(alloc, &settings)?;
+        Ok(Pharmacy {
+            number,
+            settings,
+            timetable,
+            slots: Vec::new(alloc),
+        })
+    }
+
+    /// The pharmacy's number.
+    pub fn number(&self) -> u16
+        ensures value { result ≡ self.now.number }
+        ensures some { 0 < result }
+    {
+        self.number
+    }
+
+    /// What it was opened with.
+    pub fn settings(&self) -> &PharmacySettings
+        ensures value { result.now ≡ self.now.settings }
+        ensures some_node { 0 < length result.now.nodes }
+    {
+        &self.settings
+    }
+
+    /// How many entries there are.
+    pub fn entries(&self) -> usize
+        ensures value { result ≡ length self.now.entries }
+        ensures in_limit { result ≤ self.now.settings.cap }
+        ensures small { result ≤ 65536 }
+        // The entries are such that the journal at rest is made by adding them one by one.
+        ensures made { added_all (Some (record { number = self.now.number; settings = self.now.settings; entries = [] })) (stopped self.now).entries ≡ Some (stopped self.now) }
+    {
+        self.slots.len()
+    }
+
+    /// One tick: each open entry waits one tick longer, and those that waited long enough are sent, in
+    /// order of their numbers.
+    pub fn tick(&mut self) -> Result<Vec<Sent>, AllocError>
+        ensures ok { OnOk result (self.new ≡ ticked self.old) }
+        ensures sent { (routes : RouteMaps) → IfOk result (λ sent. sent.items ≡ due (bytes_with routes) self.new) }
+        ensures err { OnErr result (self.new ≡ self.old) }
+    {
+        let sent = self.due_packets()?;
+        self.timetable.tick();
+        Ok(sent)
+    }
+
+    /// What the next tick sends.
+    fn due_packets(&self) -> Result<Vec<Sent>, AllocError>
+        ensures { IfOk result (λ sent. sent.items ≡ due_packets (ticked self.now)) }
+    {
+        let mut sent = Vec::new(*self.slots.allocator());
+        for place in self.timetable.due_next() {
+            self.push_packet(&mut sent, *place)?;
+        }
+        Ok(sent)
+    }
+
+    /// Adds the packet that the entry at a place has after the next tick, where it is open.
+    fn push_packet(&self, sent: &mut Vec<Sent>, place: usize) -> Result<(), AllocError>
+        requires { place < length self.now.entries }
+        ensures { OnOk result (sent.new.items ≡ sent.old.items ++ packet_at (ticked self.now) place) }
+    {
+        let Some(node) = self.timetable.next_node(place) else {
+            return Ok(());
+        };
+        if let Slot::Waiting(txn) = &self.slots[place] {
+            let packet = txn.packet(*sent.allocator())?;
+            sent.push(Sent::new(self.settings.nodes()[node], packet))?;
+        }
+        Ok(())
+    }
+}
+
+/// The timetable of a journal without entries.
+pub(crate) fn first_timetable(
+    alloc: Global,
+    settings: &PharmacySettings,
+) -> Result<Timetable, AllocError>
+    requires { 0 < length settings.now.nodes }
+    ensures { IfOk result (λ t. t ≡ record { rule = rule_of settings.now; phases = [] }) }
+{
+    Timetable::new(
+        alloc,
+        settings.again(),
+        settings.tries(),
+        settings.nodes().len() as u32,
+    )
+}

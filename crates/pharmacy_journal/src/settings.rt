@@ -1,0 +1,155 @@
+//! What a pharmacy is opened with, beside its number.
+
+ghost use Rattle.std.specs.Prelude.{◌≡◌, ◌≤◌, ◌<◌, ◌↔◌, length, IsOk, IfOk, IsTrue};
+ghost use Rattle.std.specs.List.{list_all};
+ghost use Rattle.d0_header.specs.Field.{is_plain};
+ghost use Rattle.pharmacy_journal.specs.Settings.{AreSettings, AreSized};
+
+use crate::fault::SettingFault;
+use std::alloc::AllocError;
+use std::marker::Model;
+
+/// The most ticks of a wait, and the most tries at one node (own).
+const MOST_ROUNDS: u32 = 1_000;
+/// The most entries that a journal's settings may allow (own).
+const MOST_ENTRIES: u32 = 65_536;
+
+/// The identity of a pharmacy, the switches that it tries in turn, its rule of retries and the most
+/// entries of its journal (own).
+#[derive(Debug, Drop)]
+pub struct PharmacySettings {
+    qualifier: [u8; 2],
+    provider: [u8; 15],
+    nodes: Vec<u16>,
+    again: u32,
+    tries: u32,
+    cap: u32,
+}
+
+impl Model for PharmacySettings {
+    ghost use Rattle.claim_model.specs.Journal.{PharmacySettings as Settings};
+    ghost use Rattle.pharmacy_journal.specs.Settings.{AreSettings, AreSized};
+
+    ghost Value = { Settings };
+
+    ghost view = { λ s. record { qualifier = s.qualifier; provider = s.provider; nodes = s.nodes.items; again = s.again; tries = s.tries; cap = s.cap } };
+
+    ghost invariant = { λ s. let v : Settings = record { qualifier = s.qualifier; provider = s.provider; nodes = s.nodes.items; again = s.again; tries = s.tries; cap = s.cap } in AreSettings v × AreSized v };
+}
+
+impl PharmacySettings {
+    /// Settings of the pharmacy with this service provider qualifier and ID (202-B2, 201-B1), padded with
+    /// spaces, which tries the switches of these numbers in turn: after `again` ticks without an answer, 1 to
+    /// 1,000, an entry is sent again, and after `tries` sends to one switch, 1 to 1,000, to the next. Its
+    /// journal has at most `cap` entries, 1 to 65,536. There are at most 4,294,967,295 switches in the list.
+    ///
+    /// # Errors
+    /// `BadSetting` for other numbers, and where the identity has a separator.
+    pub fn new(
+        qualifier: [u8; 2],
+        provider: [u8; 15],
+        nodes: Vec<u16>,
+        again: u32,
+        tries: u32,
+        cap: u32,
+    ) -> Result<PharmacySettings, SettingFault>
+        requires { length nodes.items ≤ 4294967295 }
+        ensures taken { IsOk result ↔ AreSettings (record { qualifier = qualifier; provider = provider; nodes = nodes.items; again = again; tries = tries; cap = cap }) }
+        ensures given { IfOk result (λ s. s ≡ record { qualifier = qualifier; provider = provider; nodes = nodes.items; again = again; tries = tries; cap = cap }) }
+    {
+        if !in_limit(again, MOST_ROUNDS)
+            || !in_limit(tries, MOST_ROUNDS)
+            || !in_limit(cap, MOST_ENTRIES)
+        {
+            return Err(SettingFault::BadSetting);
+        }
+        if !is_plain(&qualifier) || !is_plain(&provider) {
+            return Err(SettingFault::BadSetting);
+        }
+        Ok(PharmacySettings {
+            qualifier,
+            provider,
+            nodes,
+            again,
+            tries,
+            cap,
+        })
+    }
+
+    /// Equal settings, in memory of their own.
+    pub fn copy(&self) -> Result<PharmacySettings, AllocError>
+        ensures { IfOk result (λ copy. copy ≡ self.now) }
+    {
+        let nodes = Vec::from_slice(*self.nodes.allocator(), self.nodes.as_slice())?;
+        let qualifier = self.qualifier;
+        let provider = self.provider;
+        Ok(PharmacySettings {
+            qualifier,
+            provider,
+            nodes,
+            again: self.again,
+            tries: self.tries,
+            cap: self.cap,
+        })
+    }
+
+    /// The service provider ID qualifier (202-B2).
+    pub fn qualifier(&self) -> [u8; 2]
+        ensures { result ≡ self.now.qualifier }
+    {
+        self.qualifier
+    }
+
+    /// The service provider ID (201-B1), filled with spaces.
+    pub fn provider(&self) -> [u8; 15]
+        ensures { result ≡ self.now.provider }
+    {
+        self.provider
+    }
+
+    /// The switches, in the order in which they are tried.
+    pub fn nodes(&self) -> &[u16]
+        ensures value { result.now ≡ self.now.nodes }
+        ensures in_limit { length result.now ≤ 4294967295 }
+    {
+        self.nodes.as_slice()
+    }
+
+    /// After how many ticks an entry is sent again.
+    pub fn again(&self) -> u32
+        ensures value { result ≡ self.now.again }
+        ensures settings { AreSettings self.now }
+    {
+        self.again
+    }
+
+    /// How often an entry is sent to one switch.
+    pub fn tries(&self) -> u32
+        ensures value { result ≡ self.now.tries }
+        ensures settings { AreSettings self.now }
+    {
+        self.tries
+    }
+
+    /// The most entries.
+    pub fn cap(&self) -> u32
+        ensures value { result ≡ self.now.cap }
+        ensures settings { AreSettings self.now }
+    {
+        self.cap
+    }
+}
+
+/// Whether a number is 1 to `most`.
+fn in_limit(number: u32, most: u32) -> bool
+    ensures { IsTrue result ↔ ((0 < number) × (number ≤ most)) }
+{
+    number > 0 && number <= most
+}
+
+/// Whether no byte is a separator.
+fn is_plain(text: &[u8]) -> bool
+    ensures { result ≡ list_all is_plain text.now }
+{
+    text.iter().all(|byte| !matches!(*byte, 0x1c..=0x1e))
+}

@@ -1,0 +1,135 @@
+//! Submitting a request.
+
+ghost use Rattle.std.specs.Prelude.{◌≡◌, ◌≢◌, ◌<◌, ◌+◌, ◌++◌, ◌∷◌, [], length, true, None, Some, Ok, IfOk, IfErr, OnOk, OnErr, IsSome, option_and_then};
+ghost use Rattle.bin_routes.specs.Table.{RouteMaps};
+ghost use Rattle.claim_profile.specs.Readable.{readable_header};
+ghost use Rattle.claim_model.specs.Bytes.{bytes_with};
+ghost use Rattle.claim_model.specs.Journal.{Journal, Waits, submit_fault, submitted};
+ghost use Rattle.pharmacy_journal.specs.Reading.{header_of, is_own_request};
+ghost use Rattle.pharmacy_journal.specs.Refusing.{IsRefused, IsCause, refusal_to_submit, fault_of_framing};
+ghost use Rattle.pharmacy_journal.specs.Sendings.{packet_of};
+ghost use Rattle.pharmacy_journal.specs.declared.fault.SubmitFault.TheVariants.{OutOfMemory};
+
+use crate::fault::SubmitFault;
+use crate::pharmacy::Pharmacy;
+use crate::sent::Sent;
+use crate::slot::Slot;
+use crate::transaction::OpenTxn;
+use claim_profile::LONGEST_REQUEST;
+use d0_header::RequestHeader;
+use d0_segments::{FramingFault, read_request};
+use envelope::TxnId;
+use std::alloc::{AllocError, Global};
+
+impl Pharmacy {
+    /// Enters a request under the next number, and gives that number and its packet for the first switch.
+    ///
+    /// # Errors
+    /// The first cause, in the order of [`SubmitFault`]; the journal is then as it was.
+    pub fn submit(&mut self, text: &[u8]) -> Result<(u64, Sent), SubmitFault>
+        ensures ok { (routes : RouteMaps) → IfOk result (λ r. submitted (bytes_with routes) self.old text.now ≡ Ok (record { journal = self.new; number = r.0; sent = r.1 })) }
+        ensures err { OnErr result (self.new ≡ self.old) }
+        ensures fault { (routes : RouteMaps) → IfErr result (λ e. IsRefused (refusal_to_submit e) (submitted (bytes_with routes) self.old text.now)) }
+    {
+        self.admit(text)?;
+        let txn = self.next_txn(text)?;
+        let sent = self.first_packet(&txn)?;
+        let number = txn.id().number();
+        self.keep(txn)?;
+        Ok((number, sent))
+    }
+
+    /// Whether a text may be submitted.
+    fn admit(&self, text: &[u8]) -> Result<(), SubmitFault>
+        ensures ok { OnOk result (submit_fault self.now text.now (header_of text.now) ≡ None) }
+        ensures fault { IfErr result (λ e. IsCause (refusal_to_submit e) (submit_fault self.now text.now (header_of text.now))) }
+    {
+        let header = read_header(*self.slots.allocator(), text)?;
+        match self.fault_of(&header, text) {
+            None => Ok(()),
+            Some(fault) => Err(fault),
+        }
+    }
+
+    /// Why a framed request is not submitted.
+    fn fault_of(&self, header: &RequestHeader, text: &[u8]) -> Option<SubmitFault>
+        ensures { option_and_then refusal_to_submit result ≡ submit_fault self.now text.now (Some header.now) }
+    {
+        if header.version() != *b"D0" {
+            return Some(SubmitFault::Version);
+        }
+        let code = header.code();
+        if code != *b"B1" && code != *b"B2" {
+            return Some(SubmitFault::CodeNotCarried);
+        }
+        if header.qualifier() != self.settings.qualifier()
+            || header.provider() != self.settings.provider()
+        {
+            return Some(SubmitFault::NotOwnProvider);
+        }
+        if text.len() > LONGEST_REQUEST {
+            return Some(SubmitFault::TooLong);
+        }
+        if self.entries() >= self.settings.cap() as usize {
+            return Some(SubmitFault::JournalFull);
+        }
+        None
+    }
+
+    /// The transaction of a request at the next number.
+    fn next_txn(&self, text: &[u8]) -> Result<OpenTxn, AllocError>
+        requires { IsSome (readable_header text.now) }
+        ensures { IfOk result (λ t. t ≡ record { id = record { pharmacy = self.now.number; number = length self.now.entries + 1 }; request = text.now }) }
+    {
+        let number = self.entries() as u64 + 1;
+        let Some(id) = TxnId::new(self.number, number) else {
+            unreachable!()
+        };
+        let request = Vec::from_slice(*self.slots.allocator(), text)?;
+        Ok(OpenTxn::new(id, request))
+    }
+
+    /// The packet of a new transaction, for the first switch.
+    fn first_packet(&self, txn: &OpenTxn) -> Result<Sent, AllocError>
+        requires { txn.now.id.pharmacy ≡ self.now.number }
+        ensures { IfOk result (λ sent. sent ≡ packet_of self.now txn.now.id.number 0 txn.now.request) }
+    {
+        let packet = txn.packet(*self.slots.allocator())?;
+        Ok(Sent::new(self.settings.nodes()[0], packet))
+    }
+
+    /// Enters a transaction at the next number.
+    fn keep(&mut self, txn: OpenTxn) -> Result<(), AllocError>
+        requires id { txn.id ≡ record { pharmacy = self.old.number; number = length self.old.entries + 1 } }
+        requires own { is_own_request self.old.settings txn.request ≡ true }
+        requires room { length self.old.entries < self.old.settings.cap }
+        ensures ok { OnOk result (self.new ≡ record self.old { entries = self.old.entries ++ record { request = txn.request; state = Waits 0 } ∷ [] }) }
+        ensures err { OnErr result (self.new ≡ self.old) }
+    {
+        self.slots.reserve(1)?;
+        self.timetable.enter(0)?;
+        self.slots.push_reserved(Slot::Waiting(txn));
+        Ok(())
+    }
+}
+
+/// The header of a text that is framed as a request.
+fn read_header(alloc: Global, text: &[u8]) -> Result<RequestHeader, SubmitFault>
+    ensures ok { IfOk result (λ header. header_of text.now ≡ Some header) }
+    ensures fault { IfErr result (λ e. (j : Journal) → IsCause (refusal_to_submit e) (submit_fault j text.now (header_of text.now))) }
+{
+    match read_request(alloc, text) {
+        Ok(request) => Ok(*request.header()),
+        Err(fault) => Err(fault_of_framing(fault)),
+    }
+}
+
+/// The fault of a text whose framing has this fault.
+fn fault_of_framing(fault: FramingFault) -> SubmitFault
+    ensures { result ≡ fault_of_framing fault }
+{
+    match fault {
+        FramingFault::OutOfMemory => SubmitFault::OutOfMemory,
+        _ => SubmitFault::Unreadable,
+    }
+}

@@ -1,0 +1,154 @@
+//! Which entries the next tick sends, without a look at the others.
+
+ghost use Rattle.std.specs.Prelude.{◌≡◌, ◌<◌, ◌-◌, ◌++◌, ◌∷◌, [], ℕ, length, None, Some, OnOk, OnErr, IfOk, IfSome, option_map, slice_set, slice_index_or, ◌==◌};
+ghost use Rattle.std.specs.List.{AllByRecursion};
+ghost use Rattle.std.specs.Set.{remove_key};
+ghost use Rattle.pharmacy_journal.specs.Retry.{IsRule, phases_of, node_of};
+ghost use Rattle.pharmacy_journal.specs.Timetable.{ticked_phases, ticked_rounds, due_next, bucket_keys};
+
+use crate::retry::Retry;
+use std::alloc::{AllocError, Global};
+use std::collections::BTreeSet;
+use std::marker::Model;
+
+/// The phases of a journal's entries, by place from 0. One clock turns for all of them, and the open
+/// entries stand in buckets by their lead's remainder, so that a tick finds those that it sends.
+#[derive(Drop)]
+pub(crate) struct Timetable {
+    retry: Retry,
+    leads: Vec<Option<u64>>,
+    buckets: Vec<BTreeSet<usize>>,
+}
+
+impl Model for Timetable {
+    ghost use Rattle.pharmacy_journal.specs.Timetable.{Rounds, IsKept, seen_phases};
+
+    ghost Value = { Rounds };
+
+    ghost view = { λ t. record { rule = t.retry.rule; phases = seen_phases t.retry t.leads.items } };
+
+    ghost invariant = { λ t. IsKept t.retry.rule t.leads.items t.buckets.items };
+}
+
+impl Timetable {
+    /// No entries yet.
+    pub(crate) fn new(
+        alloc: Global,
+        again: u32,
+        tries: u32,
+        nodes: u32,
+    ) -> Result<Timetable, AllocError>
+        requires { IsRule (record { again = again; tries = tries; nodes = nodes }) }
+        ensures { IfOk result (λ t. t ≡ record { rule = record { again = again; tries = tries; nodes = nodes }; phases = [] }) }
+    {
+        let retry = Retry::new(again, tries, nodes);
+        let buckets = empty_buckets(alloc, again)?;
+        Ok(Timetable {
+            retry,
+            leads: Vec::new(alloc),
+            buckets,
+        })
+    }
+
+    /// The phase that is one wait before the circle's beginning.
+    pub(crate) fn last_round(&self) -> u64
+        ensures value { result ≡ phases_of self.now.rule - self.now.rule.again }
+        ensures on_circle { result < phases_of self.now.rule }
+    {
+        self.retry.last_round()
+    }
+
+    /// Adds an open entry in a phase.
+    pub(crate) fn enter(&mut self, phase: u64) -> Result<(), AllocError>
+        requires { phase < phases_of self.old.rule }
+        ensures ok { OnOk result (self.new ≡ record self.old { phases = self.old.phases ++ Some phase ∷ [] }) }
+        ensures err { OnErr result (self.new ≡ self.old) }
+    {
+        let lead = self.retry.lead_to(phase);
+        let bucket = self.retry.bucket_of(lead);
+        let place = self.leads.len();
+        self.leads.reserve(1)?;
+        put(&mut self.buckets, bucket, place)?;
+        self.leads.push_reserved(Some(lead));
+        Ok(())
+    }
+
+    /// Adds a settled entry.
+    pub(crate) fn enter_settled(&mut self) -> Result<(), AllocError>
+        ensures ok { OnOk result (self.new ≡ record self.old { phases = self.old.phases ++ None ∷ [] }) }
+        ensures err { OnErr result (self.new ≡ self.old) }
+    {
+        self.leads.push(None)?;
+        Ok(())
+    }
+
+    /// Settles an entry: it has no phase from now on.
+    pub(crate) fn settle(&mut self, place: usize)
+        requires { place < length self.old.phases }
+        ensures { self.new ≡ record self.old { phases = slice_set self.old.phases place None } }
+    {
+        if let Some(lead) = self.leads[place] {
+            let bucket = self.retry.bucket_of(lead);
+            take_out(&mut self.buckets, bucket, place);
+            self.leads[place] = None;
+        }
+    }
+
+    /// The places of the entries that the next tick sends, in order.
+    pub(crate) fn due_next(&self) -> &BTreeSet<usize>
+        ensures { result.now.keys ≡ due_next self.now }
+    {
+        let bucket = self.retry.next_bucket();
+        &self.buckets[bucket]
+    }
+
+    /// The switch, by its place in the list, at which an entry is after the next tick; none where it is settled.
+    pub(crate) fn next_node(&self, place: usize) -> Option<usize>
+        requires { place < length self.now.phases }
+        ensures value { result ≡ option_map (node_of self.now.rule) (slice_index_or (ticked_phases self.now) place None) }
+        ensures in_range { IfSome result (λ node. node < self.now.rule.nodes) }
+    {
+        match self.leads[place] {
+            Some(lead) => Some(self.retry.next_node(lead)),
+            None => None,
+        }
+    }
+
+    /// One tick.
+    pub(crate) fn tick(&mut self)
+        ensures { self.new ≡ ticked_rounds self.old }
+    {
+        self.retry.tick();
+    }
+}
+
+/// As many empty buckets.
+fn empty_buckets(alloc: Global, count: u32) -> Result<Vec<BTreeSet<usize>>, AllocError>
+    ensures count { IfOk result (λ buckets. length buckets.items ≡ count) }
+    ensures empty { IfOk result (λ buckets. (b : ℕ) → slice_index_or (bucket_keys buckets.items) b [] ≡ []) }
+{
+    let mut buckets = Vec::with_capacity(alloc, count as usize)?;
+    for _ in 0..count {
+        buckets.push(BTreeSet::new(alloc))?;
+    }
+    Ok(buckets)
+}
+
+/// Puts a place into a bucket, behind the places that are there.
+fn put(buckets: &mut Vec<BTreeSet<usize>>, bucket: usize, place: usize) -> Result<(), AllocError>
+    requires in_range { bucket < length buckets.old.items }
+    requires behind { AllByRecursion (λ k. k < place) (slice_index_or (bucket_keys buckets.old.items) bucket []) }
+    ensures ok { OnOk result (bucket_keys buckets.new.items ≡ slice_set (bucket_keys buckets.old.items) bucket (slice_index_or (bucket_keys buckets.old.items) bucket [] ++ place ∷ [])) }
+    ensures err { OnErr result (bucket_keys buckets.new.items ≡ bucket_keys buckets.old.items) }
+{
+    buckets[bucket].insert(place)?;
+    Ok(())
+}
+
+/// Takes a place out of a bucket.
+fn take_out(buckets: &mut Vec<BTreeSet<usize>>, bucket: usize, place: usize)
+    requires { bucket < length buckets.old.items }
+    ensures { bucket_keys buckets.new.items ≡ slice_set (bucket_keys buckets.old.items) bucket (remove_key (λ k. place == k) (slice_index_or (bucket_keys buckets.old.items) bucket [])) }
+{
+    buckets[bucket].remove(&place);
+}

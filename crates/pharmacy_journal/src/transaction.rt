@@ -1,0 +1,194 @@
+//! Transactions of a pharmacy: open ones, which have a packet to send, and settled ones, which have an
+//! answer.
+
+ghost use Rattle.std.specs.Prelude.{◌≡◌, ◌≢◌, ◌≤◌, true, false, Some, IsSome, IfOk, IfErr, OnOk, length, bytes_eq, ◌&&◌, ◌==◌};
+ghost use Rattle.bin_routes.specs.Table.{RouteMaps};
+ghost use Rattle.claim_profile.specs.Readable.{readable_header};
+ghost use Rattle.claim_model.specs.Readable.{settles};
+ghost use Rattle.claim_model.specs.Bytes.{bytes_with};
+ghost use Rattle.envelope.specs.Envelope.{envelope_text};
+ghost use Rattle.envelope.specs.declared.opening.Kind.TheVariants.{Request};
+ghost use Rattle.pharmacy_journal.specs.Reading.{settles_with};
+ghost use Rattle.pharmacy_journal.specs.declared.fault.SettleFault.TheVariants.{OutOfMemory};
+
+use crate::fault::SettleFault;
+use claim_profile::{AnswerFault, read_answer};
+use d0_header::{RequestHeader, ResponseHeader, request_text_laws};
+use envelope::{Kind, TxnId, WriteFault, write};
+use octets::Octets;
+use std::alloc::{AllocError, Global};
+use std::marker::Model;
+
+/// A transaction that waits for its answer: its number and a readable request. It alone has a packet.
+#[derive(Debug, Drop)]
+pub struct OpenTxn {
+    id: TxnId,
+    request: Octets,
+}
+
+impl Model for OpenTxn {
+    ghost use Rattle.std.specs.Prelude.{IsSome};
+    ghost use Rattle.claim_profile.specs.Readable.{readable_header};
+    ghost use Rattle.pharmacy_journal.specs.Transactions.{Submission};
+
+    ghost Value = { Submission };
+
+    ghost view = { λ t. record { id = t.id; request = t.request } };
+
+    ghost invariant = { λ t. IsSome (readable_header t.request) };
+}
+
+/// A transaction that has its answer. It has no packet.
+#[derive(Debug, Drop)]
+pub struct SettledTxn {
+    id: TxnId,
+    request: Octets,
+    answer: Octets,
+}
+
+impl Model for SettledTxn {
+    ghost use Rattle.std.specs.Prelude.{◌≡◌, true, IsSome};
+    ghost use Rattle.claim_profile.specs.Readable.{readable_header};
+    ghost use Rattle.pharmacy_journal.specs.Reading.{settles_with};
+    ghost use Rattle.pharmacy_journal.specs.Transactions.{Settlement};
+
+    ghost Value = { Settlement };
+
+    ghost view = { λ t. record { id = t.id; request = t.request; answer = t.answer } };
+
+    ghost invariant = { λ t. (IsSome (readable_header t.request)) × (settles_with t.request t.answer ≡ true) };
+}
+
+impl OpenTxn {
+    /// The transaction of this number with a readable request: at most 32,768 bytes, framed, of version
+    /// `D0`, a billing or a reversal.
+    pub fn new(id: TxnId, request: Vec<u8>) -> OpenTxn
+        requires { IsSome (readable_header request.items) }
+        ensures { result ≡ record { id = id; request = request.items } }
+    {
+        OpenTxn {
+            id,
+            request: Octets::from_vec(request),
+        }
+    }
+
+    /// Its number.
+    pub fn id(&self) -> TxnId
+        ensures { result ≡ self.now.id }
+    {
+        self.id
+    }
+
+    /// The request's bytes.
+    pub fn request(&self) -> &[u8]
+        ensures value { result.now ≡ self.now.request }
+        ensures readable { IsSome (readable_header self.now.request) }
+    {
+        self.request.as_slice()
+    }
+
+    /// The envelope that carries the request, of kind 1.
+    pub fn packet(&self, alloc: Global) -> Result<Octets, AllocError>
+        ensures { IfOk result (λ packet. packet ≡ envelope_text Request self.now.id self.now.request) }
+    {
+        match write(alloc, Kind::Request, self.id, self.request.as_slice()) {
+            Ok(packet) => Ok(Octets::from_vec(packet)),
+            Err(WriteFault::OutOfMemory) => Err(AllocError),
+            Err(WriteFault::TooLong) => unreachable!(),
+        }
+    }
+
+    /// Settles the transaction with an answer, which it keeps. Where the answer does not fit, transaction
+    /// and bytes come back.
+    pub fn settle(
+        self,
+        alloc: Global,
+        answer: Vec<u8>,
+    ) -> Result<SettledTxn, (OpenTxn, Vec<u8>, SettleFault)>
+        ensures kept { IfOk result (λ t. t ≡ record { id = self.id; request = self.request; answer = answer.items }) }
+        ensures fits { (routes : RouteMaps) → OnOk result (settles (bytes_with routes) self.request answer.items ≡ true) }
+        ensures back { IfErr result (λ e. (e.0 ≡ self) × (e.1.items ≡ answer.items)) }
+        ensures fault { (routes : RouteMaps) → IfErr result (λ e. e.2 ≢ OutOfMemory → settles (bytes_with routes) self.request answer.items ≡ false) }
+    {
+        match judge(alloc, self.request.as_slice(), answer.as_slice()) {
+            Ok(()) => Ok(self.settled(Octets::from_vec(answer))),
+            Err(fault) => Err((self, answer, fault)),
+        }
+    }
+
+    /// The transaction with an answer that fits.
+    pub(crate) fn settled(self, answer: Octets) -> SettledTxn
+        requires { settles_with self.request answer ≡ true }
+        ensures { result ≡ record { id = self.id; request = self.request; answer = answer } }
+    {
+        let OpenTxn { id, request } = self;
+        SettledTxn {
+            id,
+            request,
+            answer,
+        }
+    }
+}
+
+impl SettledTxn {
+    /// Its number.
+    pub fn id(&self) -> TxnId
+        ensures { result ≡ self.now.id }
+    {
+        self.id
+    }
+
+    /// The request's bytes.
+    pub fn request(&self) -> &[u8]
+        ensures value { result.now ≡ self.now.request }
+        ensures readable { IsSome (readable_header self.now.request) }
+    {
+        self.request.as_slice()
+    }
+
+    /// The answer's bytes.
+    pub fn answer(&self) -> &[u8]
+        ensures value { result.now ≡ self.now.answer }
+        ensures fits { settles_with self.now.request self.now.answer ≡ true }
+    {
+        self.answer.as_slice()
+    }
+}
+
+/// Whether an answer settles a readable request: it reads as an answer of the request's code and count.
+pub(crate) fn judge(alloc: Global, request: &[u8], answer: &[u8]) -> Result<(), SettleFault>
+    requires { IsSome (readable_header request.now) }
+    ensures ok { OnOk result (settles_with request.now answer.now ≡ true) }
+    ensures fault { IfErr result (λ e. e ≢ OutOfMemory → settles_with request.now answer.now ≡ false) }
+{
+    let header = header_of(request);
+    let answer = match read_answer(alloc, answer) {
+        Ok(answer) => answer,
+        Err(AnswerFault::OutOfMemory) => return Err(SettleFault::OutOfMemory),
+        Err(_) => return Err(SettleFault::Unreadable),
+    };
+    if fits(&header, answer.header()) {
+        Ok(())
+    } else {
+        Err(SettleFault::Unreadable)
+    }
+}
+
+/// Whether a response has the request's code and count.
+fn fits(request: &RequestHeader, response: &ResponseHeader) -> bool
+    ensures { result ≡ (bytes_eq response.now.code request.now.code && (response.now.count == request.now.count)) }
+{
+    response.code() == request.code() && response.count() == request.count()
+}
+
+/// The header of a readable request.
+pub(crate) fn header_of(request: &[u8]) -> RequestHeader
+    requires { IsSome (readable_header request.now) }
+    ensures { readable_header request.now ≡ Some result }
+{
+    request_text_laws();
+    match RequestHeader::read(request) {
+        Ok(header) => header,
+        Err(_) => unreachable!(),
+    }
+}
