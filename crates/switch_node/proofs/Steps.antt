@@ -1,0 +1,64 @@
+-- The model's steps, by what was read and found.
+use Rattle.std.proofs.Common.{◌≡◌, true, false, cond, List, ℕ, Option, Some, Result, Ok, Err, IfOk, ap, ◌∙◌, refl, bytes_eq}
+use Rattle.bin_routes.specs.Table.{RouteMaps}
+use Rattle.claim_profile.specs.Readable.{readable_header}
+use Rattle.claim_profile.specs.Ruling.{AnswerParts, FailsAs, answer_of}
+use Rattle.claim_profile.specs.declared.answer_reading.AnswerFault.{AnswerFault}
+use Rattle.claim_profile.specs.declared.answer_reading.AnswerFault.TheVariants as reading
+use Rattle.claim_model.specs.Words.{RequestHeader, Envelope}
+use Rattle.claim_model.specs.Context.{Context}
+use Rattle.claim_model.specs.Readable.{readable, is_request}
+use Rattle.claim_model.specs.Refusal.{Unreadable, NumberReused}
+use Rattle.claim_model.specs.Table.{Slot, Table, answer_back, requested, requested_readable, requested_by, requested_again, responded, responded_readable}
+use Rattle.claim_model.specs.Bytes.{bytes_with, answer_in}
+use Rattle.switch_node.specs.Faults.{RefusesAs, response_refusal, fault_of_answer}
+
+-- a value that was given has what another property says
+pub IfOk-map : {T E : Type 0} (r : Result T E) (P Q : T → Type 0) → ((x : T) → P x → Q x) → IfOk r P → IfOk r Q
+IfOk-map (Ok x) P Q f h = f x h
+IfOk-map (Err e) P Q f h = tt
+
+-- requests
+
+readable_is : (routes : RouteMaps) (text : List ℕ) → readable (bytes_with routes) text ≡ readable_header text
+unfolding readable readable_header
+readable_is routes text = refl
+
+module _ (routes : RouteMaps) (t : Table) (e : Envelope) where
+  pub requested-other : is_request e ≡ false → requested (bytes_with routes) t e ≡ Err Unreadable
+  unfolding requested
+  requested-other other = ap (λ b. cond b (requested_readable (bytes_with routes) t e (readable (bytes_with routes) e.payload)) (Err Unreadable)) other
+
+  pub requested-read : (text : Option RequestHeader) → is_request e ≡ true → readable_header e.payload ≡ text → requested (bytes_with routes) t e ≡ requested_readable (bytes_with routes) t e text
+  unfolding requested
+  requested-read text is read =
+      ap (λ b. cond b (requested_readable (bytes_with routes) t e (readable (bytes_with routes) e.payload)) (Err Unreadable)) is
+      ∙ ap (requested_readable (bytes_with routes) t e) (readable_is routes e.payload ∙ read)
+
+-- a known request that has its answer
+pub requested-answered : (ctx : Context) (t : Table) (e : Envelope) (h : RequestHeader) (s : Slot) (answer : List ℕ) → bytes_eq s.request e.payload ≡ true → s.answer ≡ Some answer → requested_by ctx t e h (Some s) ≡ Ok (record { table = t; routed = answer_back ctx e.id answer })
+requested-answered ctx t e h s answer same came =
+    ap (λ b. cond b (Ok (requested_again ctx t e h s.answer)) (Err NumberReused)) same ∙ ap (λ (a : Option (List ℕ)). Ok (requested_again ctx t e h a)) came
+
+-- responses
+
+module _ (routes : RouteMaps) (t : Table) (e : Envelope) where
+  pub responded-other : is_request e ≡ true → responded (bytes_with routes) t e ≡ Err Unreadable
+  unfolding responded
+  responded-other other = ap (λ b. cond b (Err Unreadable) (responded_readable (bytes_with routes) t e (answer_in (answer_of e.payload)))) other
+
+  pub responded-reads : (r : Result AnswerParts AnswerFault) → is_request e ≡ false → answer_of e.payload ≡ r → responded (bytes_with routes) t e ≡ responded_readable (bytes_with routes) t e (answer_in r)
+  unfolding responded
+  responded-reads r is read =
+      ap (λ b. cond b (Err Unreadable) (responded_readable (bytes_with routes) t e (answer_in (answer_of e.payload)))) is
+      ∙ ap (λ x. responded_readable (bytes_with routes) t e (answer_in x)) read
+
+  pub responded-fails : (fault : AnswerFault) → is_request e ≡ false → FailsAs fault (answer_of e.payload) → RefusesAs (response_refusal (fault_of_answer fault)) (responded (bytes_with routes) t e)
+  responded-fails reading.OutOfMemory is fails = tt
+  responded-fails reading.Framing is fails = responded-reads _ is fails
+  responded-fails reading.NoStatus is fails = responded-reads _ is fails
+  responded-fails reading.BadStatus is fails = responded-reads _ is fails
+  responded-fails reading.BadAmount is fails = responded-reads _ is fails
+  responded-fails reading.BadAuthorization is fails = responded-reads _ is fails
+  responded-fails reading.BadRejects is fails = responded-reads _ is fails
+  responded-fails reading.BadClaim is fails = responded-reads _ is fails

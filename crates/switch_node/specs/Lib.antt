@@ -1,0 +1,4 @@
+pub mod Settings
+pub mod Ring
+pub mod Faults
+pub mod Sent

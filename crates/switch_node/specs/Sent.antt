@@ -1,0 +1,15 @@
+-- What a switch is handed and what it sends, as the model sees them.
+use Rattle.envelope.specs.Envelope.{Opened}
+use Rattle.claim_model.specs.Words.{Envelope}
+use Rattle.claim_model.specs.Table.{Routed as ModelRouted, Forward, Back}
+use Rattle.switch_node.specs.declared.routing.Routed.{Routed}
+use Rattle.switch_node.specs.declared.routing.Routed.TheVariants as routed
+
+-- an envelope without its place in memory
+abbrev pub content : Opened → Envelope
+content e = record { kind = e.kind; id = e.id; payload = e.payload }
+
+-- where a request goes, and with which bytes
+abbrev pub routed_as : Routed → ModelRouted
+routed_as (routed.Forward payer packet) = Forward payer packet.items
+routed_as (routed.Answer packet) = Back packet.items

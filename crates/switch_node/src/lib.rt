@@ -1,0 +1,26 @@
+//! A switch: the requests that it forwarded and the answers that came back, oldest first and at most so many.
+//! What it sends for a request or a response, and its whole table after it, are those of the model. In a full
+//! table the oldest entry leaves for a new one, in constant time. A stop loses the table.
+#![tactic(auto)]
+
+mod fault;
+mod packets;
+mod reading;
+mod routing;
+mod settings;
+mod slot;
+mod switch;
+mod table;
+
+pub use bin_routes::{PayerNo, Routes};
+pub use envelope::{Envelope, TxnId};
+pub use fault::{RequestFault, ResponseFault, SettingFault};
+pub use routing::Routed;
+pub use settings::SwitchSettings;
+pub use switch::Switch;
+pub use table::InFlight;
+
+#[cfg(test)]
+mod against_list;
+#[cfg(test)]
+mod tests;

@@ -1,0 +1,38 @@
+//! The bytes that a switch sends.
+
+ghost use Rattle.std.specs.Prelude.{◌≡◌, ◌≤◌, length, IfOk};
+ghost use Rattle.bin_routes.specs.Table.{RouteMaps};
+ghost use Rattle.envelope.specs.Envelope.{envelope_text};
+ghost use Rattle.claim_model.specs.Readable.{rejection};
+ghost use Rattle.claim_model.specs.Bytes.{bytes_with};
+
+use claim_profile::{Code, HeaderStatus, Rejects, Ruling, write_answer};
+use d0_header::{RequestHeader, response_text_laws};
+use envelope::{Kind, TxnId, write};
+use std::alloc::{AllocError, Global};
+
+/// The envelope of a payload that is not too long.
+pub fn packet(alloc: Global, kind: Kind, id: TxnId, payload: &[u8]) -> Result<Vec<u8>, AllocError>
+    requires { length payload.now ≤ 32768 }
+    ensures { IfOk result (λ packet. packet.items ≡ envelope_text kind id payload.now) }
+{
+    // The payload is not too long, so nothing but memory can be refused.
+    match write(alloc, kind, id, payload) {
+        Ok(packet) => Ok(packet),
+        Err(_) => Err(AllocError),
+    }
+}
+
+/// The answer to a request that has no route: header status `R` (501-F1), and for each transaction the reject
+/// code 01 (511-FB). It is a function of the request alone.
+pub fn rejection(alloc: Global, header: &RequestHeader) -> Result<Vec<u8>, AllocError>
+    ensures text { IfOk result (λ answer. (routes : RouteMaps) → answer.items ≡ rejection (bytes_with routes) header.now) }
+    ensures short { IfOk result (λ answer. length answer.items ≤ 32768) }
+{
+    response_text_laws();
+    let rulings = [Ruling::Rejected {
+        rejects: Rejects::one(Code::Bin),
+    }; 4];
+    let count = header.count() as usize;
+    write_answer(alloc, header, HeaderStatus::Rejected, &rulings[..count])
+}

@@ -1,0 +1,106 @@
+//! Where a request goes.
+
+ghost use Rattle.std.specs.Prelude.{◌≡◌, ◌≤◌, length, None, Some, Ok, IfOk, IfErr, OnErr};
+ghost use Rattle.bin_routes.specs.Table.{RouteMaps};
+ghost use Rattle.claim_model.specs.Readable.{payer_for};
+ghost use Rattle.claim_model.specs.Table.{Table as ModelTable, slot_of, answer_back, routed_by, requested_by};
+ghost use Rattle.claim_model.specs.Bytes.{bytes_with};
+ghost use Rattle.switch_node.specs.Faults.{RefusesAs, request_refusal};
+ghost use Rattle.switch_node.specs.Sent.{content, routed_as};
+
+use crate::fault::RequestFault;
+use crate::packets::{packet, rejection};
+use crate::slot::Slot;
+use crate::table::Table;
+use bin_routes::{PayerNo, Routes};
+use d0_header::RequestHeader;
+use envelope::{Envelope, Kind, TxnId};
+use octets::Octets;
+use std::alloc::{AllocError, Global};
+
+/// Where a request goes.
+#[derive(Debug, PartialEq, Eq, Drop)]
+pub enum Routed {
+    /// To this payer, as the envelope in which it came.
+    Forward(PayerNo, Vec<u8>),
+    /// Back to where it came from, with the envelope of an answer.
+    Answer(Vec<u8>),
+}
+
+/// What is done with a request whose number the table has, in this slot.
+pub fn repeated(
+    alloc: Global,
+    routes: &Routes,
+    envelope: &Envelope<'_>,
+    header: &RequestHeader,
+    slot: &Slot,
+) -> Result<Routed, RequestFault>
+    ensures routed { IfOk result (λ routed. (t : ModelTable) → requested_by (bytes_with routes.now) t (content envelope.now) header.now (Some slot.now) ≡ Ok (record { table = t; routed = routed_as routed })) }
+    ensures fault { IfErr result (λ fault. (t : ModelTable) → RefusesAs (request_refusal fault) (requested_by (bytes_with routes.now) t (content envelope.now) header.now (Some slot.now))) }
+{
+    if !slot.is_of(envelope.payload()) {
+        return Err(RequestFault::NumberReused);
+    }
+    match slot.answer() {
+        Some(answer) => Ok(back(alloc, envelope.id(), answer)?),
+        None => Ok(sent(alloc, envelope, header, route_of(routes, header))?),
+    }
+}
+
+/// What is done with a request whose number the table does not have: where it has a route, it is entered last.
+pub fn first(
+    table: &mut Table,
+    routes: &Routes,
+    envelope: &Envelope<'_>,
+    header: &RequestHeader,
+) -> Result<Routed, AllocError>
+    requires { slot_of envelope.now.id table.old.entries ≡ None }
+    ensures routed { IfOk result (λ routed. requested_by (bytes_with routes.now) table.old (content envelope.now) header.now None ≡ Ok (record { table = table.new; routed = routed_as routed })) }
+    ensures unchanged { OnErr result (table.new ≡ table.old) }
+{
+    let alloc = table.allocator();
+    let route = route_of(routes, header);
+    let routed = sent(alloc, envelope, header, route)?;
+    if route.is_some() {
+        let request = Octets::copy_of(alloc, envelope.payload())?;
+        table.enter(envelope.id(), Slot::waiting(request))?;
+    }
+    Ok(routed)
+}
+
+/// The payer of a request.
+fn route_of(routes: &Routes, header: &RequestHeader) -> Option<PayerNo>
+    ensures { result ≡ payer_for (bytes_with routes.now) header.now }
+{
+    routes.route(&header.bin(), &header.pcn())
+}
+
+/// To the payer of the route, or back with the rejection.
+fn sent(
+    alloc: Global,
+    envelope: &Envelope<'_>,
+    header: &RequestHeader,
+    route: Option<PayerNo>,
+) -> Result<Routed, AllocError>
+    ensures { IfOk result (λ routed. (routes : RouteMaps) → routed_as routed ≡ routed_by (bytes_with routes) (content envelope.now) header.now route) }
+{
+    match route {
+        Some(payer) => {
+            let packet = packet(alloc, envelope.kind(), envelope.id(), envelope.payload())?;
+            Ok(Routed::Forward(payer, packet))
+        }
+        None => {
+            let answer = rejection(alloc, header)?;
+            back(alloc, envelope.id(), &answer)
+        }
+    }
+}
+
+/// Back with an answer.
+fn back(alloc: Global, id: TxnId, answer: &[u8]) -> Result<Routed, AllocError>
+    requires { length answer.now ≤ 32768 }
+    ensures { IfOk result (λ routed. (routes : RouteMaps) → routed_as routed ≡ answer_back (bytes_with routes) id answer.now) }
+{
+    let packet = packet(alloc, Kind::Answer, id, answer)?;
+    Ok(Routed::Answer(packet))
+}

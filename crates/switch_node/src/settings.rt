@@ -1,0 +1,52 @@
+//! What a switch is opened with, and what is left of it when it stops.
+
+ghost use Rattle.std.specs.Prelude.{◌≡◌, ◌≤◌};
+ghost use Rattle.switch_node.specs.Settings.{settings_of};
+
+use crate::fault::SettingFault;
+use std::marker::Model;
+
+/// The most entries that a switch's settings may allow (own).
+pub const MOST_ENTRIES: u32 = 65_536;
+
+/// How many requests a switch has in its table at most (own).
+#[derive(Clone, Copy, Debug, PartialEq, Eq)]
+pub struct SwitchSettings {
+    cap: u32,
+}
+
+impl Model for SwitchSettings {
+    ghost use Rattle.std.specs.Prelude.{ℕ, ◌≤◌};
+
+    ghost Value = { ℕ };
+
+    ghost view = { λ s. s.cap };
+
+    ghost invariant = { λ s. (1 ≤ s.cap) × (s.cap ≤ 65536) };
+
+    ghost inverse = { λ cap. record { cap = cap } };
+}
+
+impl SwitchSettings {
+    /// Settings of a switch that has at most `cap` requests in its table, 1 to 65,536.
+    ///
+    /// # Errors
+    /// `BadSetting` for every other number.
+    pub fn new(cap: u32) -> Result<SwitchSettings, SettingFault>
+        ensures { result ≡ settings_of cap }
+    {
+        if cap == 0 || cap > MOST_ENTRIES {
+            return Err(SettingFault::BadSetting);
+        }
+        Ok(SwitchSettings { cap })
+    }
+
+    /// The most requests in the table.
+    pub fn cap(self) -> u32
+        ensures value { result ≡ self }
+        ensures least { 1 ≤ result }
+        ensures most { result ≤ 65536 }
+    {
+        self.cap
+    }
+}

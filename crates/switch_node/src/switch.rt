@@ -1,0 +1,162 @@
+//! The switch.
+
+ghost use Rattle.std.specs.Prelude.{◌≡◌, ◌≤◌, [], length, map, Ok, IfOk, IfErr, OnErr, if◌then◌else◌};
+ghost use Rattle.std.specs.List.{IsDistinct};
+ghost use Rattle.std.specs.Map.{keys_of};
+ghost use Rattle.std.specs.Option.{option_copied};
+ghost use Rattle.bin_routes.specs.Table.{RouteMaps};
+ghost use Rattle.claim_model.specs.Node.{Up};
+ghost use Rattle.claim_model.specs.Held.{held_in_table};
+ghost use Rattle.claim_model.specs.Readable.{same_id};
+ghost use Rattle.claim_model.specs.Table.{slot_of, requested, responded, responded_by, filled};
+ghost use Rattle.claim_model.specs.Bytes.{bytes_with};
+ghost use Rattle.switch_node.specs.Ring.{in_flight};
+ghost use Rattle.switch_node.specs.Faults.{RefusesAs, request_refusal, response_refusal, first_or_equal};
+ghost use Rattle.switch_node.specs.Sent.{content, routed_as};
+
+use crate::fault::{RequestFault, ResponseFault};
+use crate::packets::packet;
+use crate::reading::{check_answer, header_of};
+use crate::routing::{Routed, first, repeated};
+use crate::settings::SwitchSettings;
+use crate::slot::Slot;
+use crate::table::{InFlight, Table};
+use bin_routes::Routes;
+use envelope::{Envelope, TxnId};
+use octets::Octets;
+use std::alloc::{AllocError, Global};
+use std::marker::Model;
+
+/// A switch: the requests that it forwarded, oldest first, each with its answer once that came.
+#[derive(Drop)]
+pub struct Switch {
+    table: Table,
+}
+
+impl Model for Switch {
+    ghost use Rattle.claim_model.specs.Table.{Table as ModelTable};
+
+    ghost Value = { ModelTable };
+
+    ghost view = { λ s. s.table };
+}
+
+impl Switch {
+    /// A switch that has forwarded nothing.
+    pub fn new(alloc: Global, settings: SwitchSettings) -> Switch
+        ensures { result ≡ record { cap = settings; entries = [] } }
+    {
+        Switch {
+            table: Table::new(alloc, settings),
+        }
+    }
+
+    /// Takes a request. One that has its answer gets it; one in flight is forwarded again and grows no younger. A
+    /// new one is entered last and forwarded as the same envelope, and in a full table the oldest leaves for it.
+    /// Without a route a request gets the fixed rejection, and the table stays.
+    ///
+    /// # Errors
+    /// The first that stands: `Unreadable`, then `NumberReused`. `OutOfMemory` may stand in place of any answer.
+    /// The table is then as it was.
+    pub fn request(
+        &mut self,
+        routes: &Routes,
+        envelope: &Envelope<'_>,
+    ) -> Result<Routed, RequestFault>
+        // The whole table after it, and what is sent, are the model's.
+        ensures routed { IfOk result (λ routed. requested (bytes_with routes.now) self.old (content envelope.now) ≡ Ok (record { table = self.new; routed = routed_as routed })) }
+        ensures fault { IfErr result (λ fault. RefusesAs (request_refusal fault) (requested (bytes_with routes.now) self.old (content envelope.now))) }
+        ensures unchanged { OnErr result (self.new ≡ self.old) }
+    {
+        let alloc = self.table.allocator();
+        let header = header_of(alloc, envelope)?;
+        match self.table.get(envelope.id()) {
+            Some(slot) => repeated(alloc, routes, envelope, &header, slot),
+            None => Ok(first(&mut self.table, routes, envelope, &header)?),
+        }
+    }
+
+    /// Takes a response and gives the packet for the pharmacy. The first one is kept with its request; an equal
+    /// second one is sent on again.
+    ///
+    /// # Errors
+    /// The first that stands: `Unreadable`, `NotWaiting`, `Differs`. `OutOfMemory` may stand in place of any answer.
+    /// The table is then as it was.
+    pub fn response(&mut self, envelope: &Envelope<'_>) -> Result<Vec<u8>, ResponseFault>
+        // The whole table after it, and what is sent, are the model's, whatever the routes are.
+        ensures sent { IfOk result (λ packet. (routes : RouteMaps) → responded (bytes_with routes) self.old (content envelope.now) ≡ Ok (record { table = self.new; bytes = packet.items })) }
+        ensures fault { IfErr result (λ fault. (routes : RouteMaps) → RefusesAs (response_refusal fault) (responded (bytes_with routes) self.old (content envelope.now))) }
+        ensures unchanged { OnErr result (self.new ≡ self.old) }
+    {
+        let alloc = self.table.allocator();
+        check_answer(alloc, envelope)?;
+        let is_first = waits(&self.table, envelope)?;
+        let packet = packet(alloc, envelope.kind(), envelope.id(), envelope.payload())?;
+        if is_first {
+            let answer = Octets::copy_of(alloc, envelope.payload())?;
+            self.table.fill(envelope.id(), answer);
+        }
+        Ok(packet)
+    }
+
+    /// The answer of a request, where it came.
+    pub fn held(&self, id: TxnId) -> Option<&[u8]>
+        ensures { option_copied result ≡ held_in_table id (Up self.now) }
+    {
+        self.table.get(id)?.answer()
+    }
+
+    /// The requests in the table and whether each has its answer, oldest first.
+    pub fn list(&self, alloc: Global) -> Result<Vec<InFlight>, AllocError>
+        ensures { IfOk result (λ list. list.items ≡ map in_flight self.now.entries) }
+    {
+        self.table.list(alloc)
+    }
+
+    /// How many requests the table has: never more than its settings allow.
+    pub fn len(&self) -> usize
+        ensures len { result ≡ length self.now.entries }
+        ensures few { result ≤ self.now.cap }
+        // No number stands in it twice.
+        ensures distinct { IsDistinct same_id (keys_of self.now.entries) }
+    {
+        self.table.len()
+    }
+
+    /// Its settings.
+    pub fn settings(&self) -> SwitchSettings
+        ensures { result ≡ self.now.cap }
+    {
+        self.table.settings()
+    }
+
+    /// Stops it: the table is lost, and the settings are left.
+    pub fn stop(self) -> SwitchSettings
+        ensures { result ≡ self.cap }
+    {
+        self.table.settings()
+    }
+}
+
+/// Whether a response is the first to its request, and not an equal one again.
+fn waits(table: &Table, envelope: &Envelope<'_>) -> Result<bool, ResponseFault>
+    ensures kept { IfOk result (λ is_first. (routes : RouteMaps) → responded_by (bytes_with routes) table.now (content envelope.now) (slot_of envelope.now.id table.now.entries)
+        ≡ Ok (record { table = if is_first then filled table.now envelope.now.id envelope.now.payload else table.now; bytes = (bytes_with routes).envelope (content envelope.now) })) }
+    ensures fault { IfErr result (λ fault. (routes : RouteMaps) → RefusesAs (response_refusal fault) (responded_by (bytes_with routes) table.now (content envelope.now) (slot_of envelope.now.id table.now.entries))) }
+{
+    match table.get(envelope.id()) {
+        None => Err(ResponseFault::NotWaiting),
+        Some(slot) => is_first(slot, envelope.payload()),
+    }
+}
+
+/// Whether an answer is the first to the request of a slot, and not the equal one again.
+fn is_first(slot: &Slot, answer: &[u8]) -> Result<bool, ResponseFault>
+    ensures { result ≡ first_or_equal slot.now.answer answer.now }
+{
+    match slot.answer() {
+        None => Ok(true),
+        Some(held) if held == answer => Ok(false),
+        Some(_) => Err(ResponseFault::Differs),
+    }
+}
