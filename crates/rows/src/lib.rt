@@ -4,6 +4,10 @@
 #[cfg(test)]
 mod book;
 #[cfg(test)]
+mod day;
+#[cfg(test)]
+mod nodes;
+#[cfg(test)]
 mod program;
 #[cfg(test)]
 mod vectors;

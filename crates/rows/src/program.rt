@@ -217,6 +217,18 @@ fn stops_where_writing_fails(rt: HostRuntime) -> Result<(), Fail> {
     Ok(())
 }
 
+#[test]
+fn takes_a_writer_that_takes_nothing_for_a_failed_one(rt: HostRuntime) -> Result<(), Fail> {
+    let alloc = rt.alloc();
+    let input = lines(alloc, &[("1", vectors::BILLING)])?;
+    let mut writer = Paper::new(alloc, 0, ANY);
+    let mut reader = Pieces::new(input.as_slice(), ANY, 0);
+    let outcome = run(alloc, &mut reader, &mut writer);
+    assert_eq!(rt; outcome, Err(ProgramFault::Write));
+    assert_eq!(rt; writer.taken.len(), 0);
+    Ok(())
+}
+
 /// A reader that never ends.
 #[derive(Drop)]
 struct Endless {

@@ -90,3 +90,9 @@ pub(crate) const LAST_SERIAL_PAID: &str =
 /// The paid answer under the serial before the last.
 pub(crate) const SERIAL_BEFORE_LAST_PAID: &str =
     "D0B11A011234567893     20240115\\G\\S\\FAM21\\FANP\\FF30001999999999998\\S\\FAM22\\FEM1\\FD2123456\\S\\FAM23\\FF5100{\\FF6557{\\FF715{\\FF9472{";
+/// The billing of fill 2.
+pub(crate) const THIRD_FILL: &str =
+    "610455D0B1A1        1011234567893     20240115SW00000001\\S\\FAM04\\FC2987654321\\G\\S\\FAM07\\FEM1\\FD2123456\\FD32\\FE103\\FD700093721410\\FE730000\\S\\FAM11\\FD9600{\\FDC20{";
+/// The rejection of a billing that has no route.
+pub(crate) const UNROUTED_REJECTED: &str =
+    "D0B11R011234567893     20240115\\G\\S\\FAM21\\FANR\\FFA1\\FFB01";
