@@ -97,17 +97,17 @@ fn check<R: Abort + AllocGlobal>(
 fn pays_once_and_keeps_the_answer(rt: HostRuntime) -> Result<(), Fail> {
     let mut book = opened(rt.alloc(), 1, 1000)?;
     let steps = [
-        Step::new(1, vectors::BILLING, Want::New(vectors::PAID)),
-        Step::new(1, vectors::BILLING, Want::Kept(vectors::PAID)),
+        Step::new(1, vectors::billing(), Want::New(vectors::paid())),
+        Step::new(1, vectors::billing(), Want::Kept(vectors::paid())),
         Step::new(
             2,
-            vectors::LONGER_PRESCRIPTION,
-            Want::New(vectors::DUPLICATE),
+            vectors::longer_prescription(),
+            Want::New(vectors::duplicate()),
         ),
         Step::new(
             3,
-            vectors::OTHER_QUANTITY,
-            Want::New(vectors::BILLED_BEFORE),
+            vectors::other_quantity(),
+            Want::New(vectors::billed_before()),
         ),
     ];
     run(&rt, &mut book, &steps)
@@ -119,29 +119,33 @@ fn reads_segments_and_fields_in_any_order(rt: HostRuntime) -> Result<(), Fail> {
     run(
         &rt,
         &mut book,
-        &[Step::new(1, vectors::OTHER_ORDER, Want::New(vectors::PAID))],
+        &[Step::new(1, vectors::other_order(), Want::New(vectors::paid()))],
     )
 }
 
 #[test]
 fn names_the_first_five_faults(rt: HostRuntime) -> Result<(), Fail> {
     let mut book = opened(rt.alloc(), 1, 1000)?;
-    let want = Want::New(vectors::EIGHT_FAULTS_REJECTED);
-    run(&rt, &mut book, &[Step::new(1, vectors::EIGHT_FAULTS, want)])
+    let want = Want::New(vectors::eight_faults_rejected());
+    run(
+        &rt,
+        &mut book,
+        &[Step::new(1, vectors::eight_faults(), want)],
+    )
 }
 
 #[test]
 fn reverses_by_fill(rt: HostRuntime) -> Result<(), Fail> {
     let mut book = opened(rt.alloc(), 1, 1000)?;
     let steps = [
-        Step::new(1, vectors::BILLING, Want::New(vectors::PAID)),
-        Step::new(2, vectors::SECOND_FILL, Want::New(vectors::SECOND_PAID)),
+        Step::new(1, vectors::billing(), Want::New(vectors::paid())),
+        Step::new(2, vectors::second_fill(), Want::New(vectors::second_paid())),
         Step::new(
             3,
-            vectors::REVERSAL_OF_ANY_FILL,
-            Want::New(vectors::NOT_REVERSED),
+            vectors::reversal_of_any_fill(),
+            Want::New(vectors::not_reversed()),
         ),
-        Step::new(4, vectors::REVERSAL, Want::New(vectors::REVERSED)),
+        Step::new(4, vectors::reversal(), Want::New(vectors::reversed())),
     ];
     run(&rt, &mut book, &steps)
 }
@@ -150,11 +154,11 @@ fn reverses_by_fill(rt: HostRuntime) -> Result<(), Fail> {
 fn reverses_only_what_stands(rt: HostRuntime) -> Result<(), Fail> {
     let mut book = opened(rt.alloc(), 1, 1000)?;
     let steps = [
-        Step::new(1, vectors::REVERSAL, Want::New(vectors::NOT_REVERSED)),
-        Step::new(2, vectors::BILLING, Want::New(vectors::PAID)),
-        Step::new(3, vectors::REVERSAL, Want::New(vectors::REVERSED)),
-        Step::new(4, vectors::REVERSAL, Want::New(vectors::NOT_REVERSED)),
-        Step::new(5, vectors::BILLING, Want::New(vectors::SECOND_PAID)),
+        Step::new(1, vectors::reversal(), Want::New(vectors::not_reversed())),
+        Step::new(2, vectors::billing(), Want::New(vectors::paid())),
+        Step::new(3, vectors::reversal(), Want::New(vectors::reversed())),
+        Step::new(4, vectors::reversal(), Want::New(vectors::not_reversed())),
+        Step::new(5, vectors::billing(), Want::New(vectors::second_paid())),
     ];
     run(&rt, &mut book, &steps)?;
     let first = book
@@ -176,27 +180,39 @@ fn refuses_by_name(rt: HostRuntime) -> Result<(), Fail> {
     let mut last = opened(rt.alloc(), 999_999_999_999, 1000)?;
     let used_up = Want::Refused(BookFault::SerialsUsedUp);
     let steps = [
-        Step::new(1, vectors::BILLING, Want::New(vectors::LAST_SERIAL_PAID)),
-        Step::new(2, vectors::SECOND_FILL, used_up),
+        Step::new(
+            1,
+            vectors::billing(),
+            Want::New(vectors::last_serial_paid()),
+        ),
+        Step::new(2, vectors::second_fill(), used_up),
         Step::new(
             3,
-            vectors::OTHER_QUANTITY,
-            Want::New(vectors::BILLED_BEFORE),
+            vectors::other_quantity(),
+            Want::New(vectors::billed_before()),
         ),
     ];
     run(&rt, &mut last, &steps)?;
     let mut full = opened(rt.alloc(), 1, 1)?;
     let steps = [
-        Step::new(1, vectors::BILLING, Want::New(vectors::PAID)),
-        Step::new(2, vectors::SECOND_FILL, Want::Refused(BookFault::BookFull)),
-        Step::new(1, vectors::BILLING, Want::Kept(vectors::PAID)),
-        Step::new(1, vectors::REVERSAL, Want::Refused(BookFault::NumberReused)),
-        Step::new(2, vectors::OTHER_BIN, Want::Refused(BookFault::NotOurs)),
+        Step::new(1, vectors::billing(), Want::New(vectors::paid())),
+        Step::new(
+            2,
+            vectors::second_fill(),
+            Want::Refused(BookFault::BookFull),
+        ),
+        Step::new(1, vectors::billing(), Want::Kept(vectors::paid())),
+        Step::new(
+            1,
+            vectors::reversal(),
+            Want::Refused(BookFault::NumberReused),
+        ),
+        Step::new(2, vectors::other_bin(), Want::Refused(BookFault::NotOurs)),
         Step::new(2, "x", Want::Refused(BookFault::Unreadable)),
     ];
     run(&rt, &mut full, &steps)?;
     let held = full.held(id(1)?).ok_or("held")?;
-    check(&rt, held, vectors::PAID, 1)?;
+    check(&rt, held, vectors::paid(), 1)?;
     assert!(rt; full.held(id(2)?).is_none());
     Ok(())
 }
@@ -205,7 +221,7 @@ fn refuses_by_name(rt: HostRuntime) -> Result<(), Fail> {
 fn refuses_a_request_that_is_too_long(rt: HostRuntime) -> Result<(), Fail> {
     let mut book = opened(rt.alloc(), 1, 1000)?;
     let routes = routes(rt.alloc())?;
-    let mut request = unprint(rt.alloc(), vectors::BILLING.as_bytes())?;
+    let mut request = unprint(rt.alloc(), vectors::billing().as_bytes())?;
     request.extend_from_slice(b"\x1cZZ")?;
     for _ in 0..32_621u32 {
         request.push(b'x')?;
@@ -226,21 +242,29 @@ fn refuses_a_request_that_is_too_long(rt: HostRuntime) -> Result<(), Fail> {
 fn rules_on_four_places(rt: HostRuntime) -> Result<(), Fail> {
     let mut book = opened(rt.alloc(), 1, 1000)?;
     let steps = [
-        Step::new(1, vectors::FOUR_BILLINGS, Want::New(vectors::FOUR_ANSWERS)),
-        Step::new(1, vectors::FOUR_BILLINGS, Want::Kept(vectors::FOUR_ANSWERS)),
+        Step::new(
+            1,
+            vectors::four_billings(),
+            Want::New(vectors::four_answers()),
+        ),
+        Step::new(
+            1,
+            vectors::four_billings(),
+            Want::Kept(vectors::four_answers()),
+        ),
         Step::new(
             2,
-            vectors::TWO_REVERSALS,
-            Want::New(vectors::ONE_OF_TWO_REVERSED),
+            vectors::two_reversals(),
+            Want::New(vectors::one_of_two_reversed()),
         ),
     ];
     run(&rt, &mut book, &steps)?;
     let mut last = opened(rt.alloc(), 999_999_999_998, 1000)?;
     let used_up = Want::Refused(BookFault::SerialsUsedUp);
-    let paid = Want::New(vectors::SERIAL_BEFORE_LAST_PAID);
+    let paid = Want::New(vectors::serial_before_last_paid());
     let steps = [
-        Step::new(1, vectors::FOUR_BILLINGS, used_up),
-        Step::new(2, vectors::BILLING, paid),
+        Step::new(1, vectors::four_billings(), used_up),
+        Step::new(2, vectors::billing(), paid),
     ];
     run(&rt, &mut last, &steps)?;
     assert_eq!(rt; last.rows().len(), 1);
@@ -255,28 +279,32 @@ fn pays_at_most_what_is_billed(rt: HostRuntime) -> Result<(), Fail> {
         &mut book,
         &[Step::new(
             1,
-            vectors::WITHOUT_FEE,
-            Want::New(vectors::WITHOUT_FEE_PAID),
+            vectors::without_fee(),
+            Want::New(vectors::without_fee_paid()),
         )],
     )?;
     let mut free = opened(rt.alloc(), 1, 1000)?;
     run(
         &rt,
         &mut free,
-        &[Step::new(1, vectors::FREE_OF_CHARGE, Want::New(vectors::FREE_PAID))],
+        &[Step::new(
+            1,
+            vectors::free_of_charge(),
+            Want::New(vectors::free_paid()),
+        )],
     )?;
     let mut large = opened(rt.alloc(), 1, 1000)?;
     large.change_plan(b"00093721410", Some(99_999_999))?;
     run(
         &rt,
         &mut large,
-        &[Step::new(1, vectors::LARGEST, Want::New(vectors::LARGEST_PAID))],
+        &[Step::new(1, vectors::largest(), Want::New(vectors::largest_paid()))],
     )
 }
 
 #[test]
 fn counts_the_groups(rt: HostRuntime) -> Result<(), Fail> {
-    let mut request = unprint(rt.alloc(), vectors::FOUR_BILLINGS.as_bytes())?;
+    let mut request = unprint(rt.alloc(), vectors::four_billings().as_bytes())?;
     assert_eq!(rt; request.len(), 354);
     request[20] = b'3';
     let fault = read_request(rt.alloc(), request.as_slice()).err();

@@ -8,7 +8,7 @@ use std::test::Fail;
 fn keeps_the_answer_at_every_node(rt: HostRuntime) -> Result<(), Fail> {
     let mut day = Day::open(rt.alloc(), 64)?;
     let events = [
-        (Event::Submit(vectors::BILLING), "ok 1"),
+        (Event::Submit(vectors::billing()), "ok 1"),
         (Event::Deliver(1), "ok 2"),
         (Event::Deliver(2), "ok 3"),
         (Event::Price(20_000), "ok"),
@@ -19,7 +19,7 @@ fn keeps_the_answer_at_every_node(rt: HostRuntime) -> Result<(), Fail> {
         (Event::Deliver(6), "refused AlreadySettled"),
     ];
     play(&rt, &mut day, &events)?;
-    holds(&rt, &day, 1, Some(vectors::PAID))?;
+    holds(&rt, &day, 1, Some(vectors::paid()))?;
     assert_eq!(rt; day.book.rows().len(), 1, "one row");
     counts(&rt, &day, &[1])?;
     let payment = day.book.payment(auth(1)?).ok_or("payment")?;
@@ -31,8 +31,8 @@ fn keeps_the_answer_at_every_node(rt: HostRuntime) -> Result<(), Fail> {
 fn rules_in_the_order_of_arrival(rt: HostRuntime) -> Result<(), Fail> {
     let mut day = Day::open(rt.alloc(), 64)?;
     let events = [
-        (Event::Submit(vectors::BILLING), "ok 1"),
-        (Event::Submit(vectors::REVERSAL), "ok 2"),
+        (Event::Submit(vectors::billing()), "ok 1"),
+        (Event::Submit(vectors::reversal()), "ok 2"),
         (Event::Deliver(2), "ok 3"),
         (Event::Deliver(3), "ok 4"),
         (Event::Deliver(1), "ok 5"),
@@ -49,24 +49,24 @@ fn rules_in_the_order_of_arrival(rt: HostRuntime) -> Result<(), Fail> {
 fn counts_a_payment_until_its_reversal_is_answered(rt: HostRuntime) -> Result<(), Fail> {
     let mut day = Day::open(rt.alloc(), 64)?;
     let events = [
-        (Event::Submit(vectors::BILLING), "ok 1"),
+        (Event::Submit(vectors::billing()), "ok 1"),
         (Event::Deliver(1), "ok 2"),
         (Event::Deliver(2), "ok 3"),
         (Event::Deliver(3), "ok 4"),
         (Event::Deliver(4), "ok"),
-        (Event::Submit(vectors::REVERSAL), "ok 5"),
+        (Event::Submit(vectors::reversal()), "ok 5"),
         (Event::Deliver(5), "ok 6"),
         (Event::Deliver(6), "ok 7"),
-        (Event::Submit(vectors::BILLING), "ok 8"),
+        (Event::Submit(vectors::billing()), "ok 8"),
         (Event::Deliver(8), "ok 9"),
         (Event::Deliver(9), "ok 10"),
         (Event::Deliver(10), "ok 11"),
         (Event::Deliver(11), "ok"),
     ];
     play(&rt, &mut day, &events)?;
-    holds(&rt, &day, 1, Some(vectors::PAID))?;
+    holds(&rt, &day, 1, Some(vectors::paid()))?;
     holds(&rt, &day, 2, None)?;
-    holds(&rt, &day, 3, Some(vectors::SECOND_PAID))?;
+    holds(&rt, &day, 3, Some(vectors::second_paid()))?;
     counts(&rt, &day, &[1, 2])?;
     let first = day.book.payment(auth(1)?).ok_or("first payment")?;
     assert_eq!(rt; first.reversed_by, Some(id(2)?), "reversed by number 2");
@@ -79,7 +79,7 @@ fn counts_a_payment_until_its_reversal_is_answered(rt: HostRuntime) -> Result<()
 fn goes_on_over_the_other_switch(rt: HostRuntime) -> Result<(), Fail> {
     let mut day = Day::open(rt.alloc(), 64)?;
     let events = [
-        (Event::Submit(vectors::BILLING), "ok 1"),
+        (Event::Submit(vectors::billing()), "ok 1"),
         (Event::Deliver(1), "ok 2"),
         (Event::Deliver(2), "ok 3"),
         (Event::Stop(1), "ok"),
@@ -96,7 +96,7 @@ fn goes_on_over_the_other_switch(rt: HostRuntime) -> Result<(), Fail> {
     let retried = day.packets.get(3).ok_or("packet 4")?;
     assert_eq!(rt; retried.to, Node::Switch(2), "the other switch");
     same_bytes(&rt, &day, 3, 6)?;
-    holds(&rt, &day, 1, Some(vectors::PAID))?;
+    holds(&rt, &day, 1, Some(vectors::paid()))?;
     assert_eq!(rt; day.book.rows().len(), 1, "one row");
     Ok(())
 }
@@ -105,7 +105,7 @@ fn goes_on_over_the_other_switch(rt: HostRuntime) -> Result<(), Fail> {
 fn rejects_what_has_no_route(rt: HostRuntime) -> Result<(), Fail> {
     let mut day = Day::open(rt.alloc(), 64)?;
     let events = [
-        (Event::Submit(vectors::OTHER_BIN), "ok 1"),
+        (Event::Submit(vectors::other_bin()), "ok 1"),
         (Event::Tick, "ok 2"),
         (Event::Deliver(1), "ok 3"),
         (Event::Deliver(2), "ok 4"),
@@ -114,7 +114,7 @@ fn rejects_what_has_no_route(rt: HostRuntime) -> Result<(), Fail> {
     ];
     play(&rt, &mut day, &events)?;
     same_bytes(&rt, &day, 3, 4)?;
-    holds(&rt, &day, 1, Some(vectors::UNROUTED_REJECTED))?;
+    holds(&rt, &day, 1, Some(vectors::unrouted_rejected()))?;
     assert_eq!(rt; day.book.rows().len(), 0, "no row");
     Ok(())
 }
@@ -123,9 +123,9 @@ fn rejects_what_has_no_route(rt: HostRuntime) -> Result<(), Fail> {
 fn drops_the_oldest_of_a_full_table(rt: HostRuntime) -> Result<(), Fail> {
     let mut day = Day::open(rt.alloc(), 2)?;
     let events = [
-        (Event::Submit(vectors::BILLING), "ok 1"),
-        (Event::Submit(vectors::SECOND_FILL), "ok 2"),
-        (Event::Submit(vectors::THIRD_FILL), "ok 3"),
+        (Event::Submit(vectors::billing()), "ok 1"),
+        (Event::Submit(vectors::second_fill()), "ok 2"),
+        (Event::Submit(vectors::third_fill()), "ok 3"),
         (Event::Deliver(1), "ok 4"),
         (Event::Deliver(2), "ok 5"),
         (Event::Deliver(1), "ok 6"),

@@ -102,11 +102,14 @@ const ANY: usize = usize::MAX;
 #[test]
 fn answers_each_line(rt: HostRuntime) -> Result<(), Fail> {
     let alloc = rt.alloc();
-    let mut input = lines(alloc, &[("1", vectors::BILLING)])?;
+    let mut input = lines(alloc, &[("1", vectors::billing())])?;
     input.extend_from_slice(b"\n# a remark\n")?;
-    let rest = lines(alloc, &[("1", vectors::BILLING), ("0002", "x"), ("3", "")])?;
+    let rest = lines(
+        alloc,
+        &[("1", vectors::billing()), ("0002", "x"), ("3", "")],
+    )?;
     input.extend_from_slice(rest.as_slice())?;
-    let mut want = lines(alloc, &[("1", vectors::PAID), ("1", vectors::PAID)])?;
+    let mut want = lines(alloc, &[("1", vectors::paid()), ("1", vectors::paid())])?;
     let refused = lines(
         alloc,
         &[("2", "refused Unreadable"), ("3", "refused Unreadable")],
@@ -130,22 +133,22 @@ fn answers_each_line(rt: HostRuntime) -> Result<(), Fail> {
 fn answers_a_day(rt: HostRuntime) -> Result<(), Fail> {
     let alloc = rt.alloc();
     let day = [
-        ("1", vectors::BILLING),
-        ("1", vectors::BILLING),
-        ("2", vectors::SECOND_FILL),
-        ("3", vectors::REVERSAL),
-        ("4", vectors::BILLING),
-        ("5", vectors::SECOND_FILL_OTHER_QUANTITY),
-        ("1", vectors::REVERSAL),
-        ("6", vectors::OTHER_BIN),
+        ("1", vectors::billing()),
+        ("1", vectors::billing()),
+        ("2", vectors::second_fill()),
+        ("3", vectors::reversal()),
+        ("4", vectors::billing()),
+        ("5", vectors::second_fill_other_quantity()),
+        ("1", vectors::reversal()),
+        ("6", vectors::other_bin()),
     ];
     let answers = [
-        ("1", vectors::PAID),
-        ("1", vectors::PAID),
-        ("2", vectors::SECOND_PAID),
-        ("3", vectors::REVERSED),
-        ("4", vectors::THIRD_PAID),
-        ("5", vectors::BILLED_BEFORE),
+        ("1", vectors::paid()),
+        ("1", vectors::paid()),
+        ("2", vectors::second_paid()),
+        ("3", vectors::reversed()),
+        ("4", vectors::third_paid()),
+        ("5", vectors::billed_before()),
         ("1", "refused NumberReused"),
         ("6", "refused NotOurs"),
     ];
@@ -185,7 +188,7 @@ fn names_the_first_line_that_is_no_entry(rt: HostRuntime) -> Result<(), Fail> {
 #[test]
 fn stops_where_reading_fails(rt: HostRuntime) -> Result<(), Fail> {
     let alloc = rt.alloc();
-    let input = lines(alloc, &[("1", vectors::BILLING)])?;
+    let input = lines(alloc, &[("1", vectors::billing())])?;
     for call in 1..6u64 {
         let mut writer = Paper::new(alloc, ANY, ANY);
         let mut reader = Pieces::new(input.as_slice(), 50, call);
@@ -199,8 +202,8 @@ fn stops_where_reading_fails(rt: HostRuntime) -> Result<(), Fail> {
 #[test]
 fn stops_where_writing_fails(rt: HostRuntime) -> Result<(), Fail> {
     let alloc = rt.alloc();
-    let input = lines(alloc, &[("1", vectors::BILLING)])?;
-    let want = lines(alloc, &[("1", vectors::PAID)])?;
+    let input = lines(alloc, &[("1", vectors::billing())])?;
+    let want = lines(alloc, &[("1", vectors::paid())])?;
     for most in [1, 7, ANY] {
         for room in [0, 1, 10, 100] {
             let mut writer = Paper::new(alloc, most, room);
@@ -220,7 +223,7 @@ fn stops_where_writing_fails(rt: HostRuntime) -> Result<(), Fail> {
 #[test]
 fn takes_a_writer_that_takes_nothing_for_a_failed_one(rt: HostRuntime) -> Result<(), Fail> {
     let alloc = rt.alloc();
-    let input = lines(alloc, &[("1", vectors::BILLING)])?;
+    let input = lines(alloc, &[("1", vectors::billing())])?;
     let mut writer = Paper::new(alloc, 0, ANY);
     let mut reader = Pieces::new(input.as_slice(), ANY, 0);
     let outcome = run(alloc, &mut reader, &mut writer);
