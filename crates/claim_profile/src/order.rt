@@ -13,8 +13,8 @@ pub struct Fill {
     pub pcn: [u8; 10],
     pub qualifier: [u8; 2],
     pub provider: [u8; 15],
-    pub prescription: u64,
     pub fill: u8,
+    pub prescription: u64,
 }
 
 impl Fill {

@@ -2,7 +2,7 @@
 
 ghost use Rattle.std.specs.Prelude.{◌≡◌, ◌+◌, ◌≤◌, ◌++◌, length, take, drop};
 ghost use Rattle.std.specs.List.{list_all};
-ghost use Rattle.d0_header.specs.Field.{is_digit, is_count, first_separator};
+ghost use Rattle.d0_header.specs.Field.{is_digit, is_separator, is_plain, is_count, first_separator};
 
 /// The `N` bytes at `place`.
 pub fn field_at<const N: usize>(bytes: &[u8], place: usize) -> [u8; N]
@@ -33,10 +33,32 @@ pub fn are_digits(bytes: &[u8]) -> bool
 }
 
 /// The place of the first separator.
+#[tactic(auto, using(crate::proofs::Bytes::none_from_plain))]
 pub fn separator_in(bytes: &[u8]) -> Option<usize>
     ensures { result ≡ first_separator bytes.now }
 {
-    bytes.iter().position(|byte| matches!(*byte, 0x1c..=0x1e))
+    if are_plain(bytes) {
+        return None;
+    }
+    bytes.iter().position(|byte| is_separator(*byte))
+}
+
+/// Whether no separator stands there. It does not stop at the first one, so that several bytes are tested at once.
+fn are_plain(bytes: &[u8]) -> bool
+    ensures { result ≡ list_all is_plain bytes.now }
+{
+    let mut plain = true;
+    for byte in bytes {
+        plain &= !is_separator(*byte);
+    }
+    plain
+}
+
+/// Whether a byte separates fields, groups or segments.
+fn is_separator(byte: u8) -> bool
+    ensures { result ≡ is_separator byte }
+{
+    matches!(byte, 0x1c..=0x1e)
 }
 
 /// Whether a byte is a transaction count (109-A9), `1` to `4`.

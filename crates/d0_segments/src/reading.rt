@@ -228,6 +228,9 @@ fn is_identified(bytes: &[u8]) -> bool
         && is_at_end(&bytes[6..])
 }
 
+/// Room for as many fields as the segments of a billing have, so that their list seldom grows.
+const FIELDS: usize = 8;
+
 /// Reads fields as long as field separators follow.
 fn read_fields<'a>(
     alloc: Global,
@@ -239,7 +242,7 @@ fn read_fields<'a>(
     ensures lent { IfOk result (λ x. FieldsLie from.entry.bytes.ref_ptr x.0.items) }
     ensures fault { IfErr result (λ e. Fails e (fault_in from.entry)) }
 {
-    let mut fields = Vec::new(alloc);
+    let mut fields = Vec::with_capacity(alloc, FIELDS)?;
     let mut rest = from;
     while let [FIELD_SEPARATOR, ..] = rest.bytes {
         let (field, behind) = read_field(rest)?;

@@ -1,20 +1,20 @@
 -- The payments of a list of rulings, as it grows.
-use Rattle.std.proofs.Common.{◌≡◌, ℕ, zero, suc, ◌+◌, Bool, true, false, not, ◌&&◌, cond, List, [], ◌∷◌, ◌++◌, map, length, Option, Some, None, Result, Ok, Err, refl, sym, ap, ◌∙◌, subst, append_assoc}
-use Rattle.std.specs.Prelude.{find, filter, filter_map, option_map, is_none}
+use Rattle.std.proofs.Common.{◌≡◌, Bool, true, false, not, cond, List, [], ◌∷◌, ◌++◌, map, Option, Some, None, Result, Ok, Err, refl, sym, ap, ◌∙◌, append_assoc}
+use Rattle.std.specs.Prelude.{find, filter, option_map, is_none}
 use Rattle.std.proofs.lemmas.List.{map-append}
 use Rattle.std.proofs.lemmas.List.Elements.{filter_map-append}
 use mathlib.Core.Path.{ap₂}
-use Rattle.claim_model.specs.Words.{TxnId, Auth, Amounts, Claim, Fill, Reversal, Order, Bills, Reverses, Code, Ruling, Paid, Duplicate, Reversed, Rejected}
-use Rattle.claim_model.specs.Ruled.{Ruled, ruled}
+use Rattle.claim_model.specs.Words.{TxnId, Auth, Amounts, Claim, Reversal, Order, Bills, Reverses, Code, Ruling, Paid, Duplicate, Reversed, Rejected}
+use Rattle.claim_model.specs.Ruled.{Ruled}
 use Rattle.claim_model.specs.Payments as model
 use Rattle.claim_model.specs.Payments.{same_auth, undone, reverses, reversed_by, payment_by, payment_at, is_standing, standing}
-use Rattle.claim_model.specs.Judgement.{same_fill, is_for, standing_for, only, undone_by, Judged, Settled, ToPrice, judged_claim, judged_reversal, judged}
+use Rattle.claim_model.specs.Judgement.{is_for, standing_for, only, undone_by, judged_claim, judged_reversal, judged}
 use Rattle.payer_book.specs.declared.payment.Standing.{Standing}
 use Rattle.payer_book.specs.declared.payment.Payment.{Payment}
 use Rattle.payer_book.specs.declared.payment.Payment.TheVariants.{Standing as Stands, Reversed as TakenBack}
 use Rattle.payer_book.specs.declared.changes.Change.{Change}
 use Rattle.payer_book.specs.declared.changes.Change.TheVariants.{Pays, Undoes, Keeps}
-use Rattle.payer_book.specs.Ledger.{still, standing_in, standing_of, is_of, takes_back, taken_back, reversal_of}
+use Rattle.payer_book.specs.Ledger.{still, standing_in, is_of, takes_back, taken_back, reversal_of}
 use Rattle.payer_book.specs.Changes.{paid_by, change_by, standing_with, standing_after, payments_with}
 use Rattle.payer_book.specs.Drafts.{claim_on, reversal_on, judged_on}
 use Rattle.payer_book.specs.Books.{kept_by, kept, payments_of}

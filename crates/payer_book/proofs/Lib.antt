@@ -9,7 +9,13 @@ pub mod Overlay
 pub mod Places
 pub mod Growth
 pub mod Ruling
+pub mod Keeping
+pub mod PaidAmounts
+pub mod Tellable
 pub mod Numbers
 pub mod Replies
 pub mod Told
 pub mod Entered
+pub mod KeptRows
+pub mod Grown
+pub mod RuleRows

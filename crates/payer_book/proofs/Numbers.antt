@@ -1,11 +1,10 @@
 -- A claim that was read has a fill number of one or two digits.
-use Rattle.std.proofs.Common.{◌≡◌, ℕ, ◌^◌, ◌<◌, ◌≤◌, Bool, true, false, cond, List, [], ◌∷◌, map, Option, Some, None, Result, Ok, Err, refl, sym, ap, ◌∙◌, subst, arith}
-use Rattle.std.specs.Prelude.{option_map, bytes_eq, codes, ⊤}
+use Rattle.std.proofs.Common.{◌≡◌, ℕ, ◌^◌, ◌<◌, ◌≤◌, Bool, true, false, cond, List, [], ◌∷◌, map, Option, Some, None, Result, Ok, Err, refl, ap, subst, arith}
+use Rattle.std.specs.Prelude.{option_map, bytes_eq, codes}
 use Rattle.std.specs.List.{AllByRecursion}
 use Rattle.std.specs.Result.{result_ok}
 use Rattle.overpunch.specs.Number.{number_of}
 use Rattle.d0_segments.specs.Parts.{SegmentParts, TransmissionParts}
-use Rattle.claim_profile.specs.declared.order_reading.OrderFault.{OrderFault}
 use Rattle.claim_profile.specs.Fields.{values_in, required}
 use Rattle.claim_profile.specs.Order.{number_up_to, claim_fields, claim_of, claim_codes, reversal_fields, reversal_of, reversal_codes, or_rejected, claim_order, reversal_order, order_of}
 use Rattle.claim_model.specs.Words.{RequestHeader, Claim, Order, Bills, Reverses, Code}

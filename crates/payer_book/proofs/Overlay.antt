@@ -1,22 +1,20 @@
 -- The standing payments after some changes: those of before that are not undone, and those that the changes leave.
-use Rattle.std.proofs.Common.{◌≡◌, ℕ, zero, suc, ◌+◌, Bool, true, false, not, ◌&&◌, ◌||◌, cond, List, [], ◌∷◌, ◌++◌, length, Option, Some, None, refl, sym, ap, ◌∙◌, subst, append_assoc}
+use Rattle.std.proofs.Common.{◌≡◌, Bool, true, false, not, ◌&&◌, ◌||◌, cond, List, [], ◌∷◌, ◌++◌, Option, Some, None, refl, sym, ap, ◌∙◌, subst, append_assoc}
 use Rattle.std.specs.Prelude.{find, filter}
 use Rattle.std.specs.List.{AllByRecursion, cons_option}
-use Rattle.std.proofs.lemmas.Bool.{cond-true, cond-false, false_from_ne_true, both_ways, and_right}
+use Rattle.std.proofs.lemmas.Bool.{cond-true, cond-false, false_from_ne_true, both_ways}
 use Rattle.std.proofs.lemmas.List.{append-nil}
 use Rattle.std.proofs.lemmas.List.Elements.{filter-append}
-use Rattle.claim_model.specs.Words.{Auth, Fill, Reversal}
+use Rattle.claim_model.specs.Words.{Fill, Reversal}
 use Rattle.claim_model.specs.Payments.{same_auth}
-use Rattle.claim_model.specs.Judgement.{same_fill, only}
+use Rattle.claim_model.specs.Judgement.{only}
 use Rattle.payer_book.specs.declared.payment.Standing.{Standing}
 use Rattle.payer_book.specs.declared.changes.Change.{Change}
 use Rattle.payer_book.specs.declared.changes.Change.TheVariants.{Pays, Undoes, Keeps}
-use Rattle.payer_book.specs.declared.matches.Matches.{Matches}
-use Rattle.payer_book.specs.declared.matches.Matches.TheVariants.{Nothing, One, Several}
 use Rattle.payer_book.specs.Ledger.{is_of, standing_of, takes_back, IsOther, NoFillTwice}
-use Rattle.payer_book.specs.Changes.{is_undone, left, left_by, standing_with, standing_after}
+use Rattle.payer_book.specs.Changes.{is_undone, left, left_by, standing_after}
 use Rattle.payer_book.specs.Matches.{tally, added, together, only_of, is_match}
-use Rattle.payer_book.proofs.Lists.{same_some, filter_same, filter_none, all_weaker, all_true, find_append, find_beyond, find_passes}
+use Rattle.payer_book.proofs.Lists.{same_some, filter_same, all_true, find_append, find_beyond}
 use Rattle.payer_book.proofs.Sameness.{fill_same}
 use Rattle.payer_book.proofs.Matching.{tally_first}
 

@@ -1,8 +1,9 @@
 -- The index of standing payments.
-use Rattle.std.proofs.Common.{◌≡◌, ℕ, zero, suc, ◌+◌, ◌<◌, ◌≤◌, Bool, true, false, ◌==◌, cond, List, [], ◌∷◌, ◌++◌, map, length, Option, Some, None, slice_get, slice_set, refl, sym, ap, ◌∙◌, subst, ◌⊎◌, inl, inr, arith}
-use Rattle.std.specs.Prelude.{find, filter, filter_map, is_some, option_and_then}
+use Rattle.std.proofs.Common.{◌≡◌, ℕ, zero, suc, ◌+◌, ◌<◌, Bool, true, false, cond, List, [], ◌∷◌, ◌++◌, map, length, Option, Some, None, slice_get, slice_set, refl, sym, ap, ◌∙◌, subst, inl, inr, arith}
+use Rattle.std.specs.Prelude.{bytes_eq, ◌==◌, ◌&&◌, option_and_then}
 use Rattle.std.specs.List.{AllByRecursion}
-use Rattle.std.proofs.lemmas.Bool.{cond-true, cond-false, false_from_ne_true, cases_Bool, both_ways}
+use Rattle.std.proofs.Math.Bool.{and_comm}
+use Rattle.std.proofs.lemmas.Bool.{cond-true, cond-false, false_from_ne_true, both_ways}
 use Rattle.std.proofs.lemmas.List.Elements.{filter_map-append}
 use Rattle.claim_model.specs.Words.{TxnId, Auth, Fill}
 use Rattle.claim_model.specs.Payments.{same_auth}
@@ -11,15 +12,17 @@ use Rattle.claim_profile.specs.contracts.order.FillPartialEq.TheImpl as fill_eq
 use Rattle.payer_book.specs.declared.payment.Standing.{Standing}
 use Rattle.payer_book.specs.declared.payment.Payment.{Payment}
 use Rattle.payer_book.specs.declared.payment.Payment.TheVariants.{Standing as Stands, Reversed as TakenBack}
-use Rattle.payer_book.specs.Ledger.{auth_of, has_auth, payment_with, is_of, still, standing_in, standing_of, taken_back, reversal_of, AreNumbered, IsOther, NoFillTwice, IsNumbered, HasFillNumber, IsLedger}
+use Rattle.payer_book.specs.Ledger.{has_auth, payment_with, is_of, still, standing_in, standing_of, taken_back, reversal_of, AreNumbered, IsOther, NoFillTwice, IsNumbered, HasFillNumber, IsLedger}
 use Rattle.payer_book.specs.PaymentPlaces.{StandsAt, IsIndexed}
 use Rattle.payer_book.proofs.Lists.{same_some, find_passes, get_append, get_last, get_more, get_within, get_set, get_set_other, all_append}
 use Rattle.payer_book.proofs.Sameness.{fill_same, fill_self, auth_same}
 use Rattle.payer_book.proofs.Numbering.{numbered, numbered_at, numbered_more, numbered_kept, taken_back_at}
 
--- the derived equality of fills is the model's
+-- the derived equality of fills is the model's, but for the order of the last two parts
 pub fill_eq_same : (a b : Fill) → fill_eq.ghosts.eq a b ≡ same_fill a b
-fill_eq_same a b = refl
+fill_eq_same a b =
+    ap (λ t. bytes_eq a.bin b.bin && (bytes_eq a.pcn b.pcn && (bytes_eq a.qualifier b.qualifier && (bytes_eq a.provider b.provider && t))))
+    (and_comm (a.fill == b.fill) (a.prescription == b.prescription))
 
 -- what is found among the standing payments stands at some place, and what stands at a place is found
 
@@ -177,11 +180,13 @@ module _ (payer first : ℕ) (ps : List Payment) (at new : Fill → Option ℕ) 
 pub more_by : (ps : List Payment) (s : Standing) (key : Fill) (place : ℕ) (at new : Fill → Option ℕ) → key ≡ s.claim.fill → place ≡ length ps
     → ((fill : Fill) → new fill ≡ cond (fill_eq.ghosts.eq key fill) (Some place) (at fill)) → (fill : Fill) → new fill ≡ cond (same_fill s.claim.fill fill) (Some (length ps)) (at fill)
 more_by ps s key place at new is here updates fill =
-    updates fill ∙ (ap (λ (k : Fill). cond (same_fill k fill) (Some place) (at fill)) is ∙ ap (λ n. cond (same_fill s.claim.fill fill) (Some n) (at fill)) here)
+    updates fill ∙ (ap (λ t. cond t (Some place) (at fill)) (fill_eq_same key fill)
+    ∙ (ap (λ (k : Fill). cond (same_fill k fill) (Some place) (at fill)) is ∙ ap (λ n. cond (same_fill s.claim.fill fill) (Some n) (at fill)) here))
 
 pub less_by : (s : Standing) (key : Fill) (at new : Fill → Option ℕ) → key ≡ s.claim.fill → ((fill : Fill) → new fill ≡ cond (fill_eq.ghosts.eq key fill) None (at fill))
     → (fill : Fill) → new fill ≡ cond (same_fill s.claim.fill fill) None (at fill)
-less_by s key at new is updates fill = updates fill ∙ ap (λ (k : Fill). cond (same_fill k fill) None (at fill)) is
+less_by s key at new is updates fill =
+    updates fill ∙ (ap (λ t. cond t None (at fill)) (fill_eq_same key fill) ∙ ap (λ (k : Fill). cond (same_fill k fill) None (at fill)) is)
 
 pub still_at : (o : Option Payment) (s : Standing) → option_and_then still o ≡ Some s → o ≡ Some (Stands s)
 still_at None s e = absurd cc

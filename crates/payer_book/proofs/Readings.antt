@@ -1,14 +1,15 @@
 -- The reading of requests does not ask for the routes.
-use Rattle.std.proofs.Common.{◌≡◌, ℕ, List, Some, refl, sym, ap, ◌∙◌}
+use Rattle.std.proofs.Common.{◌≡◌, ℕ, List, Option, Some, refl, sym, ap, ◌∙◌}
 use Rattle.std.specs.Prelude.{option_map}
 use Rattle.bin_routes.specs.Table.{RouteMaps}
 use Rattle.claim_profile.specs.Readable.{readable_header}
-use Rattle.claim_model.specs.Words.{RequestHeader, Ruling}
+use Rattle.claim_model.specs.Words.{RequestHeader}
 use Rattle.claim_model.specs.Bytes.{bytes_with}
 use Rattle.claim_model.specs.Readable.{readable, answer_text}
 use Rattle.claim_model.specs.Rows.{Row}
 use Rattle.claim_model.specs.Held.{row_answer}
 use Rattle.payer_book.specs.Kept.{IsAnswered}
+use Rattle.payer_book.specs.Added.{answer_under, kept_answer}
 
 pub readable_alike : (routes : RouteMaps) (text : List ℕ) → readable (bytes_with routes) text ≡ readable_header text
 unfolding readable readable_header
@@ -18,3 +19,7 @@ readable_alike routes text = refl
 pub answered_row : (routes : RouteMaps) (row : Row) (answer : List ℕ) → IsAnswered row.request row.rulings answer → Some answer ≡ row_answer (bytes_with routes) row
 answered_row routes row answer is =
     ap (λ (t : List ℕ). Some t) is.text ∙ sym (ap (option_map (λ (h : RequestHeader). answer_text (bytes_with routes) h row.rulings)) (readable_alike routes row.request ∙ is.reads))
+
+-- which is the text of its rulings
+pub kept_text : (row : Row) (answer : List ℕ) → IsAnswered row.request row.rulings answer → answer ≡ kept_answer row
+kept_text row answer is = is.text ∙ sym (ap (λ (o : Option RequestHeader). answer_under o row.rulings) is.reads)

@@ -1,5 +1,5 @@
 -- What the model answers, by what the code finds.
-use Rattle.std.proofs.Common.{◌≡◌, ℕ, ◌+◌, ◌<◌, ◌≤◌, Bool, true, false, cond, List, [], ◌∷◌, ◌++◌, length, Option, Some, None, Result, Ok, Err, refl, sym, ap, ◌∙◌, subst, arith}
+use Rattle.std.proofs.Common.{◌≡◌, ℕ, Bool, true, false, List, length, Option, Some, None, Ok, Err, sym, ap, ◌∙◌}
 use Rattle.std.specs.Prelude.{bytes_eq, nat_lt}
 use Rattle.std.specs.List.{list_all}
 use Rattle.std.proofs.lemmas.Bool.{cond-true, cond-false}
@@ -7,16 +7,16 @@ use Rattle.bin_routes.specs.Table.{RouteMaps}
 use Rattle.claim_profile.specs.Readable.{readable_header}
 use Rattle.claim_model.specs.Words.{TxnId, RequestHeader}
 use Rattle.claim_model.specs.Bytes.{bytes_with}
-use Rattle.claim_model.specs.Readable.{readable, payer_for, is_payer, answer_text}
+use Rattle.claim_model.specs.Readable.{payer_for, is_payer, answer_text}
 use Rattle.claim_model.specs.Refusal.{Refusal}
 use Rattle.claim_model.specs.Rows.{Row, Book}
-use Rattle.claim_model.specs.Book.{serial_fits, row_of, new_row, Answered, entered_row, answered_by, answered_readable, answered}
+use Rattle.claim_model.specs.Book.{serial_fits, row_of, new_row, entered_row, answered_by, answered_readable, answered}
 use Rattle.payer_book.specs.declared.fault.BookFault.{BookFault}
 use Rattle.payer_book.specs.declared.fault.BookFault.TheVariants.{OutOfMemory, Unreadable, NotOurs, NumberReused, BookFull, SerialsUsedUp}
 use Rattle.payer_book.specs.Faults.{RefusedFor, IsUnread, IsReused}
 use Rattle.payer_book.specs.Kept.{IsAnswered}
 use Rattle.payer_book.specs.Books.{reading}
-use Rattle.payer_book.specs.Entries.{with_row}
+use Rattle.payer_book.specs.Added.{with_row}
 use Rattle.payer_book.proofs.Readings.{readable_alike}
 use Rattle.payer_book.proofs.Lists.{same_some}
 use Rattle.payer_book.proofs.Sameness.{bytes_same}

@@ -1,6 +1,6 @@
 -- The index of the rows, as the list grows.
 use Rattle.std.proofs.Common.{◌≡◌, ℕ, ◌<◌, Bool, true, false, cond, List, [], ◌∷◌, ◌++◌, length, Option, Some, None, slice_get, refl, sym, ap, ◌∙◌, subst, arith, length-append}
-use Rattle.std.specs.Prelude.{find, option_and_then}
+use Rattle.std.specs.Prelude.{option_and_then}
 use Rattle.std.proofs.lemmas.Bool.{cond-true, cond-false}
 use Rattle.claim_model.specs.Words.{TxnId}
 use Rattle.claim_model.specs.Rows.{Row}
@@ -8,9 +8,8 @@ use Rattle.claim_model.specs.Readable.{same_id}
 use Rattle.claim_model.specs.Book.{row_of}
 use Rattle.payer_book.specs.RowPlaces.{IsPlaced}
 use Rattle.payer_book.proofs.Lists.{get_append, get_last, find_append, find_beyond, same_some}
-use Rattle.envelope.specs.contracts.txn.TxnIdOrd.TheImpl as id_order
-use Rattle.std.specs.Ordering.{is_eq}
-use Rattle.payer_book.proofs.Sameness.{id_same, id_order_same}
+use Rattle.envelope.specs.contracts.txn.TxnIdPartialEq.TheImpl as id_eq
+use Rattle.payer_book.proofs.Sameness.{id_same}
 
 module _ (rows : List Row) (row : Row) (old new : TxnId → Option ℕ) (h : IsPlaced rows old) (fresh : row_of row.id rows ≡ None)
     (more : (id : TxnId) → new id ≡ cond (same_id row.id id) (Some (length rows)) (old id)) where
@@ -38,7 +37,6 @@ module _ (rows : List Row) (row : Row) (old new : TxnId → Option ℕ) (h : IsP
 
 -- what an insertion makes of the index
 pub placed_by : (rows : List Row) (row : Row) (key : TxnId) (place : ℕ) (old new : TxnId → Option ℕ) → key ≡ row.id → place ≡ length rows
-    → ((id : TxnId) → new id ≡ cond (is_eq (id_order.ghosts.cmp key id)) (Some place) (old id)) → (id : TxnId) → new id ≡ cond (same_id row.id id) (Some (length rows)) (old id)
+    → ((id : TxnId) → new id ≡ cond (id_eq.ghosts.eq key id) (Some place) (old id)) → (id : TxnId) → new id ≡ cond (same_id row.id id) (Some (length rows)) (old id)
 placed_by rows row key place old new is at updates id =
-    updates id ∙ (ap (λ b. cond b (Some place) (old id)) (id_order_same key id)
-    ∙ (ap (λ (k : TxnId). cond (same_id k id) (Some place) (old id)) is ∙ ap (λ n. cond (same_id row.id id) (Some n) (old id)) at))
+    updates id ∙ (ap (λ (k : TxnId). cond (same_id k id) (Some place) (old id)) is ∙ ap (λ n. cond (same_id row.id id) (Some n) (old id)) at)

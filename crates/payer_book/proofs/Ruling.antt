@@ -1,7 +1,7 @@
 -- The rulings of the model are those over the payments that the code keeps.
-use Rattle.std.proofs.Common.{◌≡◌, ℕ, zero, suc, ◌+◌, ◌^◌, ◌<◌, ◌≤◌, Bool, true, false, not, ◌&&◌, cond, List, [], ◌∷◌, ◌++◌, map, length, Option, Some, None, Result, Ok, Err, refl, sym, ap, ◌∙◌, subst, append_assoc, arith, length-append}
-use Rattle.std.specs.Prelude.{find, filter, count_by, IsSome, is_some, ⊤}
-use Rattle.std.specs.List.{AllByRecursion, list_all}
+use Rattle.std.proofs.Common.{◌≡◌, ℕ, suc, ◌+◌, Bool, true, false, cond, List, [], ◌∷◌, ◌++◌, length, Option, Some, None, Result, Ok, Err, refl, sym, ap, ◌∙◌, subst, append_assoc, arith, length-append}
+use Rattle.std.specs.Prelude.{find, filter, count_by, IsSome, is_some}
+use Rattle.std.specs.List.{AllByRecursion}
 use Rattle.std.proofs.lemmas.List.{append-nil, length-map}
 use Rattle.std.proofs.lemmas.Bool.{cond-true, cond-false}
 use Rattle.std.proofs.lemmas.List.Sums.{sum_by-append}
@@ -9,15 +9,14 @@ use Rattle.bin_routes.specs.Table.{RouteMaps}
 use Rattle.plan_rules.specs.Pricing.{paid}
 use Rattle.claim_profile.specs.declared.ruling.HeaderStatus.TheVariants.{Accepted}
 use Rattle.claim_profile.specs.Answer.{IsPrescription, IsWritable, AreWritable}
-use Rattle.claim_model.specs.Words.{TxnId, Auth, Amounts, Claim, Fill, Reversal, Order, Bills, Reverses, Code, Ruling, Paid, Duplicate, Reversed, Rejected, RequestHeader}
+use Rattle.claim_model.specs.Words.{TxnId, Auth, Amounts, Claim, Reversal, Order, Bills, Reverses, Code, Ruling, Duplicate, Rejected, RequestHeader}
 use Rattle.claim_model.specs.Context.{Context}
 use Rattle.claim_model.specs.Laws.{IsOrderOf}
 use Rattle.claim_model.specs.Bytes.{bytes_with}
 use Rattle.claim_model.specs.Ruled.{Ruled, ruled, ruled_from}
-use Rattle.claim_model.specs.Rows.{Row, Book, ruled_row, ruled_rows}
+use Rattle.claim_model.specs.Rows.{Book}
 use Rattle.claim_model.specs.Judgement.{only, same_claim, is_paid, Judged, Settled, ToPrice, next_auth, priced, ruling_of, ruling, rulings_from}
 use Rattle.claim_model.specs.Payments.{same_auth}
-use Rattle.claim_model.specs.Book.{serial_fits}
 use Rattle.payer_book.specs.declared.payment.Standing.{Standing}
 use Rattle.payer_book.specs.declared.payment.Payment.{Payment}
 use Rattle.payer_book.specs.declared.changes.Change.{Change}
@@ -26,7 +25,7 @@ use Rattle.payer_book.specs.Ledger.{Ledger, standing_in, standing_of, takes_back
 use Rattle.payer_book.specs.Changes.{change_by, changes_by, pays, standing_with, standing_after, payments_with, payments_after, IsPossible, ArePossible}
 use Rattle.payer_book.specs.Drafts.{claim_on, reversal_on, judged_on, Pricing, ByPlan, price_at, auth_after, settled_by, ruling_on, rulings_on}
 use Rattle.payer_book.specs.Books.{payments_of, count_paid, Keeps, OrderNumbered}
-use Rattle.payer_book.proofs.Growth.{ruled_change, payments_more, standing_more, after_more, judged_same}
+use Rattle.payer_book.proofs.Growth.{payments_more, standing_more, after_more, judged_same}
 use Rattle.payer_book.proofs.Lists.{same_some}
 use Rattle.payer_book.proofs.Sameness.{auth_self}
 
@@ -59,7 +58,7 @@ pub ruling_pays : (l : Ledger) (prices : Pricing) (changes : List Change) (order
 unfolding ruling_on
 ruling_pays l prices changes order = settled_pays (auth_after l changes) prices (length changes) (standing_after (standing_in l.payments) changes) order
 
-count_more : (before : List Ruled) (x : Ruled) (changes : List Change) (change : Change) → is_paid x.ruling ≡ pays change → count_paid (before ++ x ∷ []) + count_by pays changes ≡ count_paid before + count_by pays (changes ++ change ∷ [])
+pub count_more : (before : List Ruled) (x : Ruled) (changes : List Change) (change : Change) → is_paid x.ruling ≡ pays change → count_paid (before ++ x ∷ []) + count_by pays changes ≡ count_paid before + count_by pays (changes ++ change ∷ [])
 count_more before x changes change same =
     let e = sum_by-append (λ (r : Ruled). cond (is_paid r.ruling) 1 0) before (x ∷ []) in
     let f = sum_by-append (λ (d : Change). cond (pays d) 1 0) changes (change ∷ []) in
@@ -76,7 +75,7 @@ module _ (routes : RouteMaps) (b : Book) (l : Ledger) (payer : l.payer ≡ b.pay
   settled_same before auth k (Settled r) is = refl
   settled_same before auth k (ToPrice c) is = ap (λ (a : Auth). priced a c (paid b.plan c)) is
 
-  auth_same : (before : List Ruled) (changes : List Change) → b.settings.serial + count_paid before ≡ l.first + length l.payments + count_by pays changes → next_auth b before ≡ auth_after l changes
+  pub auth_same : (before : List Ruled) (changes : List Change) → b.settings.serial + count_paid before ≡ l.first + length l.payments + count_by pays changes → next_auth b before ≡ auth_after l changes
   auth_same before changes e = let p : b.payer ≡ l.payer = sym payer in λ i. record { payer = p i; serial = e i }
 
   pub ruling_same : (before : List Ruled) (changes : List Change) (order : Result Order (List Code)) → standing_in (payments_of before) ≡ standing_after (standing_in l.payments) changes
@@ -87,7 +86,7 @@ module _ (routes : RouteMaps) (b : Book) (l : Ledger) (payer : l.payer ≡ b.pay
       ∙ settled_same before (auth_after l changes) (length changes) (judged_on (standing_after (standing_in l.payments) changes) order) (auth_same before changes count)
 
   -- the standing payments and the count, one ruling on
-  next_stands : (id : TxnId) (place : ℕ) (before : List Ruled) (changes : List Change) (order : Result Order (List Code)) (r : Ruling) → standing_in (payments_of before) ≡ standing_after (standing_in l.payments) changes
+  pub next_stands : (id : TxnId) (place : ℕ) (before : List Ruled) (changes : List Change) (order : Result Order (List Code)) (r : Ruling) → standing_in (payments_of before) ≡ standing_after (standing_in l.payments) changes
       → standing_in (payments_of (before ++ ruled id place order r ∷ [])) ≡ standing_after (standing_in l.payments) (changes ++ change_by order r ∷ [])
   next_stands id place before changes order r stands =
       ap standing_in (payments_more before (ruled id place order r))

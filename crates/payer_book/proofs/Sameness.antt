@@ -1,18 +1,12 @@
 -- What the tests on ids, authorizations and fills decide.
-use Rattle.std.proofs.Common.{◌≡◌, ℕ, Bool, true, false, ◌&&◌, ◌==◌, cond, List, refl, ap, ◌∙◌, eqb-true, eq-eqb, arith}
+use Rattle.std.proofs.Common.{◌≡◌, ℕ, true, ◌==◌, List, refl, eqb-true, eq-eqb}
 use Rattle.std.specs.Prelude.{bytes_eq}
-use Rattle.std.specs.declared.cmp.Ordering.{Ordering}
-use Rattle.std.specs.declared.cmp.Ordering.TheVariants.{Less, Equal, Greater}
-use Rattle.std.specs.Ordering.{is_eq, nat_cmp, ordering_then}
-use mathlib.Core.Path.{ap₂}
 use Rattle.std.proofs.lemmas.Bool.{and_parts, and_from}
-use Rattle.std.proofs.lemmas.Bool.Decides.{nat_tests}
 use Rattle.std.proofs.lemmas.Slice.Eq.{bytes_eq-Decides}
 use Rattle.claim_model.specs.Words.{TxnId, Auth, Fill}
 use Rattle.claim_model.specs.Readable.{same_id}
 use Rattle.claim_model.specs.Payments.{same_auth}
 use Rattle.claim_model.specs.Judgement.{same_fill}
-use Rattle.envelope.specs.contracts.txn.TxnIdOrd.TheImpl as id_order
 
 pub bytes_same : (a b : List ℕ) → bytes_eq a b ≡ true → a ≡ b
 bytes_same a b = (bytes_eq-Decides a b).0
@@ -59,15 +53,3 @@ pub fill_self : (a : Fill) → same_fill a a ≡ true
 fill_self a =
     and_from _ _ (bytes_self a.bin) (and_from _ _ (bytes_self a.pcn) (and_from _ _ (bytes_self a.qualifier) (and_from _ _ (bytes_self a.provider)
     (and_from _ _ (eq-eqb a.prescription a.prescription refl) (eq-eqb a.fill a.fill refl)))))
-
-is_eq-then : (x y : Ordering) → is_eq (ordering_then x y) ≡ (is_eq x && is_eq y)
-is_eq-then Less y = refl
-is_eq-then Equal y = refl
-is_eq-then Greater y = refl
-
-is_eq-nat_cmp : (m n : ℕ) → is_eq (nat_cmp m n) ≡ (m == n)
-is_eq-nat_cmp m n = grind (arith, nat_tests)
-
--- the order of ids finds an id equal to itself alone
-pub id_order_same : (a b : TxnId) → is_eq (id_order.ghosts.cmp a b) ≡ same_id a b
-id_order_same a b = is_eq-then (nat_cmp a.pharmacy b.pharmacy) (nat_cmp a.number b.number) ∙ ap₂ ◌&&◌ (is_eq-nat_cmp a.pharmacy b.pharmacy) (is_eq-nat_cmp a.number b.number)

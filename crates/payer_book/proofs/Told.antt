@@ -1,13 +1,13 @@
 -- What is told of a payment is what the model knows of it.
-use Rattle.std.proofs.Common.{◌≡◌, ℕ, Bool, true, false, cond, List, [], ◌∷◌, map, Option, Some, None, refl, sym, ap, ◌∙◌}
+use Rattle.std.proofs.Common.{◌≡◌, Bool, true, false, cond, List, [], ◌∷◌, map, Option, Some, None, refl, ap, ◌∙◌}
 use Rattle.std.specs.Prelude.{find, option_map}
 use Rattle.claim_model.specs.Words.{TxnId, Auth}
 use Rattle.claim_model.specs.Payments as model
 use Rattle.claim_model.specs.Payments.{same_auth, payment_of}
 use Rattle.claim_model.specs.Ruled.{Ruled}
 use Rattle.payer_book.specs.declared.payment.Payment.{Payment}
-use Rattle.payer_book.specs.Ledger.{Ledger, auth_of, has_auth, payment_with}
-use Rattle.payer_book.specs.Books.{kept_by, kept, payments_of, Keeps}
+use Rattle.payer_book.specs.Ledger.{Ledger, auth_of, payment_with}
+use Rattle.payer_book.specs.Books.{kept_by, kept, Keeps}
 use Rattle.payer_book.specs.Views.{payment_view, view_of}
 
 auth_kept : (p : model.Payment) (o : Option TxnId) → auth_of (kept_by p o) ≡ p.auth

@@ -1,16 +1,13 @@
 -- A book as its code keeps it: the payments that its rows come to.
 use Rattle.std.specs.Prelude.{◌≡◌, ℕ, List, [], map, length, count_by, Option, Some, None, Result, Ok, Err, ⊤}
 use Rattle.bin_routes.specs.Table.{routes_of}
-use Rattle.claim_model.specs.Words.{TxnId, RequestHeader, AcceptedStatus, Auth, Amounts, Order, Bills, Reverses, Code}
+use Rattle.claim_model.specs.Words.{TxnId, Order, Bills, Reverses, Code}
 use Rattle.claim_model.specs.Context.{Context}
 use Rattle.claim_model.specs.Bytes.{bytes_with}
 use Rattle.claim_model.specs.Ruled.{Ruled}
 use Rattle.claim_model.specs.Payments as model
-use Rattle.claim_model.specs.Rows.{Row, Book, ruled_rows}
+use Rattle.claim_model.specs.Rows.{Row, ruled_rows}
 use Rattle.claim_model.specs.Judgement.{is_paid}
-use Rattle.claim_model.specs.Book.{new_row}
-use Rattle.claim_profile.specs.Answer.{answer_text}
-use Rattle.payer_book.specs.declared.payment.Standing.{Standing}
 use Rattle.payer_book.specs.declared.payment.Payment.{Payment}
 use Rattle.payer_book.specs.declared.payment.Payment.TheVariants.{Standing as Stands, Reversed as TakenBack}
 use Rattle.payer_book.specs.Ledger.{Ledger, HasFillNumber}

@@ -1,5 +1,5 @@
 -- What rulings change among the payments.
-use Rattle.std.specs.Prelude.{◌≡◌, ℕ, ◌+◌, Bool, true, false, not, cond, List, [], ◌∷◌, ◌++◌, map, length, filter, find, count_by, Option, Some, None, IsSome, Result, Ok, Err, ⊤}
+use Rattle.std.specs.Prelude.{◌≡◌, ℕ, ◌+◌, Bool, true, false, not, cond, List, [], ◌∷◌, ◌++◌, map, length, filter, find, Option, Some, None, IsSome, Result, Ok, Err, ⊤}
 use Rattle.std.specs.List.{list_any, cons_option}
 use Rattle.claim_model.specs.Words.{TxnId, Auth, Amounts, Order, Bills, Reverses, Code, Ruling, Paid, Duplicate, Reversed, Rejected}
 use Rattle.claim_model.specs.Payments.{same_auth}
@@ -8,7 +8,7 @@ use Rattle.payer_book.specs.declared.payment.Payment.{Payment}
 use Rattle.payer_book.specs.declared.payment.Payment.TheVariants.{Standing as Stands}
 use Rattle.payer_book.specs.declared.changes.Change.{Change}
 use Rattle.payer_book.specs.declared.changes.Change.TheVariants.{Pays, Undoes, Keeps}
-use Rattle.payer_book.specs.Ledger.{Ledger, is_of, standing_of, standing_in, taken_back, HasFillNumber}
+use Rattle.payer_book.specs.Ledger.{standing_of, standing_in, taken_back, HasFillNumber}
 
 -- a payment with this authorization and these amounts, where the order is a claim
 abbrev pub paid_by : Auth → Amounts → Result Order (List Code) → Change

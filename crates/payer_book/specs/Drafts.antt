@@ -1,5 +1,5 @@
 -- The rulings of a request over the payments of a book, and what they change, place by place.
-use Rattle.std.specs.Prelude.{◌≡◌, ℕ, ◌+◌, Bool, true, cond, List, [], ◌∷◌, ◌++◌, length, filter, count_by, slice_get, Option, Some, None, Result, Ok, Err}
+use Rattle.std.specs.Prelude.{◌≡◌, ℕ, ◌+◌, true, cond, List, [], ◌∷◌, ◌++◌, length, filter, count_by, slice_get, Option, Some, None, Result, Ok, Err}
 use Rattle.claim_model.specs.Words.{Auth, Amounts, Claim, Reversal, Order, Bills, Reverses, Code, DuplicateClaim, ReversalNotProcessed, Ruling, Paid, Duplicate, Reversed, Rejected, Plan}
 use Rattle.claim_model.specs.Judgement.{same_claim, only, Judged, Settled, ToPrice, priced}
 use Rattle.plan_rules.specs.Pricing.{paid}

@@ -1,18 +1,31 @@
 -- A new row that is ready to be entered.
-use Rattle.std.specs.Prelude.{◌≡◌, true, List, [], ◌∷◌, ◌++◌}
-use Rattle.std.specs.List.{list_all}
-use Rattle.claim_model.specs.Rows.{Row, Book}
-use Rattle.claim_model.specs.Book.{serial_fits, new_row}
+use Rattle.std.specs.Prelude.{◌≡◌, true, ℕ, List, Some}
+use Rattle.std.specs.List.{list_all, AllByRecursion}
+use Rattle.claim_model.specs.Words.{TxnId, Ruling, Plan}
+use Rattle.claim_model.specs.Laws.{IsRuling}
+use Rattle.claim_model.specs.Rows.{Book, ruled_rows}
+use Rattle.claim_model.specs.Judgement.{rulings_from}
+use Rattle.claim_model.specs.Book.{serial_fits}
 use Rattle.payer_book.specs.declared.entry.Entry.{Entry}
 use Rattle.payer_book.specs.Changes.{changes_by}
+use Rattle.payer_book.specs.Drafts.{Pricing, ByPlan, AsKept}
 use Rattle.payer_book.specs.Books.{reading}
+use Rattle.payer_book.specs.Added.{kept_answer, kept_rulings, with_row, with_kept}
 
--- the book with one row more
-abbrev pub with_row : Book → Row → Book
-with_row b row = record { payer = b.payer; settings = b.settings; plan = b.plan; rows = b.rows ++ row ∷ [] }
+-- the book with this plan
+abbrev pub with_plan : Book → Plan → Book
+with_plan b plan = record { payer = b.payer; settings = b.settings; plan = plan; rows = b.rows }
 
--- the row that its request gets, each payment with a serial that there is, and what the row changes
+-- the rulings of a request after the rows of a book, by where its prices come from
+abbrev pub rulings_by : Pricing → Book → TxnId → List ℕ → List Ruling
+rulings_by (ByPlan plan) b id request = rulings_from reading (with_plan b plan) (ruled_rows reading b.rows) id 1 (reading.orders request)
+rulings_by (AsKept said) b id request = kept_rulings b id request said
+
+-- the row has the rulings that the rules give where it pays what it says, each payment with a serial that there is; these are the row's
+-- changes, an answer can tell of each ruling, and the row can be added from what is kept of it, whatever the plan is
 pub record IsEntry (b : Book) (e : Entry) : Type 0 where
-  pub ruled : e.row ≡ new_row reading b e.row.id e.row.request
+  pub ruled : e.row.rulings ≡ kept_rulings b e.row.id e.row.request e.row.rulings
   pub fit : list_all serial_fits e.row.rulings ≡ true
   pub changed : e.changes.items ≡ changes_by (reading.orders e.row.request) e.row.rulings
+  pub told : AllByRecursion IsRuling e.row.rulings
+  pub stands : (plan : Plan) → with_kept (with_plan b plan) e.row.id e.row.request (kept_answer e.row) ≡ Some (with_row (with_plan b plan) e.row)

@@ -1,10 +1,12 @@
 -- Which refusal of the model a fault of a book is.
-use Rattle.std.specs.Prelude.{◌≡◌, Bool, false, Option, None, Result, Ok, Err, ⊤}
+use Rattle.std.specs.Prelude.{◌≡◌, Bool, false, Option, None, Result, Err, ⊤}
 use Rattle.claim_model.specs.Words.{RequestHeader}
 use Rattle.claim_model.specs.Refusal as refusal
 use Rattle.claim_model.specs.Refusal.{Refusal}
 use Rattle.payer_book.specs.declared.fault.BookFault.{BookFault}
 use Rattle.payer_book.specs.declared.fault.BookFault.TheVariants.{OutOfMemory, Unreadable, NotOurs, NumberReused, BookFull, SerialsUsedUp}
+use Rattle.payer_book.specs.declared.fault.RowFault.{RowFault}
+use Rattle.payer_book.specs.declared.fault.RowFault.TheVariants as row
 
 -- a request is refused for this cause; want of memory says nothing of it
 abbrev pub RefusedFor : {A : Type 0} → BookFault → Result A Refusal → Type 0
@@ -32,3 +34,12 @@ IsReused NotOurs same = ⊥
 IsReused NumberReused same = same ≡ false
 IsReused BookFull same = ⊥
 IsReused SerialsUsedUp same = ⊥
+
+-- what each of them is of a kept row: want of memory, or a row that cannot stand
+abbrev pub row_fault : BookFault → RowFault
+row_fault OutOfMemory = row.OutOfMemory
+row_fault Unreadable = row.BadRow
+row_fault NotOurs = row.BadRow
+row_fault NumberReused = row.BadRow
+row_fault BookFull = row.BadRow
+row_fault SerialsUsedUp = row.BadRow

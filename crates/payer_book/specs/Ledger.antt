@@ -1,11 +1,10 @@
 -- The payments of a book: standing, or reversed by the request of an id.
-use Rattle.std.specs.Prelude.{◌≡◌, ℕ, ◌+◌, ◌≤◌, Bool, true, false, not, ◌&&◌, ◌||◌, ◌==◌, cond, List, [], ◌∷◌, ◌++◌, map, length, filter, filter_map, find, Option, Some, None, ⊤}
-use Rattle.std.specs.List.{list_any, AllByRecursion}
-use Rattle.claim_model.specs.Words.{TxnId, Auth, Claim, Fill, Reversal, Amounts}
+use Rattle.std.specs.Prelude.{◌≡◌, ℕ, ◌+◌, ◌≤◌, Bool, cond, List, [], ◌∷◌, filter_map, find, Option, Some, None, ⊤}
+use Rattle.std.specs.List.{AllByRecursion}
+use Rattle.claim_model.specs.Words.{TxnId, Auth, Claim, Fill, Reversal}
 use Rattle.claim_model.specs.Payments.{same_auth}
 use Rattle.claim_model.specs.Judgement.{same_fill, is_for}
 use Rattle.payer_book.specs.declared.payment.Standing.{Standing}
-use Rattle.payer_book.specs.declared.payment.Reversed.{Reversed}
 use Rattle.payer_book.specs.declared.payment.Payment.{Payment}
 use Rattle.payer_book.specs.declared.payment.Payment.TheVariants.{Standing as Stands, Reversed as TakenBack}
 

@@ -10,4 +10,7 @@ pub mod Matches
 pub mod Drafts
 pub mod Books
 pub mod Views
+pub mod Added
+pub mod Made
+pub mod Following
 pub mod Entries

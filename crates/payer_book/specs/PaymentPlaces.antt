@@ -1,11 +1,11 @@
 -- The index of a list of payments.
-use Rattle.std.specs.Prelude.{◌≡◌, ℕ, ◌≤◌, List, slice_get, Option, Some, option_and_then}
+use Rattle.std.specs.Prelude.{◌≡◌, ℕ, ◌≤◌, List, slice_get, Option, Some}
 use Rattle.std.specs.List.{AllByRecursion}
 use Rattle.claim_model.specs.Words.{Fill}
 use Rattle.payer_book.specs.declared.payment.Standing.{Standing}
 use Rattle.payer_book.specs.declared.payment.Payment.{Payment}
 use Rattle.payer_book.specs.declared.payment.Payment.TheVariants.{Standing as Stands}
-use Rattle.payer_book.specs.Ledger.{still, standing_in, AreNumbered, IsNumbered}
+use Rattle.payer_book.specs.Ledger.{standing_in, AreNumbered, IsNumbered}
 
 -- a fill's standing payment is at this place
 pub record StandsAt (ps : List Payment) (fill : Fill) (place : ℕ) : Type 0 where

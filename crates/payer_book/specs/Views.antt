@@ -1,5 +1,5 @@
 -- What is told of a payment.
-use Rattle.std.specs.Prelude.{Option, Some, None}
+use Rattle.std.specs.Prelude.{Some, None}
 use Rattle.claim_model.specs.Payments as model
 use Rattle.payer_book.specs.declared.book.PaymentView.{PaymentView}
 use Rattle.payer_book.specs.declared.payment.Payment.{Payment}

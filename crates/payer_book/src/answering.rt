@@ -13,6 +13,7 @@ ghost use Rattle.payer_book.specs.Kept.{IsAnswered};
 
 use crate::book::{Book, Reply};
 use crate::fault::BookFault;
+use crate::pricing::Prices;
 use crate::row::Row;
 use bin_routes::{PayerNo, Routes};
 use claim_profile::{RequestFault, read_readable};
@@ -46,13 +47,17 @@ impl Book {
         if self.rows.len() >= self.settings.cap() as usize {
             return Err(BookFault::BookFull);
         }
-        let entry = self.prepare(alloc, id, &transmission, request)?;
+        let prices = Prices::Plan(&self.plan);
+        let entry = self.prepare(alloc, id, &transmission, request, prices)?;
         self.enter(entry)
     }
 }
 
 /// The transmission of a request that a book answers.
-fn read(alloc: Global, request: &[u8]) -> Result<Transmission<'_, RequestHeader>, BookFault>
+pub(crate) fn read(
+    alloc: Global,
+    request: &[u8],
+) -> Result<Transmission<'_, RequestHeader>, BookFault>
     ensures parts { IfOk result (λ t. transmission_of request_kind request.now ≡ Some (transmission_parts t)) }
     ensures readable { IfOk result (λ t. readable_header request.now ≡ Some t.header) }
     ensures fault { IfErr result (λ e. IsUnread e (readable_header request.now)) }

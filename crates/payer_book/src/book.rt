@@ -1,6 +1,6 @@
 //! The book, and what is read from it.
 
-ghost use Rattle.std.specs.Prelude.{◌≡◌, [], slice_get, Ok, OnOk, OnErr, IfErr};
+ghost use Rattle.std.specs.Prelude.{◌≡◌, ◌≤◌, [], map, length, slice_get, Some, Ok, OnOk, OnErr, IfErr};
 ghost use Rattle.std.specs.Option.{option_map, option_copied, option_and_then};
 ghost use Rattle.bin_routes.specs.Table.{RouteMaps};
 ghost use Rattle.plan_rules.specs.Terms.{RefusedFor};
@@ -10,6 +10,7 @@ ghost use Rattle.claim_model.specs.Rows.{ruled_rows};
 ghost use Rattle.claim_model.specs.Book.{row_of};
 ghost use Rattle.claim_model.specs.Held.{row_answer};
 ghost use Rattle.payer_book.specs.Views.{payment_view, view_of};
+ghost use Rattle.payer_book.specs.Added.{kept_row, added_all};
 
 use crate::payment::Payment;
 use crate::payments::Payments;
@@ -36,12 +37,13 @@ pub struct Book {
 impl Model for Book {
     ghost use Rattle.claim_model.specs.Rows.{Book as BookParts};
     ghost use Rattle.payer_book.specs.Books.{IsBook};
+    ghost use Rattle.payer_book.specs.Made.{IsMade};
 
     ghost Value = { BookParts };
 
     ghost view = { λ b. record { payer = b.payer; settings = b.settings; plan = b.plan; rows = b.rows } };
 
-    ghost invariant = { λ b. IsBook b.payer b.settings.serial b.rows b.payments };
+    ghost invariant = { λ b. IsBook b.payer b.settings.serial b.rows b.payments × IsMade b.payer b.settings b.rows b.payments };
 }
 
 /// The answer to a request, and whether the book had it already.
@@ -69,6 +71,7 @@ impl Book {
     pub fn new(alloc: Global, payer: PayerNo, settings: BookSettings, plan: Plan) -> Book
         ensures { result ≡ record { payer = payer; settings = settings; plan = plan; rows = [] } }
     {
+        let _number = payer.get();
         Book {
             payer,
             settings,
@@ -101,7 +104,10 @@ impl Book {
 
     /// The decided requests, oldest first.
     pub fn rows(&self) -> &[Row]
-        ensures { result.now ≡ self.now.rows }
+        ensures value { result.now ≡ self.now.rows }
+        ensures in_limit { length self.now.rows ≤ self.now.settings.cap }
+        // The book is what adding its rows one by one to an empty book makes.
+        ensures made { added_all (Some (record { payer = self.now.payer; settings = self.now.settings; plan = self.now.plan; rows = [] })) (map kept_row self.now.rows) ≡ Some self.now }
     {
         self.rows.as_slice()
     }

@@ -1,16 +1,18 @@
 //! Entering a new request: its row, and what the row changes among the payments.
 
-ghost use Rattle.std.specs.Prelude.{◌≡◌, ◌⊎◌, false, OnErr, IfOk, IfErr, Some, None};
+ghost use Rattle.std.specs.Prelude.{◌≡◌, ◌⊎◌, ◌<◌, length, false, OnErr, IfOk, IfErr, Some, None};
 ghost use Rattle.std.specs.List.{list_all};
 ghost use Rattle.d0_segments.specs.Framing.{request_kind, transmission_of};
 ghost use Rattle.d0_segments.specs.Transmissions.{transmission_parts};
 ghost use Rattle.claim_profile.specs.Readable.{readable_header};
 ghost use Rattle.claim_profile.specs.Answer.{answer_text};
 ghost use Rattle.claim_model.specs.Words.{AcceptedStatus};
-ghost use Rattle.claim_model.specs.Book.{serial_fits, row_of, new_row};
+ghost use Rattle.claim_model.specs.Book.{serial_fits, row_of};
 ghost use Rattle.payer_book.specs.declared.fault.BookFault.TheVariants.{OutOfMemory, SerialsUsedUp};
-ghost use Rattle.payer_book.specs.Books.{reading};
-ghost use Rattle.payer_book.specs.Entries.{IsEntry, with_row};
+ghost use Rattle.payer_book.specs.Drafts.{pricing};
+ghost use Rattle.payer_book.specs.Added.{with_row};
+ghost use Rattle.payer_book.specs.Made.{ArePrices};
+ghost use Rattle.payer_book.specs.Entries.{IsEntry, rulings_by};
 
 use crate::book::{Book, Reply};
 use crate::changes::Change;
@@ -18,7 +20,7 @@ use crate::drafting::{Draft, rule_all};
 use crate::fault::BookFault;
 use crate::pricing::Prices;
 use crate::row::Row;
-use claim_model::orders_of_requests;
+use claim_model::{bytes_keep_laws, orders_of_requests};
 use claim_profile::{HeaderStatus, write_answer};
 use d0_header::RequestHeader;
 use d0_segments::Transmission;
@@ -35,29 +37,36 @@ pub(crate) struct Entry {
     changes: Vec<Change>,
 }
 
+impl Entry {
+    /// The answer's bytes.
+    pub(crate) fn bytes(&self) -> &[u8]
+        ensures { result.now ≡ self.now.bytes.items }
+    {
+        self.bytes.as_slice()
+    }
+}
+
 impl Book {
-    /// The row that a new request gets, with all that takes memory but its places in the book.
+    /// The row that a request gets at these prices, with all that takes memory but its places in the book.
     pub(crate) fn prepare(
         &self,
         alloc: Global,
         id: TxnId,
         transmission: &Transmission<'_, RequestHeader>,
         request: &[u8],
+        prices: Prices<'_>,
     ) -> Result<Entry, BookFault>
         requires parts { transmission_of request_kind request.now ≡ Some (transmission_parts transmission.now) }
         requires readable { readable_header request.now ≡ Some transmission.now.header }
+        requires prices { ArePrices (pricing prices) }
         ensures made { IfOk result (λ e. IsEntry self.now e) }
-        ensures row { IfOk result (λ e. e.row ≡ new_row reading self.now id request.now) }
+        ensures row { IfOk result (λ e. e.row ≡ record { id = id; request = request.now; rulings = rulings_by (pricing prices.entry) self.now id request.now }) }
         ensures text { IfOk result (λ e. e.bytes.items ≡ answer_text transmission.now.header AcceptedStatus e.row.rulings) }
-        ensures fault { IfErr result (λ e. (e ≡ OutOfMemory) ⊎ ((e ≡ SerialsUsedUp) × (list_all serial_fits (new_row reading self.now id request.now).rulings ≡ false))) }
+        ensures fault { IfErr result (λ e. (e ≡ OutOfMemory) ⊎ ((e ≡ SerialsUsedUp) × (list_all serial_fits (rulings_by (pricing prices.entry) self.now id request.now) ≡ false))) }
     {
         orders_of_requests();
-        let Draft { rulings, changes } = rule_all(
-            alloc,
-            &self.payments,
-            Prices::Plan(&self.plan),
-            transmission,
-        )?;
+        bytes_keep_laws();
+        let Draft { rulings, changes } = rule_all(alloc, &self.payments, prices, transmission)?;
         let bytes = write_answer(
             alloc,
             transmission.header(),
@@ -76,6 +85,7 @@ impl Book {
     /// Adds the row and makes its changes.
     pub(crate) fn enter(&mut self, entry: Entry) -> Result<Reply, BookFault>
         requires possible { IsEntry self.old entry }
+        requires room { length self.old.rows < self.old.settings.cap }
         requires fresh { row_of entry.row.id self.old.rows ≡ None }
         ensures book { IfOk result (λ reply. self.new ≡ with_row self.old entry.row) }
         ensures bytes { IfOk result (λ reply. reply.bytes.items ≡ entry.bytes.items) }

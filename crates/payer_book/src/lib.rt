@@ -3,6 +3,7 @@
 //! Rows are found by their id and standing payments by their fill, so no call walks the list of rows.
 #![tactic(auto)]
 
+mod adding;
 mod answering;
 mod book;
 mod changes;
@@ -11,6 +12,7 @@ mod entering;
 mod entry;
 mod fault;
 mod judging;
+mod laws;
 mod matches;
 mod payment;
 mod payments;
@@ -23,7 +25,8 @@ mod settings;
 pub use bin_routes::PayerNo;
 pub use book::{Book, PaymentView, Reply};
 pub use envelope::TxnId;
-pub use fault::{BookFault, SettingFault};
+pub use fault::{BookFault, RowFault, SettingFault};
+pub use laws::{added_rows_are_kept, kept_rows_follow_rules};
 pub use payment::{Payment, Reversed, Standing};
 pub use plan_rules::{Plan, PlanFault};
 pub use rest::BookAtRest;
@@ -31,4 +34,10 @@ pub use row::Row;
 pub use settings::BookSettings;
 
 #[cfg(test)]
+mod adding_tests;
+#[cfg(test)]
+mod many_tests;
+#[cfg(test)]
 mod tests;
+#[cfg(test)]
+mod vectors;

@@ -1,10 +1,11 @@
 //! One decided request.
 
-ghost use Rattle.std.specs.Prelude.{◌≡◌, Some};
+ghost use Rattle.std.specs.Prelude.{◌≡◌, ◌≤◌, length, Some};
 ghost use Rattle.bin_routes.specs.Table.{RouteMaps};
 ghost use Rattle.claim_model.specs.Bytes.{bytes_with};
 ghost use Rattle.claim_model.specs.Held.{row_answer};
 ghost use Rattle.payer_book.specs.Kept.{IsAnswered};
+ghost use Rattle.payer_book.specs.Added.{kept_answer};
 
 use claim_profile::Ruling;
 use envelope::TxnId;
@@ -69,7 +70,9 @@ impl Row {
     /// The answer's bytes: header status `A` (501-F1) and one group for each ruling.
     pub fn answer(&self) -> &[u8]
         ensures kept { IsAnswered self.now.request self.now.rulings result.now }
+        ensures short { length result.now ≤ 32768 }
         ensures value { (routes : RouteMaps) → Some result.now ≡ row_answer (bytes_with routes) self.now }
+        ensures text { result.now ≡ kept_answer self.now }
     {
         self.answer.as_slice()
     }

@@ -7,14 +7,14 @@ ghost use Rattle.claim_model.specs.Book.{row_of};
 use crate::row::Row;
 use envelope::TxnId;
 use std::alloc::{AllocError, Global};
-use std::collections::BTreeMap;
+use std::collections::HashMap;
 use std::marker::Model;
 
 /// The list of rows, with an index from id to place.
 #[derive(Drop)]
 pub(crate) struct Rows {
     list: Vec<Row>,
-    places: BTreeMap<TxnId, usize>,
+    places: HashMap<TxnId, usize>,
 }
 
 impl Model for Rows {
@@ -23,12 +23,12 @@ impl Model for Rows {
 
     ghost Value = { List RowParts };
 
-    ghost use Rattle.std.specs.BTreeMap.{get};
+    ghost use Rattle.std.specs.HashMap.{get};
     ghost use Rattle.payer_book.specs.RowPlaces.{IsPlaced};
 
     ghost view = { λ r. r.list.items };
 
-    ghost invariant = { λ r. IsPlaced r.list.items (get ⟦<TxnId as Ord>⟧.cmp r.places) };
+    ghost invariant = { λ r. IsPlaced r.list.items (get ⟦<TxnId as PartialEq>⟧.eq r.places) };
 }
 
 impl Rows {
@@ -38,7 +38,7 @@ impl Rows {
     {
         Rows {
             list: Vec::new(alloc),
-            places: BTreeMap::new(alloc),
+            places: HashMap::new(alloc),
         }
     }
 

@@ -1,4 +1,4 @@
-use Rattle.std.proofs.Common.{◌≡◌, List, filter, cond, sym, ap, ◌∙◌}
+use Rattle.std.proofs.Common.{List, filter, cond, sym, ap, ◌∙◌}
 use Rattle.payer_book.specs.declared.changes.Change.{Change}
 use Rattle.payer_book.specs.declared.matches.Matches.{Matches}
 use Rattle.payer_book.specs.Ledger.{takes_back}

@@ -1,12 +1,10 @@
-use Rattle.std.proofs.Common.{◌≡◌, ℕ, ◌+◌, ◌<◌, ◌≤◌, List, [], ◌∷◌, map, drop, length, Some, Result, inl, inr, refl, sym, ap, ◌∙◌, arith}
+use Rattle.std.proofs.Common.{◌≡◌, ◌+◌, ◌<◌, ◌≤◌, List, ◌∷◌, drop, length, Some, inl, inr, refl, sym, ap, ◌∙◌, arith}
 use Rattle.std.proofs.lemmas.List.{length-map}
 use Rattle.std.proofs.lemmas.Result.{err_from_is_err_and}
 use Rattle.std.specs.Global.{Vec}
 use Rattle.d0_segments.specs.declared.segment.Segment.{Segment}
-use Rattle.d0_segments.specs.Parts.{SegmentParts}
 use Rattle.d0_segments.specs.Views.{segments_parts, groups_parts}
 use Rattle.d0_segments.specs.Transmissions.{transmission_parts}
-use Rattle.claim_model.specs.Words.{Order, Code, Ruling}
 use Rattle.claim_model.specs.Bytes.{order_in, orders_in}
 use Rattle.payer_book.specs.Drafts.{pricing}
 use Rattle.payer_book.proofs.Places.{order_at, one_more, not_all_fit, nothing_yet, all_ruled}

@@ -1,4 +1,4 @@
-use Rattle.std.proofs.Common.{◌≡◌, Some, None, sym, ap, ◌∙◌}
+use Rattle.std.proofs.Common.{sym, ap, ◌∙◌}
 use Rattle.claim_model.specs.Words.{Auth}
 use Rattle.payer_book.specs.Ledger.{standing_in}
 use Rattle.payer_book.specs.Changes.{is_undone}

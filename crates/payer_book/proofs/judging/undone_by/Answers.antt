@@ -1,4 +1,4 @@
-use Rattle.std.proofs.Common.{◌≡◌, sym, ap, ◌∙◌}
+use Rattle.std.proofs.Common.{sym, ap, ◌∙◌}
 use Rattle.payer_book.specs.Ledger.{standing_in}
 use Rattle.payer_book.specs.declared.matches.Matches.{Matches}
 use Rattle.payer_book.specs.Matches.{together, only_of}

@@ -1,16 +1,16 @@
-use Rattle.std.proofs.Common.{◌≡◌, ℕ, ◌<◌, ◌≤◌, ◌⊎◌, Bool, true, false, List, length, Option, None, Some, Result, Ok, Err, IfOk, IfErr, inl, inr, refl, sym, ap, ◌∙◌, subst, arith}
-use Rattle.std.specs.Prelude.{bytes_eq, nat_lt}
+use Rattle.std.proofs.Common.{◌≡◌, ◌<◌, ◌≤◌, ◌⊎◌, false, length, Ok, Err, inl, inr, sym, ap, ◌∙◌, subst, arith}
 use Rattle.std.proofs.lemmas.Bool.{le-ltb, lt-ltb}
 use Rattle.std.proofs.lemmas.Result.{err_from_is_err_and, IfErr-weaker}
 use Rattle.claim_model.specs.Words.{RequestHeader}
 use Rattle.claim_model.specs.Bytes.{bytes_with}
 use Rattle.claim_model.specs.Readable.{is_payer, payer_for}
 use Rattle.claim_model.specs.Refusal.{Refusal}
-use Rattle.claim_model.specs.Rows.{Row, Book}
-use Rattle.claim_model.specs.Book.{serial_fits, row_of, new_row, answered}
+use Rattle.claim_model.specs.Rows.{Book}
+use Rattle.claim_model.specs.Book.{serial_fits, answered}
 use Rattle.std.specs.List.{list_all}
-use Rattle.payer_book.specs.Books.{reading}
-use Rattle.payer_book.specs.Entries.{IsEntry, with_row}
+use Rattle.payer_book.specs.Added.{with_row}
+use Rattle.payer_book.specs.Drafts.{ByPlan}
+use Rattle.payer_book.specs.Entries.{rulings_by, IsEntry}
 use Rattle.payer_book.proofs.Lists.{if_ok_three}
 use Rattle.payer_book.specs.declared.fault.BookFault.{BookFault}
 use Rattle.payer_book.specs.declared.fault.BookFault.TheVariants.{OutOfMemory, SerialsUsedUp}
@@ -68,27 +68,27 @@ returns-in_err-entry-clause-fault c =
     let d = (goal.at.returns-in_err-entry-clause-fault c).In_ok-transmission in
     let p = err_from_is_err_and c.from_residual-in_err-entry.result c.from_residual-in_err-entry.ensures.1 in
     let room : length c.self.inside.rows < c.self.inside.settings.cap = omega (arith, c.len.ensures, c.cap.ensures.value) in
-    let fault = subst (λ (b : Book). (c.in_err-entry.field-0.0 ≡ OutOfMemory) ⊎ ((c.in_err-entry.field-0.0 ≡ SerialsUsedUp) × (list_all serial_fits (new_row reading b c.args.id c.args.request.now).rulings ≡ false))) (sym c.self.view_is) c.in_err-entry.ensures.fault in
+    let fault = subst (λ (b : Book). (c.in_err-entry.field-0.0 ≡ OutOfMemory) ⊎ ((c.in_err-entry.field-0.0 ≡ SerialsUsedUp) × (list_all serial_fits (rulings_by (ByPlan c.self.inside.plan) b c.args.id c.args.request.now) ≡ false))) (sym c.self.view_is) c.in_err-entry.ensures.fault in
     rw (p.1, p.2)
     (subst (λ (b : Book). RefusedFor c.in_err-entry.field-0.0 (answered (bytes_with c.args.routes.now) b c.args.id c.args.request.now)) c.self.view_is
     (elim fault [
       | inl e ↦ subst (λ (f : BookFault). RefusedFor f (answered (bytes_with c.args.routes.now) (opened d) c.args.id c.args.request.now)) (sym e) tt
       | inr e ↦ subst (λ (f : BookFault). RefusedFor f (answered (bytes_with c.args.routes.now) (opened d) c.args.id c.args.request.now)) (sym e.0)
           (used_up c.args.routes.now (opened d) c.args.id c.args.request.now c.in_ok-transmission.transmission.header c.in_ok-transmission.ensures.readable (ap (λ (h : RequestHeader). is_payer c.self.inside.payer (payer_for (bytes_with c.args.routes.now) h)) (sym c.header.ensures) ∙ (sym c.is_routed.ensures ∙ c.if-not-is_routed.false))
-          (sym c.in_default.ensures) (lt-ltb (length c.self.inside.rows) c.self.inside.settings.cap room) (row_alike c.args.routes.now (opened d) c.self.inside.payments c.self.invariant c.args.id c.args.request.now) e.1)
+          (sym c.in_default.ensures) (lt-ltb (length c.self.inside.rows) c.self.inside.settings.cap room) (row_alike c.args.routes.now (opened d) c.self.inside.payments c.self.invariant.0 c.args.id c.args.request.now) e.1)
     ]))
 
 pub returns-clause-ok : goal.returns-clause-ok
 returns-clause-ok c =
     let d = (goal.at.returns-clause-ok c).In_ok-transmission in
     let room : length c.self.inside.rows < c.self.inside.settings.cap = omega (arith, c.len.ensures, c.cap.ensures.value) in
-    let ruled = subst (λ (b : Book). c.in_ok-entry.entry.row ≡ new_row reading b c.args.id c.args.request.now) (sym c.self.view_is) c.in_ok-entry.ensures.row in
+    let ruled = subst (λ (b : Book). c.in_ok-entry.entry.row ≡ record { id = c.args.id; request = c.args.request.now; rulings = rulings_by (ByPlan c.self.inside.plan) b c.args.id c.args.request.now }) (sym c.self.view_is) c.in_ok-entry.ensures.row in
     let entry = subst (λ (b : Book). IsEntry b c.in_ok-entry.entry) (sym c.self.view_is) c.in_ok-entry.ensures.made in
     if_ok_three c.enter.result _ _ _ _
     (λ reply book bytes known.
     let after = subst (λ (b : Book). c.enter.new.self ≡ with_row b c.in_ok-entry.entry.row) (sym c.self.view_is) book in
     subst (λ (b : Book). answered (bytes_with c.args.routes.now) b c.args.id c.args.request.now ≡ Ok (record { book = c.enter.new.self; bytes = reply.bytes.items; kept = reply.kept })) c.self.view_is
     (answered_new c.args.routes.now (opened d) c.args.id c.args.request.now c.in_ok-transmission.transmission.header c.in_ok-transmission.ensures.readable (ap (λ (h : RequestHeader). is_payer c.self.inside.payer (payer_for (bytes_with c.args.routes.now) h)) (sym c.header.ensures) ∙ (sym c.is_routed.ensures ∙ c.if-not-is_routed.false))
-    (sym c.in_default.ensures) (lt-ltb (length c.self.inside.rows) c.self.inside.settings.cap room) (row_alike c.args.routes.now (opened d) c.self.inside.payments c.self.invariant c.args.id c.args.request.now)
+    (sym c.in_default.ensures) (lt-ltb (length c.self.inside.rows) c.self.inside.settings.cap room) (row_alike c.args.routes.now (opened d) c.self.inside.payments c.self.invariant.0 c.args.id c.args.request.now)
     c.enter.new.self c.in_ok-entry.entry.row reply.bytes.items reply.kept ruled entry.fit after (bytes ∙ c.in_ok-entry.ensures.text) known))
     c.enter.ensures.book c.enter.ensures.bytes c.enter.ensures.kept

@@ -1,25 +1,28 @@
-use Rattle.std.proofs.Common.{◌≡◌, ℕ, List, [], length, Bool, false, Option, Some, inl, inr, sym, ap, ◌∙◌, subst}
-use Rattle.std.specs.List.{AllByRecursion, list_all}
+use Rattle.std.proofs.Common.{◌≡◌, ℕ, ◌≤◌, List, [], length, true, false, Some, inl, inr, sym, ap, ◌∙◌, subst, arith}
+use Rattle.std.specs.List.{list_all, AllByRecursion}
 use Rattle.std.proofs.lemmas.Result.{err_from_is_err_and}
 use Rattle.bin_routes.specs.Table.{routes_of}
 use Rattle.d0_header.specs.Request.{Request}
-use Rattle.d0_segments.specs.Parts.{TransmissionParts}
-use Rattle.d0_segments.specs.Framing.{request_kind, transmission_of}
 use Rattle.d0_segments.specs.Transmissions.{transmission_parts}
 use Rattle.claim_profile.specs.declared.ruling.HeaderStatus.TheVariants.{Accepted}
-use Rattle.claim_profile.specs.Answer.{AreWritable}
-use Rattle.claim_model.specs.Words.{Ruling, Order, Code}
-use Rattle.claim_model.specs.Bytes.{bytes_with, orders_in}
+use Rattle.claim_profile.specs.Answer.{AreWritable, answer_text}
+use Rattle.claim_profile.specs.Readable.{readable_header}
+use Rattle.claim_model.specs.Words.{Ruling, Plan}
+use Rattle.claim_model.specs.Laws.{IsRuling}
+use Rattle.claim_model.specs.Bytes.{orders_in}
 use Rattle.claim_model.specs.Readable.{readable}
 use Rattle.claim_model.specs.Rows.{Row, Book}
-use Rattle.claim_model.specs.Book.{serial_fits, new_row}
+use Rattle.claim_model.specs.Book.{serial_fits}
 use Rattle.payer_book.specs.Changes.{changes_by}
-use Rattle.payer_book.specs.Drafts.{ByPlan, rulings_on}
+use Rattle.payer_book.specs.Drafts.{pricing, rulings_on}
 use Rattle.payer_book.specs.Books.{reading}
-use Rattle.payer_book.specs.Entries.{IsEntry}
+use Rattle.payer_book.specs.Added.{kept_answer, kept_rulings, with_row, with_kept}
+use Rattle.payer_book.specs.Entries.{with_plan, rulings_by}
 use Rattle.payer_book.proofs.Readings.{readable_alike}
 use Rattle.payer_book.proofs.Ruling.{rulings_writable, length_rulings}
-use Rattle.payer_book.proofs.Entered.{new_rulings, row_is, own_row}
+use Rattle.payer_book.proofs.Keeping.{rulings_by_on, kept_again}
+use Rattle.payer_book.proofs.Tellable.{rulings_told, prices_fit}
+use Rattle.payer_book.proofs.Grown.{row_stands}
 use Rattle.payer_book.proofs.book.Book.prepare.Goals as goal
 use Rattle.payer_book.proofs.book.Book.prepare.Goals.{After-rule_all, In_ok-rulings, After-new}
 
@@ -33,21 +36,21 @@ same_orders c = ap orders_in (sym c.requires.parts)
 is_readable : (c : After-rule_all) → readable reading c.args.request.now ≡ Some c.args.transmission.now.header
 is_readable c = readable_alike (routes_of []) c.args.request.now ∙ c.requires.readable
 
-ruled : (c : In_ok-rulings) → c.in_ok-rulings.field-0.rulings.items ≡ rulings_on c.self.inside.payments (ByPlan c.self.inside.plan) [] (reading.orders c.args.request.now)
-ruled c = c.in_ok-rulings.ensures.made.ruled ∙ ap (rulings_on c.self.inside.payments (ByPlan c.self.inside.plan) []) (ap orders_in (sym c.requires.parts))
+ruled : (c : In_ok-rulings) → c.in_ok-rulings.field-0.rulings.items ≡ rulings_on c.self.inside.payments (pricing c.args.prices) [] (reading.orders c.args.request.now)
+ruled c = c.in_ok-rulings.ensures.made.ruled ∙ ap (rulings_on c.self.inside.payments (pricing c.args.prices) []) (ap orders_in (sym c.requires.parts))
 
 pub returns-in_err-rulings-clause-fault : goal.returns-in_err-rulings-clause-fault
 returns-in_err-rulings-clause-fault c =
     let d = (goal.at.returns-in_err-rulings-clause-fault c).After-rule_all in
     let p = err_from_is_err_and c.from_residual.result c.from_residual.ensures.1 in
-    let same = ap (rulings_on c.self.inside.payments (ByPlan c.self.inside.plan) []) (sym (same_orders d)) in
+    let same = ap (rulings_on c.self.inside.payments (pricing c.args.prices) []) (sym (same_orders d)) in
     rw (p.1, p.2)
     (elim c.in_err-rulings.ensures.fault [
       | inl e ↦ inl e
       | inr e ↦ inr (
         e.0,
-        subst (λ (b : Book). list_all serial_fits (new_row reading b c.args.id c.args.request.now).rulings ≡ false) c.self.view_is
-            (ap (list_all serial_fits) (new_rulings (opened d) c.self.inside.payments c.self.invariant c.args.id c.args.request.now ∙ same) ∙ e.1),
+        subst (λ (b : Book). list_all serial_fits (rulings_by (pricing c.args.prices) b c.args.id c.args.request.now) ≡ false) c.self.view_is
+            (ap (list_all serial_fits) (rulings_by_on (opened d) c.self.inside.payments c.self.invariant.0 c.args.id c.args.request.now (pricing c.args.prices) ∙ same) ∙ e.1),
       )
     ])
 
@@ -56,7 +59,7 @@ write_answer-requires-clause-count c =
     let d = (goal.at.write_answer-requires-clause-count c).After-rule_all in
     let o = (goal.at.write_answer-requires-clause-count c).In_ok-rulings in
     ap (λ (rs : List Ruling). length rs) (c.as_slice.ensures.value ∙ ruled o)
-    ∙ (length_rulings c.self.inside.payments (ByPlan c.self.inside.plan) [] (reading.orders c.args.request.now)
+    ∙ (length_rulings c.self.inside.payments (pricing c.args.prices) [] (reading.orders c.args.request.now)
     ∙ (c.orders_of_requests.ensures.groups (routes_of []) c.args.request.now c.args.transmission.now.header (is_readable d)
     ∙ ap (λ (h : Request). h.count) (sym c.header.ensures)))
 
@@ -65,26 +68,117 @@ write_answer-requires-clause-writable c =
     let d = (goal.at.write_answer-requires-clause-writable c).After-rule_all in
     let o = (goal.at.write_answer-requires-clause-writable c).In_ok-rulings in
     subst (AreWritable Accepted) (sym (c.as_slice.ensures.value ∙ ruled o))
-    (rulings_writable c.self.inside.payments (ByPlan c.self.inside.plan) [] c.args.transmission.now.header (reading.orders c.args.request.now)
+    (rulings_writable c.self.inside.payments (pricing c.args.prices) [] c.args.transmission.now.header (reading.orders c.args.request.now)
     (c.orders_of_requests.ensures.orders (routes_of []) c.args.request.now c.args.transmission.now.header (is_readable d)))
 
-ruled_new : (c : After-new) → c.in_ok-rulings.field-0.rulings.items ≡ rulings_on c.self.inside.payments (ByPlan c.self.inside.plan) [] (reading.orders c.args.request.now)
-ruled_new c = c.in_ok-rulings.ensures.made.ruled ∙ ap (rulings_on c.self.inside.payments (ByPlan c.self.inside.plan) []) (ap orders_in (sym c.requires.parts))
+ruled_new : (c : After-new) → c.in_ok-rulings.field-0.rulings.items ≡ rulings_on c.self.inside.payments (pricing c.args.prices) [] (reading.orders c.args.request.now)
+ruled_new c = c.in_ok-rulings.ensures.made.ruled ∙ ap (rulings_on c.self.inside.payments (pricing c.args.prices) []) (ap orders_in (sym c.requires.parts))
 
-made_row : (c : After-new) → c.new.result ≡ new_row reading c.args.self.now c.args.id c.args.request.now
-made_row c =
+-- the rulings of the new row are those of its request at these prices
+by_prices : (c : After-new) → c.in_ok-rulings.field-0.rulings.items ≡ rulings_by (pricing c.args.prices) c.args.self.now c.args.id c.args.request.now
+by_prices c =
     let b : Book = record { payer = c.self.inside.payer; settings = c.self.inside.settings; plan = c.self.inside.plan; rows = c.self.inside.rows } in
-    subst (λ (q : Book). c.new.result ≡ new_row reading q c.args.id c.args.request.now) c.self.view_is
-    (c.new.ensures ∙ row_is b c.self.inside.payments c.self.invariant c.args.id c.args.request.now _ _ c.in_ok-request.ensures (ruled_new c))
+    subst (λ (q : Book). c.in_ok-rulings.field-0.rulings.items ≡ rulings_by (pricing c.args.prices) q c.args.id c.args.request.now) c.self.view_is
+    (ruled_new c ∙ sym (rulings_by_on b c.self.inside.payments c.self.invariant.0 c.args.id c.args.request.now (pricing c.args.prices)))
 
 pub returns-clause-row : goal.returns-clause-row
-returns-clause-row c = made_row c
+returns-clause-row c =
+    let e = c.in_ok-request.ensures in
+    let f = by_prices c in
+    c.new.ensures ∙ (λ i. let r : Row = record { id = c.args.id; request = e i; rulings = f i } in r)
+
+-- and those that the rules give again
+made_again : (c : After-new) → c.new.result.rulings ≡ kept_rulings c.args.self.now c.new.result.id c.new.result.request c.new.result.rulings
+made_again c =
+    let b : Book = record { payer = c.self.inside.payer; settings = c.self.inside.settings; plan = c.self.inside.plan; rows = c.self.inside.rows } in
+    let rulings = c.in_ok-rulings.field-0.rulings.items in
+    let first : rulings ≡ kept_rulings c.args.self.now c.args.id c.args.request.now rulings =
+    subst (λ (q : Book). rulings ≡ kept_rulings q c.args.id c.args.request.now rulings) c.self.view_is
+    (kept_again b c.self.inside.payments c.self.invariant.0 c.args.id c.args.request.now (pricing c.args.prices) rulings (ruled_new c)) in
+    subst (λ (r : Row). r.rulings ≡ kept_rulings c.args.self.now r.id r.request r.rulings) (sym c.new.ensures)
+    (subst (λ (t : List ℕ). rulings ≡ kept_rulings c.args.self.now c.args.id t rulings) (sym c.in_ok-request.ensures) first)
+
+fits : (c : After-new) → list_all serial_fits c.in_ok-rulings.field-0.rulings.items ≡ true
+fits c = c.in_ok-rulings.ensures.made.fit
+
+-- an answer can tell of each ruling
+all_told : (c : After-new) → AllByRecursion IsRuling c.in_ok-rulings.field-0.rulings.items
+all_told c =
+    let l = c.self.inside.payments in
+    let orders = reading.orders c.args.request.now in
+    let h = c.args.transmission.now.header in
+    let prices = pricing c.args.prices in
+    let reads = readable_alike (routes_of []) c.args.request.now ∙ c.requires.readable in
+    let payer = c.self.invariant.0.of_payer in
+    let serial : 1 ≤ l.first = omega (arith, c.self.invariant.0.from_serial, c.self.invariant.1.some_serial) in
+    let some_payer : 1 ≤ l.payer = omega (arith, payer, c.self.invariant.1.some_payer) in
+    let payer_fits : l.payer ≤ 9999 = omega (arith, payer, c.self.invariant.1.payer_fits) in
+    subst (AllByRecursion IsRuling) (sym (ruled_new c))
+    (rulings_told l prices h some_payer payer_fits serial (prices_fit (c.orders_of_requests.ensures.prices (routes_of [])) h prices c.requires.prices) [] orders c.self.invariant.1.told
+    (c.orders_of_requests.ensures.orders (routes_of []) c.args.request.now h reads) (ap (list_all serial_fits) (sym (ruled_new c)) ∙ fits c))
+
+-- so the row can be added
+stands_again : (c : After-new) (plan : Plan) → with_kept (with_plan c.args.self.now plan) c.new.result.id c.new.result.request (kept_answer c.new.result) ≡ Some (with_row (with_plan c.args.self.now plan) c.new.result)
+stands_again c =
+    let h = c.args.transmission.now.header in
+    let reads : readable_header c.new.result.request ≡ Some h = ap (λ (r : Row). readable_header r.request) c.new.ensures ∙ (ap readable_header c.in_ok-request.ensures ∙ c.requires.readable) in
+    let same : c.new.result.rulings ≡ c.in_ok-rulings.field-0.rulings.items = ap (λ (r : Row). r.rulings) c.new.ensures in
+    let count : length c.new.result.rulings ≡ h.count =
+    ap (λ (rs : List Ruling). length rs) (same ∙ ruled_new c)
+    ∙ (length_rulings c.self.inside.payments (pricing c.args.prices) [] (reading.orders c.args.request.now)
+    ∙ c.orders_of_requests.ensures.groups (routes_of []) c.args.request.now h (readable_alike (routes_of []) c.args.request.now ∙ c.requires.readable)) in
+    row_stands c.bytes_keep_laws.ensures c.args.self.now c.new.result h reads count (subst (AllByRecursion IsRuling) (sym same) (all_told c)) (made_again c) (ap (list_all serial_fits) same ∙ fits c)
 
 pub returns-clause-made : goal.returns-clause-made
 returns-clause-made c = record {
-  ruled = own_row c.args.self.now c.new.result c.args.id c.args.request.now (made_row c);
+  ruled = made_again c;
   fit = ap (λ (r : Row). list_all serial_fits r.rulings) c.new.ensures ∙ c.in_ok-rulings.ensures.made.fit;
   changed = c.in_ok-rulings.ensures.made.changed ∙ (ap (λ os. changes_by os c.in_ok-rulings.field-0.rulings.items) (ap orders_in (sym c.requires.parts))
       ∙ (ap (λ (t : List ℕ). changes_by (reading.orders t) c.in_ok-rulings.field-0.rulings.items) (sym c.in_ok-request.ensures)
       ∙ ap (λ (r : Row). changes_by (reading.orders r.request) r.rulings) (sym c.new.ensures)));
+  told = subst (λ (r : Row). AllByRecursion IsRuling r.rulings) (sym c.new.ensures) (all_told c);
+  stands = stands_again c;
 }
+
+-- an answer can tell of each ruling of the draft
+draft_told : (c : In_ok-rulings) → AllByRecursion IsRuling c.in_ok-rulings.field-0.rulings.items
+draft_told c =
+    let l = c.self.inside.payments in
+    let orders = reading.orders c.args.request.now in
+    let h = c.args.transmission.now.header in
+    let prices = pricing c.args.prices in
+    let reads = readable_alike (routes_of []) c.args.request.now ∙ c.requires.readable in
+    let payer = c.self.invariant.0.of_payer in
+    let serial : 1 ≤ l.first = omega (arith, c.self.invariant.0.from_serial, c.self.invariant.1.some_serial) in
+    let some_payer : 1 ≤ l.payer = omega (arith, payer, c.self.invariant.1.some_payer) in
+    let payer_fits : l.payer ≤ 9999 = omega (arith, payer, c.self.invariant.1.payer_fits) in
+    subst (AllByRecursion IsRuling) (sym (ruled c))
+    (rulings_told l prices h some_payer payer_fits serial (prices_fit (c.orders_of_requests.ensures.prices (routes_of [])) h prices c.requires.prices) [] orders c.self.invariant.1.told
+    (c.orders_of_requests.ensures.orders (routes_of []) c.args.request.now h reads) (ap (list_all serial_fits) (sym (ruled c)) ∙ c.in_ok-rulings.ensures.made.fit))
+
+-- so its answer is short
+draft_short : (c : In_ok-rulings) → length (answer_text c.args.transmission.now.header Accepted c.in_ok-rulings.field-0.rulings.items) ≤ 32768
+draft_short c =
+    let h = c.args.transmission.now.header in
+    let reads = readable_alike (routes_of []) c.args.request.now ∙ c.requires.readable in
+    let count : length c.in_ok-rulings.field-0.rulings.items ≡ h.count =
+    ap (λ (rs : List Ruling). length rs) (ruled c)
+    ∙ (length_rulings c.self.inside.payments (pricing c.args.prices) [] (reading.orders c.args.request.now)
+    ∙ c.orders_of_requests.ensures.groups (routes_of []) c.args.request.now h reads) in
+    let spelled = (c.bytes_keep_laws.ensures (routes_of [])).answers c.args.request.now h Accepted c.in_ok-rulings.field-0.rulings.items reads count (draft_told c) tt in
+    spelled.short
+
+pub new-requires : goal.new-requires
+new-requires c =
+    let o = (goal.at.new-requires c).In_ok-rulings in
+    let h = c.args.transmission.now.header in
+    let rulings = c.in_ok-rulings.field-0.rulings.items in
+    let text : c.in_ok-answer.answer ≡ answer_text h Accepted rulings =
+    c.in_ok-answer.ensures ∙ (c.as_slice-2.ensures.value ∙ (c.in_ok-bytes.ensures.text
+    ∙ (ap (λ (x : Request). answer_text x Accepted c.as_slice.result.now) c.header.ensures ∙ ap (λ (rs : List Ruling). answer_text h Accepted rs) c.as_slice.ensures.value))) in
+    record {
+      header = h;
+      reads = ap readable_header c.in_ok-request.ensures ∙ c.requires.readable;
+      text = text;
+      short = subst (λ (t : List ℕ). length t ≤ 32768) (sym text) (draft_short o);
+    }

@@ -1,7 +1,7 @@
 use Rattle.std.proofs.Common.{None, Some, sym, ap, ◌∙◌}
 use Rattle.std.proofs.lemmas.Bool.{cond-true, cond-false}
 use Rattle.claim_model.specs.Words.{Auth}
-use Rattle.payer_book.specs.Changes.{is_undone, left}
+use Rattle.payer_book.specs.Changes.{is_undone}
 use Rattle.payer_book.proofs.changes.Change.left.Goals as goal
 
 pub returns-then-is_undone : goal.returns-then-is_undone

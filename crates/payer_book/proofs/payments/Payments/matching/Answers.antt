@@ -1,4 +1,4 @@
-use Rattle.std.proofs.Common.{◌≡◌, ℕ, ◌+◌, ap, sym, ◌∙◌}
+use Rattle.std.proofs.Common.{◌+◌, ap, ◌∙◌}
 use Rattle.payer_book.specs.Ledger.{standing_in}
 use Rattle.payer_book.specs.Matches.{tally, matches_between}
 use Rattle.payer_book.proofs.Matching.{matches_one, matches_any}

@@ -1,6 +1,4 @@
-use Rattle.std.proofs.Common.{◌≡◌, ℕ, ap, sym, ◌∙◌, arith}
-use Rattle.payer_book.specs.declared.payment.Standing.{Standing}
-use Rattle.payer_book.specs.declared.matches.Matches.{Matches}
+use Rattle.std.proofs.Common.{◌≡◌, ap, sym, ◌∙◌, arith}
 use Rattle.payer_book.specs.Ledger.{standing_in, standing_of}
 use Rattle.payer_book.specs.Matches.{tally, matched, matches_between, fill_for}
 use Rattle.payer_book.proofs.Matching.{none_between, matches_more}

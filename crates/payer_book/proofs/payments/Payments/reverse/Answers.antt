@@ -1,4 +1,4 @@
-use Rattle.std.proofs.Common.{◌≡◌, ℕ, ◌+◌, ◌<◌, ◌≤◌, List, Option, None, Some, map, length, slice_get, sym, ap, ◌∙◌, subst, arith}
+use Rattle.std.proofs.Common.{◌≡◌, ◌<◌, List, Some, map, length, slice_get, sym, ap, ◌∙◌, subst}
 use Rattle.std.specs.Prelude.{find, option_and_then, IsSome}
 use Rattle.claim_model.specs.Payments.{same_auth}
 use Rattle.payer_book.specs.declared.payment.Standing.{Standing}

@@ -1,4 +1,4 @@
-use Rattle.std.proofs.Common.{◌≡◌, ℕ, List, Option, None, Some, slice_get, sym, ap, ◌∙◌, subst}
+use Rattle.std.proofs.Common.{List, None, Some, slice_get, sym, ap, ◌∙◌, subst}
 use Rattle.std.specs.Prelude.{option_and_then}
 use Rattle.payer_book.specs.declared.payment.Payment.{Payment}
 use Rattle.payer_book.specs.Ledger.{Ledger, IsLedger, still, standing_in, standing_of}

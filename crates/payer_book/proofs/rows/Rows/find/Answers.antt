@@ -1,4 +1,4 @@
-use Rattle.std.proofs.Common.{◌≡◌, List, Option, None, slice_get, sym, ap, ◌∙◌, subst}
+use Rattle.std.proofs.Common.{List, slice_get, ap, ◌∙◌}
 use Rattle.std.specs.Prelude.{option_and_then}
 use Rattle.claim_model.specs.Rows.{Row}
 use Rattle.claim_model.specs.Book.{row_of}

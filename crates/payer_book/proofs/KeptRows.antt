@@ -1,0 +1,95 @@
+-- Which kept rows stand in a book, by what the code finds.
+use Rattle.std.proofs.Common.{◌≡◌, ℕ, ◌<◌, ◌≤◌, Bool, true, false, not, List, length, Option, Some, None, ◌⊎◌, inl, inr, refl, sym, ap, ◌∙◌, subst}
+use Rattle.std.specs.Prelude.{bytes_eq, nat_lt, is_none, is_some}
+use Rattle.std.specs.List.{list_all}
+use Rattle.std.specs.Borrow.{Bor}
+use Rattle.std.specs.Option.{option_copied}
+use Rattle.std.proofs.lemmas.Bool.{cond-true, cond-false, and_from, and_left, and_right, le-ltb, lt-ltb}
+use Rattle.claim_profile.specs.Readable.{readable_header}
+use Rattle.claim_profile.specs.Answer.{answer_text}
+use Rattle.claim_model.specs.Words.{TxnId, RequestHeader, AcceptedStatus, Ruling, Answer}
+use Rattle.claim_model.specs.Rows.{Row, Book}
+use Rattle.claim_model.specs.Book.{row_of, serial_fits}
+use Rattle.payer_book.specs.declared.fault.BookFault.{BookFault}
+use Rattle.payer_book.specs.declared.fault.BookFault.TheVariants as fault
+use Rattle.payer_book.specs.declared.fault.RowFault.TheVariants as row
+use Rattle.payer_book.specs.Faults.{IsUnread, row_fault}
+use Rattle.payer_book.specs.Books.{reading}
+use Rattle.payer_book.specs.Added.{kept_rulings, with_row, with_rulings, with_answer, with_kept, added}
+
+module _ (b : Book) (id : TxnId) (request answer : List ℕ) where
+  pub unreadable_kept : readable_header request ≡ None → with_kept b id request answer ≡ None
+  unfolding with_kept
+  unreadable_kept e = ap (λ (o : Option RequestHeader). with_answer b id request answer o (reading.read_answer answer)) e
+
+  none_said : (o : Option RequestHeader) → with_answer b id request answer o None ≡ None
+  none_said None = refl
+  none_said (Some h) = refl
+
+  pub unsaid_kept : reading.read_answer answer ≡ None → with_kept b id request answer ≡ None
+  unfolding with_kept
+  unsaid_kept e = ap (with_answer b id request answer (readable_header request)) e ∙ none_said (readable_header request)
+
+  module _ (h : RequestHeader) (reads : readable_header request ≡ Some h) (said : Answer) (says : reading.read_answer answer ≡ Some said) where
+    by_rulings : with_kept b id request answer ≡ with_rulings b id request answer h (kept_rulings b id request said.rulings)
+    unfolding with_kept
+    by_rulings = ap (λ (o : Option RequestHeader). with_answer b id request answer o (reading.read_answer answer)) reads ∙ ap (with_answer b id request answer (Some h)) says
+
+    pub kept_unfit : list_all serial_fits (kept_rulings b id request said.rulings) ≡ false → with_kept b id request answer ≡ None
+    kept_unfit e = by_rulings ∙ cond-false _ _ None (and_left _ (bytes_eq (answer_text h AcceptedStatus (kept_rulings b id request said.rulings)) answer) e)
+
+    pub kept_other : bytes_eq (answer_text h AcceptedStatus (kept_rulings b id request said.rulings)) answer ≡ false → with_kept b id request answer ≡ None
+    kept_other e = by_rulings ∙ cond-false _ _ None (and_right (list_all serial_fits (kept_rulings b id request said.rulings)) _ e)
+
+    pub kept_stands : (r : Row) → r ≡ record { id = id; request = request; rulings = kept_rulings b id request said.rulings } → list_all serial_fits r.rulings ≡ true → bytes_eq (answer_text h AcceptedStatus r.rulings) answer ≡ true
+        → with_kept b id request answer ≡ Some (with_row b r)
+    kept_stands r is fit same =
+        let fits : list_all serial_fits (kept_rulings b id request said.rulings) ≡ true = subst (λ (q : Row). list_all serial_fits q.rulings ≡ true) is fit in
+        let text : bytes_eq (answer_text h AcceptedStatus (kept_rulings b id request said.rulings)) answer ≡ true = subst (λ (q : Row). bytes_eq (answer_text h AcceptedStatus q.rulings) answer ≡ true) is same in
+        by_rulings ∙ (cond-true _ _ None (and_from _ _ fits text) ∙ ap (λ (q : Row). Some (with_row b q)) (sym is))
+
+  -- where there is no room, or the id is there already
+  pub full_none : b.settings.cap ≤ length b.rows → added b id request answer ≡ None
+  unfolding added
+  full_none full = cond-false _ _ None (and_left _ (is_none (row_of id b.rows)) (le-ltb (length b.rows) b.settings.cap full))
+
+  pub known_none : is_none (row_of id b.rows) ≡ false → added b id request answer ≡ None
+  unfolding added
+  known_none known = cond-false _ _ None (and_right (nat_lt (length b.rows) b.settings.cap) _ known)
+
+  -- and where there is room for a new one
+  pub added_kept : length b.rows < b.settings.cap → is_none (row_of id b.rows) ≡ true → added b id request answer ≡ with_kept b id request answer
+  unfolding added
+  added_kept room fresh = cond-true _ _ None (and_from _ _ (lt-ltb (length b.rows) b.settings.cap room) fresh)
+
+-- a request that was not read
+pub unread_none : (b : Book) (id : TxnId) (request answer : List ℕ) (f : BookFault) → IsUnread f (readable_header request) → (row_fault f ≡ row.OutOfMemory → ⊥) → with_kept b id request answer ≡ None
+unread_none b id request answer fault.OutOfMemory h other = absurd (other refl)
+unread_none b id request answer fault.Unreadable h other = unreadable_kept b id request answer h
+unread_none b id request answer fault.NotOurs h other = absurd h
+unread_none b id request answer fault.NumberReused h other = absurd h
+unread_none b id request answer fault.BookFull h other = absurd h
+unread_none b id request answer fault.SerialsUsedUp h other = absurd h
+
+pub negated : (b : Bool) → not b ≡ true → b ≡ false
+negated true e = sym e
+negated false e = refl
+
+pub affirmed : (b : Bool) → not b ≡ false → b ≡ true
+affirmed true e = refl
+affirmed false e = sym e
+
+-- a row that could not be ruled
+pub unruled_none : (b : Book) (id : TxnId) (request answer : List ℕ) (h : RequestHeader) → readable_header request ≡ Some h → (said : Answer) → reading.read_answer answer ≡ Some said → (rulings : List Ruling) → rulings ≡ said.rulings
+    → (f : BookFault) → (f ≡ fault.OutOfMemory) ⊎ ((f ≡ fault.SerialsUsedUp) × (list_all serial_fits (kept_rulings b id request rulings) ≡ false)) → (row_fault f ≡ row.OutOfMemory → ⊥) → with_kept b id request answer ≡ None
+unruled_none b id request answer h reads said says rulings same f (inl memory) other = absurd (other (ap row_fault memory))
+unruled_none b id request answer h reads said says rulings same f (inr unfit) other =
+    kept_unfit b id request answer h reads said says (subst (λ (rs : List Ruling). list_all serial_fits (kept_rulings b id request rs) ≡ false) same unfit.1)
+
+-- what a look-up found
+pub found_none : {A : Type 0} (o : Option (Bor A)) (r : Option A) → option_copied o ≡ r → is_none r ≡ not (is_some o)
+found_none o r e = ap (λ x. is_none x) (sym e) ∙ by_case o
+  where
+    by_case : {A : Type 0} (o : Option (Bor A)) → is_none (option_copied o) ≡ not (is_some o)
+    by_case None = refl
+    by_case (Some x) = refl

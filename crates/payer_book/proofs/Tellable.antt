@@ -1,0 +1,107 @@
+-- The rulings of a request can be told in an answer, and so can the payments that they leave standing.
+use Rattle.std.proofs.Common.{◌≡◌, ℕ, ◌≤◌, Bool, true, false, not, cond, List, [], ◌∷◌, ◌++◌, length, Option, Some, None, Result, Ok, Err, refl, sym, subst, arith, leb-true}
+use Rattle.std.specs.Prelude.{find, filter}
+use Rattle.std.specs.List.{AllByRecursion, list_all}
+use Rattle.std.proofs.lemmas.Bool.{and_parts}
+use Rattle.plan_rules.specs.Pricing.{paid}
+use Rattle.claim_model.specs.Words.{TxnId, Auth, Amounts, Claim, Reversal, Order, Bills, Reverses, Code, NotCovered, DuplicateClaim, ReversalNotProcessed, Plan, Ruling, Paid, Duplicate, Reversed, Rejected, RequestHeader}
+use Rattle.claim_model.specs.Payments.{same_auth}
+use Rattle.claim_model.specs.Judgement.{only, same_claim, Settled, priced}
+use Rattle.claim_model.specs.Laws.{IsAmounts, IsClaimOf, IsOrderOf, IsPrescription, IsRuling}
+use Rattle.claim_model.specs.Book.{serial_fits, last_serial}
+use Rattle.payer_book.specs.declared.payment.Standing.{Standing}
+use Rattle.payer_book.specs.declared.payment.Payment.{Payment}
+use Rattle.payer_book.specs.declared.changes.Change.{Change}
+use Rattle.payer_book.specs.Ledger.{Ledger, standing_in, standing_of, is_of, takes_back}
+use Rattle.payer_book.specs.Changes.{change_by, changes_by, standing_with, standing_after, payments_with, payments_after}
+use Rattle.payer_book.specs.Drafts.{claim_on, reversal_on, judged_on, Pricing, ByPlan, AsKept, price_at, auth_after, settled_by, ruling_on, rulings_on}
+use Rattle.payer_book.specs.Made.{IsTold, ArePrices}
+use Rattle.payer_book.proofs.Growth.{standing_more, after_more}
+use Rattle.payer_book.proofs.Lists.{same_some, all_append, all_filter}
+
+find_all : {A : Type 0} (P : A → Type 0) (test : A → Bool) (xs : List A) (a : A) → AllByRecursion P xs → find test xs ≡ Some a → P a
+find_all P test [] a all e = absurd cc
+find_all P test (x ∷ xs) a all e = by_test (test x) (find_all P test xs a all.1) e
+  where
+    by_test : (b : Bool) → (find test xs ≡ Some a → P a) → cond b (Some x) (find test xs) ≡ Some a → P a
+    by_test true later h = subst P (same_some x a h) all.0
+    by_test false later h = later h
+
+only_all : {A : Type 0} (P : A → Type 0) (xs : List A) (a : A) → AllByRecursion P xs → only xs ≡ Some a → P a
+only_all P [] a all e = absurd cc
+only_all P (x ∷ []) a all e = subst P (same_some x a e) all.0
+only_all P (x ∷ y ∷ more) a all e = absurd cc
+
+-- one code
+one_code : (code : Code) → IsRuling (Rejected (code ∷ []))
+one_code code = record { some = omega arith; few = omega arith }
+
+-- a draft's ruling
+module _ (auth : Auth) (payer : 1 ≤ auth.payer) (payer_fits : auth.payer ≤ 9999) (serial : 1 ≤ auth.serial) (prices : Pricing) (k : ℕ) (h : RequestHeader)
+    (amounts : (c : Claim) (m : Amounts) → IsClaimOf h c → price_at prices k c ≡ Some m → IsAmounts m) (standing : List Standing) (told : AllByRecursion IsTold standing) where
+  priced_told : (c : Claim) (o : Option Amounts) → IsClaimOf h c → price_at prices k c ≡ o → serial_fits (priced auth c o) ≡ true → IsRuling (priced auth c o)
+  priced_told c None of_it e fits = one_code NotCovered
+  priced_told c (Some m) of_it e fits =
+      (record { payer = omega (arith, payer); payer_fits = payer_fits; serial = omega (arith, serial); serial_fits = leb-true auth.serial last_serial fits }, of_it.prescription, amounts c m of_it e)
+
+  claim_told : (c : Claim) (o : Option Standing) → IsClaimOf h c → standing_of c.fill standing ≡ o → serial_fits (settled_by auth prices k (claim_on c o)) ≡ true → IsRuling (settled_by auth prices k (claim_on c o))
+  claim_told c None of_it e fits = priced_told c (price_at prices k c) of_it refl fits
+  claim_told c (Some s) of_it e fits = by_test (same_claim s.claim c)
+    where
+      by_test : (b : Bool) → IsRuling (settled_by auth prices k (cond b (Settled (Duplicate s.auth c.fill.prescription s.amounts)) (Settled (Rejected (DuplicateClaim ∷ [])))))
+      by_test true = let t = find_all IsTold (is_of c.fill) standing s told e in (t.auth, of_it.prescription, t.amounts)
+      by_test false = one_code DuplicateClaim
+
+  reversal_told : (v : Reversal) (o : Option Standing) → IsPrescription v.prescription → only (filter (takes_back v) standing) ≡ o → IsRuling (settled_by auth prices k (reversal_on v o))
+  reversal_told v None n e = one_code ReversalNotProcessed
+  reversal_told v (Some s) n e = ((only_all IsTold (filter (takes_back v) standing) s (all_filter IsTold (takes_back v) standing told) e).auth, n)
+
+  settled_told : (order : Result Order (List Code)) → IsOrderOf h order → serial_fits (settled_by auth prices k (judged_on standing order)) ≡ true → IsRuling (settled_by auth prices k (judged_on standing order))
+  settled_told (Err codes) of_it fits = of_it
+  settled_told (Ok (Bills c)) of_it fits = claim_told c (standing_of c.fill standing) of_it refl fits
+  settled_told (Ok (Reverses v)) of_it fits = reversal_told v (only (filter (takes_back v) standing)) of_it.prescription refl
+
+-- what stands after a ruling that can be told
+change_told : (order : Result Order (List Code)) (r : Ruling) (standing : List Standing) → IsRuling r → AllByRecursion IsTold standing → AllByRecursion IsTold (standing_with standing (change_by order r))
+change_told (Ok (Bills c)) (Paid auth n m) standing is told = all_append IsTold standing _ told (record { auth = is.0; amounts = is.2 }, tt)
+change_told (Ok (Reverses v)) (Paid auth n m) standing is told = told
+change_told (Err codes) (Paid auth n m) standing is told = told
+change_told order (Duplicate auth n m) standing is told = told
+change_told order (Reversed auth n) standing is told = all_filter IsTold (λ (s : Standing). not (same_auth auth s.auth)) standing told
+change_told order (Rejected codes) standing is told = told
+
+abbrev pub PricesFit : RequestHeader → Pricing → Type 0
+PricesFit h prices = (k : ℕ) (c : Claim) (m : Amounts) → IsClaimOf h c → price_at prices k c ≡ Some m → IsAmounts m
+
+-- the rulings of a request
+module _ (l : Ledger) (prices : Pricing) (h : RequestHeader) (payer : 1 ≤ l.payer) (payer_fits : l.payer ≤ 9999) (serial : 1 ≤ l.first) (amounts : PricesFit h prices) where
+  ruling_told : (changes : List Change) (order : Result Order (List Code)) → AllByRecursion IsTold (standing_after (standing_in l.payments) changes) → IsOrderOf h order → serial_fits (ruling_on l prices changes order) ≡ true
+      → IsRuling (ruling_on l prices changes order)
+  unfolding ruling_on
+  ruling_told changes order told of_it fits =
+      settled_told (auth_after l changes) payer payer_fits (omega (arith, serial)) prices (length changes) h (amounts (length changes)) (standing_after (standing_in l.payments) changes) told order of_it fits
+
+  pub rulings_told : (changes : List Change) (orders : List (Result Order (List Code))) → AllByRecursion IsTold (standing_after (standing_in l.payments) changes) → AllByRecursion (IsOrderOf h) orders
+      → list_all serial_fits (rulings_on l prices changes orders) ≡ true → AllByRecursion IsRuling (rulings_on l prices changes orders)
+  rulings_told changes [] told all fit = tt
+  rulings_told changes (order ∷ orders) told all fit =
+      let r : Ruling = ruling_on l prices changes order in
+      let fits = and_parts (serial_fits r) _ fit in
+      let is : IsRuling r = ruling_told changes order told all.0 fits.0 in
+      let next : AllByRecursion IsTold (standing_after (standing_in l.payments) (changes ++ change_by order r ∷ [])) =
+      subst (AllByRecursion IsTold) (sym (after_more (standing_in l.payments) changes (change_by order r))) (change_told order r (standing_after (standing_in l.payments) changes) is told) in
+      (is, rulings_told (changes ++ change_by order r ∷ []) orders next all.1 fits.1)
+
+-- the standing payments of a book that goes on with such rulings
+pub after_told : (id : TxnId) (ps : List Payment) (orders : List (Result Order (List Code))) (rulings : List Ruling) → AllByRecursion IsTold (standing_in ps) → AllByRecursion IsRuling rulings
+    → AllByRecursion IsTold (standing_in (payments_after id ps (changes_by orders rulings)))
+after_told id ps [] rulings told all = told
+after_told id ps (order ∷ orders) [] told all = told
+after_told id ps (order ∷ orders) (r ∷ rulings) told all =
+    after_told id (payments_with id ps (change_by order r)) orders rulings
+    (subst (AllByRecursion IsTold) (sym (standing_more id ps (change_by order r))) (change_told order r (standing_in ps) all.0 told)) all.1
+
+-- prices of a plan, and those of a kept answer
+pub prices_fit : ((plan : Plan) (h : RequestHeader) (c : Claim) (m : Amounts) → IsClaimOf h c → paid plan c ≡ Some m → IsAmounts m) → (h : RequestHeader) (prices : Pricing) → ArePrices prices → PricesFit h prices
+prices_fit law h (ByPlan plan) are k c m of_it e = law plan h c m of_it e
+prices_fit law h (AsKept said) are k c m of_it e = are k m e
