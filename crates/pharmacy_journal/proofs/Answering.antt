@@ -1,17 +1,17 @@
 -- What is heard by a journal as it is kept, and what is submitted to one.
-use Rattle.std.proofs.Common.{◌≡◌, ℕ, ◌+◌, ◌-◌, ◌<◌, ◌≤◌, List, [], ◌∷◌, ◌++◌, length, set, Option, Some, None, Result, Ok, Err, refl, sym, ap, ◌∙◌, subst}
+use Rattle.std.proofs.Common.{◌≡◌, ℕ, ◌+◌, ◌-◌, ◌<◌, List, [], ◌∷◌, ◌++◌, length, set, Option, Some, None, Result, Ok, refl, sym, ap, ◌∙◌, subst}
 use Rattle.std.specs.List.{slice_get}
 use Rattle.bin_routes.specs.Table.{RouteMaps}
 use Rattle.claim_model.specs.Words.{Envelope}
 use Rattle.claim_model.specs.Bytes.{bytes_with}
 use Rattle.claim_model.specs.Refusal.{Refusal}
-use Rattle.claim_model.specs.Journal.{PharmacySettings, Journal, Entry, State, Waits, Has, Sending, Submitted, heard, submitted, submit_fault}
+use Rattle.claim_model.specs.Journal.{PharmacySettings, Journal, Entry, State, Waits, Has, Sending, heard, submitted, submit_fault}
 use Rattle.pharmacy_journal.specs.Refusing.{IsRefused, IsCause}
 use Rattle.pharmacy_journal.specs.Reading.{header_of}
 use Rattle.pharmacy_journal.specs.Transactions.{Submission}
 use Rattle.pharmacy_journal.specs.Timetable.{Rounds}
 use Rattle.pharmacy_journal.specs.Sendings.{packet_of}
-use Rattle.pharmacy_journal.specs.Entries.{entry_of, entries_of, kept_of, IsUp}
+use Rattle.pharmacy_journal.specs.Entries.{entry_of, kept_of, IsUp}
 use Rattle.pharmacy_journal.specs.Hearing.{state_after, settled_at, IsAnsweredBy}
 use Rattle.pharmacy_journal.specs.declared.slot.Slot.{Slot}
 use Rattle.pharmacy_journal.specs.declared.slot.Slot.TheVariants.{Waiting, Settled}

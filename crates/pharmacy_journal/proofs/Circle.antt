@@ -1,9 +1,8 @@
 -- Going round the circle of phases.
-use Rattle.std.proofs.Common.{◌≡◌, ℕ, ◌+◌, ◌-◌, ◌*◌, ◌/◌, ◌%◌, ◌<◌, ◌≤◌, ◌^◌, Bool, true, false, eqb, sym, ap, ◌∙◌, arith, inl, inr, ⊎_elim, ◌⊎◌}
-use Rattle.std.proofs.Math.Nat.{mod-eq_of_lt, add-mod_right, mod-add-mod, mod-mod_of_dvd, dvd-mul_right, dvd-mul_right_of_dvd, add-mod-mod, mod-lt}
-use Rattle.std.proofs.lemmas.Nat.{mul-le, mul-lt, div_below, div-mul-add}
-use Rattle.std.proofs.lemmas.Bool.{cases_eq, cases_lt, eq-eqb, ne_eqb, cases_order}
-use Rattle.pharmacy_journal.specs.Retry.{Rule, IsRule, phases_of}
+use Rattle.std.proofs.Common.{◌≡◌, ℕ, ◌+◌, ◌-◌, ◌%◌, ◌<◌, ◌≤◌, eqb, sym, ap, ◌∙◌, arith, inl, inr, ⊎_elim, ◌⊎◌}
+use Rattle.std.proofs.Math.Nat.{mod-eq_of_lt, add-mod_right, mod-add-mod, mod-mod_of_dvd, dvd-mul_right, dvd-mul_right_of_dvd, add-mod-mod}
+use Rattle.std.proofs.lemmas.Bool.{cases_eq, cases_lt, eq-eqb, ne_eqb}
+use Rattle.pharmacy_journal.specs.Retry.{Rule, phases_of}
 
 -- a phase that the clock has not reached
 pub ahead : (clock phase circle : ℕ) → clock ≤ phase → phase < circle → (clock + (phase - clock)) % circle ≡ phase

@@ -1,12 +1,12 @@
 -- What is due: the packets of the entries at the places that are due.
-use Rattle.std.proofs.Common.{◌≡◌, ℕ, zero, suc, ◌+◌, ◌<◌, ◌≤◌, ◌%◌, Bool, true, false, cond, eqb, List, [], ◌∷◌, ◌++◌, length, map, get_or, Option, Some, None, refl, sym, ap, ◌∙◌, arith, zero-add}
+use Rattle.std.proofs.Common.{◌≡◌, ℕ, suc, ◌+◌, ◌%◌, true, false, cond, eqb, List, [], ◌∷◌, ◌++◌, Some, refl, sym, ap, ◌∙◌, arith, zero-add}
 use Rattle.std.specs.List.{slice_get, flat_map}
 use Rattle.bin_routes.specs.Table.{RouteMaps}
 use Rattle.claim_model.specs.Bytes.{bytes_with}
 use Rattle.claim_model.specs.Context.{Context}
 use Rattle.claim_model.specs.Journal.{Journal, Entry, State, Waits, Has, Sending, due, due_from, due_by, ticked}
 use Rattle.pharmacy_journal.specs.Places.{places_from}
-use Rattle.pharmacy_journal.specs.Sendings.{packet_of, packet_in, packet_by, packet_at, is_due_in, is_due_entry, due_places, due_packets}
+use Rattle.pharmacy_journal.specs.Sendings.{packet_of, packet_in, packet_by, is_due_in, is_due_entry, due_packets}
 
 -- what an entry is due, and what follows it
 due_step : (j : Journal) (ctx : Context) (number place : ℕ) (request : List ℕ) (state : State) (f : ℕ → List Sending) (rest : List ℕ) →

@@ -1,14 +1,13 @@
 -- The entries of a journal, as they are kept and as they are seen.
-use Rattle.std.proofs.Common.{◌≡◌, ℕ, zero, suc, ◌+◌, ◌<◌, ◌≤◌, ◌%◌, Bool, true, false, cond, eqb, List, [], ◌∷◌, ◌++◌, length, map, set, get_or, Option, Some, None, option_map, is_some, refl, sym, ap, ◌∙◌, arith, subst, ⊎_elim, zero-add}
-use Rattle.std.specs.List.{slice_get, flat_map, AllByRecursion}
+use Rattle.std.proofs.Common.{◌≡◌, ℕ, zero, suc, ◌+◌, ◌≤◌, Bool, true, false, List, [], ◌∷◌, ◌++◌, length, map, set, Option, Some, None, option_map, is_some, refl, sym, ap, ◌∙◌, arith, subst}
+use Rattle.std.specs.List.{slice_get}
 use Rattle.std.proofs.lemmas.List.{length-map}
 use Rattle.std.proofs.lemmas.Option.{slice_get-map}
 use Rattle.claim_model.specs.Words.{TxnId}
-use Rattle.claim_model.specs.Journal.{PharmacySettings, Entry, State, Waits, Has, ticked_state}
+use Rattle.claim_model.specs.Journal.{PharmacySettings, Entry, Has, ticked_state}
 use Rattle.pharmacy_journal.specs.Retry.{Rule, phases_of, next_phase, is_due}
 use Rattle.pharmacy_journal.specs.Places.{places_from}
-use Rattle.pharmacy_journal.specs.Reading.{is_own_request, settles_with}
-use Rattle.pharmacy_journal.specs.Entries.{entry_of, entries_of, kept_of, is_waiting, IsEntry, AreEntries, phase_or_start}
+use Rattle.pharmacy_journal.specs.Entries.{entry_of, entries_of, is_waiting, IsEntry, AreEntries}
 use Rattle.pharmacy_journal.specs.Sendings.{is_due_entry}
 use Rattle.pharmacy_journal.specs.Hearing.{settled_slot, settled_at, IsAnsweredBy}
 use Rattle.pharmacy_journal.specs.declared.slot.Slot.{Slot}

@@ -1,5 +1,5 @@
 -- What an envelope does to a journal.
-use Rattle.std.proofs.Common.{◌≡◌, ℕ, zero, suc, ◌+◌, ◌-◌, ◌<◌, ◌≤◌, Bool, true, false, cond, not, ◌&&◌, List, [], ◌∷◌, length, set, Option, Some, None, Result, Ok, Err, eqb, refl, sym, ap, ◌∙◌, arith, subst, ⊎_elim}
+use Rattle.std.proofs.Common.{◌≡◌, ℕ, zero, suc, ◌-◌, ◌<◌, ◌≤◌, Bool, true, false, cond, not, ◌&&◌, List, length, set, Option, Some, None, Result, Ok, Err, refl, sym, ap, ◌∙◌, arith, subst, ⊎_elim}
 use Rattle.std.specs.List.{slice_get}
 use Rattle.std.proofs.lemmas.Bool.{ne_eqb, eq-eqb, cases_lt}
 use Rattle.std.proofs.lemmas.Option.{slice_get_past}
@@ -12,7 +12,7 @@ use Rattle.claim_model.specs.Bytes.{bytes_with}
 use Rattle.claim_model.specs.Readable.{is_request}
 use Rattle.claim_model.specs.Numbered.{numbered, renumbered}
 use Rattle.claim_model.specs.Refusal.{Refusal, NotMine, NoSuchNumber, Unreadable}
-use Rattle.claim_model.specs.Journal.{Journal, Entry, State, Has, heard, heard_at, settle_with, settle_by}
+use Rattle.claim_model.specs.Journal.{Journal, Entry, State, Has, heard, settle_with, settle_by}
 use Rattle.pharmacy_journal.specs.Refusing.{IsRefused}
 use Rattle.pharmacy_journal.specs.Reading.{settles_with}
 use Rattle.pharmacy_journal.specs.Hearing.{envelope_seen, state_after, state_by}

@@ -2,13 +2,12 @@
 use Rattle.std.proofs.Common.{◌≡◌, ℕ, ◌+◌, ◌<◌, ◌≤◌, Bool, true, false, cond, not, ◌||◌, ◌&&◌, eqb, List, [], ◌∷◌, ◌++◌, length, map, take, drop, Option, Some, None, Result, Ok, Err, min, refl, sym, ap, ◌∙◌, arith, ⊎_elim}
 use Rattle.std.specs.Prelude.{filter, if◌then◌else◌}
 use Rattle.std.specs.List.{list_any, filter_map}
-use Rattle.std.specs.Option.{option_to_list}
 use Rattle.std.specs.BTreeMap.{is_at}
 use Rattle.std.specs.declared.cmp.Ordering.{Ordering}
 use Rattle.std.proofs.lemmas.Bool.{cases_eq, cases_lt, eq-eqb, ne_eqb}
 use Rattle.std.proofs.lemmas.List.Folds.{list_any-append}
 use Rattle.std.proofs.lemmas.List.Elements.{filter_map-append}
-use Rattle.std.proofs.lemmas.List.{append_assoc, append-nil, drop_more, drop_all}
+use Rattle.std.proofs.lemmas.List.{append_assoc, drop_more, drop_all}
 use Rattle.d0_segments.specs.declared.fault.FramingFault.{FramingFault}
 use Rattle.d0_segments.specs.declared.fault.FramingFault.TheVariants as framing
 use Rattle.d0_segments.specs.Faults.{Fails}
@@ -16,7 +15,7 @@ use Rattle.d0_segments.specs.Framing.{request_kind, framing_fault, transmission_
 use Rattle.bin_routes.specs.Table.{RouteMaps}
 use Rattle.claim_model.specs.Words.{TxnId, Auth, Fill, Order, Bills, Reverses, Code, Ruling, Paid, Duplicate, Reversed, Rejected}
 use Rattle.claim_model.specs.Bytes.{bytes_with, orders_in}
-use Rattle.claim_model.specs.Ruled.{Ruled, ruled_from}
+use Rattle.claim_model.specs.Ruled.{ruled_from}
 use Rattle.claim_model.specs.Payments.{same_auth, reverses, undone, is_auth}
 use Rattle.claim_model.specs.Counted.{Counted, firsts, named, named_by, ruled_answer, ruled_entries, told, is_reversed, counted}
 use Rattle.claim_model.specs.Journal.{Kept, JournalAtRest}

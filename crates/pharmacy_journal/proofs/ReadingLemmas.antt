@@ -1,8 +1,8 @@
 -- What is known of a readable request, and of an answer beside it.
-use Rattle.std.proofs.Common.{◌≡◌, ℕ, ◌≤◌, ◌<◌, Bool, true, false, ◌&&◌, List, length, Option, Some, None, Result, Ok, Err, option_map, eqb, refl, sym, ap, ◌∙◌, arith}
+use Rattle.std.proofs.Common.{◌≡◌, ℕ, ◌≤◌, ◌<◌, Bool, true, false, ◌&&◌, List, length, Option, Some, None, Ok, Err, option_map, refl, sym, ap, ◌∙◌}
 use Rattle.std.specs.Prelude.{nat_le, nat_lt, option_and_then, if◌then◌else◌, bytes_eq, ◌==◌, IsSome}
 use Rattle.std.proofs.lemmas.Bool.{leb-true}
-use Rattle.d0_header.specs.Request.{Request, IsRequest, request_of, request_fault}
+use Rattle.d0_header.specs.Request.{Request, request_of, request_fault}
 use Rattle.d0_header.specs.declared.fault.HeaderFault.{HeaderFault}
 use Rattle.d0_segments.specs.declared.fault.FramingFault.{FramingFault}
 use Rattle.d0_segments.specs.declared.fault.FramingFault.TheVariants as framing
@@ -13,12 +13,11 @@ use Rattle.claim_profile.specs.Readable.{readable_header, is_carried, if_carried
 use Rattle.claim_profile.specs.Ruling.{AnswerParts, answer_of}
 use Rattle.claim_profile.specs.declared.answer_reading.AnswerFault.{AnswerFault}
 use Rattle.claim_model.specs.Readable.{fits, has_version, has_code, longest}
-use Rattle.claim_model.specs.Bytes.{answer_in}
 use Rattle.std.proofs.Common.{cond, not}
 use Rattle.claim_model.specs.Refusal.{Refusal, Unreadable, Version, CodeNotCarried, NotOwnProvider, TooLong, JournalFull}
 use Rattle.claim_model.specs.Journal.{Journal, submit_fault, is_own}
 use Rattle.pharmacy_journal.specs.Refusing.{IsCause, refusal_to_submit, fault_of_framing}
-use Rattle.pharmacy_journal.specs.Reading.{header_of, reading_of, settles_with, is_own_request}
+use Rattle.pharmacy_journal.specs.Reading.{header_of, settles_with, is_own_request}
 
 -- what a readable request is
 pub record IsReadable (text : List ℕ) (h : Request) : Type 0 where

@@ -1,26 +1,24 @@
 -- A journal that is up stays one.
-use Rattle.std.proofs.Common.{◌≡◌, ℕ, zero, suc, ◌+◌, ◌*◌, ◌/◌, ◌<◌, ◌≤◌, Bool, true, false, List, [], ◌∷◌, ◌++◌, length, map, set, get_or, Option, Some, None, option_map, is_some, refl, sym, ap, ◌∙◌, arith, subst, length-append}
-use Rattle.std.specs.List.{slice_get, flat_map, AllByRecursion}
+use Rattle.std.proofs.Common.{◌≡◌, ℕ, zero, suc, ◌+◌, ◌*◌, ◌/◌, ◌<◌, ◌≤◌, true, false, List, [], ◌∷◌, ◌++◌, length, map, set, get_or, Option, Some, None, option_map, is_some, refl, sym, ap, ◌∙◌, arith, subst, length-append}
+use Rattle.std.specs.List.{slice_get, AllByRecursion}
 use Rattle.std.proofs.lemmas.List.{length-map, map-append}
-use Rattle.std.proofs.lemmas.Option.{slice_get-map, get_or_from_slice_get, slice_get_within}
+use Rattle.std.proofs.lemmas.Option.{get_or_from_slice_get}
 use Rattle.std.specs.Prelude.{slice_index}
 use Rattle.claim_model.specs.Words.{TxnId}
 use Rattle.claim_model.specs.Journal.{PharmacySettings, Journal, Entry, State, Waits, Has, Sending, ticked, circle}
 use Rattle.pharmacy_journal.specs.Retry.{Rule, phases_of, next_phase, node_of, is_due}
 use Rattle.pharmacy_journal.specs.Places.{places_from}
 use Rattle.pharmacy_journal.specs.Timetable.{Rounds, ticked_phases, ticked_rounds, due_next}
-use Rattle.pharmacy_journal.specs.Settings.{AreSettings, rule_of}
-use Rattle.pharmacy_journal.specs.Reading.{is_own_request}
-use Rattle.pharmacy_journal.specs.Entries.{entry_of, entries_of, is_waiting, IsEntry, AreEntries, IsAtRest, IsUp}
-use Rattle.pharmacy_journal.specs.Sendings.{packet_of, packet_in, packet_by, packet_at, is_due_entry, due_places, due_packets}
+use Rattle.pharmacy_journal.specs.Entries.{entry_of, entries_of, is_waiting, IsEntry, IsUp}
+use Rattle.pharmacy_journal.specs.Sendings.{packet_by, packet_at, is_due_entry, due_places}
 use Rattle.envelope.specs.Envelope.{envelope_text}
 use Rattle.claim_model.specs.Words.{Request}
 use Rattle.pharmacy_journal.specs.Transactions.{Submission}
-use Rattle.pharmacy_journal.specs.Hearing.{settled_at, settled_slot, IsAnsweredBy}
+use Rattle.pharmacy_journal.specs.Hearing.{settled_at, IsAnsweredBy}
 use Rattle.pharmacy_journal.specs.declared.slot.Slot.{Slot}
 use Rattle.pharmacy_journal.specs.declared.slot.Slot.TheVariants.{Waiting, Settled}
 use Rattle.pharmacy_journal.proofs.PlaceLemmas.{places_from-end}
-use Rattle.pharmacy_journal.proofs.Entering.{length-entries_of, length-phases, entries_of-push, AreEntries-push, AreEntries-at, AreEntries-settled, phase-at, entries_of-at, entries_of-settled, length-settled_at, waiting-settled_at, entries_of-ticked, is_some-next, due-entries_of}
+use Rattle.pharmacy_journal.proofs.Entering.{length-phases, AreEntries-push, AreEntries-at, AreEntries-settled, phase-at, entries_of-at, length-settled_at, waiting-settled_at, entries_of-ticked, is_some-next, due-entries_of}
 
 -- how a journal's parts are seen
 abbrev pub seen : ℕ → PharmacySettings → Rounds → List Slot → Journal

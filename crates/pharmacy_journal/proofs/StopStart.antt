@@ -1,9 +1,9 @@
 -- Stopping and starting.
-use Rattle.std.proofs.Common.{◌≡◌, ℕ, ◌+◌, ◌-◌, ◌<◌, ◌≤◌, Bool, true, false, List, [], ◌∷◌, ◌++◌, length, map, Option, Some, None, is_some, ltb, refl, sym, ap, ◌∙◌, arith, subst, length-append}
+use Rattle.std.proofs.Common.{◌≡◌, ℕ, ◌+◌, ◌-◌, ◌<◌, ◌≤◌, true, false, List, [], ◌∷◌, ◌++◌, length, map, Option, Some, None, is_some, ltb, refl, sym, ap, ◌∙◌, arith, subst, length-append}
 use Rattle.std.proofs.lemmas.Bool.{and_from, and_parts, ltb-true, lt-ltb, le-leb}
 use Rattle.std.proofs.lemmas.List.{append-nil, append_assoc}
 use Rattle.claim_model.specs.Words.{TxnId}
-use Rattle.claim_model.specs.Journal.{PharmacySettings, Journal, JournalAtRest, Entry, Kept, Waits, Has, kept_entry, stopped, started, started_state, circle}
+use Rattle.claim_model.specs.Journal.{PharmacySettings, Journal, JournalAtRest, Entry, Kept, kept_entry, stopped, started, started_state}
 use Rattle.pharmacy_journal.specs.Retry.{Rule, phases_of}
 use Rattle.pharmacy_journal.specs.Timetable.{Rounds}
 use Rattle.pharmacy_journal.specs.Settings.{rule_of}

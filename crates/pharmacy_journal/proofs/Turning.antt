@@ -1,12 +1,12 @@
 -- What a timetable keeps, when entries come, go and wait.
-use Rattle.std.proofs.Common.{◌≡◌, ℕ, ◌+◌, ◌<◌, ◌%◌, Bool, true, false, eqb, List, [], ◌∷◌, ◌++◌, length, map, set, get_or, Option, Some, None, option_map, Result, Ok, Err, refl, sym, ap, ◌∙◌, arith, subst, ⊎_elim, length-set, length-append, zero-add}
+use Rattle.std.proofs.Common.{◌≡◌, ℕ, ◌+◌, ◌<◌, ◌%◌, eqb, List, [], ◌∷◌, ◌++◌, length, map, set, get_or, Option, Some, None, option_map, Result, Ok, Err, refl, sym, ap, ◌∙◌, arith, subst, ⊎_elim, length-set, zero-add}
 use Rattle.std.specs.List.{AllByRecursion}
 use Rattle.std.specs.BTreeSet.{BTreeSet}
 use Rattle.std.specs.Result.{OnErr}
 use Rattle.std.specs.Set.{remove_key}
-use Rattle.std.proofs.Math.Nat.{mod-add-mod, add-mod-mod, mod-lt}
+use Rattle.std.proofs.Math.Nat.{mod-add-mod}
 use Rattle.std.proofs.lemmas.Bool.{cases_eq, eq-eqb, ne_eqb}
-use Rattle.std.proofs.lemmas.List.{length-map, get_or-set_same, get_or-set_other, get_or-map, set-get_or, map-set, get_or_default}
+use Rattle.std.proofs.lemmas.List.{length-map, get_or-set_same, get_or-set_other, get_or-map, set-get_or, map-set}
 use Rattle.pharmacy_journal.specs.Retry.{Rule, Dial, phases_of, next_phase, phase_at, turned, is_due}
 use Rattle.pharmacy_journal.specs.Places.{places_from}
 use Rattle.pharmacy_journal.specs.Timetable.{Rounds, IsKept, IsLead, in_bucket, bucket_keys, seen_phases}

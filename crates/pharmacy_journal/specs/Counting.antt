@@ -2,7 +2,7 @@
 use Rattle.std.specs.Prelude.{ℕ, Bool, not, List, [], ◌∷◌, ◌++◌, map, filter, Option, Some, None, Result, Ok, Err}
 use Rattle.std.specs.List.{list_any, filter_map}
 use Rattle.d0_segments.specs.Framing.{request_kind, transmission_of}
-use Rattle.claim_model.specs.Words.{Auth, Amounts, Fill, Order, Bills, Reverses, Code, Ruling, Paid, Duplicate, Reversed, Rejected}
+use Rattle.claim_model.specs.Words.{Auth, Fill, Order, Bills, Reverses, Code, Ruling, Paid, Duplicate, Reversed, Rejected}
 use Rattle.claim_model.specs.Bytes.{orders_in}
 use Rattle.claim_model.specs.Readable.{rulings_in}
 use Rattle.claim_model.specs.Payments.{same_auth, undone, is_auth}

@@ -1,7 +1,7 @@
 -- The entries of a journal: as the code keeps them, and as the model sees them.
 use Rattle.std.specs.Prelude.{◌≡◌, ℕ, ◌+◌, ◌<◌, ◌≤◌, Bool, true, false, List, [], ◌∷◌, length, map, Option, Some, None, is_some}
 use Rattle.claim_model.specs.Words.{TxnId}
-use Rattle.claim_model.specs.Journal.{PharmacySettings, State, Waits, Has, Entry, Kept}
+use Rattle.claim_model.specs.Journal.{PharmacySettings, Waits, Has, Entry, Kept}
 use Rattle.pharmacy_journal.specs.Reading.{is_own_request, settles_with}
 use Rattle.pharmacy_journal.specs.Settings.{AreSettings, rule_of}
 use Rattle.pharmacy_journal.specs.Timetable.{Rounds}

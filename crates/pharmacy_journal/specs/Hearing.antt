@@ -1,5 +1,5 @@
 -- What an entry becomes by an envelope.
-use Rattle.std.specs.Prelude.{◌≡◌, ℕ, zero, true, suc, cond, not, ◌&&◌, List, [], ◌∷◌, Result, Ok, Err}
+use Rattle.std.specs.Prelude.{◌≡◌, ℕ, zero, true, suc, cond, not, ◌&&◌, List, [], ◌∷◌, Result, Err}
 use Rattle.envelope.specs.Envelope.{Opened}
 use Rattle.claim_model.specs.Words.{Envelope}
 use Rattle.claim_model.specs.Readable.{is_request}

@@ -1,5 +1,5 @@
 -- How a pharmacy reads requests and answers. No route takes part in it.
-use Rattle.std.specs.Prelude.{ℕ, Bool, false, ◌&&◌, List, Option, Some, None}
+use Rattle.std.specs.Prelude.{ℕ, Bool, false, List, Option, Some, None}
 use Rattle.d0_segments.specs.Framing.{request_kind, transmission_of}
 use Rattle.claim_profile.specs.Ruling.{answer_of}
 use Rattle.claim_profile.specs.Readable.{readable_header}

@@ -1,5 +1,5 @@
 -- What the faults of a pharmacy's calls are in the model. Want of memory is none of its refusals.
-use Rattle.std.specs.Prelude.{◌≡◌, Option, Some, None, Result, Ok, Err}
+use Rattle.std.specs.Prelude.{◌≡◌, Option, Some, None, Result, Err}
 use Rattle.d0_segments.specs.declared.fault.FramingFault.{FramingFault}
 use Rattle.d0_segments.specs.declared.fault.FramingFault.TheVariants as framing
 use Rattle.claim_model.specs.Refusal.{Refusal}

@@ -1,5 +1,5 @@
 -- The rule of retries: one number on a circle for each open entry.
-use Rattle.std.specs.Prelude.{ℕ, ◌+◌, ◌*◌, ◌/◌, ◌%◌, ◌<◌, ◌≤◌, Bool, false, ◌==◌, Option, Some, None, option_map}
+use Rattle.std.specs.Prelude.{ℕ, ◌+◌, ◌*◌, ◌/◌, ◌%◌, ◌<◌, ◌≤◌, Bool, false, ◌==◌, Option, Some, None}
 
 -- after how many ticks an entry is sent again, how often to one switch before the next is tried, and how many switches there are
 pub record Rule : Type 0 where

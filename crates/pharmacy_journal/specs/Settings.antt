@@ -1,5 +1,5 @@
 -- Which settings a pharmacy takes.
-use Rattle.std.specs.Prelude.{ℕ, ◌<◌, ◌≤◌, List, length, IsTrue}
+use Rattle.std.specs.Prelude.{◌<◌, ◌≤◌, length, IsTrue}
 use Rattle.std.specs.List.{list_all}
 use Rattle.d0_header.specs.Field.{is_plain}
 use Rattle.claim_model.specs.Journal.{PharmacySettings}

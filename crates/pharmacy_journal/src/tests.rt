@@ -7,40 +7,64 @@ use std::alloc::{AllocError, Global};
 use std::test::Fail;
 
 /// A billing of one claim, 144 bytes.
-const BILLING: &[u8] =
-    b"610455D0B1A1        1011234567893     20240115SW00000001\x1e\x1cAM04\x1cC2987654321\x1d\x1e\x1cAM07\x1cEM1\x1cD2123456\x1cD30\x1cE103\x1cD700093721410\x1cE730000\x1e\x1cAM11\x1cD9600{\x1cDC20{";
+fn billing() -> &'static [u8] {
+    b"610455D0B1A1        1011234567893     20240115SW00000001\x1e\x1cAM04\x1cC2987654321\x1d\x1e\x1cAM07\x1cEM1\x1cD2123456\x1cD30\x1cE103\x1cD700093721410\x1cE730000\x1e\x1cAM11\x1cD9600{\x1cDC20{"
+}
+
 /// Its paid answer, under serial 1.
-const PAID: &[u8] =
-    b"D0B11A011234567893     20240115\x1d\x1e\x1cAM21\x1cANP\x1cF30001000000000001\x1e\x1cAM22\x1cEM1\x1cD2123456\x1e\x1cAM23\x1cF5100{\x1cF6557{\x1cF715{\x1cF9472{";
+fn paid() -> &'static [u8] {
+    b"D0B11A011234567893     20240115\x1d\x1e\x1cAM21\x1cANP\x1cF30001000000000001\x1e\x1cAM22\x1cEM1\x1cD2123456\x1e\x1cAM23\x1cF5100{\x1cF6557{\x1cF715{\x1cF9472{"
+}
+
 /// The same answer under serial 2.
-const SECOND_PAID: &[u8] =
-    b"D0B11A011234567893     20240115\x1d\x1e\x1cAM21\x1cANP\x1cF30001000000000002\x1e\x1cAM22\x1cEM1\x1cD2123456\x1e\x1cAM23\x1cF5100{\x1cF6557{\x1cF715{\x1cF9472{";
+fn second_paid() -> &'static [u8] {
+    b"D0B11A011234567893     20240115\x1d\x1e\x1cAM21\x1cANP\x1cF30001000000000002\x1e\x1cAM22\x1cEM1\x1cD2123456\x1e\x1cAM23\x1cF5100{\x1cF6557{\x1cF715{\x1cF9472{"
+}
+
 /// The answer to that billing sent again.
-const DUPLICATE: &[u8] =
-    b"D0B11A011234567893     20240115\x1d\x1e\x1cAM21\x1cAND\x1cF30001000000000001\x1e\x1cAM22\x1cEM1\x1cD2123456\x1e\x1cAM23\x1cF5100{\x1cF6557{\x1cF715{\x1cF9472{";
+fn duplicate() -> &'static [u8] {
+    b"D0B11A011234567893     20240115\x1d\x1e\x1cAM21\x1cAND\x1cF30001000000000001\x1e\x1cAM22\x1cEM1\x1cD2123456\x1e\x1cAM23\x1cF5100{\x1cF6557{\x1cF715{\x1cF9472{"
+}
+
 /// The reversal of that billing.
-const REVERSAL: &[u8] =
-    b"610455D0B2A1        1011234567893     20240115SW00000001\x1d\x1e\x1cAM07\x1cEM1\x1cD2123456\x1cD30\x1cE103\x1cD700093721410";
+fn reversal() -> &'static [u8] {
+    b"610455D0B2A1        1011234567893     20240115SW00000001\x1d\x1e\x1cAM07\x1cEM1\x1cD2123456\x1cD30\x1cE103\x1cD700093721410"
+}
+
 /// The answer that takes serial 1 back.
-const REVERSED: &[u8] =
-    b"D0B21A011234567893     20240115\x1d\x1e\x1cAM21\x1cANA\x1cF30001000000000001\x1e\x1cAM22\x1cEM1\x1cD2123456";
+fn reversed() -> &'static [u8] {
+    b"D0B21A011234567893     20240115\x1d\x1e\x1cAM21\x1cANA\x1cF30001000000000001\x1e\x1cAM22\x1cEM1\x1cD2123456"
+}
+
 /// Four billings in one transmission, 354 bytes: the third is the first again.
-const FOUR_BILLINGS: &[u8] =
-    b"610455D0B1A1        4011234567893     20240115SW00000001\x1e\x1cAM04\x1cC2987654321\x1d\x1e\x1cAM07\x1cEM1\x1cD2123456\x1cD30\x1cE103\x1cD700093721410\x1cE730000\x1e\x1cAM11\x1cD9600{\x1cDC20{\x1d\x1e\x1cAM07\x1cEM1\x1cD2123456\x1cD31\x1cE103\x1cD700093721410\x1cE730000\x1e\x1cAM11\x1cD9600{\x1cDC20{\x1d\x1e\x1cAM07\x1cEM1\x1cD2123456\x1cD30\x1cE103\x1cD700093721410\x1cE730000\x1e\x1cAM11\x1cD9600{\x1cDC20{\x1d\x1e\x1cAM07\x1cEM1\x1cD2123456\x1cD32\x1cE103\x1cD700093721410\x1cE730000\x1e\x1cAM11\x1cD9600{\x1cDC20{";
+fn four_billings() -> &'static [u8] {
+    b"610455D0B1A1        4011234567893     20240115SW00000001\x1e\x1cAM04\x1cC2987654321\x1d\x1e\x1cAM07\x1cEM1\x1cD2123456\x1cD30\x1cE103\x1cD700093721410\x1cE730000\x1e\x1cAM11\x1cD9600{\x1cDC20{\x1d\x1e\x1cAM07\x1cEM1\x1cD2123456\x1cD31\x1cE103\x1cD700093721410\x1cE730000\x1e\x1cAM11\x1cD9600{\x1cDC20{\x1d\x1e\x1cAM07\x1cEM1\x1cD2123456\x1cD30\x1cE103\x1cD700093721410\x1cE730000\x1e\x1cAM11\x1cD9600{\x1cDC20{\x1d\x1e\x1cAM07\x1cEM1\x1cD2123456\x1cD32\x1cE103\x1cD700093721410\x1cE730000\x1e\x1cAM11\x1cD9600{\x1cDC20{"
+}
+
 /// Their answers.
-const FOUR_ANSWERS: &[u8] =
-    b"D0B14A011234567893     20240115\x1d\x1e\x1cAM21\x1cANP\x1cF30001000000000001\x1e\x1cAM22\x1cEM1\x1cD2123456\x1e\x1cAM23\x1cF5100{\x1cF6557{\x1cF715{\x1cF9472{\x1d\x1e\x1cAM21\x1cANP\x1cF30001000000000002\x1e\x1cAM22\x1cEM1\x1cD2123456\x1e\x1cAM23\x1cF5100{\x1cF6557{\x1cF715{\x1cF9472{\x1d\x1e\x1cAM21\x1cAND\x1cF30001000000000001\x1e\x1cAM22\x1cEM1\x1cD2123456\x1e\x1cAM23\x1cF5100{\x1cF6557{\x1cF715{\x1cF9472{\x1d\x1e\x1cAM21\x1cANP\x1cF30001000000000003\x1e\x1cAM22\x1cEM1\x1cD2123456\x1e\x1cAM23\x1cF5100{\x1cF6557{\x1cF715{\x1cF9472{";
+fn four_answers() -> &'static [u8] {
+    b"D0B14A011234567893     20240115\x1d\x1e\x1cAM21\x1cANP\x1cF30001000000000001\x1e\x1cAM22\x1cEM1\x1cD2123456\x1e\x1cAM23\x1cF5100{\x1cF6557{\x1cF715{\x1cF9472{\x1d\x1e\x1cAM21\x1cANP\x1cF30001000000000002\x1e\x1cAM22\x1cEM1\x1cD2123456\x1e\x1cAM23\x1cF5100{\x1cF6557{\x1cF715{\x1cF9472{\x1d\x1e\x1cAM21\x1cAND\x1cF30001000000000001\x1e\x1cAM22\x1cEM1\x1cD2123456\x1e\x1cAM23\x1cF5100{\x1cF6557{\x1cF715{\x1cF9472{\x1d\x1e\x1cAM21\x1cANP\x1cF30001000000000003\x1e\x1cAM22\x1cEM1\x1cD2123456\x1e\x1cAM23\x1cF5100{\x1cF6557{\x1cF715{\x1cF9472{"
+}
+
 /// The billing of another provider.
-const OTHER_PROVIDER: &[u8] =
-    b"610455D0B1A1        1019999999999     20240115SW00000001\x1e\x1cAM04\x1cC2987654321\x1d\x1e\x1cAM07\x1cEM1\x1cD2123456\x1cD30\x1cE103\x1cD700093721410\x1cE730000\x1e\x1cAM11\x1cD9600{\x1cDC20{";
+fn other_provider() -> &'static [u8] {
+    b"610455D0B1A1        1019999999999     20240115SW00000001\x1e\x1cAM04\x1cC2987654321\x1d\x1e\x1cAM07\x1cEM1\x1cD2123456\x1cD30\x1cE103\x1cD700093721410\x1cE730000\x1e\x1cAM11\x1cD9600{\x1cDC20{"
+}
+
 /// The billing under another version.
-const OTHER_VERSION: &[u8] =
-    b"61045551B1A1        1011234567893     20240115SW00000001\x1e\x1cAM04\x1cC2987654321\x1d\x1e\x1cAM07\x1cEM1\x1cD2123456\x1cD30\x1cE103\x1cD700093721410\x1cE730000\x1e\x1cAM11\x1cD9600{\x1cDC20{";
+fn other_version() -> &'static [u8] {
+    b"61045551B1A1        1011234567893     20240115SW00000001\x1e\x1cAM04\x1cC2987654321\x1d\x1e\x1cAM07\x1cEM1\x1cD2123456\x1cD30\x1cE103\x1cD700093721410\x1cE730000\x1e\x1cAM11\x1cD9600{\x1cDC20{"
+}
+
 /// The billing under a code that is not carried.
-const OTHER_CODE: &[u8] =
-    b"610455D0E1A1        1011234567893     20240115SW00000001\x1e\x1cAM04\x1cC2987654321\x1d\x1e\x1cAM07\x1cEM1\x1cD2123456\x1cD30\x1cE103\x1cD700093721410\x1cE730000\x1e\x1cAM11\x1cD9600{\x1cDC20{";
+fn other_code() -> &'static [u8] {
+    b"610455D0E1A1        1011234567893     20240115SW00000001\x1e\x1cAM04\x1cC2987654321\x1d\x1e\x1cAM07\x1cEM1\x1cD2123456\x1cD30\x1cE103\x1cD700093721410\x1cE730000\x1e\x1cAM11\x1cD9600{\x1cDC20{"
+}
+
 /// The head of the billing's envelope as number 1 of pharmacy 1.
-const HEAD: &[u8] = b"PS\x01\x01\0\x01\0\0\0\0\0\0\0\x01\0\0\0\x90";
+fn head() -> &'static [u8] {
+    b"PS\x01\x01\0\x01\0\0\0\0\0\0\0\x01\0\0\0\x90"
+}
 
 /// The settings of the tests: two switches.
 fn settings(alloc: Global, again: u32, tries: u32, cap: u32) -> Result<PharmacySettings, Fail>
@@ -168,11 +192,11 @@ fn total(alloc: Global, pharmacy: &Pharmacy) -> Result<u64, AllocError> {
 #[test]
 fn numbers_go_on_after_a_stop(rt: HostRuntime) -> Result<(), Fail> {
     let mut pharmacy = pharmacy(rt.alloc(), 1, 1, 2)?;
-    assert_eq!(rt; submit(&mut pharmacy, BILLING)?, 1);
+    assert_eq!(rt; submit(&mut pharmacy, billing())?, 1);
     let mut pharmacy = restarted(pharmacy)?;
-    assert_eq!(rt; submit(&mut pharmacy, BILLING)?, 2);
+    assert_eq!(rt; submit(&mut pharmacy, billing())?, 2);
     assert_eq!(rt;
-        refusal(&mut pharmacy, BILLING),
+        refusal(&mut pharmacy, billing()),
         Some(SubmitFault::JournalFull)
     );
     Ok(())
@@ -181,12 +205,12 @@ fn numbers_go_on_after_a_stop(rt: HostRuntime) -> Result<(), Fail> {
 #[test]
 fn a_request_is_sent_to_the_first_switch(rt: HostRuntime) -> Result<(), Fail> {
     let mut pharmacy = pharmacy(rt.alloc(), 1, 1, 2)?;
-    let (number, sent) = pharmacy.submit(BILLING)?;
+    let (number, sent) = pharmacy.submit(billing())?;
     assert_eq!(rt; number, 1);
     assert_eq!(rt; sent.to(), 1);
     let bytes = sent.into_bytes();
-    assert_eq!(rt; bytes.as_slice().starts_with(HEAD), true);
-    assert_eq!(rt; bytes.as_slice().ends_with(BILLING), true);
+    assert_eq!(rt; bytes.as_slice().starts_with(head()), true);
+    assert_eq!(rt; bytes.as_slice().ends_with(billing()), true);
     Ok(())
 }
 
@@ -205,19 +229,19 @@ fn texts_that_are_not_submitted(rt: HostRuntime) -> Result<(), Fail> {
     let mut pharmacy = pharmacy(alloc, 1, 1, 100)?;
     let p = &mut pharmacy;
     assert_eq!(rt; refusal(p, b""), Some(SubmitFault::Unreadable));
-    assert_eq!(rt; refusal(p, OTHER_VERSION), Some(SubmitFault::Version));
-    assert_eq!(rt; refusal(p, OTHER_CODE), Some(SubmitFault::CodeNotCarried));
+    assert_eq!(rt; refusal(p, other_version()), Some(SubmitFault::Version));
+    assert_eq!(rt; refusal(p, other_code()), Some(SubmitFault::CodeNotCarried));
     assert_eq!(rt;
-        refusal(p, OTHER_PROVIDER),
+        refusal(p, other_provider()),
         Some(SubmitFault::NotOwnProvider)
     );
-    assert_eq!(rt; submit(p, FOUR_BILLINGS)?, 1);
+    assert_eq!(rt; submit(p, four_billings())?, 1);
     Ok(())
 }
 
 /// The billing with a last field of so many bytes.
 fn longer(alloc: Global, bytes: usize) -> Result<Vec<u8>, AllocError> {
-    let mut text = Vec::from_slice(alloc, BILLING)?;
+    let mut text = Vec::from_slice(alloc, billing())?;
     text.extend_from_slice(b"\x1cZZ")?;
     for _ in 0..bytes {
         text.push(b'x')?;
@@ -240,7 +264,7 @@ fn requests_have_at_most_32768_bytes(rt: HostRuntime) -> Result<(), Fail> {
 #[test]
 fn retries_go_round_the_switches(rt: HostRuntime) -> Result<(), Fail> {
     let mut pharmacy = pharmacy(rt.alloc(), 2, 2, 100)?;
-    submit(&mut pharmacy, BILLING)?;
+    submit(&mut pharmacy, billing())?;
     for expected in [0, 1, 0, 2, 0, 2, 0, 1] {
         assert_eq!(rt; sent_by_tick(&mut pharmacy)?, expected);
     }
@@ -256,12 +280,12 @@ fn a_tick_sends_what_is_due_in_order(rt: HostRuntime) -> Result<(), Fail> {
     let alloc = rt.alloc();
     let mut pharmacy = pharmacy(alloc, 2, 1, 100)?;
     let p = &mut pharmacy;
-    submit(p, BILLING)?;
-    submit(p, REVERSAL)?;
+    submit(p, billing())?;
+    submit(p, reversal())?;
     assert_eq!(rt; tick(alloc, p)?.len(), 0);
-    submit(p, BILLING)?;
+    submit(p, billing())?;
     assert_eq!(rt; lengths(alloc, p)?.as_slice(), [162, 117].as_slice());
-    assert_eq!(rt; answer(alloc, p, 1, PAID)?, None);
+    assert_eq!(rt; answer(alloc, p, 1, paid())?, None);
     assert_eq!(rt; tick(alloc, p)?.as_slice(), [2].as_slice());
     assert_eq!(rt; tick(alloc, p)?.as_slice(), [1].as_slice());
     Ok(())
@@ -272,18 +296,21 @@ fn answers_that_are_not_heard(rt: HostRuntime) -> Result<(), Fail> {
     let alloc = rt.alloc();
     let mut pharmacy = pharmacy(alloc, 1, 1, 100)?;
     let p = &mut pharmacy;
-    submit(p, BILLING)?;
+    submit(p, billing())?;
     assert_eq!(rt;
-        hear(alloc, p, Kind::Answer, (2, 1), PAID)?,
+        hear(alloc, p, Kind::Answer, (2, 1), paid())?,
         Some(HearFault::NotMine)
     );
-    assert_eq!(rt; answer(alloc, p, 5, PAID)?, Some(HearFault::NoSuchNumber));
+    assert_eq!(rt; answer(alloc, p, 5, paid())?, Some(HearFault::NoSuchNumber));
     assert_eq!(rt; answer(alloc, p, 1, b"x")?, Some(HearFault::Unreadable));
     assert_eq!(rt;
-        hear(alloc, p, Kind::Request, (1, 1), BILLING)?,
+        hear(alloc, p, Kind::Request, (1, 1), billing())?,
         Some(HearFault::Unreadable)
     );
-    assert_eq!(rt; answer(alloc, p, 1, REVERSED)?, Some(HearFault::Unreadable));
+    assert_eq!(rt;
+        answer(alloc, p, 1, reversed())?,
+        Some(HearFault::Unreadable)
+    );
     assert_eq!(rt; held(p, 1).is_none(), true);
     Ok(())
 }
@@ -293,12 +320,15 @@ fn an_answer_is_heard_once(rt: HostRuntime) -> Result<(), Fail> {
     let alloc = rt.alloc();
     let mut pharmacy = pharmacy(alloc, 1, 1, 100)?;
     let p = &mut pharmacy;
-    submit(p, BILLING)?;
-    assert_eq!(rt; answer(alloc, p, 1, PAID)?, None);
-    assert_eq!(rt; answer(alloc, p, 1, PAID)?, Some(HearFault::AlreadySettled));
-    assert_eq!(rt; answer(alloc, p, 1, DUPLICATE)?, Some(HearFault::Differs));
+    submit(p, billing())?;
+    assert_eq!(rt; answer(alloc, p, 1, paid())?, None);
+    assert_eq!(rt;
+        answer(alloc, p, 1, paid())?,
+        Some(HearFault::AlreadySettled)
+    );
+    assert_eq!(rt; answer(alloc, p, 1, duplicate())?, Some(HearFault::Differs));
     assert_eq!(rt; answer(alloc, p, 1, b"x")?, Some(HearFault::Unreadable));
-    assert_eq!(rt; held(p, 1).ok_or("no answer")?, PAID);
+    assert_eq!(rt; held(p, 1).ok_or("no answer")?, paid());
     assert_eq!(rt; held(p, 2).is_none(), true);
     assert_eq!(rt; tick(alloc, p)?.len(), 0);
     Ok(())
@@ -307,8 +337,9 @@ fn an_answer_is_heard_once(rt: HostRuntime) -> Result<(), Fail> {
 /// The open transaction of the billing, number 1 of pharmacy 1.
 fn billing_txn(alloc: Global) -> Result<OpenTxn, Fail> {
     let id = TxnId::new(1, 1).ok_or("no id")?;
-    let _readable = read_readable(alloc, BILLING)?;
-    let request = Vec::from_slice(alloc, BILLING)?;
+    let text = billing();
+    let _readable = read_readable(alloc, text)?;
+    let request = Vec::from_slice(alloc, text)?;
     Ok(OpenTxn::new(id, request))
 }
 
@@ -318,8 +349,8 @@ fn an_open_transaction_has_a_packet(rt: HostRuntime) -> Result<(), Fail> {
     let txn = billing_txn(alloc)?;
     assert_eq!(rt; txn.id().number(), 1);
     let packet = txn.packet(alloc)?;
-    assert_eq!(rt; packet.as_slice().starts_with(HEAD), true);
-    assert_eq!(rt; packet.as_slice().ends_with(BILLING), true);
+    assert_eq!(rt; packet.as_slice().starts_with(head()), true);
+    assert_eq!(rt; packet.as_slice().ends_with(billing()), true);
     assert_eq!(rt; packet.len(), 162);
     Ok(())
 }
@@ -333,12 +364,12 @@ fn a_transaction_settles_once(rt: HostRuntime) -> Result<(), Fail> {
     };
     assert_eq!(rt; bytes.as_slice(), b"x".as_slice());
     assert_eq!(rt; fault, SettleFault::Unreadable);
-    assert_eq!(rt; txn.request(), BILLING);
-    let Ok(settled) = txn.settle(alloc, Vec::from_slice(alloc, PAID)?) else {
+    assert_eq!(rt; txn.request(), billing());
+    let Ok(settled) = txn.settle(alloc, Vec::from_slice(alloc, paid())?) else {
         return Err(Fail::from("not settled"));
     };
-    assert_eq!(rt; settled.answer(), PAID);
-    assert_eq!(rt; settled.request(), BILLING);
+    assert_eq!(rt; settled.answer(), paid());
+    assert_eq!(rt; settled.request(), billing());
     assert_eq!(rt; settled.id().pharmacy(), 1);
     Ok(())
 }
@@ -348,14 +379,14 @@ fn a_reversed_payment_is_not_counted(rt: HostRuntime) -> Result<(), Fail> {
     let alloc = rt.alloc();
     let mut pharmacy = pharmacy(alloc, 1, 1, 100)?;
     let p = &mut pharmacy;
-    submit(p, BILLING)?;
-    submit(p, REVERSAL)?;
-    submit(p, BILLING)?;
-    assert_eq!(rt; answer(alloc, p, 1, PAID)?, None);
-    assert_eq!(rt; answer(alloc, p, 3, SECOND_PAID)?, None);
+    submit(p, billing())?;
+    submit(p, reversal())?;
+    submit(p, billing())?;
+    assert_eq!(rt; answer(alloc, p, 1, paid())?, None);
+    assert_eq!(rt; answer(alloc, p, 3, second_paid())?, None);
     assert_eq!(rt; serials(alloc, p)?.as_slice(), [1, 2].as_slice());
     assert_eq!(rt; total(alloc, p)?, 9_440);
-    assert_eq!(rt; answer(alloc, p, 2, REVERSED)?, None);
+    assert_eq!(rt; answer(alloc, p, 2, reversed())?, None);
     assert_eq!(rt; serials(alloc, p)?.as_slice(), [2].as_slice());
     Ok(())
 }
@@ -365,11 +396,11 @@ fn a_duplicate_is_counted_once(rt: HostRuntime) -> Result<(), Fail> {
     let alloc = rt.alloc();
     let mut pharmacy = pharmacy(alloc, 1, 1, 100)?;
     let p = &mut pharmacy;
-    submit(p, BILLING)?;
-    submit(p, BILLING)?;
-    assert_eq!(rt; answer(alloc, p, 2, DUPLICATE)?, None);
+    submit(p, billing())?;
+    submit(p, billing())?;
+    assert_eq!(rt; answer(alloc, p, 2, duplicate())?, None);
     assert_eq!(rt; serials(alloc, p)?.as_slice(), [1].as_slice());
-    assert_eq!(rt; answer(alloc, p, 1, PAID)?, None);
+    assert_eq!(rt; answer(alloc, p, 1, paid())?, None);
     assert_eq!(rt; serials(alloc, p)?.as_slice(), [1].as_slice());
     Ok(())
 }
@@ -379,9 +410,9 @@ fn four_transactions_are_counted_by_place(rt: HostRuntime) -> Result<(), Fail> {
     let alloc = rt.alloc();
     let mut pharmacy = pharmacy(alloc, 1, 1, 100)?;
     let p = &mut pharmacy;
-    submit(p, FOUR_BILLINGS)?;
-    assert_eq!(rt; answer(alloc, p, 1, PAID)?, Some(HearFault::Unreadable));
-    assert_eq!(rt; answer(alloc, p, 1, FOUR_ANSWERS)?, None);
+    submit(p, four_billings())?;
+    assert_eq!(rt; answer(alloc, p, 1, paid())?, Some(HearFault::Unreadable));
+    assert_eq!(rt; answer(alloc, p, 1, four_answers())?, None);
     assert_eq!(rt; serials(alloc, p)?.as_slice(), [1, 2, 3].as_slice());
     assert_eq!(rt; fills(alloc, p)?.as_slice(), [0, 1, 2].as_slice());
     Ok(())
@@ -404,9 +435,9 @@ fn entries_are_listed(rt: HostRuntime) -> Result<(), Fail> {
     let alloc = rt.alloc();
     let mut pharmacy = pharmacy(alloc, 1, 1, 100)?;
     let p = &mut pharmacy;
-    submit(p, FOUR_BILLINGS)?;
+    submit(p, four_billings())?;
     assert_eq!(rt; listed(alloc, p)?, (1, *b"B1", 4, 0));
-    assert_eq!(rt; answer(alloc, p, 1, FOUR_ANSWERS)?, None);
+    assert_eq!(rt; answer(alloc, p, 1, four_answers())?, None);
     assert_eq!(rt; listed(alloc, p)?, (1, *b"B1", 4, 4));
     Ok(())
 }
@@ -461,11 +492,11 @@ fn entries_that_are_not_added(rt: HostRuntime) -> Result<(), Fail> {
     let mut rest = at_rest(rt.alloc(), 1)?;
     let bad = Some(RowFault::BadRow);
     assert_eq!(rt; add(&mut rest, b"x", None), bad);
-    assert_eq!(rt; add(&mut rest, OTHER_PROVIDER, None), bad);
-    assert_eq!(rt; add(&mut rest, BILLING, Some(b"x")), bad);
-    assert_eq!(rt; add(&mut rest, BILLING, Some(REVERSED)), bad);
-    assert_eq!(rt; add(&mut rest, BILLING, None), None);
-    assert_eq!(rt; add(&mut rest, BILLING, None), bad);
+    assert_eq!(rt; add(&mut rest, other_provider(), None), bad);
+    assert_eq!(rt; add(&mut rest, billing(), Some(b"x")), bad);
+    assert_eq!(rt; add(&mut rest, billing(), Some(reversed())), bad);
+    assert_eq!(rt; add(&mut rest, billing(), None), None);
+    assert_eq!(rt; add(&mut rest, billing(), None), bad);
     Ok(())
 }
 
@@ -480,8 +511,8 @@ fn entry(rest: &JournalAtRest, number: u64) -> (&[u8], &[u8]) {
 /// A journal at rest with a settled billing and an open reversal.
 fn two_entries(alloc: Global) -> Result<JournalAtRest, Fail> {
     let mut rest = at_rest(alloc, 2)?;
-    rest.add(BILLING, Some(PAID))?;
-    rest.add(REVERSAL, None)?;
+    rest.add(billing(), Some(paid()))?;
+    rest.add(reversal(), None)?;
     Ok(rest)
 }
 
@@ -489,9 +520,9 @@ fn two_entries(alloc: Global) -> Result<JournalAtRest, Fail> {
 fn entries_are_read_at_rest(rt: HostRuntime) -> Result<(), Fail> {
     let rest = two_entries(rt.alloc())?;
     let nothing: &[u8] = b"";
-    assert_eq!(rt; entry(&rest, 1).0, BILLING);
-    assert_eq!(rt; entry(&rest, 1).1, PAID);
-    assert_eq!(rt; entry(&rest, 2).0, REVERSAL);
+    assert_eq!(rt; entry(&rest, 1).0, billing());
+    assert_eq!(rt; entry(&rest, 1).1, paid());
+    assert_eq!(rt; entry(&rest, 2).0, reversal());
     assert_eq!(rt; entry(&rest, 2).1, nothing);
     assert_eq!(rt; entry(&rest, 0).0, nothing);
     assert_eq!(rt; entry(&rest, 3).0, nothing);
@@ -517,7 +548,7 @@ fn a_journal_at_rest_starts(rt: HostRuntime) -> Result<(), Fail> {
     let Ok(mut pharmacy) = two_entries(alloc)?.start() else {
         return Err(Fail::from("no memory"));
     };
-    assert_eq!(rt; held(&pharmacy, 1).ok_or("no answer")?, PAID);
+    assert_eq!(rt; held(&pharmacy, 1).ok_or("no answer")?, paid());
     assert_eq!(rt; pharmacy.entry(2).is_some(), true);
     assert_eq!(rt; lengths(alloc, &mut pharmacy)?.as_slice(), [117].as_slice());
     Ok(())

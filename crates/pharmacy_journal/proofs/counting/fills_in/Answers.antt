@@ -1,4 +1,4 @@
-use Rattle.std.proofs.Common.{◌≡◌, ◌∙◌}
+use Rattle.std.proofs.Common.{◌∙◌}
 use Rattle.pharmacy_journal.proofs.Payable.{no_fills}
 use Rattle.pharmacy_journal.proofs.counting.fills_in.Goals as goal
 

@@ -1,4 +1,4 @@
-use Rattle.std.proofs.Common.{◌≡◌, ◌∙◌, arith}
+use Rattle.std.proofs.Common.{◌∙◌, arith}
 use Rattle.pharmacy_journal.proofs.Payable.{counting_at}
 use Rattle.pharmacy_journal.proofs.counting.first_of_each.Goals as goal
 

@@ -1,8 +1,8 @@
-use Rattle.std.proofs.Common.{◌≡◌, List, map, ap, ◌∙◌}
+use Rattle.std.proofs.Common.{List, map, ap, ◌∙◌}
 use Rattle.std.proofs.lemmas.Result.{IfOk-weaker}
 use Rattle.claim_model.specs.Counted.{Counted, firsts}
 use Rattle.pharmacy_journal.specs.Entries.{kept_of}
-use Rattle.pharmacy_journal.specs.Counting.{outcomes, without, counted_in}
+use Rattle.pharmacy_journal.specs.Counting.{outcomes, without}
 use Rattle.pharmacy_journal.proofs.Payable.{counted_by}
 use Rattle.pharmacy_journal.proofs.counting.paid_in.Goals as goal
 

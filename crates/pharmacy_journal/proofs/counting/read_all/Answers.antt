@@ -1,4 +1,4 @@
-use Rattle.std.proofs.Common.{◌≡◌, ◌+◌, ◌∙◌, arith, drop, map}
+use Rattle.std.proofs.Common.{◌+◌, ◌∙◌, arith, drop, map}
 use Rattle.pharmacy_journal.specs.Entries.{kept_of}
 use Rattle.pharmacy_journal.specs.Counting.{outcomes, outcomes_of, has_auth}
 use Rattle.pharmacy_journal.proofs.Payable.{named_step, reversed_step, outcomes-at}

@@ -1,4 +1,4 @@
-use Rattle.std.proofs.Common.{◌≡◌, ◌||◌, ◌++◌, List, sym, ap, ◌∙◌, arith, Bool, false}
+use Rattle.std.proofs.Common.{◌||◌, ◌++◌, List, sym, ap, ◌∙◌, arith}
 use Rattle.std.specs.List.{list_any, filter_map}
 use Rattle.std.proofs.lemmas.List.{append-nil}
 use Rattle.pharmacy_journal.specs.Counting.{Outcome, named_in, takes_back, has_auth}

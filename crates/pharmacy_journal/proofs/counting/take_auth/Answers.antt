@@ -1,4 +1,4 @@
-use Rattle.std.proofs.Common.{◌≡◌, rules}
+use Rattle.std.proofs.Common.{rules}
 use Rattle.claim_profile.specs.contracts.authorization.AuthOrd.TheImpl as order
 use Rattle.pharmacy_journal.proofs.Payable.{has_more}
 use Rattle.pharmacy_journal.proofs.counting.take_auth.Goals as goal

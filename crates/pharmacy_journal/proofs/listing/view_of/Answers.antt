@@ -1,8 +1,7 @@
-use Rattle.std.proofs.Common.{◌≡◌, List, [], ◌∷◌, Option, Some, sym, ap, ◌∙◌}
-use Rattle.claim_model.specs.Words.{RequestHeader, Ruling}
+use Rattle.std.proofs.Common.{◌≡◌, Some, sym, ap, ◌∙◌}
 use Rattle.pharmacy_journal.specs.Reading.{header_of}
 use Rattle.pharmacy_journal.specs.Entries.{kept_of}
-use Rattle.pharmacy_journal.specs.Listing.{Listed, listed_by}
+use Rattle.pharmacy_journal.specs.Listing.{listed_by}
 use Rattle.pharmacy_journal.proofs.ReadingLemmas.{IsReadable-from}
 use Rattle.pharmacy_journal.proofs.listing.view_of.Goals as goal
 

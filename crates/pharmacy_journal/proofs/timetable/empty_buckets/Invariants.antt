@@ -1,4 +1,4 @@
-use Rattle.std.proofs.Common.{◌≡◌, ℕ, List, [], length, slice_index_or}
+use Rattle.std.proofs.Common.{◌≡◌, ℕ, [], length, slice_index_or}
 use Rattle.pharmacy_journal.specs.Timetable.{bucket_keys}
 use Rattle.pharmacy_journal.proofs.timetable.empty_buckets.Given as goal
 

@@ -1,4 +1,4 @@
-use Rattle.std.proofs.Common.{arith, sym, ap, ◌∙◌, ◌++◌, ◌∷◌, []}
+use Rattle.std.proofs.Common.{sym, ap, ◌∙◌, ◌++◌, ◌∷◌, []}
 use Rattle.pharmacy_journal.proofs.PlaceLemmas.{insert_key-above}
 use Rattle.pharmacy_journal.proofs.Turning.{keys-at, keys-set, keys-kept, at_error}
 use Rattle.pharmacy_journal.proofs.timetable.put.Goals as goal

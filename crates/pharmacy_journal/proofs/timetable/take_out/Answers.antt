@@ -1,4 +1,4 @@
-use Rattle.std.proofs.Common.{arith, sym, ap, ◌∙◌, eqb}
+use Rattle.std.proofs.Common.{sym, ap, ◌∙◌, eqb}
 use Rattle.std.specs.Set.{remove_key}
 use Rattle.pharmacy_journal.proofs.PlaceLemmas.{remove_key-compared}
 use Rattle.pharmacy_journal.proofs.Turning.{keys-at, keys-set}

@@ -1,4 +1,4 @@
-use Rattle.std.proofs.Common.{sym, ap, ◌∙◌, Some}
+use Rattle.std.proofs.Common.{ap, ◌∙◌, Some}
 use Rattle.d0_header.specs.Request.{Request, request_of}
 use Rattle.pharmacy_journal.proofs.ReadingLemmas.{readable_cut}
 use Rattle.pharmacy_journal.proofs.transaction.header_of.Goals as goal

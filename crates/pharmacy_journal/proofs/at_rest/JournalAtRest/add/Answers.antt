@@ -1,9 +1,8 @@
-use Rattle.std.proofs.Common.{◌≡◌, ℕ, ◌<◌, List, Option, Some, ◌++◌, ◌∷◌, [], length, map, sym, ap, ◌∙◌, arith}
+use Rattle.std.proofs.Common.{◌≡◌, List, Some, ◌++◌, ◌∷◌, [], length, map, sym, ap, ◌∙◌}
 use Rattle.std.proofs.lemmas.List.{length-map, map-append}
 use Rattle.std.proofs.lemmas.Result.{err_from_is_err_and}
 use Rattle.claim_model.specs.Journal.{JournalAtRest, Kept}
-use Rattle.pharmacy_journal.specs.Entries.{kept_of, IsEntry}
-use Rattle.pharmacy_journal.specs.declared.slot.Slot.{Slot}
+use Rattle.pharmacy_journal.specs.Entries.{kept_of}
 use Rattle.pharmacy_journal.proofs.StopStart.{IsAtRest-push, added-row, added-none, row_room}
 use Rattle.pharmacy_journal.proofs.at_rest.JournalAtRest.add.Goals as goal
 

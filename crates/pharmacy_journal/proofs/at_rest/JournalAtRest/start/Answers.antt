@@ -1,4 +1,4 @@
-use Rattle.std.proofs.Common.{◌≡◌, List, map, ap, ◌∙◌}
+use Rattle.std.proofs.Common.{List, map, ap, ◌∙◌}
 use Rattle.pharmacy_journal.specs.Settings.{rule_of}
 use Rattle.pharmacy_journal.specs.Timetable.{Rounds}
 use Rattle.pharmacy_journal.specs.Resting.{restarted_phase}

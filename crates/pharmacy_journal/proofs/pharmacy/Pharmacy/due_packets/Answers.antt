@@ -1,5 +1,5 @@
-use Rattle.std.proofs.Common.{◌≡◌, ℕ, ◌<◌, ◌++◌, List, length, sym, ap, subst, ◌∙◌}
-use Rattle.std.specs.List.{AllByRecursion, flat_map}
+use Rattle.std.proofs.Common.{◌≡◌, ◌++◌, List, length, sym, ap, ◌∙◌}
+use Rattle.std.specs.List.{flat_map}
 use Rattle.claim_model.specs.Journal.{Journal, Sending, ticked}
 use Rattle.pharmacy_journal.specs.Sendings.{packet_at, due_places, due_packets}
 use Rattle.pharmacy_journal.proofs.Entering.{length-entries_of}

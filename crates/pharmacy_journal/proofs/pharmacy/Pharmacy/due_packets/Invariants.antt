@@ -1,4 +1,4 @@
-use Rattle.std.proofs.Common.{◌≡◌, ℕ, ◌<◌, ◌++◌, length}
+use Rattle.std.proofs.Common.{◌≡◌, ◌<◌, ◌++◌, length}
 use Rattle.std.specs.List.{AllByRecursion, flat_map}
 use Rattle.claim_model.specs.Journal.{ticked}
 use Rattle.pharmacy_journal.specs.Sendings.{packet_at, due_packets}

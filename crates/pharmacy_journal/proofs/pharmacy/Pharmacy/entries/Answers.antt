@@ -1,8 +1,6 @@
-use Rattle.std.proofs.Common.{◌≡◌, rules, sym, ap, ◌∙◌}
-use Rattle.claim_model.specs.Journal.{JournalAtRest, stopped}
-use Rattle.pharmacy_journal.specs.Resting.{added_all}
+use Rattle.std.proofs.Common.{rules}
 use Rattle.pharmacy_journal.proofs.Entering.{length-entries_of}
-use Rattle.pharmacy_journal.proofs.StopStart.{made_by_adding, stopped-seen, made_of}
+use Rattle.pharmacy_journal.proofs.StopStart.{stopped-seen, made_of}
 use Rattle.pharmacy_journal.proofs.pharmacy.Pharmacy.entries.Goals as goal
 
 pub returns-clause-value : goal.returns-clause-value

@@ -1,8 +1,7 @@
-use Rattle.std.proofs.Common.{◌≡◌, ℕ, ◌-◌, ◌<◌, ◌≤◌, length, sym, ap, ◌∙◌, arith, refl, subst, List}
+use Rattle.std.proofs.Common.{◌≡◌, ℕ, ◌<◌, length, sym, ap, ◌∙◌, arith, refl, subst, List}
 use Rattle.std.proofs.lemmas.Option.{slice_get_read}
 use Rattle.std.proofs.lemmas.Result.{err_from_is_err_and}
 use Rattle.claim_model.specs.Words.{TxnId}
-use Rattle.claim_model.specs.Bytes.{bytes_with}
 use Rattle.claim_model.specs.Journal.{Journal}
 use Rattle.pharmacy_journal.specs.Hearing.{envelope_seen, IsAnsweredBy}
 use Rattle.pharmacy_journal.proofs.Entering.{length-entries_of}

@@ -1,6 +1,5 @@
-use Rattle.std.proofs.Common.{◌≡◌, ℕ, ◌<◌, List, length, sym, ap, ◌∙◌, arith, refl, ◌++◌, ◌∷◌, [], Option, Some}
+use Rattle.std.proofs.Common.{List, ap, ◌∙◌, refl, ◌++◌, ◌∷◌, [], Some}
 use Rattle.claim_model.specs.Journal.{Journal, Entry}
-use Rattle.pharmacy_journal.specs.Entries.{entries_of}
 use Rattle.pharmacy_journal.specs.declared.slot.Slot.{Slot}
 use Rattle.pharmacy_journal.specs.declared.slot.Slot.TheVariants.{Waiting}
 use Rattle.pharmacy_journal.proofs.Entering.{length-entries_of, length-phases, entries_of-push}

@@ -1,7 +1,5 @@
 use Rattle.std.proofs.Common.{◌≡◌, List, map, ap, ◌∙◌}
 use Rattle.std.proofs.lemmas.Result.{IfOk-weaker}
-use Rattle.claim_model.specs.Bytes.{bytes_with}
-use Rattle.claim_model.specs.Counted.{counted}
 use Rattle.claim_model.specs.Journal.{Journal, JournalAtRest, Kept, stopped}
 use Rattle.pharmacy_journal.specs.Entries.{kept_of}
 use Rattle.pharmacy_journal.specs.Counting.{outcomes, counted_in}

@@ -1,5 +1,4 @@
-use Rattle.std.proofs.Common.{◌∙◌, ◌+◌, ◌%◌, sym, ap, eqb, arith}
-use Rattle.std.proofs.Math.Nat.{mod-lt}
+use Rattle.std.proofs.Common.{◌∙◌, ◌+◌, ◌%◌, ap, eqb, arith}
 use Rattle.pharmacy_journal.proofs.Circle.{next_remainder, whole_round, whole_round_from_start}
 use Rattle.pharmacy_journal.proofs.retry.Retry.next_bucket.Goals as goal
 

@@ -1,4 +1,4 @@
-use Rattle.std.proofs.Common.{sym, ap, ◌∙◌, arith}
+use Rattle.std.proofs.Common.{sym, ◌∙◌, arith}
 use Rattle.pharmacy_journal.proofs.Turning.{due_next-bucket, keys-at}
 use Rattle.pharmacy_journal.proofs.timetable.Timetable.due_next.Goals as goal
 

@@ -1,4 +1,4 @@
-use Rattle.std.proofs.Common.{◌≡◌, ℕ, List, [], ◌∷◌, ◌++◌, length, set, get_or, ap, ◌∙◌, rules}
+use Rattle.std.proofs.Common.{◌≡◌, ℕ, [], ◌∷◌, ◌++◌, length, set, get_or, ap, ◌∙◌, rules}
 use Rattle.pharmacy_journal.proofs.Turning.{IsKept-open, before_end}
 use Rattle.pharmacy_journal.specs.Timetable.{bucket_keys}
 use Rattle.pharmacy_journal.proofs.timetable.Timetable.enter.Goals as goal

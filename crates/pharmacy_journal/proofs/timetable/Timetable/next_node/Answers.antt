@@ -1,5 +1,5 @@
-use Rattle.std.proofs.Common.{◌<◌, length, sym, ap, ◌∙◌, arith, None}
-use Rattle.std.proofs.lemmas.List.{length-map, get_or_read}
+use Rattle.std.proofs.Common.{sym, ◌∙◌, None}
+use Rattle.std.proofs.lemmas.List.{get_or_read}
 use Rattle.pharmacy_journal.proofs.Turning.{next_phase-at, next_phase-at_none, inside-place}
 use Rattle.pharmacy_journal.proofs.timetable.Timetable.next_node.Goals as goal
 

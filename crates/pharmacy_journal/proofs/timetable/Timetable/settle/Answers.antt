@@ -1,4 +1,4 @@
-use Rattle.std.proofs.Common.{arith, sym, ◌∙◌, None}
+use Rattle.std.proofs.Common.{sym, ◌∙◌, None}
 use Rattle.std.proofs.lemmas.List.{get_or_read}
 use Rattle.pharmacy_journal.proofs.Turning.{IsKept-unset, seen_phases-set, seen_phases-settled, inside-place}
 use Rattle.pharmacy_journal.proofs.timetable.Timetable.settle.Goals as goal

@@ -1,5 +1,3 @@
-use Rattle.std.proofs.Common.{sym, ap, ◌∙◌}
-use Rattle.pharmacy_journal.specs.Timetable.{Rounds, seen_phases}
 use Rattle.pharmacy_journal.proofs.Turning.{seen_phases-turned}
 use Rattle.pharmacy_journal.proofs.timetable.Timetable.tick.Goals as goal
 
