@@ -1,0 +1,17 @@
+-- What the versions of records differ in.
+use Rattle.std.specs.Prelude.{ℕ, Bool, true, false, ◌||◌, ◌==◌, List, Option, Some, None, if◌then◌else◌}
+use Rattle.d0_header.specs.Request.{Request}
+use Rattle.claim_profile.specs.Readable.{readable_header}
+
+-- the versions that are read
+abbrev pub is_version : ℕ → Bool
+is_version version = (version == 1) || (version == 2)
+
+-- a readable request of one transaction
+abbrev pub has_one : Option Request → Bool
+has_one None = false
+has_one (Some header) = header.count == 1
+
+-- version 1 has one transaction a request, version 2 as many as can be read
+abbrev pub fits_version : ℕ → List ℕ → Bool
+fits_version version request = if version == 1 then has_one (readable_header request) else true

@@ -1,0 +1,159 @@
+//! Journals as they are read.
+
+ghost use Rattle.std.specs.Prelude.{◌≡◌, ◌≢◌, ◌<◌, length, Ok, Err, Some, None, IfOk, IfErr, OnOk, true, false};
+ghost use Rattle.std.specs.Option.{option_copied};
+ghost use Rattle.pharmacy_journal.specs.Resting.{added};
+ghost use Rattle.kept_records.specs.declared.fault.RecordFault.TheVariants.{OutOfMemory, BadRecord};
+ghost use Rattle.kept_records.specs.Journals.{head_in, entered, finished, entries_in, journal_in, IsKept};
+
+use crate::fault::RecordFault;
+use crate::journal_laws::journal_is_its_text;
+use crate::journal_parts::{JournalHead, take_entry, take_head};
+use crate::versions::judge_version;
+use pharmacy_journal::{JournalAtRest, PharmacySettings, RowFault};
+use std::alloc::Global;
+
+/// The two bytes that begin a journal, as a number.
+pub(crate) const MARK: u16 = 0x504a;
+
+/// The version of which each request has exactly one transaction.
+const SINGLE_VERSION: u8 = 1;
+
+/// The version that is written.
+pub(crate) const VERSION: u8 = 2;
+
+/// Reads the journal of the pharmacy of this number, which is all of the bytes. The number is not zero, and
+/// the settings name a switch.
+///
+/// Version 2 is read, and version 1 where every request has exactly one transaction.
+///
+/// # Errors
+/// The first cause that stands decides: `Short` for fewer than 9 bytes, `NotABook` for other bytes than
+/// `PJ` or another pharmacy, `Version`, and then the first faulty entry: `BadRecord` where it is cut off,
+/// a text has more than 32,768 bytes, the flag is neither 0 nor 1, or it cannot be added (it is beyond the
+/// cap, the request is not readable or of another provider, or the answer is none to it), and
+/// `NumberOrder` where it is good and has not the next number. Bytes behind the last entry are
+/// `BadRecord` at their first. `OutOfMemory` may stand in place of any answer.
+pub fn read_journal(
+    alloc: Global,
+    bytes: &[u8],
+    number: u16,
+    settings: PharmacySettings,
+) -> Result<JournalAtRest, RecordFault>
+    requires some_number { 0 < number }
+    requires some_node { 0 < length settings.nodes }
+    ensures ok { IfOk result (λ j. journal_in number settings bytes.now ≡ Ok j) }
+    ensures fault { IfErr result (λ e. e ≢ OutOfMemory → journal_in number settings bytes.now ≡ Err e) }
+    // What is read can be made, and the bytes are its text.
+    ensures found { IfOk result (λ j. IsKept number settings bytes.now j) }
+{
+    journal_is_its_text();
+    read_parts(alloc, bytes, number, settings)
+}
+
+/// The journal that the head and all that follows it are.
+#[tactic(auto, unfolding(crate::specs::Journals::journal_in))]
+fn read_parts(
+    alloc: Global,
+    bytes: &[u8],
+    number: u16,
+    settings: PharmacySettings,
+) -> Result<JournalAtRest, RecordFault>
+    requires some_number { 0 < number }
+    requires some_node { 0 < length settings.nodes }
+    ensures ok { IfOk result (λ j. journal_in number settings bytes.now ≡ Ok j) }
+    ensures fault { IfErr result (λ e. e ≢ OutOfMemory → journal_in number settings bytes.now ≡ Err e) }
+{
+    let head = asked_head(bytes, number)?;
+    let journal = JournalAtRest::new(alloc, number, settings);
+    read_entries(alloc, journal, &head, bytes.len())
+}
+
+/// The head of the journal that is asked for.
+#[tactic(auto, unfolding(crate::specs::Journals::head_in))]
+fn asked_head(bytes: &[u8], number: u16) -> Result<JournalHead<'_>, RecordFault>
+    ensures ok { IfOk result (λ h. head_in number bytes.now ≡ Ok (record { mark = h.mark; version = h.version; number = h.number; count = h.count; rest = h.rest.now })) }
+    ensures fault { IfErr result (λ e. head_in number bytes.now ≡ Err e) }
+{
+    let Some(head) = take_head(bytes) else {
+        return Err(RecordFault::Short);
+    };
+    if head.mark != MARK || head.number != number {
+        return Err(RecordFault::NotABook);
+    }
+    if head.version != SINGLE_VERSION && head.version != VERSION {
+        return Err(RecordFault::Version);
+    }
+    Ok(head)
+}
+
+/// The journal with as many entries more as the head says, which are all that follows it.
+fn read_entries(
+    alloc: Global,
+    mut journal: JournalAtRest,
+    head: &JournalHead<'_>,
+    total: usize,
+) -> Result<JournalAtRest, RecordFault>
+    ensures ok { IfOk result (λ j. entries_in head.now.version total head.now.count journal head.now.rest.now ≡ Ok j) }
+    ensures fault { IfErr result (λ e. e ≢ OutOfMemory → entries_in head.now.version total head.now.count journal head.now.rest.now ≡ Err e) }
+{
+    let mut rest = head.rest;
+    for _ in 0..head.count {
+        let place = total.saturating_sub(rest.len());
+        rest = enter(alloc, &mut journal, head.version, place, rest)?;
+    }
+    finish(journal, total, rest)
+}
+
+/// The journal where no byte follows its last entry.
+#[tactic(auto, unfolding(crate::specs::Journals::finished))]
+fn finish(journal: JournalAtRest, total: usize, rest: &[u8]) -> Result<JournalAtRest, RecordFault>
+    ensures { result ≡ finished total journal rest.now }
+{
+    if rest.is_empty() {
+        Ok(journal)
+    } else {
+        Err(RecordFault::BadRecord(total.saturating_sub(rest.len())))
+    }
+}
+
+/// Adds the entry at the front and gives what follows it.
+#[tactic(auto, unfolding(crate::specs::Journals::entered))]
+fn enter<'a>(
+    alloc: Global,
+    journal: &mut JournalAtRest,
+    version: u8,
+    place: usize,
+    bytes: &'a [u8],
+) -> Result<&'a [u8], RecordFault>
+    ensures ok { IfOk result (λ rest. entered version place journal.old bytes.now ≡ Ok (journal.new, rest.now)) }
+    ensures fault { IfErr result (λ e. e ≢ OutOfMemory → entered version place journal.old bytes.now ≡ Err e) }
+{
+    let Some(entry) = take_entry(bytes) else {
+        return Err(RecordFault::BadRecord(place));
+    };
+    let next = journal.entries() as u64 + 1;
+    add_at(journal, place, entry.request, entry.answer)?;
+    judge_version(alloc, version, place, entry.request)?;
+    if entry.number != next {
+        return Err(RecordFault::NumberOrder(place));
+    }
+    Ok(entry.rest)
+}
+
+/// Adds an entry whose record is at this place.
+fn add_at(
+    journal: &mut JournalAtRest,
+    place: usize,
+    request: &[u8],
+    answer: Option<&[u8]>,
+) -> Result<(), RecordFault>
+    ensures ok { OnOk result (added journal.old request.now (option_copied answer.entry) ≡ Some journal.new) }
+    ensures fault { IfErr result (λ e. e ≢ OutOfMemory → (e ≡ BadRecord place) × (added journal.old request.now (option_copied answer.entry) ≡ None)) }
+{
+    match journal.add(request, answer) {
+        Ok(()) => Ok(()),
+        Err(RowFault::OutOfMemory) => Err(RecordFault::OutOfMemory),
+        Err(RowFault::BadRow) => Err(RecordFault::BadRecord(place)),
+    }
+}

@@ -1,0 +1,98 @@
+//! Journals as they are written.
+
+ghost use Rattle.std.specs.Prelude.{◌≡◌, ◌≤◌, ◌++◌, length, Ok, IfOk, OnOk};
+ghost use Rattle.std.specs.Option.{option_copied, ForSome};
+ghost use Rattle.claim_model.specs.Journal.{stopped};
+ghost use Rattle.kept_records.specs.Entries.{answer_text, entry_text, entries_text};
+ghost use Rattle.kept_records.specs.Journals.{journal_head, journal_text, journal_in};
+
+use crate::journal_reading::{MARK, VERSION};
+use crate::putting::{put_text, put_u8, put_u16, put_u32, put_u64};
+use pharmacy_journal::{JournalAtRest, KeptEntry, Pharmacy};
+use std::alloc::{AllocError, Global};
+
+/// The text of a journal, of version 2. It is read as this journal.
+pub fn write_journal(alloc: Global, journal: &JournalAtRest) -> Result<Vec<u8>, AllocError>
+    ensures text { IfOk result (λ text. text.items ≡ journal_text 2 journal.now) }
+    ensures read { IfOk result (λ text. journal_in journal.now.number journal.now.settings text.items ≡ Ok journal.now) }
+{
+    let mut text = Vec::new(alloc);
+    put_head(&mut text, journal.number(), journal.entries() as u32)?;
+    put_resting(&mut text, journal)?;
+    Ok(text)
+}
+
+/// The text of the journal that the pharmacy would leave if it stopped, of version 2. It is read as that
+/// journal. The pharmacy goes on.
+pub fn save_journal(alloc: Global, pharmacy: &Pharmacy) -> Result<Vec<u8>, AllocError>
+    ensures text { IfOk result (λ text. text.items ≡ journal_text 2 (stopped pharmacy.now)) }
+    ensures read { IfOk result (λ text. journal_in pharmacy.now.number pharmacy.now.settings text.items ≡ Ok (stopped pharmacy.now)) }
+{
+    let mut text = Vec::new(alloc);
+    put_head(&mut text, pharmacy.number(), pharmacy.entries() as u32)?;
+    put_running(&mut text, pharmacy)?;
+    Ok(text)
+}
+
+/// Puts the head of a journal with so many entries.
+#[tactic(auto, unfolding(crate::specs::Journals::journal_head))]
+fn put_head(text: &mut Vec<u8>, number: u16, count: u32) -> Result<(), AllocError>
+    ensures { OnOk result (text.new.items ≡ text.old.items ++ journal_head 2 number count) }
+{
+    put_u16(text, MARK)?;
+    put_u8(text, VERSION)?;
+    put_u16(text, number)?;
+    put_u32(text, count)
+}
+
+/// Puts the entries of a journal at rest.
+fn put_resting(text: &mut Vec<u8>, journal: &JournalAtRest) -> Result<(), AllocError>
+    ensures { OnOk result (text.new.items ≡ text.old.items ++ entries_text 1 journal.now.entries) }
+{
+    for place in 0..journal.entries() as u64 {
+        let Some(kept) = journal.entry(place + 1) else {
+            unreachable!()
+        };
+        put_entry(text, place + 1, kept)?;
+    }
+    Ok(())
+}
+
+/// Puts the entries of a pharmacy that is up.
+fn put_running(text: &mut Vec<u8>, pharmacy: &Pharmacy) -> Result<(), AllocError>
+    ensures { OnOk result (text.new.items ≡ text.old.items ++ entries_text 1 (stopped pharmacy.now).entries) }
+{
+    for place in 0..pharmacy.entries() as u64 {
+        let Some(kept) = pharmacy.entry(place + 1) else {
+            unreachable!()
+        };
+        put_entry(text, place + 1, kept)?;
+    }
+    Ok(())
+}
+
+/// Puts an entry and its number.
+#[tactic(auto, unfolding(crate::specs::Entries::entry_text))]
+fn put_entry(text: &mut Vec<u8>, number: u64, kept: KeptEntry<'_>) -> Result<(), AllocError>
+    requires request { length kept.request.now ≤ 32768 }
+    requires answer { ForSome (option_copied kept.answer) (λ answer. length answer ≤ 32768) }
+    ensures { OnOk result (text.new.items ≡ text.old.items ++ entry_text number (record { request = kept.entry.request.now; answer = option_copied kept.entry.answer })) }
+{
+    put_u64(text, number)?;
+    put_text(text, kept.request)?;
+    put_answer(text, kept.answer)
+}
+
+/// Puts an answer behind its flag.
+fn put_answer(text: &mut Vec<u8>, answer: Option<&[u8]>) -> Result<(), AllocError>
+    requires { ForSome (option_copied answer) (λ answer. length answer ≤ 32768) }
+    ensures { OnOk result (text.new.items ≡ text.old.items ++ answer_text (option_copied answer.entry)) }
+{
+    match answer {
+        None => put_u8(text, 0),
+        Some(answer) => {
+            put_u8(text, 1)?;
+            put_text(text, answer)
+        }
+    }
+}

@@ -1,0 +1,45 @@
+//! The fields of records, put behind what is written already.
+
+ghost use Rattle.std.specs.Prelude.{◌≡◌, ◌≤◌, ◌++◌, ◌∷◌, [], length, OnOk};
+ghost use Rattle.std.specs.Int.{w16, w32, w64, to_be_bytes};
+ghost use Rattle.kept_records.specs.Fields.{sized};
+
+use std::alloc::AllocError;
+
+/// Puts a number of one byte.
+pub(crate) fn put_u8(out: &mut Vec<u8>, number: u8) -> Result<(), AllocError>
+    ensures { OnOk result (out.new.items ≡ out.old.items ++ number ∷ []) }
+{
+    out.push(number)?;
+    Ok(())
+}
+
+/// Puts a number of two bytes.
+pub(crate) fn put_u16(out: &mut Vec<u8>, number: u16) -> Result<(), AllocError>
+    ensures { OnOk result (out.new.items ≡ out.old.items ++ to_be_bytes w16 number) }
+{
+    out.extend_from_slice(&number.to_be_bytes())
+}
+
+/// Puts a number of four bytes.
+pub(crate) fn put_u32(out: &mut Vec<u8>, number: u32) -> Result<(), AllocError>
+    ensures { OnOk result (out.new.items ≡ out.old.items ++ to_be_bytes w32 number) }
+{
+    out.extend_from_slice(&number.to_be_bytes())
+}
+
+/// Puts a number of eight bytes.
+pub(crate) fn put_u64(out: &mut Vec<u8>, number: u64) -> Result<(), AllocError>
+    ensures { OnOk result (out.new.items ≡ out.old.items ++ to_be_bytes w64 number) }
+{
+    out.extend_from_slice(&number.to_be_bytes())
+}
+
+/// Puts a text of at most 32,768 bytes behind its length.
+pub(crate) fn put_text(out: &mut Vec<u8>, text: &[u8]) -> Result<(), AllocError>
+    requires { length text.now ≤ 32768 }
+    ensures { OnOk result (out.new.items ≡ out.old.items ++ sized text.now) }
+{
+    put_u32(out, text.len() as u32)?;
+    out.extend_from_slice(text)
+}

@@ -1,0 +1,29 @@
+//! What the versions of records differ in.
+
+ghost use Rattle.std.specs.Prelude.{◌≡◌, ◌≢◌, true, false, OnOk, IfErr};
+ghost use Rattle.kept_records.specs.Versions.{fits_version};
+ghost use Rattle.kept_records.specs.declared.fault.RecordFault.TheVariants.{OutOfMemory, BadRecord};
+
+use crate::fault::RecordFault;
+use claim_profile::{RequestFault, read_readable};
+use std::alloc::Global;
+
+/// Judges the request of the record at a place: version 1 has one transaction a request.
+pub(crate) fn judge_version(
+    alloc: Global,
+    version: u8,
+    place: usize,
+    request: &[u8],
+) -> Result<(), RecordFault>
+    ensures ok { OnOk result (fits_version version request.now ≡ true) }
+    ensures fault { IfErr result (λ e. e ≢ OutOfMemory → (e ≡ BadRecord place) × (fits_version version request.now ≡ false)) }
+{
+    if version != 1 {
+        return Ok(());
+    }
+    match read_readable(alloc, request) {
+        Ok(transmission) if transmission.header().count() == 1 => Ok(()),
+        Ok(_) | Err(RequestFault::Unreadable) => Err(RecordFault::BadRecord(place)),
+        Err(RequestFault::OutOfMemory) => Err(RecordFault::OutOfMemory),
+    }
+}
