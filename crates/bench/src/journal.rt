@@ -1,0 +1,58 @@
+//! The pharmacy's journal.
+
+use crate::texts::{billing_of, paid_of};
+use envelope::{Envelope, Kind, TxnId, write};
+use pharmacy_journal::{Pharmacy, PharmacySettings};
+use std::alloc::Global;
+
+/// A tick for every so many submissions, so that what is sent is spread over a round.
+const SUBMISSIONS_A_TICK: u32 = 66;
+
+/// Ticks so often over a journal of so many open entries.
+pub(crate) fn ticks(alloc: Global, size: u32, times: u32) -> Option<()> {
+    let mut pharmacy = with_entries(alloc, size)?;
+    turn(&mut pharmacy, times)
+}
+
+/// Ticks so often over a journal of so many settled entries.
+pub(crate) fn settled_ticks(alloc: Global, size: u32, times: u32) -> Option<()> {
+    let mut pharmacy = with_entries(alloc, size)?;
+    for number in 0..size {
+        settle(alloc, &mut pharmacy, number)?;
+    }
+    turn(&mut pharmacy, times)
+}
+
+/// Ticks so often.
+fn turn(pharmacy: &mut Pharmacy, times: u32) -> Option<()> {
+    for _ in 0..times {
+        pharmacy.tick().ok()?;
+    }
+    Some(())
+}
+
+/// A journal of so many open entries, whose packets go out every 1,000 ticks.
+fn with_entries(alloc: Global, size: u32) -> Option<Pharmacy> {
+    let nodes = Vec::from_slice(alloc, &[1, 2]).ok()?;
+    let (qualifier, provider) = (*b"01", *b"1234567893     ");
+    let settings = PharmacySettings::new(qualifier, provider, nodes, 1000, 2, 65_536).ok()?;
+    if settings.nodes().is_empty() {
+        return None;
+    }
+    let mut pharmacy = Pharmacy::new(alloc, 1, settings).ok()?;
+    for number in 0..size {
+        pharmacy.submit(&billing_of(alloc, number)?).ok()?;
+        if number % SUBMISSIONS_A_TICK == 0 {
+            pharmacy.tick().ok()?;
+        }
+    }
+    Some(pharmacy)
+}
+
+/// Hears the answer to an entry, by its place from 0.
+fn settle(alloc: Global, pharmacy: &mut Pharmacy, place: u32) -> Option<()> {
+    let id = TxnId::new(1, u64::from(place) + 1)?;
+    let bytes = write(alloc, Kind::Answer, id, &paid_of(alloc, place)?).ok()?;
+    let envelope = Envelope::read(&bytes).ok()?;
+    pharmacy.hear(&envelope).ok()
+}

@@ -1,0 +1,40 @@
+//! Work for valgrind to count: a node that has `size` entries does one thing `times` more.
+//! Usage: bench WORK SIZE TIMES, where WORK is claims, turns, ticks, settled or table.
+#![tactic(auto)]
+
+mod book;
+mod journal;
+mod table;
+mod texts;
+
+use std::alloc::Global;
+use std::env;
+use std::process::ExitCode;
+
+fn main(rt: HostRuntime) -> ExitCode {
+    match run(&rt) {
+        Some(()) => ExitCode::SUCCESS,
+        None => ExitCode::FAILURE,
+    }
+}
+
+/// Does the work that the command line names; None where it names none, or where a call is refused.
+fn run(rt: &HostRuntime) -> Option<()> {
+    let alloc = rt.alloc();
+    let words: Vec<String> = env::args(rt).ok()?.collect(alloc).ok()?;
+    let size: u32 = words.get(2)?.parse().ok()?;
+    let times: u32 = words.get(3)?.parse().ok()?;
+    work(alloc, words.get(1)?.as_str(), size, times)
+}
+
+/// Does the work of that name.
+fn work(alloc: Global, name: &str, size: u32, times: u32) -> Option<()> {
+    match name {
+        "claims" => book::claims(alloc, size.saturating_add(times)),
+        "turns" => book::turns(alloc, size.saturating_add(times)),
+        "ticks" => journal::ticks(alloc, size, times),
+        "settled" => journal::settled_ticks(alloc, size, times),
+        "table" => table::requests(alloc, size, times),
+        _ => None,
+    }
+}

@@ -1,0 +1,45 @@
+//! The texts that are sent, each with a prescription number of its own.
+
+use std::alloc::Global;
+
+/// A billing of 144 bytes.
+fn billing() -> &'static [u8] {
+    b"610455D0B1A1        1011234567893     20240115SW00000001\x1e\x1cAM04\x1cC2987654321\x1d\x1e\x1cAM07\x1cEM1\x1cD2123456\x1cD30\x1cE103\x1cD700093721410\x1cE730000\x1e\x1cAM11\x1cD9600{\x1cDC20{"
+}
+
+/// The reversal of that billing, 99 bytes.
+fn reversal() -> &'static [u8] {
+    b"610455D0B2A1        1011234567893     20240115SW00000001\x1d\x1e\x1cAM07\x1cEM1\x1cD2123456\x1cD30\x1cE103\x1cD700093721410"
+}
+
+/// Its paid answer, 113 bytes.
+fn paid() -> &'static [u8] {
+    b"D0B11A011234567893     20240115\x1d\x1e\x1cAM21\x1cANP\x1cF30001000000000001\x1e\x1cAM22\x1cEM1\x1cD2123456\x1e\x1cAM23\x1cF5100{\x1cF6557{\x1cF715{\x1cF9472{"
+}
+
+/// The billing of a prescription of six digits.
+pub(crate) fn billing_of(alloc: Global, prescription: u32) -> Option<Vec<u8>> {
+    numbered(alloc, billing(), 88, prescription)
+}
+
+/// The reversal of that prescription.
+pub(crate) fn reversal_of(alloc: Global, prescription: u32) -> Option<Vec<u8>> {
+    numbered(alloc, reversal(), 70, prescription)
+}
+
+/// The paid answer for that prescription.
+pub(crate) fn paid_of(alloc: Global, prescription: u32) -> Option<Vec<u8>> {
+    numbered(alloc, paid(), 74, prescription)
+}
+
+/// A copy of the text with six digits at a place.
+fn numbered(alloc: Global, text: &[u8], place: usize, number: u32) -> Option<Vec<u8>> {
+    let mut copy = Vec::from_slice(alloc, text).ok()?;
+    let mut rest = number;
+    for from_right in 0..6usize {
+        let digit = copy.get_mut(place.saturating_add(5).saturating_sub(from_right))?;
+        *digit = b'0' + (rest % 10) as u8;
+        rest /= 10;
+    }
+    Some(copy)
+}
