@@ -11,13 +11,19 @@ use std::alloc::Global;
 
 /// Pays so many claims, each of a prescription of its own.
 pub(crate) fn claims(alloc: Global, count: u32) -> Option<()> {
+    with_claims(alloc, count)?;
+    Some(())
+}
+
+/// A book that paid so many claims.
+pub(crate) fn with_claims(alloc: Global, count: u32) -> Option<Book> {
     let routes = routes(alloc)?;
     let mut book = opened(alloc)?;
     for number in 0..count {
         let request = billing_of(alloc, number)?;
         answer(&routes, &mut book, number, &request)?;
     }
-    Some(())
+    Some(book)
 }
 
 /// Pays the claim of one prescription and reverses it, in turn, so many requests in all.

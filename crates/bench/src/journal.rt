@@ -16,11 +16,17 @@ pub(crate) fn ticks(alloc: Global, size: u32, times: u32) -> Option<()> {
 
 /// Ticks so often over a journal of so many settled entries.
 pub(crate) fn settled_ticks(alloc: Global, size: u32, times: u32) -> Option<()> {
+    let mut pharmacy = with_answers(alloc, size)?;
+    turn(&mut pharmacy, times)
+}
+
+/// A journal of so many settled entries.
+pub(crate) fn with_answers(alloc: Global, size: u32) -> Option<Pharmacy> {
     let mut pharmacy = with_entries(alloc, size)?;
     for number in 0..size {
         settle(alloc, &mut pharmacy, number)?;
     }
-    turn(&mut pharmacy, times)
+    Some(pharmacy)
 }
 
 /// Ticks so often.
@@ -31,11 +37,16 @@ fn turn(pharmacy: &mut Pharmacy, times: u32) -> Option<()> {
     Some(())
 }
 
-/// A journal of so many open entries, whose packets go out every 1,000 ticks.
-fn with_entries(alloc: Global, size: u32) -> Option<Pharmacy> {
+/// Settings of a provider whose packets go out every 1,000 ticks, with room for 65,536 entries.
+pub(crate) fn settings(alloc: Global) -> Option<PharmacySettings> {
     let nodes = Vec::from_slice(alloc, &[1, 2]).ok()?;
     let (qualifier, provider) = (*b"01", *b"1234567893     ");
-    let settings = PharmacySettings::new(qualifier, provider, nodes, 1000, 2, 65_536).ok()?;
+    PharmacySettings::new(qualifier, provider, nodes, 1000, 2, 65_536).ok()
+}
+
+/// A journal of so many open entries.
+fn with_entries(alloc: Global, size: u32) -> Option<Pharmacy> {
+    let settings = settings(alloc)?;
     if settings.nodes().is_empty() {
         return None;
     }

@@ -1,9 +1,10 @@
 //! Work for valgrind to count: a node that has `size` entries does one thing `times` more.
-//! Usage: bench WORK SIZE TIMES, where WORK is claims, turns, ticks, settled or table.
+//! Usage: bench WORK SIZE TIMES, where WORK is claims, turns, ticks, settled, table, books, saved or journals.
 #![tactic(auto)]
 
 mod book;
 mod journal;
+mod records;
 mod table;
 mod texts;
 
@@ -35,6 +36,9 @@ fn work(alloc: Global, name: &str, size: u32, times: u32) -> Option<()> {
         "ticks" => journal::ticks(alloc, size, times),
         "settled" => journal::settled_ticks(alloc, size, times),
         "table" => table::requests(alloc, size, times),
+        "books" => records::books(alloc, size, times),
+        "saved" => records::saved_books(alloc, size, times),
+        "journals" => records::journals(alloc, size, times),
         _ => None,
     }
 }

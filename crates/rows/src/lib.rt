@@ -10,4 +10,6 @@ mod nodes;
 #[cfg(test)]
 mod program;
 #[cfg(test)]
+mod records;
+#[cfg(test)]
 mod vectors;

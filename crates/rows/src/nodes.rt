@@ -2,6 +2,7 @@
 
 use crate::day::{Day, Event, Node, auth, counts, holds, id, play, same_bytes};
 use crate::vectors;
+use std::process::Abort;
 use std::test::Fail;
 
 #[test]
@@ -45,8 +46,8 @@ fn rules_in_the_order_of_arrival(rt: HostRuntime) -> Result<(), Fail> {
     Ok(())
 }
 
-#[test]
-fn counts_a_payment_until_its_reversal_is_answered(rt: HostRuntime) -> Result<(), Fail> {
+/// A payment, its reversal whose answer is lost, and a second payment of the same fill.
+pub(crate) fn lost_answer<R: Abort + AllocGlobal>(rt: &R) -> Result<Day, Fail> {
     let mut day = Day::open(rt.alloc(), 64)?;
     let events = [
         (Event::Submit(vectors::billing()), "ok 1"),
@@ -63,7 +64,13 @@ fn counts_a_payment_until_its_reversal_is_answered(rt: HostRuntime) -> Result<()
         (Event::Deliver(10), "ok 11"),
         (Event::Deliver(11), "ok"),
     ];
-    play(&rt, &mut day, &events)?;
+    play(rt, &mut day, &events)?;
+    Ok(day)
+}
+
+#[test]
+fn counts_a_payment_until_its_reversal_is_answered(rt: HostRuntime) -> Result<(), Fail> {
+    let day = lost_answer(&rt)?;
     holds(&rt, &day, 1, Some(vectors::paid()))?;
     holds(&rt, &day, 2, None)?;
     holds(&rt, &day, 3, Some(vectors::second_paid()))?;
