@@ -21,7 +21,10 @@ fn the_exact_row_comes_before_the_row_of_the_bin(rt: HostRuntime) -> Result<(), 
     assert!(rt; routes.route(b"610455", b"A1        ") == PayerNo::new(2));
     assert!(rt; routes.route(b"610455", b"B         ") == PayerNo::new(1));
     assert!(rt; routes.route(b"610456", b"A1        ").is_none());
-    rows.push(rows[1].copy()?)?;
+    let copy = rows[1].copy()?;
+    assert!(rt; copy == rows[1]);
+    assert!(rt; copy != rows[0]);
+    rows.push(copy)?;
     assert!(rt; matches!(Routes::new(alloc, &rows, 2), Err(RoutesFault::SameRow(2))));
     Ok(())
 }

@@ -1,0 +1,7 @@
+-- What is there, one step after another: the first that is missing decides.
+use Rattle.std.specs.Prelude.{Option, Some, None}
+
+infixl 10 ◌>>=◌
+abbrev pub ◌>>=◌ : {A B : Type 0} → Option A → (A → Option B) → Option B
+None >>= f = None
+(Some a) >>= f = f a
