@@ -155,19 +155,23 @@ pub record Known (ctx : Context) (w : World) (r : Ruled) : Type 0 where
   pub source : Source ctx w payer book.rows r
   pub names : Named_in (ruled_rows ctx book.rows) r
 
+abbrev pub IsRejected : Ruled → Type 0
+IsRejected r = (codes : List Code) × (r.ruling ≡ Rejected codes)
+
 -- a ruling rejects, or is known
 abbrev pub Heard : Context → World → Ruled → Type 0
-Heard ctx w r = (named r ≡ None) ⊎ Known ctx w r
+Heard ctx w r = IsRejected r ⊎ Known ctx w r
 
-rejected_unnamed : (id : TxnId) (place count : ℕ) (orders : List (Result Order (List Code))) (codes : List Code) → AllByRecursion (λ (r : Ruled). named r ≡ None) (ruled_from id place orders (replicate count (Rejected codes)))
-rejected_unnamed id place count [] codes = tt
-rejected_unnamed id place zero (o ∷ os) codes = tt
-rejected_unnamed id place (suc count) (o ∷ os) codes = (unnamed o, rejected_unnamed id (place + 1) count os codes)
-  where
-    unnamed : (order : Result Order (List Code)) → named_by order (Rejected codes) ≡ None
-    unnamed (Ok (Bills c)) = refl
-    unnamed (Ok (Reverses v)) = refl
-    unnamed (Err rejects) = refl
+all_rejected : (id : TxnId) (place count : ℕ) (orders : List (Result Order (List Code))) (codes : List Code) → AllByRecursion IsRejected (ruled_from id place orders (replicate count (Rejected codes)))
+all_rejected id place count [] codes = tt
+all_rejected id place zero (o ∷ os) codes = tt
+all_rejected id place (suc count) (o ∷ os) codes = ((codes, refl), all_rejected id (place + 1) count os codes)
+
+-- a rejection names no payment
+rejected_unnamed : (order : Result Order (List Code)) (codes : List Code) (c : Counted) → named_by order (Rejected codes) ≡ Some c → ⊥
+rejected_unnamed (Ok (Bills d)) codes c e = cc
+rejected_unnamed (Ok (Reverses v)) codes c e = cc
+rejected_unnamed (Err rejects) codes c e = cc
 
 row_known : (ctx : Context) (given : WorldSettings) (w : World) (n : ℕ) (id : TxnId) (row : Row) → Laws ctx → Sound ctx given w → Ledgers ctx w → row_at w n id ≡ Some row → AllByRecursion (Heard ctx w) (ruled_row ctx row)
 row_known ctx given w n id row laws x l at =
@@ -188,7 +192,7 @@ told_known : (ctx : Context) (given : WorldSettings) (w : World) (id : TxnId) (r
 told_known ctx given w id request answer laws x l (Ruled_by n row t same) = subst (AllByRecursion (Heard ctx w)) (sym same) (row_known ctx given w n id row laws x l t.there)
 told_known ctx given w id request answer laws x l (Turned_down count same) =
     subst (λ (rs : List Ruling). AllByRecursion (Heard ctx w) (ruled_groups ctx id request rs)) (sym same)
-    (all_weaker (λ (r : Ruled). named r ≡ None) (Heard ctx w) (λ r e. inl e) _ (rejected_unnamed id 1 count (ctx.orders request) (BadBin ∷ [])))
+    (all_weaker IsRejected (Heard ctx w) (λ r e. inl e) _ (all_rejected id 1 count (ctx.orders request) (BadBin ∷ [])))
 
 -- every ruling that a pharmacy was told, with its id
 abbrev pub HeardAt : Context → World → ℕ → Ruled → Type 0
@@ -208,7 +212,7 @@ entry_asks w n j k e there at =
     ap (λ (o : Option JournalAtRest). option_map (λ (q : Kept). q.request) (option_and_then (λ (q : JournalAtRest). numbered q.entries k) o)) there
     ∙ ap (λ (o : Option Kept). option_map (λ (q : Kept). q.request) o) at
 
-all_heard : (ctx : Context) (given : WorldSettings) (w : World) (n : ℕ) (j : JournalAtRest) → Laws ctx → Sound ctx given w → Ledgers ctx w → journal_at w n ≡ Some j → AllByRecursion (HeardAt ctx w n) (told ctx j)
+pub all_heard : (ctx : Context) (given : WorldSettings) (w : World) (n : ℕ) (j : JournalAtRest) → Laws ctx → Sound ctx given w → Ledgers ctx w → journal_at w n ≡ Some j → AllByRecursion (HeardAt ctx w n) (told ctx j)
 all_heard ctx given w n j laws x l there =
     let sj = journal_sound ctx given w n j x there in
     subst (λ (p : ℕ). AllByRecursion (HeardAt ctx w n) (ruled_entries ctx p 1 j.entries)) (sym sj.number)
@@ -245,7 +249,7 @@ named_payment rs (Ok (Reverses v)) given d h e = absurd cc
 named_payment rs (Err codes) given d h e = absurd cc
 
 heard_paid : (ctx : Context) (given : WorldSettings) (w : World) (n : ℕ) (j : JournalAtRest) (r : Ruled) (c : Counted) → Laws ctx → Sound ctx given w → Ledgers ctx w → journal_at w n ≡ Some j → HeardAt ctx w n r → named r ≡ Some c → Paid_to ctx w n j c
-heard_paid ctx given w n j r c laws x l there (inl none, here) e = absurd cc
+heard_paid ctx given w n j r c laws x l there (inl rejected, here) e = absurd (rejected_unnamed r.order rejected.0 c (ap (named_by r.order) (sym rejected.1) ∙ e))
 heard_paid ctx given w n j r c laws x l there (inr k, here) e =
     let rs : List Ruled = ruled_rows ctx k.book.rows in
     let p = named_payment rs r.order r.ruling c k.names e in
@@ -276,7 +280,7 @@ any_told_numbered ctx test pharmacy es (suc k) e at h =
     let num : suc k ≡ 1 + k = omega arith in
     any_told ctx test pharmacy 1 es k e at (subst (λ (m : ℕ). list_any test (ruled_answer ctx (id_at pharmacy m) e.request e.answer) ≡ true) num h)
 
-reverses_ruling : (auth : Auth) (g : Ruling) → is_auth auth (undone g) ≡ true → (m : ℕ) × (g ≡ Reversed auth m)
+pub reverses_ruling : (auth : Auth) (g : Ruling) → is_auth auth (undone g) ≡ true → (m : ℕ) × (g ≡ Reversed auth m)
 reverses_ruling auth (Reversed a m) e = (m, ap (λ (x : Auth). Reversed x m) (auth_same a auth e))
 reverses_ruling auth (Paid a m q) e = absurd (Rattle.std.proofs.lemmas.Bool.false≢true e)
 reverses_ruling auth (Duplicate a m q) e = absurd (Rattle.std.proofs.lemmas.Bool.false≢true e)
@@ -305,31 +309,28 @@ open_by ctx w n m b j r auth e (Some a) laws s there number here stands request 
     (subst (λ (p : ℕ). list_any (reverses auth) (ruled_answer ctx (id_at p r.id.number) e.request (Some a)) ≡ true) (here ∙ sym number) any') in
     absurd (both_ways (list_any (reverses auth) (told ctx j)) free (any_told_numbered ctx (reverses auth) j.number j.entries r.id.number e stands any''))
 
-held_open : (ctx : Context) (given : WorldSettings) (w : World) (n : ℕ) (j : JournalAtRest) (c : Counted) (id : TxnId) → Reached ctx given w → Sound ctx given w → Ledgers ctx w → journal_at w n ≡ Some j → (p : Paid_to ctx w n j c)
-    → is_reversed (told ctx j) c ≡ false → p.payment.reversed_by ≡ Some id → HeldOpen ctx n j id
-held_open ctx given w n j c id reached x l there p free e =
+-- each ruling that reverses a payment that is counted is of an id that is held open
+open_reverser : (ctx : Context) (given : WorldSettings) (w : World) (n : ℕ) (j : JournalAtRest) (c : Counted) (k : ℕ) (r : Ruled) → Reached ctx given w → Sound ctx given w → Ledgers ctx w → journal_at w n ≡ Some j → (p : Paid_to ctx w n j c)
+    → is_reversed (told ctx j) c ≡ false → numbered (ruled_rows ctx p.book.rows) k ≡ Some r → reverses c.auth r ≡ true → HeldOpen ctx n j r.id
+open_reverser ctx given w n j c k r reached x l there p free at reversing =
     let rs : List Ruled = ruled_rows ctx p.book.rows in
-    let v : Reverser rs p.payment.auth id = find_all (HasReverser rs) _ (payments rs) p.payment (payments_reversers rs) p.found id e in
-    let auth : p.payment.auth ≡ c.auth = auth_same _ _ (find_passes _ (payments rs) p.payment p.found) in
-    let g = reverses_ruling p.payment.auth v.ruled.ruling v.undoes in
-    let o : OwnReversal ctx w c.auth.payer p.book v.ruled p.payment.auth = own_reversal ctx given w c.auth.payer p.book v.number v.ruled p.payment.auth g.0 reached.laws x l p.there v.stands g.1 in
-    let same : o.undoes.payment ≡ p.payment = same_some _ _ (sym o.undoes.found ∙ (ap (λ (a : Auth). payment_of a rs) auth ∙ p.found)) in
-    let a : Asker ctx w v.ruled.id o.source.row.request o.source.sound.header = o.asker_is in
-    let theirs : SoundJournal ctx given w v.ruled.id.pharmacy a.journal = journal_sound ctx given w v.ruled.id.pharmacy a.journal x a.there in
+    let g = reverses_ruling c.auth r.ruling reversing in
+    let o : OwnReversal ctx w c.auth.payer p.book r c.auth = own_reversal ctx given w c.auth.payer p.book k r c.auth g.0 reached.laws x l p.there at g.1 in
+    let same : o.undoes.payment ≡ p.payment = same_some _ _ (sym o.undoes.found ∙ p.found) in
+    let a : Asker ctx w r.id o.source.row.request o.source.sound.header = o.asker_is in
+    let theirs : SoundJournal ctx given w r.id.pharmacy a.journal = journal_sound ctx given w r.id.pharmacy a.journal x a.there in
     let ours : SoundJournal ctx given w n j = journal_sound ctx given w n j x there in
     let fill : o.undoes.payment.claim.fill ≡ c.fill = ap (λ (y : Payment). y.claim.fill) same ∙ p.fill in
     let qualifier : a.journal.settings.qualifier ≡ j.settings.qualifier = o.qualifier ∙ (ap (λ (y : Fill). y.qualifier) fill ∙ p.qualifier) in
     let provider : a.journal.settings.provider ≡ j.settings.provider = o.provider ∙ (ap (λ (y : Fill). y.provider) fill ∙ p.provider) in
-    let here : v.ruled.id.pharmacy ≡ n = one_pharmacy given.pharmacies v.ruled.id.pharmacy n a.journal.settings j.settings (passed given reached.accepts.no_fault).providers theirs.settings ours.settings qualifier provider in
+    let here : r.id.pharmacy ≡ n = one_pharmacy given.pharmacies r.id.pharmacy n a.journal.settings j.settings (passed given reached.accepts.no_fault).providers theirs.settings ours.settings qualifier provider in
     let journal : a.journal ≡ j = same_some _ _ (sym a.there ∙ (ap (journal_at w) here ∙ there)) in
-    let stands : numbered j.entries v.ruled.id.number ≡ Some a.entry = subst (λ (y : JournalAtRest). numbered y.entries v.ruled.id.number ≡ Some a.entry) journal a.stands in
-    let sound : SoundEntry ctx w j.settings (id_at n v.ruled.id.number) a.entry = ours.entries v.ruled.id.number a.entry stands in
+    let stands : numbered j.entries r.id.number ≡ Some a.entry = subst (λ (y : JournalAtRest). numbered y.entries r.id.number ≡ Some a.entry) journal a.stands in
+    let sound : SoundEntry ctx w j.settings (id_at n r.id.number) a.entry = ours.entries r.id.number a.entry stands in
     let is_open : a.entry.answer ≡ None =
-    open_by ctx w n c.auth.payer p.book j v.ruled c.auth a.entry a.entry.answer reached.laws o.source p.there ours.number here stands a.request_is
-    (λ b h. subst (λ (m : ℕ). decided ctx w (id_at m v.ruled.id.number) ≡ Some b) (sym here) (sound.answer b h))
-    (subst (λ (y : Auth). reverses y v.ruled ≡ true) auth v.undoes) free refl in
-    subst (HeldOpen ctx n j) v.same
-    (record {
+    open_by ctx w n c.auth.payer p.book j r c.auth a.entry a.entry.answer reached.laws o.source p.there ours.number here stands a.request_is
+    (λ b h. subst (λ (m : ℕ). decided ctx w (id_at m r.id.number) ≡ Some b) (sym here) (sound.answer b h)) reversing free refl in
+    record {
       of_it = here;
       entry = a.entry;
       stands = stands;
@@ -337,7 +338,16 @@ held_open ctx given w n j c id reached x l there p free e =
       reads = ap (readable ctx) a.request_is ∙ o.source.sound.reads;
       is_reversal = o.of_it.code;
       is_open = is_open;
-    })
+    }
+
+held_open : (ctx : Context) (given : WorldSettings) (w : World) (n : ℕ) (j : JournalAtRest) (c : Counted) (id : TxnId) → Reached ctx given w → Sound ctx given w → Ledgers ctx w → journal_at w n ≡ Some j → (p : Paid_to ctx w n j c)
+    → is_reversed (told ctx j) c ≡ false → p.payment.reversed_by ≡ Some id → HeldOpen ctx n j id
+held_open ctx given w n j c id reached x l there p free e =
+    let rs : List Ruled = ruled_rows ctx p.book.rows in
+    let v : Reverser rs p.payment.auth id = find_all (HasReverser rs) _ (payments rs) p.payment (payments_reversers rs) p.found id e in
+    let auth : p.payment.auth ≡ c.auth = auth_same _ _ (find_passes _ (payments rs) p.payment p.found) in
+    subst (HeldOpen ctx n j) v.same
+    (open_reverser ctx given w n j c v.number v.ruled reached x l there p free v.stands (subst (λ (y : Auth). reverses y v.ruled ≡ true) auth v.undoes))
 
 all_counted : (ctx : Context) (given : WorldSettings) (w : World) (n : ℕ) (j : JournalAtRest) → Reached ctx given w → journal_at w n ≡ Some j → AllByRecursion (StandsOrReversed ctx w n j) (counted ctx j)
 unfolding counted
@@ -355,6 +365,7 @@ all_counted ctx given w n j reached there =
       fill = p.fill;
       amounts = p.amounts;
       reversed = λ id e. held_open ctx given w n j c id reached x l there p (not-true (is_reversed (told ctx j) c) free) e;
+      reversals = λ k r e h. open_reverser ctx given w n j c k r reached x l there p (not-true (is_reversed (told ctx j) c) free) e h;
     })
     (firsts (filter_map named (told ctx j))) (all_firsts (Paid_to ctx w n j) (filter_map named (told ctx j)) named_all)
 

@@ -38,6 +38,7 @@ pub record Origin (ctx : Context) (w : World) (id : TxnId) (answer : List ℕ) :
   pub asks : asked w id ≡ Some request
   pub reads : readable ctx request ≡ Some header
   pub rulings : List Ruling
+  pub count : length rulings ≡ header.count
   pub spells : Spells ctx header rulings answer
 
 -- an answer is a row's in the book of the routed payer, or the fixed rejection where there is no route
@@ -69,7 +70,7 @@ origin_by : (ctx : Context) (given : WorldSettings) (w : World) (id : TxnId) (a 
     → (x : Origin ctx w id a) × From ctx w id x.header x.rulings
 origin_by ctx given w id a request h None laws x asks reads route e =
     let same : rejection ctx h ≡ a = same_some _ a e in (
-      record { request = request; header = h; asks = asks; reads = reads; rulings = replicate h.count (Rejected (BadBin ∷ [])); spells = subst (Spells ctx h (replicate h.count (Rejected (BadBin ∷ [])))) same (rejection_spells ctx request h laws reads) },
+      record { request = request; header = h; asks = asks; reads = reads; rulings = replicate h.count (Rejected (BadBin ∷ [])); count = length_replicate h.count _; spells = subst (Spells ctx h (replicate h.count (Rejected (BadBin ∷ [])))) same (rejection_spells ctx request h laws reads) },
       Fixed route refl,
     )
 origin_by ctx given w id a request h (Some n) laws x asks reads route e =
@@ -79,6 +80,7 @@ origin_by ctx given w id a request h (Some n) laws x asks reads route e =
     let same_request : r.0.request ≡ request = same_some _ _ (sym t.sound.asks ∙ (ap (asked w) t.same ∙ asks)) in
     let same_header : f.0 ≡ h = same_some _ _ (sym f.1 ∙ (ap (readable ctx) same_request ∙ reads)) in
     let row_header : t.sound.header ≡ h = same_some _ _ (sym t.sound.reads ∙ (ap (readable ctx) same_request ∙ reads)) in
+    let count : length r.0.rulings ≡ h.count = t.sound.count ∙ ap (λ (g : RequestHeader). g.count) row_header in
     let text : answer_text ctx h r.0.rulings ≡ a = ap (λ (g : RequestHeader). answer_text ctx g r.0.rulings) (sym same_header) ∙ f.2 in (
       record {
         request = request;
@@ -86,7 +88,8 @@ origin_by ctx given w id a request h (Some n) laws x asks reads route e =
         asks = asks;
         reads = reads;
         rulings = r.0.rulings;
-        spells = subst (Spells ctx h r.0.rulings) text (row_spells ctx request h r.0.rulings laws reads (t.sound.count ∙ ap (λ (g : RequestHeader). g.count) row_header) t.sound.written);
+        count = count;
+        spells = subst (Spells ctx h r.0.rulings) text (row_spells ctx request h r.0.rulings laws reads count t.sound.written);
       },
       Row_of n r.0 route r.1 refl,
     )

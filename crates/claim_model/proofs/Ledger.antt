@@ -15,7 +15,7 @@ use Rattle.claim_model.specs.Judgement.{same_fill, same_claim, is_for, standing_
 use Rattle.claim_model.proofs.Lists.{all_append, all_weaker, all_map, all_filter, find_all, find_passes}
 use Rattle.claim_model.proofs.Tests.{auth_same, auth_self, fill_same, fill_self}
 use Rattle.claim_model.proofs.Written.{only_all}
-use Rattle.claim_model.proofs.Marks.{mark, payments_more, payment_of_more, payment_of_new, NoFillTwice, no_fill_twice_marked, still_others, no_fill_twice_more}
+use Rattle.claim_model.proofs.Marks.{mark, payments_more, payment_of_more, payment_of_new, NoFillTwice, no_fill_twice_marked, still_others, no_fill_twice_more, reversed_marked, reversed_by_mark}
 
 abbrev pub count_paid : List Ruled → ℕ
 count_paid rs = count_by (λ (r : Ruled). is_paid r.ruling) rs
@@ -37,11 +37,12 @@ pub record PaidFor (rs : List Ruled) (auth : Auth) (fill : Fill) (amounts : Amou
   pub fill_is : payment.claim.fill ≡ fill
   pub amounts_are : payment.amounts ≡ amounts
 
--- there is a payment with this authorization, and the reversal is for its claim
+-- there is a payment with this authorization that does not stand any more, and the reversal is for its claim
 pub record Undoes (rs : List Ruled) (auth : Auth) (v : Reversal) : Type 0 where
   pub payment : Payment
   pub found : payment_of auth rs ≡ Some payment
   pub for_it : is_for v payment.claim ≡ true
+  pub reversed : is_standing payment ≡ false
 
 abbrev pub Names : List Ruled → Result Order (List Code) → Ruling → Type 0
 Names rs (Ok (Bills c)) (Paid auth n m) = PaidAs rs auth c m
@@ -86,7 +87,7 @@ names_more rs x (Ok (Bills c)) (Reversed auth n) h = h
 names_more rs x (Ok (Bills c)) (Rejected codes) h = tt
 names_more rs x (Ok (Reverses v)) (Paid auth n m) h = h
 names_more rs x (Ok (Reverses v)) (Duplicate auth n m) h = h
-names_more rs x (Ok (Reverses v)) (Reversed auth n) h = record { payment = mark x h.payment; found = payment_of_more rs x auth h.payment h.found; for_it = h.for_it }
+names_more rs x (Ok (Reverses v)) (Reversed auth n) h = record { payment = mark x h.payment; found = payment_of_more rs x auth h.payment h.found; for_it = h.for_it; reversed = reversed_marked x h.payment.auth h.payment.reversed_by h.reversed }
 names_more rs x (Ok (Reverses v)) (Rejected codes) h = tt
 names_more rs x (Err codes) (Paid auth n m) h = h
 names_more rs x (Err codes) (Duplicate auth n m) h = h
@@ -203,7 +204,7 @@ ledger_reversal ctx b rs id place v (Some p) l is =
     let test : Payment → Bool = λ (q : Payment). is_for v q.claim in
     let found : Found rs p = only_all (Found rs) (filter test (standing rs)) p (all_filter (Found rs) test (standing rs) (all_filter (Found rs) is_standing (payments rs) l.found)) is in
     let passes : is_for v p.claim ≡ true = only_all (λ (q : Payment). test q ≡ true) (filter test (standing rs)) p (filter_passes test (standing rs)) is in
-    ledger_unpaid b.payer b.settings.serial rs x l (record { payment = mark x p; found = payment_of_more rs x p.auth p found; for_it = passes }) refl
+    ledger_unpaid b.payer b.settings.serial rs x l (record { payment = mark x p; found = payment_of_more rs x p.auth p found; for_it = passes; reversed = reversed_by_mark x p.auth p.reversed_by (auth_self p.auth) }) refl
 
 -- whatever is asked, a ledger goes on
 pub ledger_more : (ctx : Context) (b : Book) (rs : List Ruled) (id : TxnId) (place : ℕ) (order : Result Order (List Code)) → Ledger b.payer b.settings.serial rs

@@ -13,12 +13,14 @@ pub mod SwitchStep
 pub mod PayerStep
 pub mod Runs
 pub mod Held
+pub mod Whole
 pub mod Marks
 pub mod Ledger
 pub mod Books
 pub mod Owners
 pub mod Providers
 pub mod Counting
+pub mod CountedInFull
 pub mod Stays
 pub mod Phases
 pub mod Addressed
@@ -26,5 +28,6 @@ pub mod Posts
 pub mod Deliverable
 mod Premises
 pub mod BytesLaws
+pub mod Placeless
 pub mod AnswersBack
 pub mod Tabled

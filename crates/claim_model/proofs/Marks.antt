@@ -74,6 +74,16 @@ standing_unmarked : (x : Ruled) (auth : Auth) (o : Option TxnId) → is_none (ma
 standing_unmarked x auth (Some id) e = e
 standing_unmarked x auth None e = refl
 
+-- a payment that was reversed stays so
+pub reversed_marked : (x : Ruled) (auth : Auth) (o : Option TxnId) → is_none o ≡ false → is_none (marked_by x auth o) ≡ false
+reversed_marked x auth (Some id) e = refl
+reversed_marked x auth None e = absurd (Rattle.std.proofs.lemmas.Bool.false≢true (sym e))
+
+-- a ruling that reverses it leaves no payment standing
+pub reversed_by_mark : (x : Ruled) (auth : Auth) (o : Option TxnId) → reverses auth x ≡ true → is_none (marked_by x auth o) ≡ false
+reversed_by_mark x auth (Some id) e = refl
+reversed_by_mark x auth None e = ap (λ b. is_none (cond b (Some x.id) None)) e
+
 -- no fill twice
 
 abbrev pub OtherFill : Payment → Payment → Type 0

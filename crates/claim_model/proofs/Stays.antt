@@ -24,11 +24,12 @@ use Rattle.claim_model.proofs.Books.{BookMoves, Same, Adds, payer_moves}
 
 -- a journal after a call has every entry that it had
 pub record Goes_on (j after : JournalAtRest) : Type 0 where
+  pub number : after.number ≡ j.number
   pub settings : after.settings ≡ j.settings
   pub entries : (k : ℕ) (e : Kept) → numbered j.entries k ≡ Some e → EntryStays after k e
 
 on_same : (j : JournalAtRest) → Goes_on j j
-on_same j = record { settings = refl; entries = λ k e h. record { entry = e; stands = h; request = refl; answer = λ a f. f } }
+on_same j = record { number = refl; settings = refl; entries = λ k e h. record { entry = e; stands = h; request = refl; answer = λ a f. f } }
 
 on_equal : (j after : JournalAtRest) → after ≡ j → Goes_on j after
 on_equal j after e = subst (Goes_on j) (sym e) (on_same j)
@@ -36,6 +37,7 @@ on_equal j after e = subst (Goes_on j) (sym e) (on_same j)
 on_trans : (i j k : JournalAtRest) → Goes_on i j → Goes_on j k → Goes_on i k
 on_trans i j k f g =
     record {
+      number = g.number ∙ f.number;
       settings = g.settings ∙ f.settings;
       entries = λ n e h.
           let a = f.entries n e h in
@@ -44,11 +46,12 @@ on_trans i j k f g =
     }
 
 on_added : (j : JournalAtRest) (text : List ℕ) → Goes_on j (entry_added j text)
-on_added j text = record { settings = refl; entries = λ k e h. record { entry = e; stands = numbered_append j.entries _ k e h; request = refl; answer = λ a f. f } }
+on_added j text = record { number = refl; settings = refl; entries = λ k e h. record { entry = e; stands = numbered_append j.entries _ k e h; request = refl; answer = λ a f. f } }
 
 on_settled : (j : JournalAtRest) (number : ℕ) (e : Kept) (answer : List ℕ) → numbered j.entries number ≡ Some e → e.answer ≡ None → Goes_on j (entry_settled j number e answer)
 on_settled j number e answer stands is_open =
     record {
+      number = refl;
       settings = refl;
       entries = λ k f h. elim (cases_eq number k) [
         | inl same ↦
@@ -99,25 +102,27 @@ pharmacy_on ctx (AtRest j) next (Reprice product price) sent e = absurd cc
 -- books
 
 pub record Rows_on (b after : Book) : Type 0 where
+  pub payer : after.payer ≡ b.payer
   pub settings : after.settings ≡ b.settings
   pub more : List Row
   pub rows : after.rows ≡ b.rows ++ more
 
 rows_same : (b : Book) → Rows_on b b
-rows_same b = record { settings = refl; more = []; rows = sym (append-nil b.rows) }
+rows_same b = record { payer = refl; settings = refl; more = []; rows = sym (append-nil b.rows) }
 
 rows_trans : (a b c : Book) → Rows_on a b → Rows_on b c → Rows_on a c
 rows_trans a b c f g =
     record {
+      payer = g.payer ∙ f.payer;
       settings = g.settings ∙ f.settings;
       more = f.more ++ g.more;
       rows = g.rows ∙ (ap (λ (rs : List Row). rs ++ g.more) f.rows ∙ append_assoc a.rows f.more g.more);
     }
 
 moves_on : (ctx : Context) (b after : Book) → BookMoves ctx b after → Rows_on b after
-moves_on ctx b after (Same rows payer settings) = record { settings = settings; more = []; rows = rows ∙ sym (append-nil b.rows) }
+moves_on ctx b after (Same rows payer settings) = record { payer = payer; settings = settings; more = []; rows = rows ∙ sym (append-nil b.rows) }
 moves_on ctx b after (Adds id request is) =
-    record { settings = ap (λ (q : Book). q.settings) is; more = new_row ctx b id request ∷ []; rows = ap (λ (q : Book). q.rows) is }
+    record { payer = ap (λ (q : Book). q.payer) is; settings = ap (λ (q : Book). q.settings) is; more = new_row ctx b id request ∷ []; rows = ap (λ (q : Book). q.rows) is }
 
 -- a node in a list after one of them was changed
 changed : {A B : Type 0} (view : A → B) (R : B → B → Type 0) → ((b : B) → R b b) → (xs : List A) (n : ℕ) (s next : A) → numbered xs n ≡ Some s → R (view s) (view next)
@@ -169,6 +174,6 @@ pub stays_decided : (ctx : Context) (w : World) (events : List Event) → StaysD
 stays_decided ctx w events =
     let s = run_stays ctx w events in
     record {
-      journals = λ n j h. let a = s.journals n j h in record { journal = a.0; there = a.1; settings = a.2.settings; entries = a.2.entries };
-      books = λ n b h. let a = s.books n b h in record { book = a.0; there = a.1; settings = a.2.settings; more = a.2.more; rows = a.2.rows };
+      journals = λ n j h. let a = s.journals n j h in record { journal = a.0; there = a.1; number = a.2.number; settings = a.2.settings; entries = a.2.entries };
+      books = λ n b h. let a = s.books n b h in record { book = a.0; there = a.1; payer = a.2.payer; settings = a.2.settings; more = a.2.more; rows = a.2.rows };
     }

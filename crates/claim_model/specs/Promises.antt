@@ -1,15 +1,15 @@
 -- What holds of every world that events lead to.
-use Rattle.std.specs.Prelude.{⊤, None, ◌++◌, ◌≡◌, ℕ, true, false, List, Some, Ok}
+use Rattle.std.specs.Prelude.{⊤, None, ◌++◌, ◌≡◌, ◌<◌, ◌≤◌, ℕ, true, false, List, Some, Ok}
 use Rattle.claim_model.specs.Words.{TxnId, Auth, Ruling, Reversed, RequestHeader, ResponseHeader, Envelope}
 use Rattle.claim_model.specs.Context.{Context}
 use Rattle.claim_model.specs.Laws.{Laws}
 use Rattle.claim_model.specs.Readable.{is_request, readable, reversal_code}
 use Rattle.claim_model.specs.Ruled.{Ruled}
-use Rattle.claim_model.specs.Payments.{Payment, standing, payment_of}
+use Rattle.claim_model.specs.Payments.{Payment, is_standing, standing, payment_of, reverses}
 use Rattle.claim_model.specs.Rows.{Row, Book, ruled_rows}
 use Rattle.claim_model.specs.Numbered.{numbered}
 use Rattle.claim_model.specs.Journal.{JournalAtRest, Kept}
-use Rattle.claim_model.specs.Counted.{Counted, counted}
+use Rattle.claim_model.specs.Counted.{Counted, named, told, counted}
 use Rattle.claim_model.specs.Table.{Slot, Table}
 use Rattle.claim_model.specs.Refusal.{Refusal, NoSuchNode, NoSuchPacket, Down, AlreadyUp, NoEnvelope, Unreadable, Version, CodeNotCarried, NotOwnProvider, TooLong, JournalFull, NotMine, NoSuchNumber, AlreadySettled, Differs, NumberReused, NotWaiting, NotOurs, BookFull, SerialsUsedUp, NotPriced}
 use Rattle.claim_model.specs.Node.{Node, Up, Refused}
@@ -56,6 +56,17 @@ pub record OneAnswer (ctx : Context) (w v : World) : Type 0 where
   -- so the header and the ruling of each place are the same
   pub places : (a b : Node) (id : TxnId) (place : ℕ) (x y : ResponseHeader × Ruling) → held_place ctx w a id place ≡ Some x → held_place ctx v b id place ≡ Some y → x ≡ y
 
+-- an answer that a node holds for an id has a ruling on each transaction of its request, at each place from 1 to their count
+pub record HeldWhole (ctx : Context) (w : World) (node : Node) (id : TxnId) : Type 0 where
+  pub request : List ℕ
+  pub submitted : asked w id ≡ Some request
+  pub header : RequestHeader
+  pub reads : readable ctx request ≡ Some header
+  pub places : (place : ℕ) → 0 < place → place ≤ header.count → (x : ResponseHeader × Ruling) × (held_place ctx w node id place ≡ Some x)
+
+pub record AnswersAreWhole (ctx : Context) (w : World) : Type 0 where
+  pub whole : (node : Node) (id : TxnId) (a : List ℕ) → held ctx w node id ≡ Some a → HeldWhole ctx w node id
+
 -- all that the payer of a book ruled, in order
 abbrev pub rulings_of : Context → Book → List Ruled
 rulings_of ctx b = ruled_rows ctx b.rows
@@ -88,7 +99,7 @@ pub record HeldOpen (ctx : Context) (pharmacy : ℕ) (j : JournalAtRest) (id : T
   pub is_open : entry.answer ≡ None
 
 -- a payment that a pharmacy counts stands in the book of its payer, with the same fill and amounts; or it was reversed there, by an id which
--- this pharmacy asked for and still holds open
+-- this pharmacy asked for and still holds open, as is each id whose ruling reverses it
 pub record StandsOrReversed (ctx : Context) (w : World) (pharmacy : ℕ) (j : JournalAtRest) (c : Counted) : Type 0 where
   pub book : Book
   pub there : book_at w c.auth.payer ≡ Some book
@@ -97,9 +108,22 @@ pub record StandsOrReversed (ctx : Context) (w : World) (pharmacy : ℕ) (j : Jo
   pub fill : payment.claim.fill ≡ c.fill
   pub amounts : payment.amounts ≡ c.amounts
   pub reversed : (id : TxnId) → payment.reversed_by ≡ Some id → HeldOpen ctx pharmacy j id
+  pub reversals : (k : ℕ) (r : Ruled) → numbered (rulings_of ctx book) k ≡ Some r → reverses c.auth r ≡ true → HeldOpen ctx pharmacy j r.id
 
 pub record CountedPaymentsStand (ctx : Context) (w : World) : Type 0 where
   pub counts : (n : ℕ) (j : JournalAtRest) (k : ℕ) (c : Counted) → journal_at w n ≡ Some j → numbered (counted ctx j) k ≡ Some c → StandsOrReversed ctx w n j c
+
+-- a pharmacy counts a payment with this authorization
+pub record IsCounted (ctx : Context) (j : JournalAtRest) (auth : Auth) : Type 0 where
+  pub number : ℕ
+  pub payment : Counted
+  pub stands : numbered (counted ctx j) number ≡ Some payment
+  pub same : payment.auth ≡ auth
+
+-- a payment that an answer in a pharmacy's journal names, by Paid or by Duplicate, and that stands in its book, is counted
+pub record StandingAreCounted (ctx : Context) (w : World) : Type 0 where
+  pub counted : (n : ℕ) (j : JournalAtRest) (k : ℕ) (r : Ruled) (c : Counted) (b : Book) (p : Payment) → journal_at w n ≡ Some j → numbered (told ctx j) k ≡ Some r → named r ≡ Some c
+      → book_at w c.auth.payer ≡ Some b → payment_of c.auth (rulings_of ctx b) ≡ Some p → is_standing p ≡ true → IsCounted ctx j c.auth
 
 -- an entry keeps its request for good, and its answer once it has one
 pub record EntryStays (j : JournalAtRest) (k : ℕ) (e : Kept) : Type 0 where
@@ -108,17 +132,19 @@ pub record EntryStays (j : JournalAtRest) (k : ℕ) (e : Kept) : Type 0 where
   pub request : entry.request ≡ e.request
   pub answer : (a : List ℕ) → e.answer ≡ Some a → entry.answer ≡ Some a
 
--- a later journal has every entry that there was, under its number
+-- a later journal is of the same pharmacy, and has every entry that there was, under its number
 pub record JournalStays (v : World) (n : ℕ) (j : JournalAtRest) : Type 0 where
   pub journal : JournalAtRest
   pub there : journal_at v n ≡ Some journal
+  pub number : journal.number ≡ j.number
   pub settings : journal.settings ≡ j.settings
   pub entries : (k : ℕ) (e : Kept) → numbered j.entries k ≡ Some e → EntryStays journal k e
 
--- a later book has every row that there was, in the same order, and new ones behind
+-- a later book is of the same payer, and has every row that there was, in the same order, and new ones behind
 pub record BookStays (v : World) (n : ℕ) (b : Book) : Type 0 where
   pub book : Book
   pub there : book_at v n ≡ Some book
+  pub payer : book.payer ≡ b.payer
   pub settings : book.settings ≡ b.settings
   pub more : List Row
   pub rows : book.rows ≡ b.rows ++ more

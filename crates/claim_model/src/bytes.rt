@@ -7,7 +7,8 @@ ghost use Rattle.claim_profile.specs.Readable.{readable_header};
 ghost use Rattle.claim_model.specs.Words.{RequestHeader, Plan, Claim, Amounts};
 ghost use Rattle.claim_model.specs.Readable.{readable};
 ghost use Rattle.claim_model.specs.Laws.{Laws, IsOrderOf, IsClaimOf, IsAmounts};
-ghost use Rattle.claim_model.specs.Bytes.{bytes_with};
+ghost use Rattle.envelope.specs.Opening.{envelope_of};
+ghost use Rattle.claim_model.specs.Bytes.{envelope_in, bytes_with};
 
 use bin_routes::route_laws;
 use claim_profile::{answer_laws, readable_laws};
@@ -47,3 +48,10 @@ pub fn orders_of_requests()
     number_in_range();
     amount_in_range();
 }
+
+/// What bytes are as an envelope, or what is wrong with them, does not hang on their place in memory.
+pub fn envelopes_know_no_place()
+    ensures same { (p q : ℕ × ℕ) (bytes : List ℕ) → envelope_in (envelope_of p bytes) ≡ envelope_in (envelope_of q bytes) }
+    // So bytes that are read wherever they stand are the envelope that the model reads.
+    ensures read { (routes : RouteMaps) (place : ℕ × ℕ) (bytes : List ℕ) → (bytes_with routes).read_envelope bytes ≡ envelope_in (envelope_of place bytes) }
+{}
