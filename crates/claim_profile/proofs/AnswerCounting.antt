@@ -1,5 +1,5 @@
 -- Counting the fields of an answer goes on where it stopped.
-use Rattle.std.proofs.Common.{◌≡◌, true, false, List, [], ◌∷◌, ◌++◌, codes, refl, sym, ◌∙◌}
+use Rattle.std.proofs.Common.{◌≡◌, true, false, List, [], ◌∷◌, ◌++◌, codes, refl, ap, sym, ◌∙◌}
 use Rattle.std.specs.Str.{bytes_eq}
 use Rattle.d0_segments.specs.Parts.{FieldParts, SegmentParts}
 use Rattle.claim_profile.specs.Fields.{untrimmed, trimmed, values, values_in, texts_in, fields_of}
@@ -127,6 +127,20 @@ answer_pricing_more t u f e_status e_authorization e_reject_count e_prescription
   fee = e_fee i;
   total = e_total i;
 }
+
+-- the next field counted, and then those behind it
+pub answer_status_next : (t u : AnswerTally) (f : FieldParts) (fs : List FieldParts) → u ≡ answer_fields_counted t (f ∷ []) [] [] → answer_fields_counted u fs [] [] ≡ answer_fields_counted t (f ∷ fs) [] []
+answer_status_next t u f fs e = ap (λ (v : AnswerTally). answer_fields_counted v fs [] []) e ∙ sym (answer_fields_counted-append t (f ∷ []) fs [] [] [] [])
+
+pub answer_claim_next : (t u : AnswerTally) (f : FieldParts) (fs : List FieldParts) → u ≡ answer_fields_counted t [] (f ∷ []) [] → answer_fields_counted u [] fs [] ≡ answer_fields_counted t [] (f ∷ fs) []
+answer_claim_next t u f fs e = ap (λ (v : AnswerTally). answer_fields_counted v [] fs []) e ∙ sym (answer_fields_counted-append t [] [] (f ∷ []) fs [] [])
+
+pub answer_pricing_next : (t u : AnswerTally) (f : FieldParts) (fs : List FieldParts) → u ≡ answer_fields_counted t [] [] (f ∷ []) → answer_fields_counted u [] [] fs ≡ answer_fields_counted t [] [] (f ∷ fs)
+answer_pricing_next t u f fs e = ap (λ (v : AnswerTally). answer_fields_counted v [] [] fs) e ∙ sym (answer_fields_counted-append t [] [] [] [] (f ∷ []) fs)
+
+-- the next segment counted, and then those behind it
+pub answer_next : (t u : AnswerTally) (s : SegmentParts) (ss : List SegmentParts) → u ≡ answer_counted t (s ∷ []) → answer_counted u ss ≡ answer_counted t (s ∷ ss)
+answer_next t u s ss e = ap (λ (v : AnswerTally). answer_counted v ss) e ∙ sym (answer_counted-append t (s ∷ []) ss)
 
 -- one segment counted
 segment_counted : (t : AnswerTally) (s : SegmentParts) (is cs ps : List FieldParts) → fields_of (codes "21") (s ∷ []) ≡ is → fields_of (codes "22") (s ∷ []) ≡ cs → fields_of (codes "23") (s ∷ []) ≡ ps

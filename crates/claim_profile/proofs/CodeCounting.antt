@@ -1,5 +1,5 @@
 -- Counting reject codes goes on where it stopped, and comes to what all values say.
-use Rattle.std.proofs.Common.{◌≡◌, ℕ, true, false, List, [], ◌∷◌, ◌++◌, Option, codes, refl, ap, ◌∙◌}
+use Rattle.std.proofs.Common.{◌≡◌, ℕ, true, false, List, [], ◌∷◌, ◌++◌, Option, codes, refl, ap, sym, ◌∙◌}
 use Rattle.std.specs.Str.{bytes_eq}
 use Rattle.d0_segments.specs.Parts.{FieldParts, SegmentParts}
 use Rattle.claim_profile.specs.declared.reject.Code.{Code}
@@ -34,6 +34,15 @@ pub codes_in_further : (s : Option (List Code)) (ss us : List SegmentParts)
     ≡ codes_counted (codes_counted s (values untrimmed (codes "FB") (fields_of (codes "21") ss))) (values untrimmed (codes "FB") (fields_of (codes "21") us))
 codes_in_further s ss us =
     ap (λ fs. codes_counted s (values untrimmed (codes "FB") fs)) (fields_of-append (codes "21") ss us) ∙ codes_further s (fields_of (codes "21") ss) (fields_of (codes "21") us)
+
+-- the next field or segment counted, and then those behind it
+pub codes_next : (s u : Option (List Code)) (f : FieldParts) (fs : List FieldParts) → u ≡ codes_counted s (values untrimmed (codes "FB") (f ∷ []))
+    → codes_counted u (values untrimmed (codes "FB") fs) ≡ codes_counted s (values untrimmed (codes "FB") (f ∷ fs))
+codes_next s u f fs e = ap (λ v. codes_counted v (values untrimmed (codes "FB") fs)) e ∙ sym (codes_further s (f ∷ []) fs)
+
+pub codes_in_next : (s u : Option (List Code)) (segment : SegmentParts) (ss : List SegmentParts) → u ≡ codes_counted s (values untrimmed (codes "FB") (fields_of (codes "21") (segment ∷ [])))
+    → codes_counted u (values untrimmed (codes "FB") (fields_of (codes "21") ss)) ≡ codes_counted s (values untrimmed (codes "FB") (fields_of (codes "21") (segment ∷ ss)))
+codes_in_next s u segment ss e = ap (λ v. codes_counted v (values untrimmed (codes "FB") (fields_of (codes "21") ss))) e ∙ sym (codes_in_further s (segment ∷ []) ss)
 
 -- the codes of one segment
 pub codes_here : (s : Option (List Code)) (segment : SegmentParts) → bytes_eq segment.id (codes "21") ≡ true

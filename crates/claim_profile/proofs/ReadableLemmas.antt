@@ -28,6 +28,9 @@ found_none : (text : List ℕ) (fault : FramingFault) → framing_fault request_
 unfolding transmission_of
 found_none text fault e = rw e refl
 
+pub fault_refuses : (text : List ℕ) (fault : FramingFault) → framing_fault request_kind text ≡ Some fault → readable_header text ≡ None
+fault_refuses text fault e = no_transmission text (found_none text fault e)
+
 -- a text whose framing has a fault
 pub framing_refuses : (text : List ℕ) (fault : FramingFault) → Fails fault (framing_fault request_kind text) → RefusesFor (fault_of_framing fault) (readable_header text)
 framing_refuses text framing.OutOfMemory h = tt

@@ -3,8 +3,6 @@ use Rattle.std.specs.Prelude.{◌≡◌, ℕ, nat_le, List, [], ◌∷◌, lengt
 use Rattle.std.specs.Str.{bytes_eq}
 use Rattle.d0_header.specs.Response.{Response}
 use Rattle.d0_segments.specs.Parts.{SegmentParts, TransmissionParts}
-use Rattle.d0_segments.specs.declared.fault.FramingFault.{FramingFault}
-use Rattle.d0_segments.specs.declared.fault.FramingFault.TheVariants as framing
 use Rattle.d0_segments.specs.Framing.{response_kind, transmission_of}
 use Rattle.claim_profile.specs.declared.reject.Code.{Code}
 use Rattle.claim_profile.specs.declared.reject.Code.TheVariants as code
@@ -177,8 +175,3 @@ answer_of bytes = answer_with (transmission_of response_kind bytes)
 abbrev pub FailsAs : {A : Type 0} → AnswerFault → Result A AnswerFault → Type 0
 FailsAs OutOfMemory reading = Unit {0}
 FailsAs fault reading = reading ≡ Err fault
-
--- the fault of an answer whose framing has this fault
-abbrev pub fault_of_framing : FramingFault → AnswerFault
-fault_of_framing framing.OutOfMemory = OutOfMemory
-fault_of_framing fault = Framing

@@ -1,13 +1,13 @@
 //! Reading answers.
 
-ghost use Rattle.std.specs.Prelude.{◌≡◌, [], Some, Ok, IfOk, IfErr, codes};
-ghost use Rattle.d0_segments.specs.Views.{segments_parts, groups_parts};
+ghost use Rattle.std.specs.Prelude.{◌≡◌, List, [], Some, Ok, Err, IfOk, IfErr, OnOk, codes};
+ghost use Rattle.d0_segments.specs.Pieces.{shared_of, groups_of};
 ghost use Rattle.claim_profile.specs.Fields.{values_in};
 ghost use Rattle.claim_profile.specs.Tally.{seen};
 ghost use Rattle.claim_profile.specs.Order.{number_up_to};
 ghost use Rattle.claim_profile.specs.OrderSeen.{required_seen};
 ghost use Rattle.claim_profile.specs.AnswerTally.{answer_seen};
-ghost use Rattle.claim_profile.specs.Ruling.{ruling_in, rulings_in, answer_of, FailsAs, fault_of_framing, status_of, stands_beside, stands_under};
+ghost use Rattle.claim_profile.specs.Ruling.{ruling_in, rulings_in, answer_of, FailsAs, status_of, stands_beside, stands_under};
 ghost use Rattle.claim_profile.specs.RulingSeen.{ruled_seen, status_seen, payment_seen, authorization_seen, claim_number_seen, money_seen, all_money_seen, rejection_with, or_rejection, some_codes, codes_counted};
 ghost use Rattle.claim_profile.specs.declared.answer_reading.AnswerFault.TheVariants.{OutOfMemory};
 
@@ -18,7 +18,7 @@ use crate::paid::Amounts;
 use crate::ruling::Ruling;
 use crate::values::{cents, is_exactly, number};
 use d0_header::ResponseHeader;
-use d0_segments::{FramingFault, Segment, read_response};
+use d0_segments::{Cursor, check_response};
 use std::alloc::{AllocError, AllocFailed, Global};
 use std::marker::Model;
 use thiserror::Error;
@@ -117,38 +117,58 @@ pub fn read_answer(alloc: Global, bytes: &[u8]) -> Result<Answer, AnswerFault>
     // The first fault, unless memory ran out.
     ensures fault { IfErr result (λ fault. FailsAs fault (answer_of bytes.now)) }
 {
-    let response = match read_response(alloc, bytes) {
-        Ok(response) => response,
-        Err(fault) => return Err(fault_of_framing(fault)),
+    let framed = match check_response(bytes) {
+        Ok(framed) => framed,
+        Err(_) => return Err(AnswerFault::Framing),
     };
-    let header = *response.header();
-    let rulings = rulings_of(alloc, &header, response.groups())?;
+    let header = *framed.header();
+    let rulings = rulings_of(alloc, &header, framed.body())?;
     Ok(Answer { header, rulings })
 }
 
-// The fault of an answer whose framing has this fault.
-fn fault_of_framing(fault: FramingFault) -> AnswerFault
-    ensures { result ≡ fault_of_framing fault }
+/// Tells whether bytes are an answer, as [`read_answer`] does, and gives its header. Takes no memory.
+pub fn check_answer(bytes: &[u8]) -> Result<ResponseHeader, AnswerFault>
+    ensures read { IfOk result (λ header. (rulings : List Ruling) × (answer_of bytes.now ≡ Ok (record { header = header; rulings = rulings }))) }
+    // Which fault it is: the first one.
+    ensures fault { IfErr result (λ fault. answer_of bytes.now ≡ Err fault) }
 {
-    match fault {
-        FramingFault::OutOfMemory => AnswerFault::OutOfMemory,
-        _ => AnswerFault::Framing,
-    }
+    let framed = match check_response(bytes) {
+        Ok(framed) => framed,
+        Err(_) => return Err(AnswerFault::Framing),
+    };
+    let header = *framed.header();
+    check_rulings(&header, framed.body())?;
+    Ok(header)
 }
 
-// The rulings of the groups, in order.
+// Tests the rulings of the groups behind a place, in order.
+fn check_rulings(header: &ResponseHeader, from: Cursor<'_>) -> Result<(), AnswerFault>
+    ensures read { OnOk result ((rulings : List Ruling) × (rulings_in header.now (groups_of from.entry.bytes.now) ≡ Ok rulings)) }
+    ensures fault { IfErr result (λ fault. rulings_in header.now (groups_of from.entry.bytes.now) ≡ Err fault) }
+{
+    let mut rest = from;
+    while let Some(group) = rest.group() {
+        let _ruling = ruling(header, group)?;
+        rest = group;
+    }
+    Ok(())
+}
+
+// The rulings of the groups behind a place, in order.
 fn rulings_of(
     alloc: Global,
     header: &ResponseHeader,
-    groups: &[Vec<Segment<'_>>],
+    from: Cursor<'_>,
 ) -> Result<Vec<Ruling>, AnswerFault>
-    ensures read { IfOk result (λ rulings. rulings_in header.now (groups_parts groups.now) ≡ Ok rulings.items) }
-    ensures fault { IfErr result (λ fault. FailsAs fault (rulings_in header.now (groups_parts groups.now))) }
+    ensures read { IfOk result (λ rulings. rulings_in header.now (groups_of from.entry.bytes.now) ≡ Ok rulings.items) }
+    ensures fault { IfErr result (λ fault. FailsAs fault (rulings_in header.now (groups_of from.entry.bytes.now))) }
 {
     let mut rulings = Vec::new(alloc);
-    for group in groups {
+    let mut rest = from;
+    while let Some(group) = rest.group() {
         let ruling = ruling(header, group)?;
         rulings.push(ruling)?;
+        rest = group;
     }
     Ok(rulings)
 }
@@ -163,8 +183,8 @@ enum Status {
 }
 
 /// The ruling that the segments of one transaction spell. Takes no memory.
-pub fn ruling(header: &ResponseHeader, group: &[Segment<'_>]) -> Result<Ruling, AnswerFault>
-    ensures { result ≡ ruling_in header.now (segments_parts group.now) }
+pub fn ruling(header: &ResponseHeader, group: Cursor<'_>) -> Result<Ruling, AnswerFault>
+    ensures { result ≡ ruling_in header.now (shared_of group.entry.bytes.now) }
 {
     ruling_of(header, &AnswerValues::of(group), group)
 }
@@ -173,10 +193,10 @@ pub fn ruling(header: &ResponseHeader, group: &[Segment<'_>]) -> Result<Ruling, 
 fn ruling_of(
     header: &ResponseHeader,
     values: &AnswerValues<'_>,
-    group: &[Segment<'_>],
+    group: Cursor<'_>,
 ) -> Result<Ruling, AnswerFault>
     ensures { result ≡ or_rejection (ruled_seen header.now (answer_seen values.now))
-        (rejection_with (some_codes (codes_counted (Some []) (values_in (codes "21") (codes "FB") (segments_parts group.now)))) (required_seen (number_up_to 2) (seen values.now.reject_count))) }
+        (rejection_with (some_codes (codes_counted (Some []) (values_in (codes "21") (codes "FB") (shared_of group.entry.bytes.now)))) (required_seen (number_up_to 2) (seen values.now.reject_count))) }
 {
     match ruled(header, values)? {
         Some(ruling) => Ok(ruling),
@@ -303,8 +323,8 @@ fn all_amounts(values: &AnswerValues<'_>) -> Option<Amounts>
 }
 
 // A rejection, where the count is that of the codes.
-fn rejected(count: Found<'_>, group: &[Segment<'_>]) -> Result<Ruling, AnswerFault>
-    ensures { result ≡ rejection_with (some_codes (codes_counted (Some []) (values_in (codes "21") (codes "FB") (segments_parts group.now)))) (required_seen (number_up_to 2) (seen count.entry)) }
+fn rejected(count: Found<'_>, group: Cursor<'_>) -> Result<Ruling, AnswerFault>
+    ensures { result ≡ rejection_with (some_codes (codes_counted (Some []) (values_in (codes "21") (codes "FB") (shared_of group.entry.bytes.now)))) (required_seen (number_up_to 2) (seen count.entry)) }
 {
     match (FoundCodes::of(group).all(), number(count, 2)) {
         (Some(rejects), Some(count)) if count == rejects.as_slice().len() as u64 => {

@@ -1,11 +1,13 @@
 //! The values of the fields that the answer to one transaction has.
 
-ghost use Rattle.std.specs.Prelude.{◌≡◌, [], ◌∷◌, map, Some, codes};
-ghost use Rattle.d0_segments.specs.Views.{field_parts, segment_parts, segments_parts};
+ghost use Rattle.std.specs.Prelude.{◌≡◌, ◌≤◌, [], ◌∷◌, length, Some, codes};
+ghost use Rattle.d0_segments.specs.Views.{field_parts};
+ghost use Rattle.d0_segments.specs.Pieces.{shared_of};
+ghost use Rattle.d0_segments.specs.Inside.{fields_left};
 
 use crate::found::Found;
 use crate::reject::{Code, FewCodes, Rejects};
-use d0_segments::{Field, Segment};
+use d0_segments::{Cursor, Field};
 
 /// The reject codes (511-FB) of an answer, as far as fields were read.
 #[derive(Clone, Copy, Debug)]
@@ -20,13 +22,14 @@ impl FoundCodes {
     ghost use Rattle.claim_profile.specs.Ruling.{code_of};
     ghost use Rattle.claim_profile.specs.Fields.{untrimmed, values, fields_of};
 
-    /// The codes in the segments of a group.
-    pub fn of(group: &[Segment<'_>]) -> FoundCodes
-        ensures { codes_seen result ≡ codes_counted (Some []) (values untrimmed (codes "FB") (fields_of (codes "21") (segments_parts group.now))) }
+    /// The codes in the segments up to the next group.
+    pub fn of(group: Cursor<'_>) -> FoundCodes
+        ensures { codes_seen result ≡ codes_counted (Some []) (values untrimmed (codes "FB") (fields_of (codes "21") (shared_of group.entry.bytes.now))) }
     {
         let mut found = FoundCodes::new();
-        for segment in group {
-            found.count_segment(segment);
+        let mut rest = group;
+        while let Some(segment) = rest.segment() {
+            rest = found.count_inside(segment.id(), segment.fields());
         }
         found
     }
@@ -41,22 +44,30 @@ impl FoundCodes {
         }
     }
 
-    // Counts the fields of a segment.
-    fn count_segment(&mut self, segment: &Segment<'_>)
-        ensures { codes_seen self.new ≡ codes_counted (codes_seen self.old) (values untrimmed (codes "FB") (fields_of (codes "21") (segment_parts segment.now ∷ []))) }
+    // Counts the fields that are left of a segment, and gives a place from which the same segments follow.
+    fn count_inside<'a>(&mut self, id: [u8; 2], inside: Cursor<'a>) -> Cursor<'a>
+        ensures values { codes_seen self.new ≡ codes_counted (codes_seen self.old) (values untrimmed (codes "FB") (fields_of (codes "21") (record { id = id; fields = fields_left inside.entry.bytes.now } ∷ []))) }
+        ensures segments { shared_of inside.entry.bytes.now ≡ shared_of result.bytes.now }
+        ensures shorter { length result.bytes.now ≤ length inside.entry.bytes.now }
     {
-        if segment.id() == *b"21" {
-            self.count_status(segment.fields());
+        if id == *b"21" {
+            return self.count_status_from(inside);
         }
+        inside
     }
 
-    // Counts the fields of a response status segment (AM21).
-    fn count_status(&mut self, fields: &[Field<'_>])
-        ensures { codes_seen self.new ≡ codes_counted (codes_seen self.old) (values untrimmed (codes "FB") (map field_parts fields.now)) }
+    // Counts the fields that are left of a response status segment (AM21).
+    fn count_status_from<'a>(&mut self, inside: Cursor<'a>) -> Cursor<'a>
+        ensures values { codes_seen self.new ≡ codes_counted (codes_seen self.old) (values untrimmed (codes "FB") (fields_left inside.entry.bytes.now)) }
+        ensures segments { shared_of inside.entry.bytes.now ≡ shared_of result.bytes.now }
+        ensures shorter { length result.bytes.now ≤ length inside.entry.bytes.now }
     {
-        for field in fields {
-            self.count(field);
+        let mut rest = inside;
+        while let Some((field, behind)) = rest.field() {
+            self.count(&field);
+            rest = behind;
         }
+        rest
     }
 
     // Counts the value of a reject code field. Empty values don't count.
@@ -115,12 +126,12 @@ pub struct AnswerValues<'a> {
 impl<'a> AnswerValues<'a> {
     ghost use Rattle.claim_profile.specs.AnswerTally.{answer_seen, no_answer_seen, answer_fields_counted, answer_counted};
 
-    /// The values in the segments of a group.
-    pub fn of(group: &[Segment<'a>]) -> AnswerValues<'a>
-        ensures { answer_seen result ≡ answer_counted no_answer_seen (segments_parts group.now) }
+    /// The values in the segments up to the next group.
+    pub fn of(group: Cursor<'a>) -> AnswerValues<'a>
+        ensures { answer_seen result ≡ answer_counted no_answer_seen (shared_of group.entry.bytes.now) }
     {
         let mut values = AnswerValues::new();
-        values.count_all(group);
+        values.count_from(group);
         values
     }
 
@@ -141,59 +152,84 @@ impl<'a> AnswerValues<'a> {
         }
     }
 
-    // Counts the fields of all these segments, each in its own segment.
-    fn count_all(&mut self, segments: &[Segment<'a>])
-        ensures { answer_seen self.new ≡ answer_counted (answer_seen self.old) (segments_parts segments.now) }
+    // Counts the fields of the segments up to the next group, each in its own segment.
+    #[inline(always)]
+    fn count_from(&mut self, from: Cursor<'a>)
+        ensures { answer_seen self.new ≡ answer_counted (answer_seen self.old) (shared_of from.entry.bytes.now) }
     {
-        for segment in segments {
-            self.count_segment(segment);
+        let mut rest = from;
+        while let Some(segment) = rest.segment() {
+            rest = self.count_inside(segment.id(), segment.fields());
         }
     }
 
-    // Counts the fields of a segment.
-    fn count_segment(&mut self, segment: &Segment<'a>)
-        ensures { answer_seen self.new ≡ answer_counted (answer_seen self.old) (segment_parts segment.now ∷ []) }
+    // Counts the fields that are left of a segment, and gives a place from which the same segments follow.
+    #[inline(always)]
+    fn count_inside(&mut self, id: [u8; 2], inside: Cursor<'a>) -> Cursor<'a>
+        ensures values { answer_seen self.new ≡ answer_counted (answer_seen self.old) (record { id = id; fields = fields_left inside.entry.bytes.now } ∷ []) }
+        ensures segments { shared_of inside.entry.bytes.now ≡ shared_of result.bytes.now }
+        ensures shorter { length result.bytes.now ≤ length inside.entry.bytes.now }
     {
-        let id = segment.id();
         if id == *b"21" {
-            self.count_status(segment.fields());
-        } else if id == *b"22" {
-            self.count_claim(segment.fields());
-        } else if id == *b"23" {
-            self.count_pricing(segment.fields());
+            return self.count_status_from(inside);
         }
+        if id == *b"22" {
+            return self.count_claim_from(inside);
+        }
+        if id == *b"23" {
+            return self.count_pricing_from(inside);
+        }
+        inside
     }
 
-    // Counts the fields of a response status segment (AM21).
-    fn count_status(&mut self, fields: &[Field<'a>])
-        ensures { answer_seen self.new ≡ answer_fields_counted (answer_seen self.old) (map field_parts fields.now) [] [] }
+    // Counts the fields that are left of a response status segment (AM21).
+    #[inline(always)]
+    fn count_status_from(&mut self, inside: Cursor<'a>) -> Cursor<'a>
+        ensures values { answer_seen self.new ≡ answer_fields_counted (answer_seen self.old) (fields_left inside.entry.bytes.now) [] [] }
+        ensures segments { shared_of inside.entry.bytes.now ≡ shared_of result.bytes.now }
+        ensures shorter { length result.bytes.now ≤ length inside.entry.bytes.now }
     {
-        for field in fields {
-            self.status.count(b"AN", field);
-            self.authorization.count(b"F3", field);
-            self.reject_count.count(b"FA", field);
+        let mut rest = inside;
+        while let Some((field, behind)) = rest.field() {
+            self.status.count(b"AN", &field);
+            self.authorization.count(b"F3", &field);
+            self.reject_count.count(b"FA", &field);
+            rest = behind;
         }
+        rest
     }
 
-    // Counts the fields of a response claim segment (AM22).
-    fn count_claim(&mut self, fields: &[Field<'a>])
-        ensures { answer_seen self.new ≡ answer_fields_counted (answer_seen self.old) [] (map field_parts fields.now) [] }
+    // Counts the fields that are left of a response claim segment (AM22).
+    #[inline(always)]
+    fn count_claim_from(&mut self, inside: Cursor<'a>) -> Cursor<'a>
+        ensures values { answer_seen self.new ≡ answer_fields_counted (answer_seen self.old) [] (fields_left inside.entry.bytes.now) [] }
+        ensures segments { shared_of inside.entry.bytes.now ≡ shared_of result.bytes.now }
+        ensures shorter { length result.bytes.now ≤ length inside.entry.bytes.now }
     {
-        for field in fields {
-            self.prescription_qualifier.count_text(b"EM", field);
-            self.prescription.count(b"D2", field);
+        let mut rest = inside;
+        while let Some((field, behind)) = rest.field() {
+            self.prescription_qualifier.count_text(b"EM", &field);
+            self.prescription.count(b"D2", &field);
+            rest = behind;
         }
+        rest
     }
 
-    // Counts the fields of a response pricing segment (AM23).
-    fn count_pricing(&mut self, fields: &[Field<'a>])
-        ensures { answer_seen self.new ≡ answer_fields_counted (answer_seen self.old) [] [] (map field_parts fields.now) }
+    // Counts the fields that are left of a response pricing segment (AM23).
+    #[inline(always)]
+    fn count_pricing_from(&mut self, inside: Cursor<'a>) -> Cursor<'a>
+        ensures values { answer_seen self.new ≡ answer_fields_counted (answer_seen self.old) [] [] (fields_left inside.entry.bytes.now) }
+        ensures segments { shared_of inside.entry.bytes.now ≡ shared_of result.bytes.now }
+        ensures shorter { length result.bytes.now ≤ length inside.entry.bytes.now }
     {
-        for field in fields {
-            self.copay.count(b"F5", field);
-            self.cost.count(b"F6", field);
-            self.fee.count(b"F7", field);
-            self.total.count(b"F9", field);
+        let mut rest = inside;
+        while let Some((field, behind)) = rest.field() {
+            self.copay.count(b"F5", &field);
+            self.cost.count(b"F6", &field);
+            self.fee.count(b"F7", &field);
+            self.total.count(b"F9", &field);
+            rest = behind;
         }
+        rest
     }
 }

@@ -1,16 +1,19 @@
 //! Reading what a transaction asks for.
 
-ghost use Rattle.std.specs.Prelude.{◌≡◌, ◌<◌, [], length, slice_index_or};
+ghost use Rattle.std.specs.Prelude.{◌≡◌, ◌<◌, List, [], length, slice_index_or};
+ghost use Rattle.d0_segments.specs.Parts.{SegmentParts};
+ghost use Rattle.d0_segments.specs.Pieces.{shared_of, groups_of};
 ghost use Rattle.d0_segments.specs.Views.{segments_parts, groups_parts};
 ghost use Rattle.claim_profile.specs.Order.{claim_order, reversal_order, order_of};
-ghost use Rattle.claim_profile.specs.OrderTally.{order_seen};
+ghost use Rattle.claim_profile.specs.OrderTally.{order_seen, nothing_seen, segments_counted};
+ghost use Rattle.claim_profile.specs.declared.order_values.Level.TheVariants.{Shared, Group};
 
 use crate::order::Order;
 use crate::order_fields::{ClaimFields, ReversalFields};
 use crate::order_values::OrderValues;
 use crate::reject::Rejects;
 use d0_header::RequestHeader;
-use d0_segments::{Segment, Transmission};
+use d0_segments::{Framed, Segment, Transmission};
 use thiserror::Error;
 
 /// Why a transaction has no order.
@@ -64,17 +67,59 @@ fn claim(
 ) -> Result<Order, OrderFault>
     ensures { result ≡ claim_order header.now (segments_parts shared.now) (segments_parts group.now) }
 {
-    let fields = ClaimFields::of(header, &OrderValues::of(shared, group));
+    claim_of(header, &OrderValues::of(shared, group))
+}
+
+fn reversal(header: &RequestHeader, group: &[Segment<'_>]) -> Result<Order, OrderFault>
+    ensures { result ≡ reversal_order header.now (segments_parts group.now) }
+{
+    reversal_of(header, &OrderValues::of(&[], group))
+}
+
+/// Reads the order of the transaction at `place` in place, as [`read_order`] reads it in a transmission.
+/// Takes no memory.
+#[tactic(auto, unfolding(crate::specs::Order::order_of))]
+pub fn order_at(framed: &Framed<'_, RequestHeader>, place: usize) -> Result<Order, OrderFault>
+    requires { place < length (groups_of framed.now.body.bytes.now) }
+    ensures { result ≡ order_of framed.now.header (shared_of framed.now.body.bytes.now) (slice_index_or (groups_of framed.now.body.bytes.now) place []) }
+{
+    if framed.header().code() == *b"B1" {
+        claim_at(framed, place)
+    } else {
+        reversal_at(framed, place)
+    }
+}
+
+fn claim_at(framed: &Framed<'_, RequestHeader>, place: usize) -> Result<Order, OrderFault>
+    requires { place < length (groups_of framed.now.body.bytes.now) }
+    ensures { result ≡ claim_order framed.now.header (shared_of framed.now.body.bytes.now) (slice_index_or (groups_of framed.now.body.bytes.now) place []) }
+{
+    claim_of(framed.header(), &OrderValues::in_claim(framed, place))
+}
+
+fn reversal_at(framed: &Framed<'_, RequestHeader>, place: usize) -> Result<Order, OrderFault>
+    requires { place < length (groups_of framed.now.body.bytes.now) }
+    ensures { result ≡ reversal_order framed.now.header (slice_index_or (groups_of framed.now.body.bytes.now) place []) }
+{
+    reversal_of(framed.header(), &OrderValues::in_reversal(framed, place))
+}
+
+// The claim of these values.
+fn claim_of(header: &RequestHeader, values: &OrderValues<'_>) -> Result<Order, OrderFault>
+    ensures { (shared group : List SegmentParts) → order_seen values.now ≡ segments_counted Group (segments_counted Shared nothing_seen shared) group → result ≡ claim_order header.now shared group }
+{
+    let fields = ClaimFields::of(header, values);
     match fields.whole(header) {
         Some(claim) => Ok(Order::Claim(claim)),
         None => Err(OrderFault::Rejected(fields.rejects())),
     }
 }
 
-fn reversal(header: &RequestHeader, group: &[Segment<'_>]) -> Result<Order, OrderFault>
-    ensures { result ≡ reversal_order header.now (segments_parts group.now) }
+// The reversal of these values.
+fn reversal_of(header: &RequestHeader, values: &OrderValues<'_>) -> Result<Order, OrderFault>
+    ensures { (shared group : List SegmentParts) → order_seen values.now ≡ segments_counted Group (segments_counted Shared nothing_seen shared) group → result ≡ reversal_order header.now group }
 {
-    let fields = ReversalFields::of(header, &OrderValues::of(&[], group));
+    let fields = ReversalFields::of(header, values);
     match fields.whole(header) {
         Some(reversal) => Ok(Order::Reversal(reversal)),
         None => Err(OrderFault::Rejected(fields.rejects())),

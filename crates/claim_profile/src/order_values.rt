@@ -51,7 +51,7 @@ impl<'a> OrderValues<'a> {
     }
 
     // Before any segment was read.
-    fn new() -> OrderValues<'a>
+    pub(crate) fn new() -> OrderValues<'a>
         ensures { order_seen result ≡ nothing_seen }
     {
         OrderValues {
@@ -94,7 +94,7 @@ impl<'a> OrderValues<'a> {
         ensures { order_seen self.new ≡ fields_counted (order_seen self.old) (map field_parts fields.now) [] [] }
     {
         for field in fields {
-            self.cardholder.count_text(b"C2", field);
+            self.count_insurance_field(field);
         }
     }
 
@@ -103,12 +103,7 @@ impl<'a> OrderValues<'a> {
         ensures { order_seen self.new ≡ fields_counted (order_seen self.old) [] (map field_parts fields.now) [] }
     {
         for field in fields {
-            self.prescription_qualifier.count_text(b"EM", field);
-            self.prescription.count(b"D2", field);
-            self.fill.count(b"D3", field);
-            self.product_qualifier.count_text(b"E1", field);
-            self.product.count_text(b"D7", field);
-            self.quantity.count(b"E7", field);
+            self.count_claim_field(field);
         }
     }
 
@@ -117,8 +112,37 @@ impl<'a> OrderValues<'a> {
         ensures { order_seen self.new ≡ fields_counted (order_seen self.old) [] [] (map field_parts fields.now) }
     {
         for field in fields {
-            self.cost.count(b"D9", field);
-            self.fee.count(b"DC", field);
+            self.count_pricing_field(field);
         }
+    }
+
+    // Counts a field of an insurance segment.
+    #[inline(always)]
+    pub(crate) fn count_insurance_field(&mut self, field: &Field<'a>)
+        ensures { order_seen self.new ≡ fields_counted (order_seen self.old) (field_parts field.now ∷ []) [] [] }
+    {
+        self.cardholder.count_text(b"C2", field);
+    }
+
+    // Counts a field of a claim segment.
+    #[inline(always)]
+    pub(crate) fn count_claim_field(&mut self, field: &Field<'a>)
+        ensures { order_seen self.new ≡ fields_counted (order_seen self.old) [] (field_parts field.now ∷ []) [] }
+    {
+        self.prescription_qualifier.count_text(b"EM", field);
+        self.prescription.count(b"D2", field);
+        self.fill.count(b"D3", field);
+        self.product_qualifier.count_text(b"E1", field);
+        self.product.count_text(b"D7", field);
+        self.quantity.count(b"E7", field);
+    }
+
+    // Counts a field of a pricing segment.
+    #[inline(always)]
+    pub(crate) fn count_pricing_field(&mut self, field: &Field<'a>)
+        ensures { order_seen self.new ≡ fields_counted (order_seen self.old) [] [] (field_parts field.now ∷ []) }
+    {
+        self.cost.count(b"D9", field);
+        self.fee.count(b"DC", field);
     }
 }

@@ -1,12 +1,13 @@
 //! Which requests this product carries.
 
-ghost use Rattle.std.specs.Prelude.{◌≡◌, Some, IfOk, IfErr};
+ghost use Rattle.std.specs.Prelude.{◌≡◌, None, Some, IfSome, IfOk, IfErr, MatchOption};
 ghost use Rattle.d0_segments.specs.Framing.{request_kind, transmission_of};
+ghost use Rattle.d0_segments.specs.FramedParts.{framed_parts};
 ghost use Rattle.d0_segments.specs.Transmissions.{transmission_parts};
 ghost use Rattle.claim_profile.specs.Readable.{RefusesFor, fault_of_framing, is_carried, readable_header};
 
 use d0_header::RequestHeader;
-use d0_segments::{FramingFault, Transmission, read_request};
+use d0_segments::{Framed, FramingFault, Transmission, check_request, read_request};
 use std::alloc::Global;
 use thiserror::Error;
 
@@ -51,6 +52,28 @@ pub fn read_readable(
         Ok(transmission)
     } else {
         Err(RequestFault::Unreadable)
+    }
+}
+
+/// Tells whether this product carries a request, as [`read_readable`] does, without building it. Takes
+/// no memory.
+pub fn check_readable(request: &[u8]) -> Option<Framed<'_, RequestHeader>>
+    // What was read is the transmission of these bytes.
+    ensures parts { IfSome result (λ framed. transmission_of request_kind request.now ≡ Some (framed_parts framed)) }
+    // Exactly the readable ones are taken.
+    ensures readable { MatchOption result (readable_header request.now ≡ None) (λ framed. readable_header request.now ≡ Some framed.header) }
+{
+    if request.len() > LONGEST_REQUEST {
+        return None;
+    }
+    let framed = match check_request(request) {
+        Ok(framed) => framed,
+        Err(_) => return None,
+    };
+    if is_carried(framed.header()) {
+        Some(framed)
+    } else {
+        None
     }
 }
 

@@ -10,19 +10,19 @@ use Rattle.d0_segments.specs.Pieces.{onto, pieces, field_of, segment_from, segme
 use Rattle.d0_segments.proofs.Walking.{both, not_true, is_none, pair_of}
 
 -- whether a byte stands nowhere in a text
-lacks : ℕ → List ℕ → Bool
+pub lacks : ℕ → List ℕ → Bool
 lacks x [] = true
 lacks x (b ∷ bs) = not (eqb b x) && lacks x bs
 
-lacks-cons : (x b : ℕ) (bs : List ℕ) → eqb b x ≡ false → lacks x bs ≡ true → lacks x (b ∷ bs) ≡ true
+pub lacks-cons : (x b : ℕ) (bs : List ℕ) → eqb b x ≡ false → lacks x bs ≡ true → lacks x (b ∷ bs) ≡ true
 unfolding lacks
 lacks-cons x b bs e h = ap (λ t. not t && lacks x bs) e ∙ h
 
-lacks-head : (x b : ℕ) (bs : List ℕ) → lacks x (b ∷ bs) ≡ true → (eqb b x ≡ false) × (lacks x bs ≡ true)
+pub lacks-head : (x b : ℕ) (bs : List ℕ) → lacks x (b ∷ bs) ≡ true → (eqb b x ≡ false) × (lacks x bs ≡ true)
 unfolding lacks
 lacks-head x b bs e = let parts = both (not (eqb b x)) (lacks x bs) e in (not_true (eqb b x) parts.0, parts.1)
 
-lacks-nil : (x : ℕ) → lacks x [] ≡ true
+pub lacks-nil : (x : ℕ) → lacks x [] ≡ true
 unfolding lacks
 lacks-nil x = refl
 
@@ -31,10 +31,10 @@ lacks-append x [] bs e h = h
 lacks-append x (a ∷ xs) bs e h = let parts = lacks-head x a xs e in lacks-cons x a (xs ++ bs) parts.0 (lacks-append x xs bs parts.1 h)
 
 -- a plain text lacks each separator
-record LacksAll (bs : List ℕ) : Type 0 where
-  field : lacks 28 bs ≡ true
-  group : lacks 29 bs ≡ true
-  segment : lacks 30 bs ≡ true
+pub record LacksAll (bs : List ℕ) : Type 0 where
+  pub field : lacks 28 bs ≡ true
+  pub group : lacks 29 bs ≡ true
+  pub segment : lacks 30 bs ≡ true
 
 plain_lacks : (bs : List ℕ) → is_plain bs ≡ true → LacksAll bs
 plain_lacks [] e = record { field = lacks-nil 28; group = lacks-nil 29; segment = lacks-nil 30 }
@@ -51,10 +51,10 @@ id_plain (a ∷ b ∷ []) e = let parts = both (not (is_separator a)) (not (is_s
 id_plain (a ∷ b ∷ c ∷ id) e = absurd cc
 
 -- what a field has behind its separator
-abbrev inner : FieldParts → List ℕ
+abbrev pub inner : FieldParts → List ℕ
 inner f = f.id ++ f.value
 
-inner_lacks : (f : FieldParts) → is_field f ≡ true → LacksAll (inner f)
+pub inner_lacks : (f : FieldParts) → is_field f ≡ true → LacksAll (inner f)
 inner_lacks f e =
     let parts = both (is_id f.id) (is_plain f.value) e in
     let id = plain_lacks f.id (id_plain f.id parts.0) in
@@ -77,7 +77,7 @@ fields_lack_group (f ∷ fs) e =
 abbrev inside : SegmentParts → List ℕ
 inside s = 28 ∷ (65 ∷ 77 ∷ s.id) ++ fields_text s.fields
 
-name_lacks : (s : SegmentParts) → is_segment s ≡ true → LacksAll (65 ∷ 77 ∷ s.id)
+pub name_lacks : (s : SegmentParts) → is_segment s ≡ true → LacksAll (65 ∷ 77 ∷ s.id)
 name_lacks s e =
     let parts = both (is_id s.id) (are_fields s.fields) e in
     let id = plain_lacks s.id (id_plain s.id parts.0) in
@@ -142,7 +142,7 @@ cut_groups (g ∷ gs) front lack e =
 pair_again : (a b : ℕ) (id value : List ℕ) → id ≡ a ∷ b ∷ [] → field_of (id ++ value) ≡ record { id = id; value = value }
 pair_again a b id value e = rw e refl
 
-field_again : (f : FieldParts) → is_field f ≡ true → field_of (inner f) ≡ f
+pub field_again : (f : FieldParts) → is_field f ≡ true → field_of (inner f) ≡ f
 field_again f e =
     let parts = both (is_id f.id) (is_plain f.value) e in
     let id = pair_of f.id parts.0 in

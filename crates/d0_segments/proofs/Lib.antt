@@ -1,7 +1,11 @@
 pub mod Separating
+pub mod Marks
 pub mod Walking
 pub mod Typed
 pub mod Taken
 pub mod Cutting
 pub mod Whole
+pub mod Faultless
+pub mod Left
+pub mod Passed
 pub mod Leasts

@@ -46,15 +46,15 @@ mapped_none : (o : Option ℕ) → option_map suc o ≡ None → o ≡ None
 mapped_none None e = refl
 mapped_none (Some j) e = absurd cc
 
-head_none : (t : Bool) (o : Option ℕ) → cond t (Some 0) (option_map suc o) ≡ None → (t ≡ false) × (o ≡ None)
+pub head_none : (t : Bool) (o : Option ℕ) → cond t (Some 0) (option_map suc o) ≡ None → (t ≡ false) × (o ≡ None)
 head_none true o e = absurd cc
 head_none false o e = (refl, mapped_none o e)
 
-head_zero : (t : Bool) (o : Option ℕ) → cond t (Some 0) (option_map suc o) ≡ Some 0 → t ≡ true
+pub head_zero : (t : Bool) (o : Option ℕ) → cond t (Some 0) (option_map suc o) ≡ Some 0 → t ≡ true
 head_zero true o e = refl
 head_zero false o e = absurd (not_zero o e)
 
-head_suc : (t : Bool) (o : Option ℕ) (p : ℕ) → cond t (Some 0) (option_map suc o) ≡ Some (suc p) → (t ≡ false) × (o ≡ Some p)
+pub head_suc : (t : Bool) (o : Option ℕ) (p : ℕ) → cond t (Some 0) (option_map suc o) ≡ Some (suc p) → (t ≡ false) × (o ≡ Some p)
 head_suc true o p e = let h : 0 ≡ suc p = cc in absurd (omega arith)
 head_suc false o p e = (refl, suc_of o p e)
 

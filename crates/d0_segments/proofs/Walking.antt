@@ -77,7 +77,7 @@ walk_id a b rest p first second =
     let here : first_fault 0 p (28 ∷ a ∷ b ∷ rest) ≡ first_fault 28 (p + 1) (a ∷ b ∷ rest) = simp (first, second) in
     here ∙ inside 28 refl refl (p + 1) (a ∷ b ∷ rest) ∙ plain_byte a first (p + 1) (b ∷ rest) ∙ plain_byte b second (p + 1 + 1) rest ∙ ap (λ q. first_fault 0 q rest) (omega arith)
 
-walk_field_of : (a b : ℕ) (value rest : List ℕ) (p : ℕ) → is_separator a ≡ false → is_separator b ≡ false → is_plain value ≡ true
+pub walk_field_of : (a b : ℕ) (value rest : List ℕ) (p : ℕ) → is_separator a ≡ false → is_separator b ≡ false → is_plain value ≡ true
     → first_fault 0 p ((28 ∷ a ∷ b ∷ value) ++ rest) ≡ first_fault 0 (p + length (28 ∷ a ∷ b ∷ value)) rest
 walk_field_of a b value rest p first second plain =
     walk_id a b (value ++ rest) p first second ∙ walk_plain value rest (p + 3) plain ∙ ap (λ q. first_fault 0 q rest) (omega arith)

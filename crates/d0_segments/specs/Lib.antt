@@ -4,6 +4,9 @@ pub mod Texts
 pub mod Faults
 pub mod Pieces
 pub mod Framing
+pub mod Inside
+pub mod Passing
+pub mod FramedParts
 pub mod Views
 pub mod Address
 pub mod Lending

@@ -1,5 +1,6 @@
 -- The three separators, and texts without them.
 use Rattle.std.specs.Prelude.{ℕ, suc, List, [], ◌∷◌, Bool, true, false, not, ◌&&◌, ◌||◌, ◌==◌, Option, None, Some, option_map, if◌then◌else◌}
+use Rattle.std.specs.List.{prefix_len}
 
 -- stands in front of every field
 abbrev pub field_separator : ℕ
@@ -26,6 +27,10 @@ is_plain (b ∷ bs) = not (is_separator b) && is_plain bs
 abbrev pub is_id : List ℕ → Bool
 is_id (a ∷ b ∷ []) = not (is_separator a) && not (is_separator b)
 is_id _ = false
+
+-- how many bytes stand in front of the next separator or the end
+abbrev pub plain_length : List ℕ → ℕ
+plain_length bytes = prefix_len (λ b. not (is_separator b)) bytes
 
 -- the place of the first separator
 abbrev pub first_separator : List ℕ → Option ℕ

@@ -3,10 +3,15 @@
 //! Bytes that are no transmission are refused with the first fault from the left.
 #![tactic(auto)]
 
+mod checking;
+mod cursor;
 mod fault;
 mod field;
+mod framed;
 mod header;
+mod lanes;
 mod laws;
+mod passing;
 mod reading;
 mod rest;
 mod segment;
@@ -14,8 +19,11 @@ mod separator;
 mod transmission;
 mod writing;
 
+pub use checking::{check_request, check_response};
+pub use cursor::{Cursor, SegmentAt};
 pub use fault::{FieldFault, FramingFault};
 pub use field::Field;
+pub use framed::Framed;
 pub use header::Header;
 pub use laws::{first_fault_laws, request_laws, response_laws};
 pub use reading::{read_request, read_response};

@@ -107,7 +107,8 @@ fn read_body<'a>(alloc: Global, from: Rest<'a>) -> Result<Body<'a>, FramingFault
 }
 
 /// Refuses a byte that starts neither a segment nor a group.
-fn expect_start(rest: Rest<'_>) -> Result<(), FramingFault>
+#[inline(always)]
+pub(crate) fn expect_start(rest: Rest<'_>) -> Result<(), FramingFault>
     ensures ends { IfOk result (λ x. ends_segment rest.entry.bytes.now ≡ true) }
     ensures fault { IfErr result (λ e. fault_behind_header rest.entry ≡ Some e) }
 {
@@ -154,7 +155,8 @@ fn read_group<'a>(
 }
 
 /// Passes a group separator with a segment behind it.
-fn enter_group<'a>(from: Rest<'a>) -> Result<Rest<'a>, FramingFault>
+#[inline(always)]
+pub(crate) fn enter_group<'a>(from: Rest<'a>) -> Result<Rest<'a>, FramingFault>
     requires { begins_with 29 from.bytes.now ≡ true }
     ensures taken { IfOk result (λ x. Takes from.entry (29 ∷ []) x) }
     ensures segment { IfOk result (λ x. begins_with 30 x.bytes.now ≡ true) }
@@ -202,7 +204,8 @@ fn read_segment<'a>(alloc: Global, from: Rest<'a>) -> Result<(Segment<'a>, Rest<
 }
 
 /// Passes a segment separator and the field `AM` behind it, whose two bytes it answers.
-fn enter_segment<'a>(from: Rest<'a>) -> Result<(u8, u8, Rest<'a>), FramingFault>
+#[inline(always)]
+pub(crate) fn enter_segment<'a>(from: Rest<'a>) -> Result<(u8, u8, Rest<'a>), FramingFault>
     requires { begins_with 30 from.bytes.now ≡ true }
     ensures taken { IfOk result (λ x. Takes from.entry (30 ∷ 28 ∷ 65 ∷ 77 ∷ x.0 ∷ x.1 ∷ []) x.2) }
     ensures id { IfOk result (λ x. is_id (x.0 ∷ x.1 ∷ []) ≡ true) }
@@ -216,6 +219,7 @@ fn enter_segment<'a>(from: Rest<'a>) -> Result<(u8, u8, Rest<'a>), FramingFault>
 }
 
 /// Whether the field `AM` with exactly two bytes stands behind the first byte.
+#[inline(always)]
 fn is_identified(bytes: &[u8]) -> bool
     ensures { IsTrue result ↔ IsIdentified bytes.now }
 {
@@ -253,7 +257,8 @@ fn read_fields<'a>(
 }
 
 /// Reads a field: its separator, two bytes of identifier, and the value up to the next separator.
-fn read_field<'a>(from: Rest<'a>) -> Result<(Field<'a>, Rest<'a>), FramingFault>
+#[inline(always)]
+pub(crate) fn read_field<'a>(from: Rest<'a>) -> Result<(Field<'a>, Rest<'a>), FramingFault>
     requires { begins_with 28 from.bytes.now ≡ true }
     ensures taken { IfOk result (λ x. Takes from.entry (field_text (field_parts x.0)) x.1) }
     ensures ends { IfOk result (λ x. ends_here x.1.bytes.now ≡ true) }

@@ -1,6 +1,6 @@
 //! What is left to read.
 
-ghost use Rattle.std.specs.Prelude.{◌≡◌, ◌-◌, ◌≤◌, length, drop};
+ghost use Rattle.std.specs.Prelude.{◌≡◌, ◌-◌, ◌≤◌, ◌<◌, length, drop, slice_index};
 ghost use Rattle.d0_segments.specs.Address.{beyond};
 
 /// The bytes that are left to read, and the place at which they end.
@@ -33,7 +33,17 @@ impl<'a> Rest<'a> {
     }
 }
 
+/// The byte at a place.
+#[inline(always)]
+pub fn byte_at(bytes: &[u8], place: usize) -> u8
+    requires { place < length bytes.now }
+    ensures { result ≡ slice_index bytes.now place }
+{
+    bytes[place]
+}
+
 /// The bytes behind so many.
+#[inline(always)]
 pub fn behind(bytes: &[u8], count: usize) -> &[u8]
     requires { count ≤ length bytes.now }
     ensures bytes { result.now ≡ drop count bytes.now }

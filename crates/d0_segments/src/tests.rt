@@ -26,6 +26,14 @@ fn fault_of(alloc: Global, bytes: &[u8]) -> Option<FramingFault> {
     }
 }
 
+/// The same by the check that builds nothing.
+fn checked_fault(bytes: &[u8]) -> Option<FramingFault> {
+    match check_request(bytes) {
+        Ok(_) => None,
+        Err(fault) => Some(fault),
+    }
+}
+
 /// A header and what stands behind it.
 fn behind_header(alloc: Global, body: &[u8]) -> Result<Vec<u8>, Fail> {
     let mut text = HEADER.to_vec(alloc)?;
@@ -73,6 +81,71 @@ fn claim_has_its_parts(rt: HostRuntime) -> Result<(), Fail> {
     Ok(())
 }
 
+/// The same of the segments from a place on, up to the next group.
+fn describe_from(text: &mut Vec<u8>, from: Cursor<'_>) -> Result<(), AllocError> {
+    let mut rest = from;
+    while let Some(segment) = rest.segment() {
+        text.push(b'/')?;
+        text.extend_from_slice(&segment.id())?;
+        rest = segment.fields();
+        describe_fields(text, rest)?;
+    }
+    Ok(())
+}
+
+/// The same of the fields that are left of a segment.
+fn describe_fields(text: &mut Vec<u8>, from: Cursor<'_>) -> Result<(), AllocError> {
+    let mut rest = from;
+    while let Some((field, behind)) = rest.field() {
+        text.push(b' ')?;
+        text.extend_from_slice(&field.id())?;
+        text.push(b'=')?;
+        text.extend_from_slice(field.value())?;
+        rest = behind;
+    }
+    Ok(())
+}
+
+#[test]
+fn claim_has_its_parts_in_place(rt: HostRuntime) -> Result<(), Fail> {
+    let Ok(claim) = check_request(CLAIM) else {
+        return Err(Fail::from("not framed"));
+    };
+    assert_eq!(rt; claim.header().count(), 1);
+    let mut text = Vec::new(rt.alloc());
+    describe_from(&mut text, claim.body())?;
+    if let Some(group) = claim.body().group() {
+        text.push(b'+')?;
+        describe_from(&mut text, group)?;
+        assert!(rt; group.group().is_none());
+    }
+    assert_eq!(rt;
+        text.as_slice(),
+        b"/04 C2=987654321+/07 EM=1 D2=123456 D3=0 E1=03 D7=00093721410 E7=30000/11 D9=600{ DC=20{".as_slice()
+    );
+    Ok(())
+}
+
+#[test]
+fn value_of_many_bytes_ends_at_the_next_separator(rt: HostRuntime) -> Result<(), Fail> {
+    let text = behind_header(
+        rt.alloc(),
+        b"\x1d\x1e\x1cAM07\x1cD2000000000000000000000000000000000007\x1cEM1",
+    )?;
+    let mut parts = Vec::new(rt.alloc());
+    let Ok(framed) = check_request(&text) else {
+        return Err(Fail::from("not framed"));
+    };
+    if let Some(group) = framed.body().group() {
+        describe_from(&mut parts, group)?;
+    }
+    assert_eq!(rt;
+        parts.as_slice(),
+        b"/07 D2=000000000000000000000000000000000007 EM=1".as_slice()
+    );
+    Ok(())
+}
+
 #[test]
 fn group_gives_the_segments_of_a_place(rt: HostRuntime) -> Result<(), Fail> {
     let claim = read_request(rt.alloc(), CLAIM)?;
@@ -94,6 +167,10 @@ fn unknown_parts_and_other_orders_are_kept(rt: HostRuntime) -> Result<(), Fail> 
 
 #[test]
 fn paid_answer_has_one_group_and_is_kept(rt: HostRuntime) -> Result<(), Fail> {
+    let Ok(framed) = check_response(PAID) else {
+        return Err(Fail::from("not framed"));
+    };
+    assert_eq!(rt; framed.header().count(), 1);
     let answer = read_response(rt.alloc(), PAID)?;
     assert_eq!(rt; answer.groups().len(), 1);
     assert_eq!(rt; answer.shared().len(), 0);
@@ -223,7 +300,9 @@ fn each_byte_replaced_is_kept_or_has_a_fault_that_stands(rt: HostRuntime) -> Res
             if place < text.len() {
                 text[place] = byte;
             }
-            match fault_of(rt.alloc(), &text) {
+            let fault = fault_of(rt.alloc(), &text);
+            assert_eq!(rt; checked_fault(&text), fault);
+            match fault {
                 None => expect_kept(&rt, &text)?,
                 Some(fault) => assert!(rt; stands(&text, fault)),
             }

@@ -1,3 +1,4 @@
+mod Lanes
 mod Places
 mod Reading
 mod RoundTrip

@@ -4,8 +4,7 @@ use Rattle.std.specs.Prelude.{position, ◌==◌}
 use Rattle.std.specs.List.{list_all, position_or_len}
 use Rattle.std.proofs.lemmas.Bool.{false≢true}
 use Rattle.std.proofs.lemmas.Bool.Decides.{nat_tests}
-use Rattle.std.proofs.lemmas.List.{drop-drop, take-append-drop, length-take-le}
-use Rattle.std.proofs.lemmas.List.Folds.{list_all_more}
+use Rattle.std.proofs.lemmas.List.{append-nil, drop-drop, take-append-drop, take_more, length-take-le}
 use Rattle.std.proofs.lemmas.List.Sums.{position_or_len_is}
 use Rattle.std.proofs.lemmas.Grind.{flat_map-append}
 use Rattle.std.proofs.Math.Seq.{take-add}
@@ -60,10 +59,6 @@ tail_is : (b : ℕ) (bs : List ℕ) (t : Bool) → stands_for_itself b ≡ t →
 tail_is b bs true e run = rw e at run
 tail_is b bs false e run = absurd (false≢true (rw e at run))
 
--- one byte more
-pub run_more : (bytes : List ℕ) (n : ℕ) → n < length bytes → IsRun (take n bytes) → stands_for_itself (slice_index bytes n) ≡ true → IsRun (take (n + 1) bytes)
-run_more bytes n lt run is = list_all_more stands_for_itself bytes n 0 lt ∙ rw (run, is) refl
-
 -- a run is written as it stands
 pub printed_run : (bytes : List ℕ) → IsRun bytes → printed bytes ≡ bytes
 printed_run [] run = refl
@@ -115,3 +110,11 @@ prints_on out text place size run =
     ∙ ap (λ (bs : List ℕ). out ++ bs)
     (ap (λ (bs : List ℕ). printed (take place text) ++ bs) (sym (printed_run (take size (drop place text)) run))
     ∙ (sym (flat_map-append printed_byte (take place text) (take size (drop place text))) ∙ ap printed both))
+
+-- and over one byte
+pub prints_byte : (out text : List ℕ) (place : ℕ) → place < length text → (out ++ printed (take place text)) ++ printed_byte (slice_index text place) ≡ out ++ printed (take (place + 1) text)
+prints_byte out text place lt =
+    let b = slice_index text place in
+    let more : printed (take (place + 1) text) ≡ printed (take place text) ++ printed_byte b =
+    ap printed (take_more text place 0 lt) ∙ (flat_map-append printed_byte (take place text) (b ∷ []) ∙ ap (λ (bs : List ℕ). printed (take place text) ++ bs) (append-nil (printed_byte b))) in
+    append_assoc out (printed (take place text)) (printed_byte b) ∙ ap (λ (bs : List ℕ). out ++ bs) (sym more)

@@ -3,6 +3,7 @@
 //! Nothing here knows what the words mean; the crates above give them their meaning.
 #![tactic(auto)]
 
+mod copying;
 mod decimals;
 mod line;
 mod printing;

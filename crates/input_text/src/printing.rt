@@ -1,8 +1,11 @@
-ghost use Rattle.std.specs.Prelude.{◌≡◌, ◌++◌, ◌<◌, length, take, OnOk, OnErr};
+ghost use Rattle.std.specs.Prelude.{◌≡◌, ◌∷◌, [], ◌++◌, ◌+◌, ◌*◌, ◌<◌, ◌≤◌, length, take, OnOk, OnErr};
 ghost use Rattle.input_text.specs.Printing.{hex_digit, printed, printed_byte};
 
-use crate::search::plain_run;
+use crate::copying::{copy_run, put};
 use std::alloc::AllocError;
+
+/// The most bytes that one byte is printed as.
+const LONGEST: usize = 4;
 
 /// Appends bytes spelled in printable characters.
 ///
@@ -13,45 +16,80 @@ pub fn put_printed(out: &mut Vec<u8>, bytes: &[u8]) -> Result<(), AllocError>
     ensures err { OnErr result (out.new.items ≡ out.old.items) }
 {
     let before = out.len();
-    let done = put_all(out, bytes);
-    if done.is_err() {
-        out.truncate(before);
-    }
-    done
-}
-
-fn put_all(out: &mut Vec<u8>, bytes: &[u8]) -> Result<(), AllocError>
-    ensures ok { OnOk result (out.new.items ≡ out.old.items ++ printed bytes.now) }
-    ensures err { OnErr result (take (length out.old.items) out.new.items ≡ out.old.items) }
-{
-    out.reserve(bytes.len())?;
-    let mut place = 0;
-    while place < bytes.len() {
-        let run = plain_run(&bytes[place..]);
-        if run > 0 {
-            out.extend_from_slice(&bytes[place..place + run])?;
-            place += run;
-        } else {
-            put_byte(out, bytes[place])?;
-            place += 1;
-        }
-    }
+    make_room(out, bytes.len())?;
+    let end = print(out.as_mut_slice(), before, bytes);
+    out.truncate(end);
     Ok(())
 }
 
-#[tactic(auto, unfolding(crate::specs::Printing::printed_byte))]
-fn put_byte(out: &mut Vec<u8>, byte: u8) -> Result<(), AllocError>
-    ensures ok { OnOk result (out.new.items ≡ out.old.items ++ printed_byte byte) }
+/// Appends zeros that so many bytes can be printed over.
+fn make_room(out: &mut Vec<u8>, count: usize) -> Result<(), AllocError>
+    ensures kept { OnOk result (take (length out.old.items) out.new.items ≡ out.old.items) }
+    ensures room { OnOk result (length out.old.items + 4 * count ≤ length out.new.items) }
     ensures err { OnErr result (out.new.items ≡ out.old.items) }
 {
-    match byte {
-        b'\\' => out.extend_from_slice(b"\\\\"),
-        0x1C => out.extend_from_slice(b"\\F"),
-        0x1D => out.extend_from_slice(b"\\G"),
-        0x1E => out.extend_from_slice(b"\\S"),
-        0x20..=0x7E => out.extend_from_slice(&[byte]),
-        _ => out.extend_from_slice(&[b'\\', b'x', hex_digit(byte / 16), hex_digit(byte % 16)]),
+    let Some(most) = count.checked_mul(LONGEST) else {
+        return Err(AllocError);
+    };
+    let Some(len) = out.len().checked_add(most) else {
+        return Err(AllocError);
+    };
+    out.resize(len, 0)
+}
+
+/// Writes bytes as they are printed from a place of `out` on, and gives the place behind them.
+fn print(out: &mut [u8], from: usize, bytes: &[u8]) -> usize
+    requires { from + 4 * length bytes.now ≤ length out.old }
+    ensures { take result out.new ≡ take from out.old ++ printed bytes.now }
+{
+    let mut place = 0;
+    let mut end = from;
+    while place < bytes.len() {
+        let run = copy_run(out, end, &bytes[place..]);
+        place += run;
+        end += run;
+        if place == bytes.len() {
+            continue;
+        }
+        end += put_byte(out, end, bytes[place]);
+        place += 1;
     }
+    end
+}
+
+/// Writes a byte as it is printed to a place of `out`, and gives how many bytes that takes.
+#[tactic(auto, unfolding(crate::specs::Printing::printed_byte))]
+fn put_byte(out: &mut [u8], at: usize, byte: u8) -> usize
+    requires { at + 4 ≤ length out.old }
+    ensures text { take (at + result) out.new ≡ take at out.old ++ printed_byte byte }
+    ensures most { result ≤ 4 }
+    ensures len { length out.new ≡ length out.old }
+{
+    match byte {
+        b'\\' => put_escaped(out, at, b'\\'),
+        0x1C => put_escaped(out, at, b'F'),
+        0x1D => put_escaped(out, at, b'G'),
+        0x1E => put_escaped(out, at, b'S'),
+        0x20..=0x7E => put(out, at, &[byte]),
+        _ => put(
+            out,
+            at,
+            &[b'\\', b'x', hex_digit(byte / 16), hex_digit(byte % 16)],
+        ),
+    }
+}
+
+/// Writes a backslash and a letter to a place of `out`, and gives how many bytes they are.
+#[inline(always)]
+fn put_escaped(out: &mut [u8], at: usize, letter: u8) -> usize
+    requires { at + 2 ≤ length out.old }
+    ensures text { take (at + result) out.new ≡ take at out.old ++ 92 ∷ letter ∷ [] }
+    ensures count { result ≡ 2 }
+    ensures len { length out.new ≡ length out.old }
+{
+    out[at] = b'\\';
+    out[at + 1] = letter;
+    2
 }
 
 /// The lower-case hexadecimal digit of a number.

@@ -1,9 +1,9 @@
-ghost use Rattle.std.specs.Prelude.{◌≡◌, ◌<◌, ◌≤◌, ◌+◌, ◌^◌, ℕ, All, IfSome, List, MatchResult, Ok, length};
+ghost use Rattle.std.specs.Prelude.{◌≡◌, ◌<◌, ◌≤◌, ◌+◌, ◌^◌, ℕ, All, IfSome, List, MatchResult, Ok, Err, length, take};
 ghost use Rattle.input_text.specs.declared.unprinting.PrintedFault.TheVariants.{OutOfMemory};
 ghost use Rattle.input_text.specs.Printing.{escaped, first_spelling, hex_value, printed, spelling_behind_x, unprinted};
 ghost use Rattle.input_text.specs.Unprinting.{FailsFor};
 
-use crate::search::plain_run;
+use crate::copying::copy_run;
 use std::alloc::{AllocError, AllocFailed, Global};
 use thiserror::Error;
 
@@ -40,24 +40,42 @@ impl<T: Drop> From<AllocFailed<T>> for PrintedFault {
 pub fn unprint(alloc: Global, text: &[u8]) -> Result<Vec<u8>, PrintedFault>
     ensures { MatchResult result (λ v. unprinted text.now ≡ Ok v.items) (λ e. FailsFor e (unprinted text.now)) }
 {
-    let mut bytes = Vec::with_capacity(alloc, text.len())?;
+    let mut bytes = Vec::new(alloc);
+    bytes.resize(text.len(), 0)?;
+    match unprint_over(bytes.as_mut_slice(), text) {
+        Ok(end) => {
+            bytes.truncate(end);
+            Ok(bytes)
+        }
+        Err(place) => Err(PrintedFault::BadByte(place)),
+    }
+}
+
+/// Writes the bytes that a printed text spells over `out`, and gives how many they are; or else the place where no
+/// spelling of a byte begins.
+fn unprint_over(out: &mut [u8], text: &[u8]) -> Result<usize, usize>
+    requires { length text.now ≤ length out.old }
+    ensures { MatchResult result (λ end. unprinted text.now ≡ Ok (take end out.new)) (λ place. unprinted text.now ≡ Err place) }
+{
     let mut place = 0;
+    let mut end = 0;
     while place < text.len() {
-        let run = plain_run(&text[place..]);
-        if run > 0 {
-            bytes.extend_from_slice(&text[place..place + run])?;
-            place += run;
+        let run = copy_run(out, end, &text[place..]);
+        place += run;
+        end += run;
+        if place == text.len() {
             continue;
         }
         match first_spelling(&text[place..]) {
             Some((byte, size)) => {
-                bytes.push(byte)?;
+                out[end] = byte;
+                end += 1;
                 place += size;
             }
-            None => return Err(PrintedFault::BadByte(place)),
+            None => return Err(place),
         }
     }
-    Ok(bytes)
+    Ok(end)
 }
 
 /// The byte that the spelling at the front of a text stands for, and the length of that spelling.

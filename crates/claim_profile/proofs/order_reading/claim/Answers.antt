@@ -1,21 +1,5 @@
-use Rattle.std.proofs.Common.{◌≡◌, None, ap, ◌∙◌}
 use Rattle.d0_segments.specs.Views.{segments_parts}
-use Rattle.claim_profile.specs.Order.{claim_fields, or_rejected}
-use Rattle.claim_profile.specs.OrderTally.{order_seen}
-use Rattle.claim_profile.proofs.OrderLemmas.{claim_fields_are, claim_order_ok, claim_order_rejected, claim_code}
 use Rattle.claim_profile.proofs.order_reading.claim.Goals as goal
 
-pub rejects-requires : goal.rejects-requires
-rejects-requires c = let f = c.of-fields.result in claim_code c.args.header.now f.cardholder f.date f.prescription f.fill f.product f.quantity f.cost f.fee c.in-None.ensures
-
-pub returns-in-Some : goal.returns-in-Some
-returns-in-Some c =
-    let f = c.of-fields.result in
-    let e : f ≡ claim_fields c.args.header.now (segments_parts c.args.shared.now) (segments_parts c.args.group.now) = claim_fields_are c.args.header.now (segments_parts c.args.shared.now) (segments_parts c.args.group.now) (order_seen c.of.result) f c.of-fields.ensures c.of.ensures in
-    claim_order_ok c.args.header.now (segments_parts c.args.shared.now) (segments_parts c.args.group.now) f c.in-Some.claim e c.in-Some.ensures
-
-pub returns-in-None : goal.returns-in-None
-returns-in-None c =
-    let f = c.of-fields.result in
-    let e : f ≡ claim_fields c.args.header.now (segments_parts c.args.shared.now) (segments_parts c.args.group.now) = claim_fields_are c.args.header.now (segments_parts c.args.shared.now) (segments_parts c.args.group.now) (order_seen c.of.result) f c.of-fields.ensures c.of.ensures in
-    ap (or_rejected None) c.rejects.ensures ∙ claim_order_rejected c.args.header.now (segments_parts c.args.shared.now) (segments_parts c.args.group.now) f e c.in-None.ensures
+pub returns : goal.returns
+returns c = c.claim_of.ensures (segments_parts c.args.shared.now) (segments_parts c.args.group.now) c.of.ensures

@@ -1,21 +1,6 @@
-use Rattle.std.proofs.Common.{◌≡◌, [], None, ap, ◌∙◌}
+use Rattle.std.proofs.Common.{[]}
 use Rattle.d0_segments.specs.Views.{segments_parts}
-use Rattle.claim_profile.specs.Order.{reversal_fields, or_rejected}
-use Rattle.claim_profile.specs.OrderTally.{order_seen}
-use Rattle.claim_profile.proofs.OrderLemmas.{reversal_fields_are, reversal_order_ok, reversal_order_rejected, reversal_code}
 use Rattle.claim_profile.proofs.order_reading.reversal.Goals as goal
 
-pub rejects-requires : goal.rejects-requires
-rejects-requires c = let f = c.of-fields.result in reversal_code c.args.header.now f.date f.prescription f.fill c.in-None.ensures
-
-pub returns-in-Some : goal.returns-in-Some
-returns-in-Some c =
-    let f = c.of-fields.result in
-    let e : f ≡ reversal_fields c.args.header.now (segments_parts c.args.group.now) = reversal_fields_are c.args.header.now [] (segments_parts c.args.group.now) (order_seen c.of.result) f c.of-fields.ensures c.of.ensures in
-    reversal_order_ok c.args.header.now (segments_parts c.args.group.now) f c.in-Some.reversal e c.in-Some.ensures
-
-pub returns-in-None : goal.returns-in-None
-returns-in-None c =
-    let f = c.of-fields.result in
-    let e : f ≡ reversal_fields c.args.header.now (segments_parts c.args.group.now) = reversal_fields_are c.args.header.now [] (segments_parts c.args.group.now) (order_seen c.of.result) f c.of-fields.ensures c.of.ensures in
-    ap (or_rejected None) c.rejects.ensures ∙ reversal_order_rejected c.args.header.now (segments_parts c.args.group.now) f e c.in-None.ensures
+pub returns : goal.returns
+returns c = c.reversal_of.ensures [] (segments_parts c.args.group.now) c.of.ensures

@@ -1,0 +1,17 @@
+use Rattle.std.proofs.Common.{◌≡◌, ◌≤◌, codes, length}
+use Rattle.d0_segments.specs.Pieces.{shared_of}
+use Rattle.d0_segments.specs.Inside.{fields_left}
+use Rattle.claim_profile.specs.Fields.{untrimmed, values}
+use Rattle.claim_profile.specs.RulingSeen.{codes_seen, codes_counted}
+use Rattle.claim_profile.proofs.answer_values.FoundCodes.count_status_from.Given as goal
+
+-- what is counted, and then what is left, is all
+abbrev pub invariant-loop-field : goal.invariant-loop-field
+invariant-loop-field l = record {
+  values : codes_counted (codes_seen l.self) (values untrimmed (codes "FB") (fields_left l.rest.bytes.now)) ≡ codes_counted (codes_seen l.fn.self) (values untrimmed (codes "FB") (fields_left l.fn.inside.bytes.now));
+  segments : shared_of l.fn.inside.bytes.now ≡ shared_of l.rest.bytes.now;
+  shorter : length l.rest.bytes.now ≤ length l.fn.inside.bytes.now;
+}
+
+abbrev pub decreases-loop-field : goal.decreases-loop-field
+decreases-loop-field l = length l.rest.bytes.now

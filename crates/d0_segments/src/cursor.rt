@@ -1,0 +1,142 @@
+//! Going over framed bytes in place.
+
+ghost use Rattle.std.specs.Prelude.{◌≡◌, ◌≤◌, ◌<◌, [], ◌∷◌, ◌++◌, true, length, MatchOption, IfSome, IfNone};
+ghost use Rattle.d0_segments.specs.Separators.{begins_with, ends_segment};
+ghost use Rattle.d0_segments.specs.Texts.{field_text};
+ghost use Rattle.d0_segments.specs.Views.{field_parts};
+ghost use Rattle.d0_segments.specs.Pieces.{shared_of, groups_of};
+ghost use Rattle.d0_segments.specs.Inside.{is_inside, fields_left};
+
+use crate::field::Field;
+use crate::rest::{behind, byte_at};
+use crate::separator::{FIELD_SEPARATOR, GROUP_SEPARATOR, SEGMENT_SEPARATOR, begins_with, split};
+use memchr::memchr;
+
+/// A place behind the header of framed bytes: where a field, a segment or a group begins, or the end.
+/// It lends the fields from there on and takes no memory.
+#[derive(Clone, Copy, Debug)]
+pub struct Cursor<'a> {
+    bytes: &'a [u8],
+    pub ghost framed: { is_inside bytes.now ≡ true },
+}
+
+/// A segment in place: its identification, and where its fields begin. The segments behind it follow
+/// from there too.
+#[derive(Clone, Copy, Debug)]
+pub struct SegmentAt<'a> {
+    first: u8,
+    second: u8,
+    fields: Cursor<'a>,
+}
+
+impl<'a> SegmentAt<'a> {
+    /// The segment identification, as `07` of the claim segment.
+    #[inline(always)]
+    pub fn id(&self) -> [u8; 2]
+        ensures { result ≡ self.now.first ∷ self.now.second ∷ [] }
+    {
+        [self.first, self.second]
+    }
+
+    /// The place behind the identification, where its fields begin.
+    #[inline(always)]
+    pub fn fields(&self) -> Cursor<'a>
+        ensures { result ≡ self.now.fields }
+    {
+        self.fields
+    }
+}
+
+impl<'a> Cursor<'a> {
+    /// The place at which these bytes begin.
+    #[inline(always)]
+    pub(crate) fn at(bytes: &'a [u8]) -> Cursor<'a>
+        requires { is_inside bytes.now ≡ true }
+        ensures { result.bytes ≡ bytes.entry }
+    {
+        Cursor { bytes }
+    }
+
+    /// The next field of the segment and the place behind it; None behind the last one.
+    #[inline(always)]
+    pub fn field(self) -> Option<(Field<'a>, Cursor<'a>)>
+        ensures fields { MatchOption result (fields_left self.entry.bytes.now ≡ []) (λ x. fields_left self.entry.bytes.now ≡ field_parts x.0 ∷ fields_left x.1.bytes.now) }
+        // The segments behind are the same from both places.
+        ensures segments { IfSome result (λ x. shared_of self.entry.bytes.now ≡ shared_of x.1.bytes.now) }
+        ensures shorter { IfSome result (λ x. length x.1.bytes.now < length self.entry.bytes.now) }
+        ensures ends { IfNone result (ends_segment self.entry.bytes.now ≡ true) }
+    {
+        if begins_with(self.bytes, FIELD_SEPARATOR) {
+            return Some(self.take_field());
+        }
+        None
+    }
+
+    /// The field that begins here, and the place behind it.
+    #[inline(always)]
+    fn take_field(self) -> (Field<'a>, Cursor<'a>)
+        requires { begins_with 28 self.bytes.now ≡ true }
+        ensures { self.entry.bytes.now ≡ field_text (field_parts result.0) ++ result.1.bytes.now }
+    {
+        let first = byte_at(self.bytes, 1);
+        let second = byte_at(self.bytes, 2);
+        let (value, rest) = split(behind(self.bytes, 3));
+        let field = Field::of_plain([first, second], value);
+        (field, Cursor::at(rest))
+    }
+
+    /// The next segment of the group; None behind the last one.
+    #[inline(always)]
+    pub fn segment(self) -> Option<SegmentAt<'a>>
+        ensures segments { MatchOption result (shared_of self.entry.bytes.now ≡ []) (λ s. shared_of self.entry.bytes.now ≡ record { id = s.first ∷ s.second ∷ []; fields = fields_left s.fields.bytes.now } ∷ shared_of s.fields.bytes.now) }
+        ensures shorter { IfSome result (λ s. length s.fields.bytes.now < length self.entry.bytes.now) }
+    {
+        let rest = self.behind_fields();
+        if begins_with(rest.bytes, SEGMENT_SEPARATOR) {
+            return Some(rest.take_segment());
+        }
+        None
+    }
+
+    /// The place behind the fields that are left of a segment.
+    #[inline(always)]
+    fn behind_fields(self) -> Cursor<'a>
+        ensures ends { ends_segment result.bytes.now ≡ true }
+        ensures segments { shared_of self.entry.bytes.now ≡ shared_of result.bytes.now }
+        ensures shorter { length result.bytes.now ≤ length self.entry.bytes.now }
+    {
+        let mut rest = self;
+        while let Some((_, behind)) = rest.field() {
+            rest = behind;
+        }
+        rest
+    }
+
+    /// The segment that begins here.
+    #[inline(always)]
+    fn take_segment(self) -> SegmentAt<'a>
+        requires { begins_with 30 self.bytes.now ≡ true }
+        ensures segments { shared_of self.entry.bytes.now ≡ record { id = result.first ∷ result.second ∷ []; fields = fields_left result.fields.bytes.now } ∷ shared_of result.fields.bytes.now }
+        ensures shorter { length result.fields.bytes.now < length self.entry.bytes.now }
+    {
+        let first = byte_at(self.bytes, 4);
+        let second = byte_at(self.bytes, 5);
+        let fields = Cursor::at(behind(self.bytes, 6));
+        SegmentAt {
+            first,
+            second,
+            fields,
+        }
+    }
+
+    /// The place where the segments of the next group begin; None behind the last one.
+    pub fn group(self) -> Option<Cursor<'a>>
+        ensures groups { MatchOption result (groups_of self.entry.bytes.now ≡ []) (λ x. groups_of self.entry.bytes.now ≡ shared_of x.bytes.now ∷ groups_of x.bytes.now) }
+        ensures shorter { IfSome result (λ x. length x.bytes.now < length self.entry.bytes.now) }
+    {
+        match memchr(GROUP_SEPARATOR, self.bytes) {
+            Some(place) => Some(Cursor::at(behind(self.bytes, place + 1))),
+            None => None,
+        }
+    }
+}

@@ -1,0 +1,62 @@
+//! Sixteen bytes at once.
+
+ghost use Rattle.std.specs.Prelude.{◌≡◌, ◌≤◌, map, length};
+ghost use Rattle.std.specs.Simd.Lanes.{mask_l};
+ghost use Rattle.d0_segments.specs.Separators.{is_separator, plain_length};
+
+use crate::rest::behind;
+use crate::separator::{FIELD_SEPARATOR, is_separator, separator_in};
+use std::simd::prelude::*;
+
+/// How many bytes are tested at once.
+const LANES: usize = 16;
+
+/// How many bytes stand in front of the next separator or the end.
+#[inline(always)]
+pub fn plain_length(bytes: &[u8]) -> usize
+    ensures length { result ≡ plain_length bytes.now }
+    ensures within { result ≤ length bytes.now }
+{
+    if bytes.len() < LANES {
+        return plain_length_of_few(bytes);
+    }
+    let found = separators(u8x16::from_slice(bytes));
+    if found != 0 {
+        return found.trailing_zeros() as usize;
+    }
+    LANES + plain_length_of_many(behind(bytes, LANES))
+}
+
+/// The lanes that are separators, a bit each.
+#[inline(always)]
+fn separators(lanes: u8x16) -> u64
+    ensures { result ≡ mask_l (map is_separator lanes) }
+{
+    // The three separators are neighbours: less the first they are 0, 1 and 2.
+    (lanes - u8x16::splat(FIELD_SEPARATOR))
+        .simd_lt(u8x16::splat(3))
+        .to_bitmask()
+}
+
+/// The same for a few bytes.
+#[inline(always)]
+fn plain_length_of_few(bytes: &[u8]) -> usize
+    ensures { result ≡ plain_length bytes.now }
+{
+    let mut place = 0;
+    while place < bytes.len() && !is_separator(bytes[place]) {
+        place += 1;
+    }
+    place
+}
+
+/// The same for bytes whose next separator is not near.
+#[inline(never)]
+fn plain_length_of_many(bytes: &[u8]) -> usize
+    ensures { result ≡ plain_length bytes.now }
+{
+    match separator_in(bytes) {
+        Some(place) => place,
+        None => bytes.len(),
+    }
+}
