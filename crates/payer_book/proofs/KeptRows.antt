@@ -13,7 +13,7 @@ use Rattle.claim_model.specs.Book.{row_of, serial_fits}
 use Rattle.payer_book.specs.declared.fault.BookFault.{BookFault}
 use Rattle.payer_book.specs.declared.fault.BookFault.TheVariants as fault
 use Rattle.payer_book.specs.declared.fault.RowFault.TheVariants as row
-use Rattle.payer_book.specs.Faults.{IsUnread, row_fault}
+use Rattle.payer_book.specs.Faults.{row_fault}
 use Rattle.payer_book.specs.Books.{reading}
 use Rattle.payer_book.specs.Added.{kept_rulings, with_row, with_rulings, with_answer, with_kept, added}
 
@@ -61,15 +61,6 @@ module _ (b : Book) (id : TxnId) (request answer : List ℕ) where
   pub added_kept : length b.rows < b.settings.cap → is_none (row_of id b.rows) ≡ true → added b id request answer ≡ with_kept b id request answer
   unfolding added
   added_kept room fresh = cond-true _ _ None (and_from _ _ (lt-ltb (length b.rows) b.settings.cap room) fresh)
-
--- a request that was not read
-pub unread_none : (b : Book) (id : TxnId) (request answer : List ℕ) (f : BookFault) → IsUnread f (readable_header request) → (row_fault f ≡ row.OutOfMemory → ⊥) → with_kept b id request answer ≡ None
-unread_none b id request answer fault.OutOfMemory h other = absurd (other refl)
-unread_none b id request answer fault.Unreadable h other = unreadable_kept b id request answer h
-unread_none b id request answer fault.NotOurs h other = absurd h
-unread_none b id request answer fault.NumberReused h other = absurd h
-unread_none b id request answer fault.BookFull h other = absurd h
-unread_none b id request answer fault.SerialsUsedUp h other = absurd h
 
 pub negated : (b : Bool) → not b ≡ true → b ≡ false
 negated true e = sym e

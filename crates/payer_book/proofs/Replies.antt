@@ -5,20 +5,15 @@ use Rattle.std.specs.List.{list_all}
 use Rattle.std.proofs.lemmas.Bool.{cond-true, cond-false}
 use Rattle.bin_routes.specs.Table.{RouteMaps}
 use Rattle.claim_profile.specs.Readable.{readable_header}
-use Rattle.claim_model.specs.Words.{TxnId, RequestHeader}
+use Rattle.claim_model.specs.Words.{TxnId, RequestHeader, Ruling}
 use Rattle.claim_model.specs.Bytes.{bytes_with}
 use Rattle.claim_model.specs.Readable.{payer_for, is_payer, answer_text}
 use Rattle.claim_model.specs.Refusal.{Refusal}
 use Rattle.claim_model.specs.Rows.{Row, Book}
 use Rattle.claim_model.specs.Book.{serial_fits, row_of, new_row, entered_row, answered_by, answered_readable, answered}
-use Rattle.payer_book.specs.declared.fault.BookFault.{BookFault}
-use Rattle.payer_book.specs.declared.fault.BookFault.TheVariants.{OutOfMemory, Unreadable, NotOurs, NumberReused, BookFull, SerialsUsedUp}
-use Rattle.payer_book.specs.Faults.{RefusedFor, IsUnread, IsReused}
-use Rattle.payer_book.specs.Kept.{IsAnswered}
 use Rattle.payer_book.specs.Books.{reading}
-use Rattle.payer_book.specs.Added.{with_row}
+use Rattle.payer_book.specs.Added.{answer_under, kept_answer, with_row}
 use Rattle.payer_book.proofs.Readings.{readable_alike}
-use Rattle.payer_book.proofs.Lists.{same_some}
 use Rattle.payer_book.proofs.Sameness.{bytes_same}
 
 module _ (routes : RouteMaps) (b : Book) (id : TxnId) (request : List ℕ) where
@@ -53,34 +48,22 @@ module _ (routes : RouteMaps) (b : Book) (id : TxnId) (request : List ℕ) where
       pub new : row_of id b.rows ≡ None → nat_lt (length b.rows) b.settings.cap ≡ true → answered (bytes_with routes) b id request ≡ entered_row (bytes_with routes) b h (new_row (bytes_with routes) b id request)
       new e room = at_rows None e ∙ cond-true (nat_lt (length b.rows) b.settings.cap) (entered_row (bytes_with routes) b h (new_row (bytes_with routes) b id request)) (Err Refusal.BookFull) room
 
+-- the answer of a new row, as the row keeps it
+pub new_text : (row : Row) (id : TxnId) (request : List ℕ) (rulings : List Ruling) (h : RequestHeader) → readable_header request ≡ Some h → row ≡ record { id = id; request = request; rulings = rulings }
+    → (bytes : List ℕ) → bytes ≡ answer_under (Some h) row.rulings → kept_answer row ≡ bytes
+new_text row id request rulings h reads is bytes text = ap (λ (o : Option RequestHeader). answer_under o row.rulings) (ap (λ (r : Row). readable_header r.request) is ∙ reads) ∙ sym text
+
 -- what the code finds
 
 module _ (routes : RouteMaps) (b : Book) (id : TxnId) (request : List ℕ) where
-  pub unread_refused : (fault : BookFault) → IsUnread fault (readable_header request) → RefusedFor fault (answered (bytes_with routes) b id request)
-  unread_refused OutOfMemory h = tt
-  unread_refused Unreadable h = unreadable routes b id request h
-  unread_refused NotOurs h = absurd h
-  unread_refused NumberReused h = absurd h
-  unread_refused BookFull h = absurd h
-  unread_refused SerialsUsedUp h = absurd h
-
   module _ (h : RequestHeader) (reads : readable_header request ≡ Some h) (ours : is_payer b.payer (payer_for (bytes_with routes) h) ≡ true) where
-    pub reused_refused : (row : Row) → row_of id b.rows ≡ Some row → (fault : BookFault) → IsReused fault (bytes_eq row.request request) → RefusedFor fault (answered (bytes_with routes) b id request)
-    reused_refused row at OutOfMemory h = tt
-    reused_refused row at Unreadable h = absurd h
-    reused_refused row at NotOurs h = absurd h
-    reused_refused row at NumberReused other = reused routes b id request h reads ours row at other
-    reused_refused row at BookFull h = absurd h
-    reused_refused row at SerialsUsedUp h = absurd h
-
-    pub answered_again : (row : Row) → row_of id b.rows ≡ Some row → (bytes : List ℕ) (kept : Bool) → bytes_eq row.request request ≡ true → IsAnswered row.request row.rulings bytes → kept ≡ true
-        → answered (bytes_with routes) b id request ≡ Ok (record { book = b; bytes = bytes; kept = kept })
-    answered_again row at bytes kept same is known =
+    -- the row's answer again
+    pub answered_again : (row : Row) → row_of id b.rows ≡ Some row → bytes_eq row.request request ≡ true
+        → answered (bytes_with routes) b id request ≡ Ok (record { book = b; bytes = kept_answer row; kept = true })
+    answered_again row at same =
         let one : row.request ≡ request = bytes_same row.request request same in
-        let header : is.header ≡ h = same_some is.header h (sym is.reads ∙ ap readable_header one ∙ reads) in
-        let text : answer_text (bytes_with routes) h row.rulings ≡ bytes = sym (is.text ∙ ap (λ (x : RequestHeader). answer_text (bytes_with routes) x row.rulings) header) in
-        again routes b id request h reads ours row at same
-        ∙ (ap (λ (t : List ℕ). Ok (record { book = b; bytes = t; kept = true })) text ∙ ap (λ k. Ok (record { book = b; bytes = bytes; kept = k })) (sym known))
+        let text : answer_text (bytes_with routes) h row.rulings ≡ kept_answer row = ap (λ (o : Option RequestHeader). answer_under o row.rulings) (sym (ap readable_header one ∙ reads)) in
+        again routes b id request h reads ours row at same ∙ ap (λ (t : List ℕ). Ok (record { book = b; bytes = t; kept = true })) text
 
     module _ (fresh : row_of id b.rows ≡ None) (room : nat_lt (length b.rows) b.settings.cap ≡ true) (same : new_row reading b id request ≡ new_row (bytes_with routes) b id request) where
       entered_same : answered (bytes_with routes) b id request ≡ entered_row (bytes_with routes) b h (new_row reading b id request)

@@ -1,6 +1,5 @@
 -- Which refusal of the model a fault of a book is.
-use Rattle.std.specs.Prelude.{◌≡◌, Bool, false, Option, None, Result, Err, ⊤}
-use Rattle.claim_model.specs.Words.{RequestHeader}
+use Rattle.std.specs.Prelude.{◌≡◌, Result, Err, ⊤}
 use Rattle.claim_model.specs.Refusal as refusal
 use Rattle.claim_model.specs.Refusal.{Refusal}
 use Rattle.payer_book.specs.declared.fault.BookFault.{BookFault}
@@ -16,24 +15,6 @@ RefusedFor NotOurs answer = answer ≡ Err refusal.NotOurs
 RefusedFor NumberReused answer = answer ≡ Err refusal.NumberReused
 RefusedFor BookFull answer = answer ≡ Err refusal.BookFull
 RefusedFor SerialsUsedUp answer = answer ≡ Err refusal.SerialsUsedUp
-
--- the text is no readable request
-abbrev pub IsUnread : BookFault → Option RequestHeader → Type 0
-IsUnread OutOfMemory header = ⊤
-IsUnread Unreadable header = header ≡ None
-IsUnread NotOurs header = ⊥
-IsUnread NumberReused header = ⊥
-IsUnread BookFull header = ⊥
-IsUnread SerialsUsedUp header = ⊥
-
--- the request is not the one of the row
-abbrev pub IsReused : BookFault → Bool → Type 0
-IsReused OutOfMemory same = ⊤
-IsReused Unreadable same = ⊥
-IsReused NotOurs same = ⊥
-IsReused NumberReused same = same ≡ false
-IsReused BookFull same = ⊥
-IsReused SerialsUsedUp same = ⊥
 
 -- what each of them is of a kept row: want of memory, or a row that cannot stand
 abbrev pub row_fault : BookFault → RowFault

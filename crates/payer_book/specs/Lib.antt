@@ -2,6 +2,7 @@
 pub mod Settings
 pub mod Faults
 pub mod Kept
+pub mod Posted
 pub mod Ledger
 pub mod Changes
 pub mod RowPlaces
@@ -14,3 +15,4 @@ pub mod Added
 pub mod Made
 pub mod Following
 pub mod Entries
+pub mod Deciding

@@ -7,12 +7,11 @@ ghost use Rattle.payer_book.specs.Added.{with_row, with_kept, added};
 ghost use Rattle.payer_book.specs.Made.{PaysAmounts};
 ghost use Rattle.payer_book.specs.Entries.{IsEntry};
 
-use crate::answering::read;
 use crate::book::Book;
 use crate::entry::Entry;
 use crate::fault::RowFault;
 use crate::pricing::Prices;
-use claim_profile::{Answer, AnswerFault, read_answer};
+use claim_profile::{Answer, AnswerFault, check_readable, read_answer};
 use envelope::TxnId;
 use overpunch::amount_in_range;
 use std::alloc::Global;
@@ -47,10 +46,13 @@ impl Book {
         ensures fault { IfErr result (λ e. e ≢ OutOfMemory → with_kept self.now id request.now answer.now ≡ None) }
     {
         let alloc = self.rows.allocator();
-        let transmission = read(alloc, request)?;
+        let framed = match check_readable(request) {
+            Some(framed) => framed,
+            None => return Err(RowFault::BadRow),
+        };
         let said = said(alloc, answer)?;
         let prices = Prices::Kept(said.rulings());
-        let entry = self.prepare(alloc, id, &transmission, request, prices)?;
+        let entry = self.prepare(alloc, id, &framed, request, prices)?;
         if entry.bytes() != answer {
             return Err(RowFault::BadRow);
         }

@@ -1,6 +1,6 @@
 //! Books that are made again from kept rows, and rows that cannot stand.
 
-use super::tests::{Want, told};
+use super::tests::{answers, reversed_by, started};
 use super::vectors::*;
 use super::*;
 use std::alloc::Global;
@@ -29,42 +29,36 @@ fn add<R: Abort + AllocGlobal>(
     first
 }
 
-/// The row stands, and is there with its answer.
-fn stands<R: Abort + AllocGlobal>(
-    rt: &R,
-    rest: &mut BookAtRest,
-    number: u64,
-    request: &[u8],
-    answer: &[&[u8]],
-) -> Result<(), Fail> {
-    let answer = joined(rt.alloc(), answer)?;
-    let rows = rest.rows().len();
-    let outcome = add(rt, rest, id(number)?, request, &answer);
-    assert!(rt; outcome.is_ok(), "row {number} was refused");
-    assert!(rt;
-        rest.row(rows).is_some_and(|row| row.request() == request
-            && row.answer() == answer.as_slice()),
-        "row {number}"
-    );
+/// Each line of the table is a row that is added: it `stands`, or it is `bad` and nothing is changed.
+fn adds<R: Abort + AllocGlobal>(rt: &R, rest: &mut BookAtRest, table: &str) -> Result<(), Fail> {
+    for text in table.lines() {
+        adds_line(rt, rest, line_of(text)?)?;
+    }
     Ok(())
 }
 
-/// The row cannot stand, and nothing is changed.
-fn bad_row<R: Abort + AllocGlobal>(
+fn adds_line<R: Abort + AllocGlobal>(
     rt: &R,
     rest: &mut BookAtRest,
-    number: u64,
-    request: &[u8],
-    answer: &[&[u8]],
+    line: Line<'_>,
 ) -> Result<(), Fail> {
-    let answer = joined(rt.alloc(), answer)?;
+    let number = line.number;
+    let request = request_named(rt.alloc(), line.request)?;
+    let answer = answer_named(rt.alloc(), line.answer)?;
     let rows = rest.rows().len();
-    let outcome = add(rt, rest, id(number)?, request, &answer);
-    assert!(rt;
-        matches!(outcome, Err(RowFault::BadRow)),
-        "row {number} was taken"
-    );
-    assert_eq!(rt; rest.rows().len(), rows, "row {number}");
+    match add(rt, rest, id(number)?, &request, &answer) {
+        Ok(()) => {
+            assert_eq!(rt; line.want, "stands", "row {number}");
+            let row = rest.row(rows).ok_or("a row")?;
+            assert!(rt; row.request() == request.as_slice(), "row {number}");
+            assert!(rt; row.answer() == answer.as_slice(), "row {number}");
+        }
+        Err(fault) => {
+            assert!(rt; fault == RowFault::BadRow, "row {number}");
+            assert_eq!(rt; line.want, "bad", "row {number}");
+            assert_eq!(rt; rest.rows().len(), rows, "row {number}");
+        }
+    }
     Ok(())
 }
 
@@ -77,155 +71,94 @@ fn copied<R: Abort + AllocGlobal>(rt: &R, book: &Book, rest: &mut BookAtRest) ->
     Ok(())
 }
 
+fn paid_and_reversed() -> &'static str {
+    "1 claim new paid-1
+2 reversal new undone-1"
+}
+
+fn goes_on() -> &'static str {
+    "1 claim kept paid-1
+2 reversal kept undone-1
+3 claim new paid-2"
+}
+
 #[test]
 fn a_book_is_made_again(rt: HostRuntime) -> Result<(), Fail> {
-    let alloc = rt.alloc();
-    let mut book = opened(alloc, 1, 1000)?;
-    let claim = billing(alloc, fill_0())?;
-    let undo = reversal(alloc, undo_0())?;
-    let paid = [answer_head(), paid_1(), priced()];
-    told(&rt, &mut book, 1, &claim, Want::New, &paid)?;
-    let undone = [undone_head(), undone_1()];
-    told(&rt, &mut book, 2, &undo, Want::New, &undone)?;
-    let mut rest = at_rest(alloc, 1000)?;
+    let mut book = opened(rt.alloc(), 1, 1000)?;
+    answers(&rt, &mut book, paid_and_reversed())?;
+    let mut rest = at_rest(rt.alloc(), 1000)?;
     copied(&rt, &book, &mut rest)?;
     assert_eq!(rt; rest.rows().len(), 2);
-    let mut again = match rest.start() {
-        Ok(book) => book,
-        Err((rest, _)) => rest.start().ok().ok_or("a book")?,
-    };
-    told(&rt, &mut again, 1, &claim, Want::Kept, &paid)?;
-    told(&rt, &mut again, 2, &undo, Want::Kept, &undone)?;
-    assert!(rt;
-        again
-            .payment(auth(1)?)
-            .is_some_and(|p| p.reversed_by == TxnId::new(1, 2))
-    );
-    let anew = [answer_head(), paid_2(), priced()];
-    told(&rt, &mut again, 3, &claim, Want::New, &anew)
+    let mut again = started(rest)?;
+    reversed_by(&rt, &again, 1, Some(2))?;
+    answers(&rt, &mut again, goes_on())
+}
+
+fn answers_by_the_rules() -> &'static str {
+    "1 claim bad paid-2
+1 claim bad no-answer
+1 no-request bad 83
+1 claim stands paid-1
+1 claim bad again-1
+2 longer-number bad again-1-else
+2 longer-number bad paid-2
+2 twice-as-much bad paid-2-else
+2 twice-as-much bad 70
+2 twice-as-much stands 83
+3 longer-number stands again-1"
 }
 
 #[test]
 fn an_answer_is_the_one_that_the_rules_give(rt: HostRuntime) -> Result<(), Fail> {
-    let alloc = rt.alloc();
-    let mut rest = at_rest(alloc, 1000)?;
-    let claim = billing(alloc, fill_0())?;
-    let same = billing(alloc, long_number())?;
-    let other = billing(alloc, twice_as_much())?;
-    let skipped = [answer_head(), paid_2(), priced()];
-    bad_row(&rt, &mut rest, 1, &claim, &skipped)?;
-    bad_row(&rt, &mut rest, 1, &claim, &[b"no answer"])?;
-    bad_row(
-        &rt,
-        &mut rest,
-        1,
-        b"no request",
-        &[answer_head(), refused_83()],
-    )?;
-    stands(
-        &rt,
-        &mut rest,
-        1,
-        &claim,
-        &[answer_head(), paid_1(), priced()],
-    )?;
-    bad_row(
-        &rt,
-        &mut rest,
-        1,
-        &claim,
-        &[answer_head(), again_1(), priced()],
-    )?;
-    bad_row(
-        &rt,
-        &mut rest,
-        2,
-        &same,
-        &[answer_head(), again_1(), other_amounts()],
-    )?;
-    bad_row(
-        &rt,
-        &mut rest,
-        2,
-        &same,
-        &[answer_head(), paid_2(), priced()],
-    )?;
-    bad_row(
-        &rt,
-        &mut rest,
-        2,
-        &other,
-        &[answer_head(), paid_2(), other_amounts()],
-    )?;
-    bad_row(&rt, &mut rest, 2, &other, &[answer_head(), refused_70()])?;
-    stands(&rt, &mut rest, 2, &other, &[answer_head(), refused_83()])?;
-    stands(
-        &rt,
-        &mut rest,
-        3,
-        &same,
-        &[answer_head(), again_1(), priced()],
-    )
+    let mut rest = at_rest(rt.alloc(), 1000)?;
+    adds(&rt, &mut rest, answers_by_the_rules())
+}
+
+fn one_too_many() -> &'static str {
+    "1 claim stands paid-1
+2 next-fill bad paid-2"
 }
 
 #[test]
 fn a_full_book_takes_no_row(rt: HostRuntime) -> Result<(), Fail> {
-    let alloc = rt.alloc();
-    let mut rest = at_rest(alloc, 1)?;
-    let claim = billing(alloc, fill_0())?;
-    let next = billing(alloc, fill_1())?;
-    stands(
-        &rt,
-        &mut rest,
-        1,
-        &claim,
-        &[answer_head(), paid_1(), priced()],
-    )?;
-    bad_row(
-        &rt,
-        &mut rest,
-        2,
-        &next,
-        &[answer_head(), paid_2(), priced()],
-    )
+    let mut rest = at_rest(rt.alloc(), 1)?;
+    adds(&rt, &mut rest, one_too_many())
+}
+
+fn at_another_price() -> &'static str {
+    "1 claim stands paid-1-else"
+}
+
+fn off_the_plan() -> &'static str {
+    "1 claim stands 70"
+}
+
+fn off_the_plan_at_one_place() -> &'static str {
+    "1 two-fills stands one-of-two"
 }
 
 #[test]
 fn no_plan_is_asked(rt: HostRuntime) -> Result<(), Fail> {
-    let alloc = rt.alloc();
-    let claim = billing(alloc, fill_0())?;
-    let mut rest = at_rest(alloc, 1000)?;
-    stands(
-        &rt,
-        &mut rest,
-        1,
-        &claim,
-        &[answer_head(), paid_1(), other_amounts()],
-    )?;
-    let mut rest = at_rest(alloc, 1000)?;
-    stands(&rt, &mut rest, 1, &claim, &[answer_head(), refused_70()])?;
-    let mut rest = at_rest(alloc, 1000)?;
-    let both = joined(
-        alloc,
-        &[billing_head_of_two(), holder(), fill_0(), fill_1()],
-    )?;
-    let one_of_two = [
-        answer_head_of_two(),
-        paid_1(),
-        other_amounts(),
-        refused_70(),
+    let tables = [
+        at_another_price(),
+        off_the_plan(),
+        off_the_plan_at_one_place(),
     ];
-    stands(&rt, &mut rest, 1, &both, &one_of_two)
+    for table in tables {
+        let mut rest = at_rest(rt.alloc(), 1000)?;
+        adds(&rt, &mut rest, table)?;
+    }
+    Ok(())
+}
+
+fn paid_under_the_last_serial() -> &'static str {
+    "1 claim stands paid-last
+2 next-fill bad paid-last
+2 next-fill stands 70"
 }
 
 #[test]
 fn a_payment_needs_a_serial_number(rt: HostRuntime) -> Result<(), Fail> {
-    let alloc = rt.alloc();
-    let mut rest = opened(alloc, 999_999_999_999, 1000)?.stop();
-    let claim = billing(alloc, fill_0())?;
-    let next = billing(alloc, fill_1())?;
-    let paid = [answer_head(), paid_last(), priced()];
-    stands(&rt, &mut rest, 1, &claim, &paid)?;
-    bad_row(&rt, &mut rest, 2, &next, &paid)?;
-    stands(&rt, &mut rest, 2, &next, &[answer_head(), refused_70()])
+    let mut rest = opened(rt.alloc(), 999_999_999_999, 1000)?.stop();
+    adds(&rt, &mut rest, paid_under_the_last_serial())
 }

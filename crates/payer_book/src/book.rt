@@ -102,6 +102,11 @@ impl Book {
         &self.plan
     }
 
+    /// The allocator that the book was opened with.
+    pub fn allocator(&self) -> Global {
+        self.rows.allocator()
+    }
+
     /// The decided requests, oldest first.
     pub fn rows(&self) -> &[Row]
         ensures value { result.now ≡ self.now.rows }
@@ -143,10 +148,17 @@ impl Book {
     pub fn held(&self, id: TxnId) -> Option<&[u8]>
         ensures { (routes : RouteMaps) → option_copied result ≡ option_and_then (row_answer (bytes_with routes)) (row_of id self.now.rows) }
     {
-        match self.rows.find(id) {
+        match self.row_for(id) {
             Some(row) => Some(row.answer()),
             None => None,
         }
+    }
+
+    /// The row of an id.
+    pub(crate) fn row_for(&self, id: TxnId) -> Option<&Row>
+        ensures { option_copied result ≡ row_of id self.now.rows }
+    {
+        self.rows.find(id)
     }
 
     /// The payment of that authorization.

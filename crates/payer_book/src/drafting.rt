@@ -2,7 +2,7 @@
 
 ghost use Rattle.std.specs.Prelude.{◌≡◌, ◌⊎◌, ◌≤◌, true, false, [], ◌∷◌, ◌++◌, length, MatchOption, Some, OnOk, IfOk, IfErr};
 ghost use Rattle.std.specs.List.{list_all};
-ghost use Rattle.d0_segments.specs.Transmissions.{transmission_parts};
+ghost use Rattle.d0_segments.specs.FramedParts.{framed_parts};
 ghost use Rattle.claim_model.specs.Bytes.{order_in, orders_in};
 ghost use Rattle.claim_model.specs.Judgement.{priced};
 ghost use Rattle.claim_model.specs.Book.{serial_fits};
@@ -15,9 +15,9 @@ use crate::fault::BookFault;
 use crate::judging::{Verdict, judge, rejected};
 use crate::payments::Payments;
 use crate::pricing::Prices;
-use claim_profile::{Claim, Code, Order, OrderFault, Ruling, read_order};
+use claim_profile::{Claim, Code, Order, OrderFault, Ruling, order_at};
 use d0_header::RequestHeader;
-use d0_segments::Transmission;
+use d0_segments::Framed;
 use std::alloc::{AllocError, Global};
 
 /// The ruling of each place so far, and what each changes among the payments.
@@ -32,15 +32,15 @@ pub(crate) fn rule_all(
     alloc: Global,
     payments: &Payments,
     prices: Prices<'_>,
-    transmission: &Transmission<'_, RequestHeader>,
+    framed: &Framed<'_, RequestHeader>,
 ) -> Result<Draft, BookFault>
-    ensures made { IfOk result (λ d. IsDraft payments.now (pricing prices.entry) (orders_in (Some (transmission_parts transmission.now))) d) }
-    ensures fault { IfErr result (λ e. (e ≡ OutOfMemory) ⊎ ((e ≡ SerialsUsedUp) × (list_all serial_fits (rulings_on payments.now (pricing prices.entry) [] (orders_in (Some (transmission_parts transmission.now)))) ≡ false))) }
+    ensures made { IfOk result (λ d. IsDraft payments.now (pricing prices.entry) (orders_in (Some (framed_parts framed.now))) d) }
+    ensures fault { IfErr result (λ e. (e ≡ OutOfMemory) ⊎ ((e ≡ SerialsUsedUp) × (list_all serial_fits (rulings_on payments.now (pricing prices.entry) [] (orders_in (Some (framed_parts framed.now)))) ≡ false))) }
 {
-    let places = transmission.groups().len();
+    let places = framed.group_count();
     let mut draft = Draft::with_room(alloc, places)?;
     for place in 0..places {
-        draft.rule(payments, &prices, &read_order(transmission, place))?;
+        draft.rule(payments, &prices, &order_at(framed, place))?;
     }
     Ok(draft)
 }

@@ -1,16 +1,16 @@
 //! Entering a new request: its row, and what the row changes among the payments.
 
-ghost use Rattle.std.specs.Prelude.{◌≡◌, ◌⊎◌, ◌<◌, length, false, OnErr, IfOk, IfErr, Some, None};
+ghost use Rattle.std.specs.Prelude.{◌≡◌, ◌⊎◌, ◌<◌, ◌≤◌, length, false, OnErr, IfOk, IfErr, Some, None};
 ghost use Rattle.std.specs.List.{list_all};
 ghost use Rattle.d0_segments.specs.Framing.{request_kind, transmission_of};
-ghost use Rattle.d0_segments.specs.Transmissions.{transmission_parts};
+ghost use Rattle.d0_segments.specs.FramedParts.{framed_parts};
 ghost use Rattle.claim_profile.specs.Readable.{readable_header};
 ghost use Rattle.claim_profile.specs.Answer.{answer_text};
 ghost use Rattle.claim_model.specs.Words.{AcceptedStatus};
 ghost use Rattle.claim_model.specs.Book.{serial_fits, row_of};
 ghost use Rattle.payer_book.specs.declared.fault.BookFault.TheVariants.{OutOfMemory, SerialsUsedUp};
 ghost use Rattle.payer_book.specs.Drafts.{pricing};
-ghost use Rattle.payer_book.specs.Added.{with_row};
+ghost use Rattle.payer_book.specs.Added.{kept_answer, with_row};
 ghost use Rattle.payer_book.specs.Made.{ArePrices};
 ghost use Rattle.payer_book.specs.Entries.{IsEntry, rulings_by};
 
@@ -23,7 +23,7 @@ use crate::row::Row;
 use claim_model::{bytes_keep_laws, orders_of_requests};
 use claim_profile::{HeaderStatus, write_answer};
 use d0_header::RequestHeader;
-use d0_segments::Transmission;
+use d0_segments::Framed;
 use envelope::TxnId;
 use octets::Octets;
 use overpunch::number_in_range;
@@ -44,6 +44,14 @@ impl Entry {
     {
         self.bytes.as_slice()
     }
+
+    /// The answer's bytes, as the row keeps them.
+    pub(crate) fn answer(&self) -> &[u8]
+        ensures text { result.now ≡ kept_answer self.now.row }
+        ensures short { length result.now ≤ 32768 }
+    {
+        self.row.answer()
+    }
 }
 
 impl Book {
@@ -52,24 +60,24 @@ impl Book {
         &self,
         alloc: Global,
         id: TxnId,
-        transmission: &Transmission<'_, RequestHeader>,
+        framed: &Framed<'_, RequestHeader>,
         request: &[u8],
         prices: Prices<'_>,
     ) -> Result<Entry, BookFault>
-        requires parts { transmission_of request_kind request.now ≡ Some (transmission_parts transmission.now) }
-        requires readable { readable_header request.now ≡ Some transmission.now.header }
+        requires parts { transmission_of request_kind request.now ≡ Some (framed_parts framed.now) }
+        requires readable { readable_header request.now ≡ Some framed.now.header }
         requires prices { ArePrices (pricing prices) }
         ensures made { IfOk result (λ e. IsEntry self.now e) }
         ensures row { IfOk result (λ e. e.row ≡ record { id = id; request = request.now; rulings = rulings_by (pricing prices.entry) self.now id request.now }) }
-        ensures text { IfOk result (λ e. e.bytes.items ≡ answer_text transmission.now.header AcceptedStatus e.row.rulings) }
+        ensures text { IfOk result (λ e. e.bytes.items ≡ answer_text framed.now.header AcceptedStatus e.row.rulings) }
         ensures fault { IfErr result (λ e. (e ≡ OutOfMemory) ⊎ ((e ≡ SerialsUsedUp) × (list_all serial_fits (rulings_by (pricing prices.entry) self.now id request.now) ≡ false))) }
     {
         orders_of_requests();
         bytes_keep_laws();
-        let Draft { rulings, changes } = rule_all(alloc, &self.payments, prices, transmission)?;
+        let Draft { rulings, changes } = rule_all(alloc, &self.payments, prices, framed)?;
         let bytes = write_answer(
             alloc,
-            transmission.header(),
+            framed.header(),
             HeaderStatus::Accepted,
             rulings.as_slice(),
         )?;

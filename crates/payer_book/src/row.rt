@@ -1,7 +1,9 @@
 //! One decided request.
 
-ghost use Rattle.std.specs.Prelude.{◌≡◌, ◌≤◌, length, Some};
+ghost use Rattle.std.specs.Prelude.{◌≡◌, ◌≤◌, length, Some, IsSome};
 ghost use Rattle.bin_routes.specs.Table.{RouteMaps};
+ghost use Rattle.d0_header.specs.Request.{request_of};
+ghost use Rattle.claim_profile.specs.Readable.{readable_header};
 ghost use Rattle.claim_model.specs.Bytes.{bytes_with};
 ghost use Rattle.claim_model.specs.Held.{row_answer};
 ghost use Rattle.payer_book.specs.Kept.{IsAnswered};
@@ -53,6 +55,17 @@ impl Row {
         self.id
     }
 
+    /// The BIN number (101-A1) and the processor control number (104-A4) of the request. It is readable, so they stand
+    /// at their places.
+    pub(crate) fn bin_and_pcn(&self) -> ([u8; 6], [u8; 10])
+        ensures readable { readable_header self.now.request ≡ Some (request_of self.now.request) }
+        ensures bin { result.0 ≡ (request_of self.now.request).bin }
+        ensures pcn { result.1 ≡ (request_of self.now.request).pcn }
+    {
+        let _answered = self.answer();
+        bin_and_pcn_of(self.request.as_slice())
+    }
+
     /// The request's bytes.
     pub fn request(&self) -> &[u8]
         ensures { result.now ≡ self.now.request }
@@ -76,4 +89,19 @@ impl Row {
     {
         self.answer.as_slice()
     }
+}
+
+/// The BIN number and the processor control number of a readable request.
+#[tactic(auto, using(crate::proofs::Headers::readable_long))]
+fn bin_and_pcn_of(request: &[u8]) -> ([u8; 6], [u8; 10])
+    requires { IsSome (readable_header request.now) }
+    ensures readable { readable_header request.now ≡ Some (request_of request.now) }
+    ensures bin { result.0 ≡ (request_of request.now).bin }
+    ensures pcn { result.1 ≡ (request_of request.now).pcn }
+{
+    let mut bin = [0; 6];
+    bin.copy_from_slice(&request[..6]);
+    let mut pcn = [0; 10];
+    pcn.copy_from_slice(&request[10..20]);
+    (bin, pcn)
 }

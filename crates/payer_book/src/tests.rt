@@ -6,79 +6,54 @@ use claim_profile::Auth;
 use std::process::Abort;
 use std::test::Fail;
 
-/// What a call of `answer` is to give.
-#[derive(Clone, Copy, Debug, PartialEq, Eq)]
-pub(crate) enum Want {
-    New,
-    Kept,
-}
-
-pub(crate) fn told<R: Abort + AllocGlobal>(
+/// Each line of the table is a call of `answer`, and whether its answer is `new` or `kept`.
+pub(crate) fn answers<R: Abort + AllocGlobal>(
     rt: &R,
     book: &mut Book,
-    number: u64,
-    request: &[u8],
-    want: Want,
-    answer: &[&[u8]],
+    table: &str,
 ) -> Result<(), Fail> {
-    let alloc = rt.alloc();
-    let routes = routes(alloc)?;
-    let want_bytes = joined(alloc, answer)?;
-    match ask(rt, book, &routes, number, request)? {
+    for text in table.lines() {
+        answers_line(rt, book, line_of(text)?)?;
+    }
+    Ok(())
+}
+
+fn answers_line<R: Abort + AllocGlobal>(
+    rt: &R,
+    book: &mut Book,
+    line: Line<'_>,
+) -> Result<(), Fail> {
+    let number = line.number;
+    let routes = routes(rt.alloc())?;
+    let request = request_named(rt.alloc(), line.request)?;
+    let answer = answer_named(rt.alloc(), line.answer)?;
+    match ask(rt, book, &routes, number, &request)? {
         Ok(reply) => {
             assert_eq!(rt;
                 reply.bytes.as_slice(),
-                want_bytes.as_slice(),
+                answer.as_slice(),
                 "number {number}"
             );
-            assert_eq!(rt; reply.kept, want == Want::Kept, "number {number}");
+            assert_eq!(rt; reply.kept, line.want == "kept", "number {number}");
         }
         Err(fault) => panic!(rt; "number {number}: {fault:?}"),
     }
     let held = book.held(id(number)?);
-    assert!(rt; held == Some(want_bytes.as_slice()), "held {number}");
+    assert!(rt; held == Some(answer.as_slice()), "held {number}");
     Ok(())
+}
+
+fn paid_once() -> &'static str {
+    "1 claim new paid-1
+1 claim kept paid-1
+2 longer-number new again-1
+3 twice-as-much new 83"
 }
 
 #[test]
 fn a_claim_is_paid_once(rt: HostRuntime) -> Result<(), Fail> {
-    let alloc = rt.alloc();
-    let mut book = opened(alloc, 1, 1000)?;
-    let claim = billing(alloc, fill_0())?;
-    told(
-        &rt,
-        &mut book,
-        1,
-        &claim,
-        Want::New,
-        &[answer_head(), paid_1(), priced()],
-    )?;
-    told(
-        &rt,
-        &mut book,
-        1,
-        &claim,
-        Want::Kept,
-        &[answer_head(), paid_1(), priced()],
-    )?;
-    let same = billing(alloc, long_number())?;
-    told(
-        &rt,
-        &mut book,
-        2,
-        &same,
-        Want::New,
-        &[answer_head(), again_1(), priced()],
-    )?;
-    let other = billing(alloc, twice_as_much())?;
-    told(
-        &rt,
-        &mut book,
-        3,
-        &other,
-        Want::New,
-        &[answer_head(), refused_83()],
-    )?;
+    let mut book = opened(rt.alloc(), 1, 1000)?;
+    answers(&rt, &mut book, paid_once())?;
     assert_eq!(rt; book.payer().get(), 1);
     assert_eq!(rt;
         (book.settings().serial(), book.settings().cap()),
@@ -88,34 +63,26 @@ fn a_claim_is_paid_once(rt: HostRuntime) -> Result<(), Fail> {
     Ok(())
 }
 
-#[test]
-fn a_reversed_fill_is_paid_anew(rt: HostRuntime) -> Result<(), Fail> {
-    let alloc = rt.alloc();
-    let mut book = opened(alloc, 1, 1000)?;
-    let claim = billing(alloc, fill_0())?;
-    let undo = reversal(alloc, undo_0())?;
-    let refused = [undone_head(), refused_87()];
-    told(&rt, &mut book, 1, &undo, Want::New, &refused)?;
-    let paid = [answer_head(), paid_1(), priced()];
-    told(&rt, &mut book, 2, &claim, Want::New, &paid)?;
-    let undone = [undone_head(), undone_1()];
-    told(&rt, &mut book, 3, &undo, Want::New, &undone)?;
-    told(&rt, &mut book, 4, &undo, Want::New, &refused)?;
-    let anew = [answer_head(), paid_2(), priced()];
-    told(&rt, &mut book, 5, &claim, Want::New, &anew)?;
-    payments_stand(&rt, &book)
+fn paid_anew() -> &'static str {
+    "1 reversal new 87
+2 claim new paid-1
+3 reversal new undone-1
+4 reversal new 87
+5 claim new paid-2"
 }
 
-/// The first payment is reversed, the second one stands, and there is no other.
-fn payments_stand<R: Abort + AllocGlobal>(rt: &R, book: &Book) -> Result<(), Fail> {
-    reversed_by(rt, book, 1, Some(3))?;
-    reversed_by(rt, book, 2, None)?;
-    not_paid(rt, book, 1, 3)?;
-    not_paid(rt, book, 2, 1)
+#[test]
+fn a_reversed_fill_is_paid_anew(rt: HostRuntime) -> Result<(), Fail> {
+    let mut book = opened(rt.alloc(), 1, 1000)?;
+    answers(&rt, &mut book, paid_anew())?;
+    reversed_by(&rt, &book, 1, Some(3))?;
+    reversed_by(&rt, &book, 2, None)?;
+    not_paid(&rt, &book, 1, 3)?;
+    not_paid(&rt, &book, 2, 1)
 }
 
 /// The payment of this serial number is for the prescription, and reversed by the request of that number, or standing.
-fn reversed_by<R: Abort + AllocGlobal>(
+pub(crate) fn reversed_by<R: Abort + AllocGlobal>(
     rt: &R,
     book: &Book,
     serial: u64,
@@ -143,60 +110,58 @@ fn not_paid<R: Abort + AllocGlobal>(
     Ok(())
 }
 
+fn new_then_kept() -> &'static str {
+    "1 claim new paid-1
+1 claim kept paid-1"
+}
+
+fn kept() -> &'static str {
+    "1 claim kept paid-1"
+}
+
 #[test]
 fn a_book_comes_back_from_its_rest(rt: HostRuntime) -> Result<(), Fail> {
-    let alloc = rt.alloc();
-    let mut book = opened(alloc, 1, 1000)?;
-    let claim = billing(alloc, fill_0())?;
-    told(
-        &rt,
-        &mut book,
-        1,
-        &claim,
-        Want::New,
-        &[answer_head(), paid_1(), priced()],
-    )?;
+    let mut book = opened(rt.alloc(), 1, 1000)?;
+    answers(&rt, &mut book, new_then_kept())?;
+    let rest = book.stop();
+    rests(&rt, &rest)?;
+    let mut book = started(rest)?;
+    assert!(rt; book.row(0).is_some_and(|row| row.id().number() == 1));
+    answers(&rt, &mut book, kept())
+}
+
+/// The book at rest is the payer's, with one row.
+fn rests<R: Abort + AllocGlobal>(rt: &R, rest: &BookAtRest) -> Result<(), Fail> {
+    let claim = request_named(rt.alloc(), "claim")?;
+    assert_eq!(rt; rest.rows().len(), 1);
+    assert!(rt;
+        rest.row(0)
+            .is_some_and(|row| row.request() == claim.as_slice())
+    );
+    assert!(rt; rest.row(0).is_some_and(|row| row.rulings().len() == 1));
+    assert!(rt; rest.row(1).is_none());
+    assert_eq!(rt; rest.payer().get(), 1);
+    assert_eq!(rt; rest.settings().cap(), 1000);
+    assert_eq!(rt; rest.plan().products(), 1);
+    Ok(())
+}
+
+/// The book at work; where memory was refused the call is made again.
+pub(crate) fn started(rest: BookAtRest) -> Result<Book, Fail> {
+    match rest.start() {
+        Ok(book) => Ok(book),
+        Err((rest, _)) => Ok(rest.start().ok().ok_or("a book")?),
+    }
+}
+
+#[test]
+fn a_changed_plan_leaves_answers_as_they_were(rt: HostRuntime) -> Result<(), Fail> {
+    let mut book = opened(rt.alloc(), 1, 1000)?;
+    answers(&rt, &mut book, new_then_kept())?;
     if book.change_plan(b"00093721410", Some(20_000)).is_err() {
         book.change_plan(b"00093721410", Some(20_000))?;
     }
     assert!(rt; matches!(book.change_plan(b"", Some(1)), Err(PlanFault::BadProduct)));
     assert!(rt; book.change_plan(b"X", None).is_ok());
-    told(
-        &rt,
-        &mut book,
-        1,
-        &claim,
-        Want::Kept,
-        &[answer_head(), paid_1(), priced()],
-    )?;
-    let rest = book.stop();
-    assert_eq!(rt; rest.rows().len(), 1);
-    assert!(rt;
-        rest.row(0).is_some_and(|row| row.request() == claim.as_slice() && row.rulings().len() == 1)
-    );
-    assert!(rt; rest.row(1).is_none());
-    assert_eq!(rt;
-        (
-            rest.payer().get(),
-            rest.settings().cap(),
-            rest.plan().products()
-        ),
-        (1, 1000, 1)
-    );
-    let mut book = match rest.start() {
-        Ok(book) => book,
-        Err((rest, _)) => rest.start().ok().ok_or("a book")?,
-    };
-    assert!(rt;
-        book.row(0)
-            .is_some_and(|row| row.id() == TxnId::new(1, 1).unwrap_or(row.id()))
-    );
-    told(
-        &rt,
-        &mut book,
-        1,
-        &claim,
-        Want::Kept,
-        &[answer_head(), paid_1(), priced()],
-    )
+    answers(&rt, &mut book, kept())
 }

@@ -202,3 +202,73 @@ pub(crate) fn ask<R: Abort + AllocGlobal>(
     }
     Ok(first)
 }
+
+/// The request that a table names.
+pub(crate) fn request_named(alloc: Global, name: &str) -> Result<Vec<u8>, Fail> {
+    match name {
+        "claim" => billing(alloc, fill_0()),
+        "longer-number" => billing(alloc, long_number()),
+        "twice-as-much" => billing(alloc, twice_as_much()),
+        "next-fill" => billing(alloc, fill_1()),
+        "two-fills" => joined(
+            alloc,
+            &[billing_head_of_two(), holder(), fill_0(), fill_1()],
+        ),
+        "reversal" => reversal(alloc, undo_0()),
+        _ => joined(alloc, &[b"no request"]),
+    }
+}
+
+/// The answer that a table names.
+pub(crate) fn answer_named(alloc: Global, name: &str) -> Result<Vec<u8>, Fail> {
+    match name {
+        "paid-1" => joined(alloc, &[answer_head(), paid_1(), priced()]),
+        "paid-1-else" => joined(alloc, &[answer_head(), paid_1(), other_amounts()]),
+        "paid-2" => joined(alloc, &[answer_head(), paid_2(), priced()]),
+        "paid-2-else" => joined(alloc, &[answer_head(), paid_2(), other_amounts()]),
+        "paid-last" => joined(alloc, &[answer_head(), paid_last(), priced()]),
+        "again-1" => joined(alloc, &[answer_head(), again_1(), priced()]),
+        "again-1-else" => joined(alloc, &[answer_head(), again_1(), other_amounts()]),
+        "one-of-two" => one_of_two(alloc),
+        "83" => joined(alloc, &[answer_head(), refused_83()]),
+        "70" => joined(alloc, &[answer_head(), refused_70()]),
+        "undone-1" => joined(alloc, &[undone_head(), undone_1()]),
+        "87" => joined(alloc, &[undone_head(), refused_87()]),
+        _ => joined(alloc, &[b"no answer"]),
+    }
+}
+
+/// The first of two claims paid, the second rejected with 70.
+fn one_of_two(alloc: Global) -> Result<Vec<u8>, Fail> {
+    joined(
+        alloc,
+        &[
+            answer_head_of_two(),
+            paid_1(),
+            other_amounts(),
+            refused_70(),
+        ],
+    )
+}
+
+/// A line of a table: the number of a request, its name, what is to come of it, and the name of an answer.
+#[derive(Clone, Copy)]
+pub(crate) struct Line<'a> {
+    pub(crate) number: u64,
+    pub(crate) request: &'a str,
+    pub(crate) want: &'a str,
+    pub(crate) answer: &'a str,
+}
+
+/// The line that a text spells.
+pub(crate) fn line_of(text: &str) -> Result<Line<'_>, Fail> {
+    let (number, text) = text.split_once(' ').ok_or("number")?;
+    let (request, text) = text.split_once(' ').ok_or("request")?;
+    let (want, answer) = text.split_once(' ').ok_or("answer")?;
+    Ok(Line {
+        number: number.parse().ok().ok_or("number")?,
+        request,
+        want,
+        answer,
+    })
+}

@@ -4,6 +4,7 @@ pub mod Turning
 pub mod ReadingLemmas
 pub mod Entering
 pub mod Dues
+pub mod Few
 pub mod Standing
 pub mod Hearings
 pub mod Answering

@@ -9,8 +9,6 @@ use Rattle.std.proofs.lemmas.List.Folds.{list_any-append}
 use Rattle.std.proofs.lemmas.List.Elements.{filter_map-append}
 use Rattle.std.proofs.lemmas.List.{append_assoc, drop_more, drop_all}
 use Rattle.d0_segments.specs.declared.fault.FramingFault.{FramingFault}
-use Rattle.d0_segments.specs.declared.fault.FramingFault.TheVariants as framing
-use Rattle.d0_segments.specs.Faults.{Fails}
 use Rattle.d0_segments.specs.Framing.{request_kind, framing_fault, transmission_of}
 use Rattle.bin_routes.specs.Table.{RouteMaps}
 use Rattle.claim_model.specs.Words.{TxnId, Auth, Fill, Order, Bills, Reverses, Code, Ruling, Paid, Duplicate, Reversed, Rejected}
@@ -116,14 +114,8 @@ no_transmission : (text : List ℕ) (fault : FramingFault) → framing_fault req
 unfolding transmission_of
 no_transmission text fault e = rw e refl
 
-pub no_fills : (text : List ℕ) (fault : FramingFault) → Fails fault (framing_fault request_kind text) → (fault ≡ framing.OutOfMemory → ⊥) → [] ≡ fills_in text
-no_fills text framing.OutOfMemory h other = absurd (other refl)
-no_fills text (framing.Header f) h other = no_transmission text _ h
-no_fills text (framing.NoSegmentStart p) h other = no_transmission text _ h
-no_fills text (framing.NoSegmentId p) h other = no_transmission text _ h
-no_fills text (framing.BadFieldId p) h other = no_transmission text _ h
-no_fills text (framing.EmptyGroup p) h other = no_transmission text _ h
-no_fills text (framing.CountMismatch s f) h other = no_transmission text _ h
+pub no_fills : (text : List ℕ) (fault : FramingFault) → framing_fault request_kind text ≡ Some fault → [] ≡ fills_in text
+no_fills text fault e = no_transmission text fault e
 
 -- past the last group or ruling nothing is left
 pub outcomes_between-end : (fills : List (Option Fill)) (rulings : List Ruling) (k : ℕ) → min (length fills) (length rulings) ≤ k → outcomes_between (drop k fills) (drop k rulings) ≡ []

@@ -5,8 +5,6 @@ use Rattle.std.proofs.lemmas.Bool.{leb-true}
 use Rattle.d0_header.specs.Request.{Request, request_of, request_fault}
 use Rattle.d0_header.specs.declared.fault.HeaderFault.{HeaderFault}
 use Rattle.d0_segments.specs.declared.fault.FramingFault.{FramingFault}
-use Rattle.d0_segments.specs.declared.fault.FramingFault.TheVariants as framing
-use Rattle.d0_segments.specs.Faults.{Fails}
 use Rattle.d0_segments.specs.Parts.{TransmissionParts}
 use Rattle.d0_segments.specs.Framing.{request_kind, transmission_of, framing_fault, after_header, unless}
 use Rattle.claim_profile.specs.Readable.{readable_header, is_carried, if_carried, framed_header, longest_request}
@@ -16,7 +14,7 @@ use Rattle.claim_model.specs.Readable.{fits, has_version, has_code, longest}
 use Rattle.std.proofs.Common.{cond, not}
 use Rattle.claim_model.specs.Refusal.{Refusal, Unreadable, Version, CodeNotCarried, NotOwnProvider, TooLong, JournalFull}
 use Rattle.claim_model.specs.Journal.{Journal, submit_fault, is_own}
-use Rattle.pharmacy_journal.specs.Refusing.{IsCause, refusal_to_submit, fault_of_framing}
+use Rattle.pharmacy_journal.specs.Refusing.{IsCause, refusal_to_submit}
 use Rattle.pharmacy_journal.specs.Reading.{header_of, settles_with, is_own_request}
 
 -- what a readable request is
@@ -94,18 +92,9 @@ found_none : (text : List ℕ) (fault : FramingFault) → framing_fault request_
 unfolding transmission_of
 found_none text fault e = rw e refl
 
-unframed : (j : Journal) (text : List ℕ) (fault : FramingFault) → framing_fault request_kind text ≡ Some fault → submit_fault j text (header_of text) ≡ Some Unreadable
-unframed j text fault e = ap (submit_fault j text) (found_none text fault e)
-
 -- a text whose framing is refused
-pub framing_refuses : (j : Journal) (text : List ℕ) (fault : FramingFault) → Fails fault (framing_fault request_kind text) → IsCause (refusal_to_submit (fault_of_framing fault)) (submit_fault j text (header_of text))
-framing_refuses j text framing.OutOfMemory h = tt
-framing_refuses j text (framing.Header f) h = unframed j text _ h
-framing_refuses j text (framing.NoSegmentStart p) h = unframed j text _ h
-framing_refuses j text (framing.NoSegmentId p) h = unframed j text _ h
-framing_refuses j text (framing.BadFieldId p) h = unframed j text _ h
-framing_refuses j text (framing.EmptyGroup p) h = unframed j text _ h
-framing_refuses j text (framing.CountMismatch s f) h = unframed j text _ h
+pub unframed : (j : Journal) (text : List ℕ) (fault : FramingFault) → framing_fault request_kind text ≡ Some fault → submit_fault j text (header_of text) ≡ Some Unreadable
+unframed j text fault e = ap (submit_fault j text) (found_none text fault e)
 
 -- a framed text that may be submitted is a readable request of the pharmacy
 first_none : (b : Bool) (fault : Refusal) (o : Option Refusal) → cond b (Some fault) o ≡ None → (b ≡ false) × (o ≡ None)

@@ -1,7 +1,5 @@
 -- What the faults of a pharmacy's calls are in the model. Want of memory is none of its refusals.
 use Rattle.std.specs.Prelude.{◌≡◌, Option, Some, None, Result, Err}
-use Rattle.d0_segments.specs.declared.fault.FramingFault.{FramingFault}
-use Rattle.d0_segments.specs.declared.fault.FramingFault.TheVariants as framing
 use Rattle.claim_model.specs.Refusal.{Refusal}
 use Rattle.claim_model.specs.Refusal as refusal
 use Rattle.pharmacy_journal.specs.declared.fault.SubmitFault.{SubmitFault}
@@ -35,8 +33,3 @@ IsRefused (Some fault) outcome = outcome ≡ Err fault
 abbrev pub IsCause : Option Refusal → Option Refusal → Type 0
 IsCause None first = Unit {0}
 IsCause (Some fault) first = first ≡ Some fault
-
--- the fault of a text whose framing has this fault
-abbrev pub fault_of_framing : FramingFault → SubmitFault
-fault_of_framing framing.OutOfMemory = submit.OutOfMemory
-fault_of_framing fault = submit.Unreadable

@@ -17,7 +17,7 @@ use crate::settings::PharmacySettings;
 use crate::slot::Slot;
 use crate::timetable::Timetable;
 use crate::transaction::{OpenTxn, judge};
-use claim_profile::{RequestFault, read_readable};
+use claim_profile::check_readable;
 use d0_header::RequestHeader;
 use envelope::{LARGEST_PAYLOAD, TxnId};
 use octets::Octets;
@@ -120,6 +120,20 @@ impl JournalAtRest {
         &self.settings
     }
 
+    /// What it was opened with, where the journal is no longer needed.
+    pub fn into_settings(self) -> PharmacySettings
+        ensures value { result ≡ self.settings }
+        ensures some_node { 0 < length result.nodes }
+    {
+        let JournalAtRest { settings, .. } = self;
+        settings
+    }
+
+    /// The allocator that the journal was opened with.
+    pub fn allocator(&self) -> Global {
+        *self.slots.allocator()
+    }
+
     /// How many entries there are.
     pub fn entries(&self) -> usize
         ensures value { result ≡ length self.now.entries }
@@ -155,11 +169,10 @@ impl JournalAtRest {
         if self.entries() >= self.settings.cap() as usize {
             return Err(RowFault::BadRow);
         }
-        let alloc = *self.slots.allocator();
-        own_request(alloc, &self.settings, request)?;
+        own_request(&self.settings, request)?;
         match answer {
             None => Ok(()),
-            Some(answer) => kept_answer(alloc, request, answer),
+            Some(answer) => kept_answer(request, answer),
         }
     }
 
@@ -186,14 +199,13 @@ impl JournalAtRest {
 }
 
 /// Whether a request is readable and the pharmacy's own.
-fn own_request(alloc: Global, settings: &PharmacySettings, request: &[u8]) -> Result<(), RowFault>
+fn own_request(settings: &PharmacySettings, request: &[u8]) -> Result<(), RowFault>
     ensures ok { OnOk result (is_own_request settings.now request.now ≡ true) }
     ensures fault { IfErr result (λ e. e ≢ OutOfMemory → is_own_request settings.now request.now ≡ false) }
 {
-    match read_readable(alloc, request) {
-        Ok(transmission) => own_header(settings, transmission.header()),
-        Err(RequestFault::OutOfMemory) => Err(RowFault::OutOfMemory),
-        Err(RequestFault::Unreadable) => Err(RowFault::BadRow),
+    match check_readable(request) {
+        Some(framed) => own_header(settings, framed.header()),
+        None => Err(RowFault::BadRow),
     }
 }
 
@@ -210,7 +222,7 @@ fn own_header(settings: &PharmacySettings, header: &RequestHeader) -> Result<(),
 }
 
 /// Whether an answer may stand beside a readable request.
-fn kept_answer(alloc: Global, request: &[u8], answer: &[u8]) -> Result<(), RowFault>
+fn kept_answer(request: &[u8], answer: &[u8]) -> Result<(), RowFault>
     requires { IsSome (readable_header request.now) }
     ensures ok { OnOk result (is_kept_answer request.now (Some answer.now) ≡ true) }
     ensures fault { IfErr result (λ e. e ≢ OutOfMemory → is_kept_answer request.now (Some answer.now) ≡ false) }
@@ -218,7 +230,7 @@ fn kept_answer(alloc: Global, request: &[u8], answer: &[u8]) -> Result<(), RowFa
     if answer.len() > LARGEST_PAYLOAD {
         return Err(RowFault::BadRow);
     }
-    match judge(alloc, request, answer) {
+    match judge(request, answer) {
         Ok(()) => Ok(()),
         Err(SettleFault::OutOfMemory) => Err(RowFault::OutOfMemory),
         Err(SettleFault::Unreadable) => Err(RowFault::BadRow),

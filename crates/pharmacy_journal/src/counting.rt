@@ -4,8 +4,8 @@ ghost use Rattle.std.specs.Prelude.{◌≡◌, ◌≢◌, ◌<◌, ◌++◌, ◌
 ghost use Rattle.std.specs.Option.{option_to_list};
 ghost use Rattle.std.specs.List.{list_any, filter_map};
 ghost use Rattle.bin_routes.specs.Table.{RouteMaps};
-ghost use Rattle.d0_segments.specs.Views.{segments_parts, groups_parts};
-ghost use Rattle.d0_segments.specs.Transmissions.{transmission_parts};
+ghost use Rattle.d0_segments.specs.Pieces.{shared_of, groups_of};
+ghost use Rattle.d0_segments.specs.FramedParts.{framed_parts};
 ghost use Rattle.claim_profile.specs.Order.{order_of};
 ghost use Rattle.claim_model.specs.Words.{Auth as AuthSeen};
 ghost use Rattle.claim_model.specs.Bytes.{bytes_with, order_in, orders_in};
@@ -15,14 +15,13 @@ ghost use Rattle.claim_model.specs.Journal.{stopped};
 ghost use Rattle.pharmacy_journal.specs.Entries.{kept_of};
 ghost use Rattle.pharmacy_journal.specs.Counting.{fill_billed, outcomes_between, fills_in, rulings_told, outcomes_of, outcomes, payment_of, named_in, takes_back, has_auth, without, counted_in};
 ghost use Rattle.claim_profile.specs.declared.answer_reading.AnswerFault.TheVariants.{OutOfMemory as NoAnswerMemory};
-ghost use Rattle.d0_segments.specs.declared.fault.FramingFault.TheVariants.{OutOfMemory as NoRequestMemory};
 
 use crate::at_rest::JournalAtRest;
 use crate::pharmacy::Pharmacy;
 use crate::slot::Slot;
-use claim_profile::{Amounts, AnswerFault, Auth, Fill, Order, Ruling, read_answer, read_order};
+use claim_profile::{Amounts, AnswerFault, Auth, Fill, Order, Ruling, order_at, read_answer};
 use d0_header::RequestHeader;
-use d0_segments::{FramingFault, Transmission, read_request};
+use d0_segments::{Framed, check_request};
 use std::alloc::{AllocError, Global};
 use std::collections::BTreeSet;
 use std::marker::Model;
@@ -273,45 +272,32 @@ fn answer_memory(fault: AnswerFault) -> Result<(), AllocError>
 fn fills_in(alloc: Global, request: &[u8]) -> Result<Vec<Option<Fill>>, AllocError>
     ensures { IfOk result (λ fills. fills.items ≡ fills_in request.now) }
 {
-    match read_request(alloc, request) {
-        Ok(transmission) => fills_of(alloc, &transmission),
-        Err(fault) => {
-            request_memory(fault)?;
-            Ok(Vec::new(alloc))
-        }
-    }
-}
-
-/// Whether a request was not read for its own sake.
-fn request_memory(fault: FramingFault) -> Result<(), AllocError>
-    ensures { OnOk result (fault ≢ NoRequestMemory) }
-{
-    match fault {
-        FramingFault::OutOfMemory => Err(AllocError),
-        _ => Ok(()),
+    match check_request(request) {
+        Ok(framed) => fills_of(alloc, &framed),
+        Err(_) => Ok(Vec::new(alloc)),
     }
 }
 
 /// The fills that the groups of a request bill.
 fn fills_of(
     alloc: Global,
-    transmission: &Transmission<'_, RequestHeader>,
+    framed: &Framed<'_, RequestHeader>,
 ) -> Result<Vec<Option<Fill>>, AllocError>
-    ensures { IfOk result (λ fills. fills.items ≡ map fill_billed (orders_in (Some (transmission_parts transmission.now)))) }
+    ensures { IfOk result (λ fills. fills.items ≡ map fill_billed (orders_in (Some (framed_parts framed.now)))) }
 {
     let mut fills = Vec::new(alloc);
-    for place in 0..transmission.groups().len() {
-        fills.push(fill_at(transmission, place))?;
+    for place in 0..framed.group_count() {
+        fills.push(fill_at(framed, place))?;
     }
     Ok(fills)
 }
 
 /// The fill that the group at a place bills, where it reads as a claim.
-fn fill_at(transmission: &Transmission<'_, RequestHeader>, place: usize) -> Option<Fill>
-    requires { place < length transmission.now.groups.items }
-    ensures { result ≡ fill_billed (order_in (order_of transmission.now.header (segments_parts transmission.now.shared.items) (slice_index_or (groups_parts transmission.now.groups.items) place []))) }
+fn fill_at(framed: &Framed<'_, RequestHeader>, place: usize) -> Option<Fill>
+    requires { place < length (groups_of framed.now.body.bytes.now) }
+    ensures { result ≡ fill_billed (order_in (order_of framed.now.header (shared_of framed.now.body.bytes.now) (slice_index_or (groups_of framed.now.body.bytes.now) place []))) }
 {
-    match read_order(transmission, place) {
+    match order_at(framed, place) {
         Ok(Order::Claim(claim)) => Some(claim.fill),
         Ok(Order::Reversal(_)) => None,
         Err(_) => None,

@@ -19,7 +19,6 @@ use crate::transaction::judge;
 use core::mem::replace_with;
 use envelope::{Envelope, Kind};
 use octets::Octets;
-use std::alloc::Global;
 
 impl Pharmacy {
     /// Settles the entry of an answer's number, for good.
@@ -39,9 +38,8 @@ impl Pharmacy {
         let Some(place) = place_of(id.number(), self.slots.len()) else {
             return Err(HearFault::NoSuchNumber);
         };
-        let alloc = *self.slots.allocator();
-        verdict(alloc, &self.slots[place], envelope)?;
-        let answer = Octets::copy_of(alloc, envelope.payload())?;
+        verdict(&self.slots[place], envelope)?;
+        let answer = Octets::copy_of(*self.slots.allocator(), envelope.payload())?;
         self.timetable.settle(place);
         settle_at(&mut self.slots, place, answer);
         Ok(())
@@ -49,24 +47,24 @@ impl Pharmacy {
 }
 
 /// Whether an envelope settles an entry.
-fn verdict(alloc: Global, slot: &Slot, envelope: &Envelope<'_>) -> Result<(), HearFault>
+fn verdict(slot: &Slot, envelope: &Envelope<'_>) -> Result<(), HearFault>
     ensures open { OnOk result (IsAnsweredBy slot.now envelope.now.payload) }
     ensures ok { (phase : Option ℕ) → OnOk result (state_after (kept_of slot.now).request (entry_of slot.now phase).state (envelope_seen envelope.now) ≡ Ok (Has envelope.now.payload)) }
     ensures fault { (phase : Option ℕ) → IfErr result (λ e. IsRefused (refusal_to_hear e) (state_after (kept_of slot.now).request (entry_of slot.now phase).state (envelope_seen envelope.now))) }
 {
     match envelope.kind() {
         Kind::Request => Err(HearFault::Unreadable),
-        Kind::Answer => verdict_on(alloc, slot, envelope.payload()),
+        Kind::Answer => verdict_on(slot, envelope.payload()),
     }
 }
 
 /// Whether a payload of kind 2 settles an entry.
-fn verdict_on(alloc: Global, slot: &Slot, payload: &[u8]) -> Result<(), HearFault>
+fn verdict_on(slot: &Slot, payload: &[u8]) -> Result<(), HearFault>
     ensures open { OnOk result (IsAnsweredBy slot.now payload.now) }
     ensures ok { (phase : Option ℕ) → OnOk result (state_by (kept_of slot.now).request (entry_of slot.now phase).state payload.now ≡ Ok (Has payload.now)) }
     ensures fault { (phase : Option ℕ) → IfErr result (λ e. IsRefused (refusal_to_hear e) (state_by (kept_of slot.now).request (entry_of slot.now phase).state payload.now)) }
 {
-    match judge(alloc, slot.request(), payload) {
+    match judge(slot.request(), payload) {
         Ok(()) => beside(slot, payload),
         Err(SettleFault::OutOfMemory) => Err(HearFault::OutOfMemory),
         Err(SettleFault::Unreadable) => Err(HearFault::Unreadable),

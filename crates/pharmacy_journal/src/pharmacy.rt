@@ -85,11 +85,18 @@ impl Pharmacy {
         self.slots.len()
     }
 
+    /// The allocator that the journal was opened with.
+    pub fn allocator(&self) -> Global {
+        *self.slots.allocator()
+    }
+
     /// One tick: each open entry waits one tick longer, and those that waited long enough are sent, in
     /// order of their numbers.
     pub fn tick(&mut self) -> Result<Vec<Sent>, AllocError>
         ensures ok { OnOk result (self.new ≡ ticked self.old) }
         ensures sent { (routes : RouteMaps) → IfOk result (λ sent. sent.items ≡ due (bytes_with routes) self.new) }
+        // No entry is sent twice, so room for as many packets as there are entries is enough.
+        ensures few { IfOk result (λ sent. length sent.items ≤ length self.old.entries) }
         ensures err { OnErr result (self.new ≡ self.old) }
     {
         let sent = self.due_packets()?;

@@ -6,7 +6,7 @@ ghost use Rattle.claim_profile.specs.Readable.{readable_header};
 ghost use Rattle.claim_model.specs.Bytes.{bytes_with};
 ghost use Rattle.claim_model.specs.Journal.{Journal, Waits, submit_fault, submitted};
 ghost use Rattle.pharmacy_journal.specs.Reading.{header_of, is_own_request};
-ghost use Rattle.pharmacy_journal.specs.Refusing.{IsRefused, IsCause, refusal_to_submit, fault_of_framing};
+ghost use Rattle.pharmacy_journal.specs.Refusing.{IsRefused, IsCause, refusal_to_submit};
 ghost use Rattle.pharmacy_journal.specs.Sendings.{packet_of};
 ghost use Rattle.pharmacy_journal.specs.declared.fault.SubmitFault.TheVariants.{OutOfMemory};
 
@@ -17,9 +17,9 @@ use crate::slot::Slot;
 use crate::transaction::OpenTxn;
 use claim_profile::LONGEST_REQUEST;
 use d0_header::RequestHeader;
-use d0_segments::{FramingFault, read_request};
+use d0_segments::check_request;
 use envelope::TxnId;
-use std::alloc::{AllocError, Global};
+use std::alloc::AllocError;
 
 impl Pharmacy {
     /// Enters a request under the next number, and gives that number and its packet for the first switch.
@@ -44,7 +44,7 @@ impl Pharmacy {
         ensures ok { OnOk result (submit_fault self.now text.now (header_of text.now) ≡ None) }
         ensures fault { IfErr result (λ e. IsCause (refusal_to_submit e) (submit_fault self.now text.now (header_of text.now))) }
     {
-        let header = read_header(*self.slots.allocator(), text)?;
+        let header = read_header(text)?;
         match self.fault_of(&header, text) {
             None => Ok(()),
             Some(fault) => Err(fault),
@@ -114,22 +114,12 @@ impl Pharmacy {
 }
 
 /// The header of a text that is framed as a request.
-fn read_header(alloc: Global, text: &[u8]) -> Result<RequestHeader, SubmitFault>
+fn read_header(text: &[u8]) -> Result<RequestHeader, SubmitFault>
     ensures ok { IfOk result (λ header. header_of text.now ≡ Some header) }
     ensures fault { IfErr result (λ e. (j : Journal) → IsCause (refusal_to_submit e) (submit_fault j text.now (header_of text.now))) }
 {
-    match read_request(alloc, text) {
-        Ok(request) => Ok(*request.header()),
-        Err(fault) => Err(fault_of_framing(fault)),
-    }
-}
-
-/// The fault of a text whose framing has this fault.
-fn fault_of_framing(fault: FramingFault) -> SubmitFault
-    ensures { result ≡ fault_of_framing fault }
-{
-    match fault {
-        FramingFault::OutOfMemory => SubmitFault::OutOfMemory,
-        _ => SubmitFault::Unreadable,
+    match check_request(text) {
+        Ok(framed) => Ok(*framed.header()),
+        Err(_) => Err(SubmitFault::Unreadable),
     }
 }

@@ -497,6 +497,7 @@ fn entries_that_are_not_added(rt: HostRuntime) -> Result<(), Fail> {
     assert_eq!(rt; add(&mut rest, billing(), Some(reversed())), bad);
     assert_eq!(rt; add(&mut rest, billing(), None), None);
     assert_eq!(rt; add(&mut rest, billing(), None), bad);
+    assert_eq!(rt; rest.into_settings().cap(), 1);
     Ok(())
 }
 

@@ -12,7 +12,7 @@ ghost use Rattle.pharmacy_journal.specs.Reading.{settles_with};
 ghost use Rattle.pharmacy_journal.specs.declared.fault.SettleFault.TheVariants.{OutOfMemory};
 
 use crate::fault::SettleFault;
-use claim_profile::{AnswerFault, read_answer};
+use claim_profile::check_answer;
 use d0_header::{RequestHeader, ResponseHeader, request_text_laws};
 use envelope::{Kind, TxnId, WriteFault, write};
 use octets::Octets;
@@ -102,7 +102,7 @@ impl OpenTxn {
     /// and bytes come back.
     pub fn settle(
         self,
-        alloc: Global,
+        _alloc: Global,
         answer: Vec<u8>,
     ) -> Result<SettledTxn, (OpenTxn, Vec<u8>, SettleFault)>
         ensures kept { IfOk result (λ t. t ≡ record { id = self.id; request = self.request; answer = answer.items }) }
@@ -110,7 +110,7 @@ impl OpenTxn {
         ensures back { IfErr result (λ e. (e.0 ≡ self) × (e.1.items ≡ answer.items)) }
         ensures fault { (routes : RouteMaps) → IfErr result (λ e. e.2 ≢ OutOfMemory → settles (bytes_with routes) self.request answer.items ≡ false) }
     {
-        match judge(alloc, self.request.as_slice(), answer.as_slice()) {
+        match judge(self.request.as_slice(), answer.as_slice()) {
             Ok(()) => Ok(self.settled(Octets::from_vec(answer))),
             Err(fault) => Err((self, answer, fault)),
         }
@@ -156,18 +156,17 @@ impl SettledTxn {
 }
 
 /// Whether an answer settles a readable request: it reads as an answer of the request's code and count.
-pub(crate) fn judge(alloc: Global, request: &[u8], answer: &[u8]) -> Result<(), SettleFault>
+pub(crate) fn judge(request: &[u8], answer: &[u8]) -> Result<(), SettleFault>
     requires { IsSome (readable_header request.now) }
     ensures ok { OnOk result (settles_with request.now answer.now ≡ true) }
     ensures fault { IfErr result (λ e. e ≢ OutOfMemory → settles_with request.now answer.now ≡ false) }
 {
     let header = header_of(request);
-    let answer = match read_answer(alloc, answer) {
-        Ok(answer) => answer,
-        Err(AnswerFault::OutOfMemory) => return Err(SettleFault::OutOfMemory),
+    let answered = match check_answer(answer) {
+        Ok(answered) => answered,
         Err(_) => return Err(SettleFault::Unreadable),
     };
-    if fits(&header, answer.header()) {
+    if fits(&header, &answered) {
         Ok(())
     } else {
         Err(SettleFault::Unreadable)

@@ -2,16 +2,14 @@
 use Rattle.std.proofs.Common.{◌≡◌, true, false, cond, List, ℕ, Option, Some, Result, Ok, Err, IfOk, ap, ◌∙◌, refl, bytes_eq}
 use Rattle.bin_routes.specs.Table.{RouteMaps}
 use Rattle.claim_profile.specs.Readable.{readable_header}
-use Rattle.claim_profile.specs.Ruling.{AnswerParts, FailsAs, answer_of}
+use Rattle.claim_profile.specs.Ruling.{AnswerParts, answer_of}
 use Rattle.claim_profile.specs.declared.answer_reading.AnswerFault.{AnswerFault}
-use Rattle.claim_profile.specs.declared.answer_reading.AnswerFault.TheVariants as reading
 use Rattle.claim_model.specs.Words.{RequestHeader, Envelope}
 use Rattle.claim_model.specs.Context.{Context}
 use Rattle.claim_model.specs.Readable.{readable, is_request}
 use Rattle.claim_model.specs.Refusal.{Unreadable, NumberReused}
 use Rattle.claim_model.specs.Table.{Slot, Table, answer_back, requested, requested_readable, requested_by, requested_again, responded, responded_readable}
 use Rattle.claim_model.specs.Bytes.{bytes_with, answer_in}
-use Rattle.switch_node.specs.Faults.{RefusesAs, response_refusal, fault_of_answer}
 
 -- a value that was given has what another property says
 pub IfOk-map : {T E : Type 0} (r : Result T E) (P Q : T → Type 0) → ((x : T) → P x → Q x) → IfOk r P → IfOk r Q
@@ -52,13 +50,3 @@ module _ (routes : RouteMaps) (t : Table) (e : Envelope) where
   responded-reads r is read =
       ap (λ b. cond b (Err Unreadable) (responded_readable (bytes_with routes) t e (answer_in (answer_of e.payload)))) is
       ∙ ap (λ x. responded_readable (bytes_with routes) t e (answer_in x)) read
-
-  pub responded-fails : (fault : AnswerFault) → is_request e ≡ false → FailsAs fault (answer_of e.payload) → RefusesAs (response_refusal (fault_of_answer fault)) (responded (bytes_with routes) t e)
-  responded-fails reading.OutOfMemory is fails = tt
-  responded-fails reading.Framing is fails = responded-reads _ is fails
-  responded-fails reading.NoStatus is fails = responded-reads _ is fails
-  responded-fails reading.BadStatus is fails = responded-reads _ is fails
-  responded-fails reading.BadAmount is fails = responded-reads _ is fails
-  responded-fails reading.BadAuthorization is fails = responded-reads _ is fails
-  responded-fails reading.BadRejects is fails = responded-reads _ is fails
-  responded-fails reading.BadClaim is fails = responded-reads _ is fails

@@ -2,8 +2,6 @@
 use Rattle.std.specs.Prelude.{◌≡◌, ℕ, Bool, true, false, List, Option, Some, None, Result, Ok, Err, bytes_eq, if◌then◌else◌}
 use Rattle.claim_model.specs.Refusal.{Refusal}
 use Rattle.claim_model.specs.Refusal as refusal
-use Rattle.claim_profile.specs.declared.answer_reading.AnswerFault.{AnswerFault}
-use Rattle.claim_profile.specs.declared.answer_reading.AnswerFault.TheVariants as reading
 use Rattle.switch_node.specs.declared.fault.RequestFault.{RequestFault}
 use Rattle.switch_node.specs.declared.fault.RequestFault.TheVariants as request
 use Rattle.switch_node.specs.declared.fault.ResponseFault.{ResponseFault}
@@ -31,8 +29,3 @@ RefusesAs (Some why) step = step ≡ Err why
 abbrev pub first_or_equal : Option (List ℕ) → List ℕ → Result Bool ResponseFault
 first_or_equal None answer = Ok true
 first_or_equal (Some held) answer = if bytes_eq held answer then Ok false else Err response.Differs
-
--- the fault of a response whose payload has this fault
-abbrev pub fault_of_answer : AnswerFault → ResponseFault
-fault_of_answer reading.OutOfMemory = response.OutOfMemory
-fault_of_answer fault = response.Unreadable

@@ -16,7 +16,7 @@ ghost use Rattle.switch_node.specs.Sent.{content, routed_as};
 
 use crate::fault::{RequestFault, ResponseFault};
 use crate::packets::packet;
-use crate::reading::{check_answer, header_of};
+use crate::reading::{expect_answer, header_of};
 use crate::routing::{Routed, first, repeated};
 use crate::settings::SwitchSettings;
 use crate::slot::Slot;
@@ -69,7 +69,7 @@ impl Switch {
         ensures unchanged { OnErr result (self.new ≡ self.old) }
     {
         let alloc = self.table.allocator();
-        let header = header_of(alloc, envelope)?;
+        let header = header_of(envelope)?;
         match self.table.get(envelope.id()) {
             Some(slot) => repeated(alloc, routes, envelope, &header, slot),
             None => Ok(first(&mut self.table, routes, envelope, &header)?),
@@ -89,7 +89,7 @@ impl Switch {
         ensures unchanged { OnErr result (self.new ≡ self.old) }
     {
         let alloc = self.table.allocator();
-        check_answer(alloc, envelope)?;
+        expect_answer(envelope)?;
         let is_first = waits(&self.table, envelope)?;
         let packet = packet(alloc, envelope.kind(), envelope.id(), envelope.payload())?;
         if is_first {

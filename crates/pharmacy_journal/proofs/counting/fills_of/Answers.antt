@@ -1,7 +1,7 @@
-use Rattle.std.proofs.Common.{◌≡◌, length, ap, sym, ◌∙◌, map, arith}
-use Rattle.std.proofs.lemmas.List.{take_all, length-map}
+use Rattle.std.proofs.Common.{sym, ap, ◌∙◌, map, arith}
+use Rattle.std.proofs.lemmas.List.{take_all}
 use Rattle.std.proofs.lemmas.Simd.{map-map}
-use Rattle.d0_segments.specs.Views.{segments_parts, groups_parts}
+use Rattle.d0_segments.specs.Pieces.{shared_of, groups_of}
 use Rattle.claim_profile.specs.Order.{order_of}
 use Rattle.claim_model.specs.Bytes.{order_in}
 use Rattle.pharmacy_journal.specs.Counting.{fill_billed}
@@ -9,8 +9,8 @@ use Rattle.pharmacy_journal.proofs.counting.fills_of.Goals as goal
 
 pub returns : goal.returns
 returns c =
-    let t = c.args.transmission.now in
-    let as_many : length (groups_parts t.groups.items) ≡ length c.groups-place-end.result.now = length-map t.groups.items (λ x. segments_parts x.items) ∙ sym (ap (λ xs. length xs) c.groups-place-end.ensures) in
+    let f = c.args.framed.now in
+    let groups = groups_of f.body.bytes.now in
     c.loop-place.invariant
-    ∙ ap (map (λ group. fill_billed (order_in (order_of t.header (segments_parts t.shared.items) group)))) (take_all c.loop-place.place (groups_parts t.groups.items) (omega (arith, as_many, c.loop-place-test.false)))
-    ∙ sym (map-map fill_billed (λ group. order_in (order_of t.header (segments_parts t.shared.items) group)) (groups_parts t.groups.items))
+    ∙ ap (map (λ group. fill_billed (order_in (order_of f.header (shared_of f.body.bytes.now) group)))) (take_all c.loop-place.place groups (omega (arith, c.group_count-place-end.ensures, c.loop-place-test.false)))
+    ∙ sym (map-map fill_billed (λ group. order_in (order_of f.header (shared_of f.body.bytes.now) group)) groups)

@@ -1,11 +1,14 @@
 use Rattle.std.proofs.Common.{◌∙◌}
-use Rattle.pharmacy_journal.proofs.ReadingLemmas.{settles_at}
+use Rattle.pharmacy_journal.proofs.ReadingLemmas.{settles_at, settles_none}
 use Rattle.pharmacy_journal.proofs.transaction.judge.Goals as goal
+
+pub returns-in-Err-clause-fault : goal.returns-in-Err-clause-fault
+returns-in-Err-clause-fault c = λ _. settles_none c.args.request.now c.args.answer.now c.in-Err.field-0 c.in-Err.ensures.fault
 
 pub returns-then-fits-clause-ok : goal.returns-then-fits-clause-ok
 returns-then-fits-clause-ok c =
-    settles_at c.args.request.now c.args.answer.now c.header_of-header.result _ c.header_of-header.ensures c.in-Ok.ensures.read ∙ (cc)
+    settles_at c.args.request.now c.args.answer.now c.header_of-header.result _ c.header_of-header.ensures c.in-Ok.ensures.read.1 ∙ (cc)
 
-pub returns-clause-fault : goal.returns-clause-fault
-returns-clause-fault c = λ _.
-    settles_at c.args.request.now c.args.answer.now c.header_of-header.result _ c.header_of-header.ensures c.in-Ok.ensures.read ∙ (cc)
+pub returns-else-fits-clause-fault : goal.returns-else-fits-clause-fault
+returns-else-fits-clause-fault c = λ _.
+    settles_at c.args.request.now c.args.answer.now c.header_of-header.result _ c.header_of-header.ensures c.in-Ok.ensures.read.1 ∙ (cc)

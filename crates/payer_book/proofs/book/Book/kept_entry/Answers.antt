@@ -5,25 +5,23 @@ use Rattle.claim_profile.specs.Answer.{answer_text}
 use Rattle.claim_model.specs.Words.{AcceptedStatus, Ruling}
 use Rattle.claim_model.specs.Rows.{Row}
 use Rattle.payer_book.specs.Added.{kept_rulings}
-use Rattle.payer_book.proofs.KeptRows.{unread_none, unsaid_kept, unruled_none, kept_other, kept_stands, negated, affirmed}
+use Rattle.payer_book.proofs.KeptRows.{unreadable_kept, unsaid_kept, unruled_none, kept_other, kept_stands, negated, affirmed}
 use Rattle.payer_book.proofs.book.Book.kept_entry.Goals as goal
 use Rattle.payer_book.proofs.book.Book.kept_entry.Goals.{After-ne}
 
-pub returns-in_err-transmission-clause-fault : goal.returns-in_err-transmission-clause-fault
-returns-in_err-transmission-clause-fault c =
-    let p = err_from_is_err_and c.from_residual.result c.from_residual.ensures.1 in
-    rw (p.1, p.2) (unread_none c.args.self.now c.args.id c.args.request.now c.args.answer.now _ c.in_err-transmission.ensures.fault)
+pub returns-in-None-clause-fault : goal.returns-in-None-clause-fault
+returns-in-None-clause-fault c = λ _. unreadable_kept c.args.self.now c.args.id c.args.request.now c.args.answer.now c.in-None.ensures.readable
 
 pub returns-in_err-said-clause-fault : goal.returns-in_err-said-clause-fault
 returns-in_err-said-clause-fault c =
-    let p = err_from_is_err_and c.from_residual-in_err-said.result c.from_residual-in_err-said.ensures.1 in
+    let p = err_from_is_err_and c.from_residual.result c.from_residual.ensures.1 in
     rw (p.1, p.2) (λ other. unsaid_kept c.args.self.now c.args.id c.args.request.now c.args.answer.now (c.in_err-said.ensures.fault other))
 
 pub returns-in_err-entry-clause-fault : goal.returns-in_err-entry-clause-fault
 returns-in_err-entry-clause-fault c =
     let p = err_from_is_err_and c.from_residual-in_err-entry.result c.from_residual-in_err-entry.ensures.1 in
     rw (p.1, p.2)
-    (unruled_none c.args.self.now c.args.id c.args.request.now c.args.answer.now c.in_ok-transmission.transmission.header c.in_ok-transmission.ensures.readable _ c.in_ok-said.ensures.read
+    (unruled_none c.args.self.now c.args.id c.args.request.now c.args.answer.now c.in-Some.framed.header c.in-Some.ensures.readable _ c.in_ok-said.ensures.read
     c.rulings.result.now c.rulings.ensures _ c.in_err-entry.ensures.fault)
 
 -- the row has the rulings that the answer says
@@ -33,7 +31,7 @@ row_is c =
     ∙ ap (λ (said : List Ruling). let r : Row = record { id = c.args.id; request = c.args.request.now; rulings = kept_rulings c.args.self.now c.args.id c.args.request.now said } in r) c.rulings.ensures
 
 -- its text, compared
-text_is : (c : After-ne) → answer_text c.in_ok-transmission.transmission.header AcceptedStatus c.in_ok-entry.entry.row.rulings ≡ c.bytes.result.now
+text_is : (c : After-ne) → answer_text c.in-Some.framed.header AcceptedStatus c.in_ok-entry.entry.row.rulings ≡ c.bytes.result.now
 text_is c = sym (c.bytes.ensures ∙ c.in_ok-entry.ensures.text)
 
 pub returns-then-ne-clause-fault : goal.returns-then-ne-clause-fault
@@ -41,12 +39,12 @@ returns-then-ne-clause-fault c = λ other.
     let d = (goal.at.returns-then-ne-clause-fault c).After-ne in
     let differs : bytes_eq c.bytes.result.now c.args.answer.now ≡ false = negated _ (sym c.ne.ensures ∙ c.if-ne.true) in
     let text = ap (λ (t : List ℕ). bytes_eq t c.args.answer.now) (text_is d) ∙ differs in
-    kept_other c.args.self.now c.args.id c.args.request.now c.args.answer.now c.in_ok-transmission.transmission.header c.in_ok-transmission.ensures.readable _ c.in_ok-said.ensures.read
-    (subst (λ (r : Row). bytes_eq (answer_text c.in_ok-transmission.transmission.header AcceptedStatus r.rulings) c.args.answer.now ≡ false) (row_is d) text)
+    kept_other c.args.self.now c.args.id c.args.request.now c.args.answer.now c.in-Some.framed.header c.in-Some.ensures.readable _ c.in_ok-said.ensures.read
+    (subst (λ (r : Row). bytes_eq (answer_text c.in-Some.framed.header AcceptedStatus r.rulings) c.args.answer.now ≡ false) (row_is d) text)
 
 pub returns-clause-row : goal.returns-clause-row
 returns-clause-row c =
     let d = (goal.at.returns-clause-row c).After-ne in
     let same : bytes_eq c.bytes.result.now c.args.answer.now ≡ true = affirmed _ (sym c.ne.ensures ∙ c.if-ne.false) in
-    kept_stands c.args.self.now c.args.id c.args.request.now c.args.answer.now c.in_ok-transmission.transmission.header c.in_ok-transmission.ensures.readable _ c.in_ok-said.ensures.read
+    kept_stands c.args.self.now c.args.id c.args.request.now c.args.answer.now c.in-Some.framed.header c.in-Some.ensures.readable _ c.in_ok-said.ensures.read
     c.in_ok-entry.entry.row (row_is d) c.in_ok-entry.ensures.made.fit (ap (λ (t : List ℕ). bytes_eq t c.args.answer.now) (text_is d) ∙ same)

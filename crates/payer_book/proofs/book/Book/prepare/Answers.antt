@@ -3,7 +3,7 @@ use Rattle.std.specs.List.{list_all, AllByRecursion}
 use Rattle.std.proofs.lemmas.Result.{err_from_is_err_and}
 use Rattle.bin_routes.specs.Table.{routes_of}
 use Rattle.d0_header.specs.Request.{Request}
-use Rattle.d0_segments.specs.Transmissions.{transmission_parts}
+use Rattle.d0_segments.specs.FramedParts.{framed_parts}
 use Rattle.claim_profile.specs.declared.ruling.HeaderStatus.TheVariants.{Accepted}
 use Rattle.claim_profile.specs.Answer.{AreWritable, answer_text}
 use Rattle.claim_profile.specs.Readable.{readable_header}
@@ -30,10 +30,10 @@ use Rattle.payer_book.proofs.book.Book.prepare.Goals.{After-rule_all, In_ok-ruli
 abbrev opened : (c : After-rule_all) → Book
 opened c = record { payer = c.self.inside.payer; settings = c.self.inside.settings; plan = c.self.inside.plan; rows = c.self.inside.rows }
 
-same_orders : (c : After-rule_all) → orders_in (Some (transmission_parts c.args.transmission.now)) ≡ reading.orders c.args.request.now
+same_orders : (c : After-rule_all) → orders_in (Some (framed_parts c.args.framed.now)) ≡ reading.orders c.args.request.now
 same_orders c = ap orders_in (sym c.requires.parts)
 
-is_readable : (c : After-rule_all) → readable reading c.args.request.now ≡ Some c.args.transmission.now.header
+is_readable : (c : After-rule_all) → readable reading c.args.request.now ≡ Some c.args.framed.now.header
 is_readable c = readable_alike (routes_of []) c.args.request.now ∙ c.requires.readable
 
 ruled : (c : In_ok-rulings) → c.in_ok-rulings.field-0.rulings.items ≡ rulings_on c.self.inside.payments (pricing c.args.prices) [] (reading.orders c.args.request.now)
@@ -60,7 +60,7 @@ write_answer-requires-clause-count c =
     let o = (goal.at.write_answer-requires-clause-count c).In_ok-rulings in
     ap (λ (rs : List Ruling). length rs) (c.as_slice.ensures.value ∙ ruled o)
     ∙ (length_rulings c.self.inside.payments (pricing c.args.prices) [] (reading.orders c.args.request.now)
-    ∙ (c.orders_of_requests.ensures.groups (routes_of []) c.args.request.now c.args.transmission.now.header (is_readable d)
+    ∙ (c.orders_of_requests.ensures.groups (routes_of []) c.args.request.now c.args.framed.now.header (is_readable d)
     ∙ ap (λ (h : Request). h.count) (sym c.header.ensures)))
 
 pub write_answer-requires-clause-writable : goal.write_answer-requires-clause-writable
@@ -68,8 +68,8 @@ write_answer-requires-clause-writable c =
     let d = (goal.at.write_answer-requires-clause-writable c).After-rule_all in
     let o = (goal.at.write_answer-requires-clause-writable c).In_ok-rulings in
     subst (AreWritable Accepted) (sym (c.as_slice.ensures.value ∙ ruled o))
-    (rulings_writable c.self.inside.payments (pricing c.args.prices) [] c.args.transmission.now.header (reading.orders c.args.request.now)
-    (c.orders_of_requests.ensures.orders (routes_of []) c.args.request.now c.args.transmission.now.header (is_readable d)))
+    (rulings_writable c.self.inside.payments (pricing c.args.prices) [] c.args.framed.now.header (reading.orders c.args.request.now)
+    (c.orders_of_requests.ensures.orders (routes_of []) c.args.request.now c.args.framed.now.header (is_readable d)))
 
 ruled_new : (c : After-new) → c.in_ok-rulings.field-0.rulings.items ≡ rulings_on c.self.inside.payments (pricing c.args.prices) [] (reading.orders c.args.request.now)
 ruled_new c = c.in_ok-rulings.ensures.made.ruled ∙ ap (rulings_on c.self.inside.payments (pricing c.args.prices) []) (ap orders_in (sym c.requires.parts))
@@ -106,7 +106,7 @@ all_told : (c : After-new) → AllByRecursion IsRuling c.in_ok-rulings.field-0.r
 all_told c =
     let l = c.self.inside.payments in
     let orders = reading.orders c.args.request.now in
-    let h = c.args.transmission.now.header in
+    let h = c.args.framed.now.header in
     let prices = pricing c.args.prices in
     let reads = readable_alike (routes_of []) c.args.request.now ∙ c.requires.readable in
     let payer = c.self.invariant.0.of_payer in
@@ -120,7 +120,7 @@ all_told c =
 -- so the row can be added
 stands_again : (c : After-new) (plan : Plan) → with_kept (with_plan c.args.self.now plan) c.new.result.id c.new.result.request (kept_answer c.new.result) ≡ Some (with_row (with_plan c.args.self.now plan) c.new.result)
 stands_again c =
-    let h = c.args.transmission.now.header in
+    let h = c.args.framed.now.header in
     let reads : readable_header c.new.result.request ≡ Some h = ap (λ (r : Row). readable_header r.request) c.new.ensures ∙ (ap readable_header c.in_ok-request.ensures ∙ c.requires.readable) in
     let same : c.new.result.rulings ≡ c.in_ok-rulings.field-0.rulings.items = ap (λ (r : Row). r.rulings) c.new.ensures in
     let count : length c.new.result.rulings ≡ h.count =
@@ -145,7 +145,7 @@ draft_told : (c : In_ok-rulings) → AllByRecursion IsRuling c.in_ok-rulings.fie
 draft_told c =
     let l = c.self.inside.payments in
     let orders = reading.orders c.args.request.now in
-    let h = c.args.transmission.now.header in
+    let h = c.args.framed.now.header in
     let prices = pricing c.args.prices in
     let reads = readable_alike (routes_of []) c.args.request.now ∙ c.requires.readable in
     let payer = c.self.invariant.0.of_payer in
@@ -157,9 +157,9 @@ draft_told c =
     (c.orders_of_requests.ensures.orders (routes_of []) c.args.request.now h reads) (ap (list_all serial_fits) (sym (ruled c)) ∙ c.in_ok-rulings.ensures.made.fit))
 
 -- so its answer is short
-draft_short : (c : In_ok-rulings) → length (answer_text c.args.transmission.now.header Accepted c.in_ok-rulings.field-0.rulings.items) ≤ 32768
+draft_short : (c : In_ok-rulings) → length (answer_text c.args.framed.now.header Accepted c.in_ok-rulings.field-0.rulings.items) ≤ 32768
 draft_short c =
-    let h = c.args.transmission.now.header in
+    let h = c.args.framed.now.header in
     let reads = readable_alike (routes_of []) c.args.request.now ∙ c.requires.readable in
     let count : length c.in_ok-rulings.field-0.rulings.items ≡ h.count =
     ap (λ (rs : List Ruling). length rs) (ruled c)
@@ -171,7 +171,7 @@ draft_short c =
 pub new-requires : goal.new-requires
 new-requires c =
     let o = (goal.at.new-requires c).In_ok-rulings in
-    let h = c.args.transmission.now.header in
+    let h = c.args.framed.now.header in
     let rulings = c.in_ok-rulings.field-0.rulings.items in
     let text : c.in_ok-answer.answer ≡ answer_text h Accepted rulings =
     c.in_ok-answer.ensures ∙ (c.as_slice-2.ensures.value ∙ (c.in_ok-bytes.ensures.text

@@ -2,7 +2,6 @@
 
 use crate::day::{Day, Event, counts, holds, id, play};
 use crate::nodes::lost_answer;
-use crate::vectors;
 use input_text::put_printed;
 use kept_records::{
     RecordFault, read_book, read_journal, save_book, save_journal, write_book, write_journal,

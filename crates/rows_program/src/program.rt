@@ -1,6 +1,5 @@
 //! What `read` writes, with readers and writers that give and take pieces, or fail.
 
-use crate::vectors;
 use schedule_cli::{ProgramFault, ReaderSource, WriterSink, read_claims};
 use std::alloc::Global;
 use std::io;

@@ -1,7 +1,6 @@
 //! What each event of a day sends, or the refusal's name: a pharmacy, two switches and a processor, packet by packet.
 
 use crate::day::{Day, Event, Node, auth, counts, holds, id, play, same_bytes};
-use crate::vectors;
 use std::process::Abort;
 use std::test::Fail;
 
