@@ -1,0 +1,7 @@
+pub mod Records
+pub mod Powered
+pub mod Sends
+pub mod Refusing
+pub mod Reading
+pub mod Nodes
+pub mod Any

@@ -1,0 +1,42 @@
+-- What is read of a node of any kind.
+use Rattle.std.specs.Prelude.{ℕ, Bool, true, false, not, nat_eq, List, length, Option, None, option_and_then, option_map}
+use Rattle.claim_model.specs.Words.{TxnId}
+use Rattle.claim_model.specs.Context.{Context}
+use Rattle.claim_model.specs.Numbered.{numbered}
+use Rattle.claim_model.specs.Journal.{PharmacySettings, Journal, JournalAtRest, Kept}
+use Rattle.claim_model.specs.Table.{Table}
+use Rattle.claim_model.specs.Rows.{Book}
+use Rattle.claim_model.specs.Book.{row_of}
+use Rattle.claim_model.specs.Held.{journal_in, book_in, held_in_table, row_answer}
+pub use Rattle.claim_logs.specs.Nodes.{AnyNode, OfPharmacy, OfSwitch, OfPayer, as_node, node_step, node_at}
+use Rattle.claim_model.specs.Settings.{is_empty}
+
+-- how many entries a pharmacy has; 0 of another node
+abbrev pub entries_of : AnyNode → ℕ
+entries_of (OfPharmacy node) = length (journal_in node).entries
+entries_of (OfSwitch node) = 0
+entries_of (OfPayer node) = 0
+
+-- the request of a pharmacy's entry; none of another node
+abbrev pub request_of : AnyNode → ℕ → Option (List ℕ)
+request_of (OfPharmacy node) number = option_map (λ (k : Kept). k.request) (numbered (journal_in node).entries number)
+request_of (OfSwitch node) number = None
+request_of (OfPayer node) number = None
+
+-- the answer that a journal holds for an id of its own
+abbrev pub held_in_journal : TxnId → JournalAtRest → Option (List ℕ)
+held_in_journal id j = elim (nat_eq j.number id.pharmacy) [ true ↦ option_and_then (λ (k : Kept). k.answer) (numbered j.entries id.number) | false ↦ None ]
+
+-- the answer that a book holds for an id
+abbrev pub held_in_book : Context → TxnId → Book → Option (List ℕ)
+held_in_book ctx id b = option_and_then (row_answer ctx) (row_of id b.rows)
+
+-- the answer that a node holds for an id: in its journal, for its own ids only, in its table or in its book
+abbrev pub held_of : Context → AnyNode → TxnId → Option (List ℕ)
+held_of ctx (OfPharmacy node) id = held_in_journal id (journal_in node)
+held_of ctx (OfSwitch node) id = held_in_table id node
+held_of ctx (OfPayer node) id = held_in_book ctx id (book_in node)
+
+-- a pharmacy that tries some switch
+abbrev pub has_node : PharmacySettings → Bool
+has_node s = not (is_empty s.nodes)

@@ -1,0 +1,21 @@
+-- Whether a node is up, and how many packets it may send at once.
+use Rattle.std.specs.Prelude.{ℕ, Bool, true, false, List, [], map, length}
+use Rattle.claim_model.specs.Journal.{Journal, JournalAtRest}
+use Rattle.claim_model.specs.Table.{Table}
+use Rattle.claim_model.specs.Node.{Power, Up, AtRest}
+use Rattle.switch_node.specs.declared.table.InFlight.{InFlight}
+use Rattle.switch_node.specs.Ring.{in_flight}
+
+abbrev pub is_up : {A B : Type 0} → Power A B → Bool
+is_up (Up node) = true
+is_up (AtRest kept) = false
+
+-- a tick sends at most as many packets as the journal has entries
+abbrev pub most_due : Power Journal JournalAtRest → ℕ
+most_due (Up j) = length j.entries
+most_due (AtRest j) = 0
+
+-- the ids in a switch's table and whether each has its answer, oldest first; a stopped switch has none
+abbrev pub in_flight_at : Power Table ℕ → List InFlight
+in_flight_at (Up t) = map in_flight t.entries
+in_flight_at (AtRest cap) = []

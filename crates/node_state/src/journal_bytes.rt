@@ -1,0 +1,74 @@
+//! The journal of a pharmacy at rest, as bytes.
+
+ghost use Rattle.std.specs.Prelude.{◌≡◌, IfOk};
+ghost use Rattle.claim_model.specs.Journal.{stopped, started};
+ghost use Rattle.kept_records.specs.Journals.{journal_text};
+
+use kept_records::{RecordFault, read_journal, save_journal};
+use pharmacy_journal::{JournalAtRest, Pharmacy, PharmacySettings};
+use std::alloc::{AllocError, Global};
+use std::marker::Model;
+
+/// The bytes of a journal's record, beside the pharmacy's number and settings.
+#[derive(Drop)]
+pub(crate) struct JournalBytes {
+    number: u16,
+    settings: PharmacySettings,
+    bytes: Vec<u8>,
+}
+
+impl Model for JournalBytes {
+    ghost use Rattle.claim_model.specs.Journal.{JournalAtRest as Resting};
+
+    ghost Value = { Resting };
+
+    ghost use Rattle.node_state.specs.Records.{journal_of, IsJournal};
+
+    ghost view = { λ j. journal_of j.number j.settings j.bytes.items };
+
+    ghost invariant = { λ j. IsJournal j.number j.settings j.bytes.items };
+}
+
+impl JournalBytes {
+    /// The record of what a pharmacy leaves when it stops.
+    pub(crate) fn save(alloc: Global, pharmacy: &Pharmacy) -> Result<JournalBytes, AllocError>
+        ensures { IfOk result (λ kept. kept ≡ stopped pharmacy.now) }
+    {
+        let settings = pharmacy.settings().copy()?;
+        let bytes = save_journal(alloc, pharmacy)?;
+        Ok(JournalBytes {
+            number: pharmacy.number(),
+            settings,
+            bytes,
+        })
+    }
+
+    /// The bytes: the journal's text, of version 2.
+    pub(crate) fn bytes(&self) -> &[u8]
+        ensures { result.now ≡ journal_text 2 self.now }
+    {
+        self.bytes.as_slice()
+    }
+
+    /// The journal, read again. Its bytes are its record, so nothing but memory can be wanting.
+    pub(crate) fn read(&self, alloc: Global) -> Result<JournalAtRest, AllocError>
+        ensures { IfOk result (λ journal. journal ≡ self.now) }
+    {
+        let settings = self.settings.copy()?;
+        match read_journal(alloc, self.bytes.as_slice(), self.number, settings) {
+            Ok(journal) => Ok(journal),
+            Err(RecordFault::OutOfMemory) => Err(AllocError),
+            Err(_) => unreachable!(),
+        }
+    }
+
+    /// The pharmacy, started again.
+    pub(crate) fn start(&self, alloc: Global) -> Result<Pharmacy, AllocError>
+        ensures { IfOk result (λ pharmacy. pharmacy ≡ started self.now) }
+    {
+        match self.read(alloc)?.start() {
+            Ok(pharmacy) => Ok(pharmacy),
+            Err(_) => Err(AllocError),
+        }
+    }
+}

@@ -1,0 +1,30 @@
+//! One node of a world, up or at rest: what a call makes of it and what it sends are the model's step. A pharmacy or
+//! a payer at rest is the bytes of its record; a switch at rest keeps its settings alone.
+#![tactic(auto)]
+
+mod book_bytes;
+mod book_reading;
+mod faults;
+mod held;
+mod journal_bytes;
+mod journal_reading;
+mod opened;
+mod opening;
+mod payer;
+mod payer_calls;
+mod pharmacy;
+mod pharmacy_calls;
+mod sending;
+mod state;
+mod switch;
+mod switch_calls;
+
+pub use book_reading::BookReading;
+pub use journal_reading::JournalReading;
+pub use payer::PayerNode;
+pub use pharmacy::PharmacyNode;
+pub use state::NodeState;
+pub use switch::SwitchNode;
+
+#[cfg(test)]
+mod tests;

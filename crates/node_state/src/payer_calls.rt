@@ -1,0 +1,99 @@
+//! The calls on a payer that is up.
+
+ghost use Rattle.std.specs.Prelude.{◌≡◌, ◌≤◌, length, map, Ok, IfOk, IfErr, OnErr};
+ghost use Rattle.bin_routes.specs.Table.{RouteMaps};
+ghost use Rattle.claim_model.specs.Bytes.{bytes_with};
+ghost use Rattle.claim_model.specs.Book.{answered};
+ghost use Rattle.claim_model.specs.Node.{Up, Done, Take, Reprice, payer_up, payer_takes, after_answer};
+ghost use Rattle.switch_node.specs.Sent.{content};
+ghost use Rattle.world_setup.specs.Seen.{node_seen, sent_seen};
+ghost use Rattle.world_setup.specs.Refused.{refusal_of, RefusedAs};
+
+use crate::faults::{book_fault, envelope_fault, plan_fault};
+use crate::opening::{is_request, read_envelope};
+use bin_routes::Routes;
+use envelope::Envelope;
+use payer_book::Book;
+use std::alloc::Global;
+use world_setup::{Node, NodeFault, Sent, StepFault};
+
+/// Takes a packet.
+pub fn take(
+    alloc: Global,
+    book: &mut Book,
+    routes: &Routes,
+    from: Node,
+    bytes: &[u8],
+) -> Result<Vec<Sent>, StepFault>
+    ensures ok { IfOk result (λ sent. payer_up (bytes_with routes.now) book.old (Take (node_seen from) bytes.now) ≡ Done (Up book.new) (map sent_seen sent.items)) }
+    ensures fault { IfErr result (λ fault. RefusedAs (refusal_of fault) (payer_up (bytes_with routes.now) book.old (Take (node_seen from) bytes.now))) }
+    ensures few { IfOk result (λ sent. length sent.items ≤ 1) }
+    ensures err { OnErr result (book.new ≡ book.old) }
+{
+    match read_envelope(bytes) {
+        Ok(envelope) => take_envelope(alloc, book, routes, from, &envelope),
+        Err(fault) => Err(envelope_fault(fault)),
+    }
+}
+
+/// Takes what an envelope has: a request and nothing else.
+fn take_envelope(
+    alloc: Global,
+    book: &mut Book,
+    routes: &Routes,
+    from: Node,
+    envelope: &Envelope<'_>,
+) -> Result<Vec<Sent>, StepFault>
+    ensures ok { IfOk result (λ sent. payer_takes (bytes_with routes.now) book.old (node_seen from) (Ok (content envelope.now)) ≡ Done (Up book.new) (map sent_seen sent.items)) }
+    ensures fault { IfErr result (λ fault. RefusedAs (refusal_of fault) (payer_takes (bytes_with routes.now) book.old (node_seen from) (Ok (content envelope.now)))) }
+    ensures few { IfOk result (λ sent. length sent.items ≤ 1) }
+    ensures err { OnErr result (book.new ≡ book.old) }
+{
+    if is_request(envelope) {
+        answer(alloc, book, routes, from, envelope)
+    } else {
+        Err(StepFault::Node(NodeFault::Unreadable))
+    }
+}
+
+/// Answers a request to the node that it came from. The room for what is sent is had first.
+fn answer(
+    alloc: Global,
+    book: &mut Book,
+    routes: &Routes,
+    from: Node,
+    envelope: &Envelope<'_>,
+) -> Result<Vec<Sent>, StepFault>
+    ensures ok { IfOk result (λ sent. after_answer (bytes_with routes.now) (node_seen from) envelope.now.id (answered (bytes_with routes.now) book.old envelope.now.id envelope.now.payload) ≡ Done (Up book.new) (map sent_seen sent.items)) }
+    ensures fault { IfErr result (λ fault. RefusedAs (refusal_of fault) (after_answer (bytes_with routes.now) (node_seen from) envelope.now.id (answered (bytes_with routes.now) book.old envelope.now.id envelope.now.payload))) }
+    ensures few { IfOk result (λ sent. length sent.items ≤ 1) }
+    ensures err { OnErr result (book.new ≡ book.old) }
+{
+    let mut sent = Vec::new(alloc);
+    sent.reserve(1)?;
+    match book.answer_packet(routes, envelope.id(), envelope.payload()) {
+        Ok(bytes) => {
+            sent.push_reserved(Sent { to: from, bytes });
+            Ok(sent)
+        }
+        Err(fault) => Err(book_fault(fault)),
+    }
+}
+
+/// Changes the plan. Nothing is sent.
+pub fn change_plan(
+    alloc: Global,
+    book: &mut Book,
+    product: &[u8],
+    price: Option<u32>,
+) -> Result<Vec<Sent>, StepFault>
+    ensures ok { (routes : RouteMaps) → IfOk result (λ sent. payer_up (bytes_with routes) book.old (Reprice product.now price) ≡ Done (Up book.new) (map sent_seen sent.items)) }
+    ensures fault { (routes : RouteMaps) → IfErr result (λ fault. RefusedAs (refusal_of fault) (payer_up (bytes_with routes) book.old (Reprice product.now price))) }
+    ensures few { IfOk result (λ sent. length sent.items ≤ 1) }
+    ensures err { OnErr result (book.new ≡ book.old) }
+{
+    match book.change_plan(product, price) {
+        Ok(()) => Ok(Vec::new(alloc)),
+        Err(fault) => Err(plan_fault(fault)),
+    }
+}

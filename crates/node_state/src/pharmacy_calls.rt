@@ -1,0 +1,80 @@
+//! The calls on a pharmacy that is up.
+
+ghost use Rattle.std.specs.Prelude.{◌≡◌, ◌≤◌, length, map, None, IfOk, IfErr, OnErr};
+ghost use Rattle.bin_routes.specs.Table.{RouteMaps};
+ghost use Rattle.claim_model.specs.Bytes.{bytes_with};
+ghost use Rattle.claim_model.specs.Journal.{submitted, heard};
+ghost use Rattle.claim_model.specs.Node.{Node as ModelNode, Up, Done, Submit, Tick, Take, pharmacy_up, after_hearing};
+ghost use Rattle.switch_node.specs.Sent.{content};
+ghost use Rattle.world_setup.specs.Seen.{sent_seen};
+ghost use Rattle.world_setup.specs.Refused.{refusal_of, RefusedAs};
+
+use crate::faults::{envelope_fault, hear_fault, submit_fault};
+use crate::opening::read_envelope;
+use crate::sending::{push_all, to_switch};
+use envelope::Envelope;
+use pharmacy_journal::Pharmacy;
+use std::alloc::Global;
+use world_setup::{Sent, StepFault};
+
+/// Submits a text. The room for what is sent is had first.
+pub fn submit(alloc: Global, pharmacy: &mut Pharmacy, text: &[u8]) -> Result<Vec<Sent>, StepFault>
+    ensures ok { (routes : RouteMaps) → IfOk result (λ sent. pharmacy_up (bytes_with routes) pharmacy.old (Submit text.now) ≡ Done (Up pharmacy.new) (map sent_seen sent.items)) }
+    ensures fault { (routes : RouteMaps) → IfErr result (λ fault. RefusedAs (refusal_of fault) (pharmacy_up (bytes_with routes) pharmacy.old (Submit text.now))) }
+    ensures few { IfOk result (λ sent. length sent.items ≤ 1) }
+    ensures err { OnErr result (pharmacy.new ≡ pharmacy.old) }
+{
+    let mut sent = Vec::new(alloc);
+    sent.reserve(1)?;
+    match pharmacy.submit(text) {
+        Ok(submitted) => {
+            sent.push_reserved(to_switch(submitted.1));
+            Ok(sent)
+        }
+        Err(fault) => Err(submit_fault(fault)),
+    }
+}
+
+/// One tick. There is room for a packet of each entry before it, which is enough.
+pub fn tick(alloc: Global, pharmacy: &mut Pharmacy) -> Result<Vec<Sent>, StepFault>
+    ensures ok { (routes : RouteMaps) → IfOk result (λ sent. pharmacy_up (bytes_with routes) pharmacy.old Tick ≡ Done (Up pharmacy.new) (map sent_seen sent.items)) }
+    ensures fault { IfErr result (λ fault. refusal_of fault ≡ None) }
+    ensures few { IfOk result (λ sent. length sent.items ≤ length pharmacy.old.entries) }
+    ensures err { OnErr result (pharmacy.new ≡ pharmacy.old) }
+{
+    let mut sent = Vec::new(alloc);
+    sent.reserve(pharmacy.entries())?;
+    let packets = pharmacy.tick()?;
+    push_all(&mut sent, packets);
+    Ok(sent)
+}
+
+/// Takes a packet.
+pub fn take(alloc: Global, pharmacy: &mut Pharmacy, bytes: &[u8]) -> Result<Vec<Sent>, StepFault>
+    ensures ok { (routes : RouteMaps) (from : ModelNode) → IfOk result (λ sent. pharmacy_up (bytes_with routes) pharmacy.old (Take from bytes.now) ≡ Done (Up pharmacy.new) (map sent_seen sent.items)) }
+    ensures fault { (routes : RouteMaps) (from : ModelNode) → IfErr result (λ fault. RefusedAs (refusal_of fault) (pharmacy_up (bytes_with routes) pharmacy.old (Take from bytes.now))) }
+    ensures few { IfOk result (λ sent. length sent.items ≤ 1) }
+    ensures err { OnErr result (pharmacy.new ≡ pharmacy.old) }
+{
+    match read_envelope(bytes) {
+        Ok(envelope) => hear(alloc, pharmacy, &envelope),
+        Err(fault) => Err(envelope_fault(fault)),
+    }
+}
+
+/// Hears what an envelope has.
+fn hear(
+    alloc: Global,
+    pharmacy: &mut Pharmacy,
+    envelope: &Envelope<'_>,
+) -> Result<Vec<Sent>, StepFault>
+    ensures ok { (routes : RouteMaps) → IfOk result (λ sent. after_hearing (heard (bytes_with routes) pharmacy.old (content envelope.now)) ≡ Done (Up pharmacy.new) (map sent_seen sent.items)) }
+    ensures fault { (routes : RouteMaps) → IfErr result (λ fault. RefusedAs (refusal_of fault) (after_hearing (heard (bytes_with routes) pharmacy.old (content envelope.now)))) }
+    ensures few { IfOk result (λ sent. length sent.items ≤ 1) }
+    ensures err { OnErr result (pharmacy.new ≡ pharmacy.old) }
+{
+    match pharmacy.hear(envelope) {
+        Ok(()) => Ok(Vec::new(alloc)),
+        Err(fault) => Err(hear_fault(fault)),
+    }
+}

@@ -1,0 +1,129 @@
+//! One node of any kind.
+
+ghost use Rattle.std.specs.Prelude.{◌≡◌, map, IfOk, IfErr, OnErr};
+ghost use Rattle.bin_routes.specs.Table.{RouteMaps};
+ghost use Rattle.claim_model.specs.Bytes.{bytes_with};
+ghost use Rattle.claim_model.specs.Node.{Done};
+ghost use Rattle.world_setup.specs.Seen.{sent_seen, call_seen};
+ghost use Rattle.world_setup.specs.Refused.{refusal_of, RefusedAs};
+ghost use Rattle.node_state.specs.Nodes.{OfPharmacy, OfSwitch, OfPayer, node_step, entries_of, request_of, held_of};
+
+use crate::held::copied;
+use crate::payer::PayerNode;
+use crate::pharmacy::PharmacyNode;
+use crate::switch::SwitchNode;
+use bin_routes::Routes;
+use envelope::TxnId;
+use octets::Octets;
+use std::alloc::{AllocError, Global};
+use std::marker::Model;
+use world_setup::{Call, Sent, StepFault};
+
+/// The kinds of nodes.
+#[derive(Drop)]
+pub(crate) enum StateKind {
+    Pharmacy(PharmacyNode),
+    Switch(SwitchNode),
+    Payer(PayerNode),
+}
+
+/// One node, up or at rest.
+#[derive(Drop)]
+pub struct NodeState {
+    kind: StateKind,
+}
+
+impl Model for NodeState {
+    ghost use Rattle.node_state.specs.Nodes.{AnyNode};
+
+    ghost Value = { AnyNode };
+
+    ghost use Rattle.node_state.specs.Any.{any_seen};
+
+    ghost view = { λ n. any_seen n.kind };
+}
+
+impl NodeState {
+    /// A pharmacy.
+    pub fn pharmacy(node: PharmacyNode) -> NodeState
+        ensures { result ≡ OfPharmacy node }
+    {
+        NodeState {
+            kind: StateKind::Pharmacy(node),
+        }
+    }
+
+    /// A switch.
+    pub fn switch(node: SwitchNode) -> NodeState
+        ensures { result ≡ OfSwitch node }
+    {
+        NodeState {
+            kind: StateKind::Switch(node),
+        }
+    }
+
+    /// A payer.
+    pub fn payer(node: PayerNode) -> NodeState
+        ensures { result ≡ OfPayer node }
+    {
+        NodeState {
+            kind: StateKind::Payer(node),
+        }
+    }
+
+    /// Makes a call, and gives what it sent.
+    ///
+    /// # Errors
+    /// `NoSuchNode` for a call that is made for another kind of node; then `Down` or `AlreadyUp`; then the refusal of
+    /// the node. The node is then as it was.
+    pub fn step(
+        &mut self,
+        alloc: Global,
+        routes: &Routes,
+        call: &Call,
+    ) -> Result<Vec<Sent>, StepFault>
+        ensures ok { IfOk result (λ sent. node_step (bytes_with routes.now) self.old (call_seen call.now) ≡ Done self.new (map sent_seen sent.items)) }
+        ensures fault { IfErr result (λ fault. RefusedAs (refusal_of fault) (node_step (bytes_with routes.now) self.old (call_seen call.now))) }
+        ensures err { OnErr result (self.new ≡ self.old) }
+    {
+        match &mut self.kind {
+            StateKind::Pharmacy(node) => node.step(alloc, call),
+            StateKind::Switch(node) => node.step(alloc, routes, call),
+            StateKind::Payer(node) => node.step(alloc, routes, call),
+        }
+    }
+
+    /// How many entries a pharmacy's journal has; 0 of another node. At rest the record is read.
+    pub fn entries(&self, alloc: Global) -> Result<usize, AllocError>
+        ensures { IfOk result (λ count. count ≡ entries_of self.now) }
+    {
+        match &self.kind {
+            StateKind::Pharmacy(node) => Ok(node.journal(alloc)?.entries()),
+            StateKind::Switch(_) => Ok(0),
+            StateKind::Payer(_) => Ok(0),
+        }
+    }
+
+    /// A copy of the request of a pharmacy's entry, numbered from 1; none of another node. At rest the record is read.
+    pub fn request(&self, alloc: Global, number: u64) -> Result<Option<Octets>, AllocError>
+        ensures { IfOk result (λ request. request ≡ request_of self.now number) }
+    {
+        match &self.kind {
+            StateKind::Pharmacy(node) => node.request(alloc, number),
+            StateKind::Switch(_) => Ok(None),
+            StateKind::Payer(_) => Ok(None),
+        }
+    }
+
+    /// A copy of the answer that the node holds for an id: in its journal, for its own ids only, in its table or in its
+    /// book. At rest the record is read; a stopped switch holds none.
+    pub fn held(&self, alloc: Global, id: TxnId) -> Result<Option<Octets>, AllocError>
+        ensures { (routes : RouteMaps) → IfOk result (λ held. held ≡ held_of (bytes_with routes) self.now id) }
+    {
+        match &self.kind {
+            StateKind::Pharmacy(node) => node.held(alloc, id),
+            StateKind::Switch(node) => copied(alloc, node.held(id)),
+            StateKind::Payer(node) => node.held(alloc, id),
+        }
+    }
+}

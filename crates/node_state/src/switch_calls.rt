@@ -1,0 +1,101 @@
+//! The calls on a switch that is up.
+
+ghost use Rattle.std.specs.Prelude.{◌≡◌, ◌≤◌, length, map, Ok, IfOk, IfErr, OnErr};
+ghost use Rattle.bin_routes.specs.Table.{RouteMaps};
+ghost use Rattle.claim_model.specs.Bytes.{bytes_with};
+ghost use Rattle.claim_model.specs.Table.{requested, responded};
+ghost use Rattle.claim_model.specs.Node.{Node as ModelNode, Up, Done, Take, switch_up, switch_takes, after_request, after_response};
+ghost use Rattle.switch_node.specs.Sent.{content};
+ghost use Rattle.world_setup.specs.Seen.{sent_seen};
+ghost use Rattle.world_setup.specs.Refused.{refusal_of, RefusedAs};
+
+use crate::faults::{envelope_fault, request_fault, response_fault};
+use crate::opening::{is_request, read_envelope};
+use crate::sending::{to_payer_or_back, to_pharmacy};
+use bin_routes::Routes;
+use envelope::Envelope;
+use std::alloc::Global;
+use switch_node::Switch;
+use world_setup::{Sent, StepFault};
+
+/// Takes a packet.
+pub fn take(
+    alloc: Global,
+    switch: &mut Switch,
+    routes: &Routes,
+    bytes: &[u8],
+) -> Result<Vec<Sent>, StepFault>
+    ensures ok { (from : ModelNode) → IfOk result (λ sent. switch_up (bytes_with routes.now) switch.old (Take from bytes.now) ≡ Done (Up switch.new) (map sent_seen sent.items)) }
+    ensures fault { (from : ModelNode) → IfErr result (λ fault. RefusedAs (refusal_of fault) (switch_up (bytes_with routes.now) switch.old (Take from bytes.now))) }
+    ensures few { IfOk result (λ sent. length sent.items ≤ 1) }
+    ensures err { OnErr result (switch.new ≡ switch.old) }
+{
+    match read_envelope(bytes) {
+        Ok(envelope) => take_envelope(alloc, switch, routes, &envelope),
+        Err(fault) => Err(envelope_fault(fault)),
+    }
+}
+
+/// Takes what an envelope has, by its kind.
+fn take_envelope(
+    alloc: Global,
+    switch: &mut Switch,
+    routes: &Routes,
+    envelope: &Envelope<'_>,
+) -> Result<Vec<Sent>, StepFault>
+    ensures ok { IfOk result (λ sent. switch_takes (bytes_with routes.now) switch.old (Ok (content envelope.now)) ≡ Done (Up switch.new) (map sent_seen sent.items)) }
+    ensures fault { IfErr result (λ fault. RefusedAs (refusal_of fault) (switch_takes (bytes_with routes.now) switch.old (Ok (content envelope.now)))) }
+    ensures few { IfOk result (λ sent. length sent.items ≤ 1) }
+    ensures err { OnErr result (switch.new ≡ switch.old) }
+{
+    if is_request(envelope) {
+        request(alloc, switch, routes, envelope)
+    } else {
+        response(alloc, switch, envelope)
+    }
+}
+
+/// Takes a request. The room for what is sent is had first.
+fn request(
+    alloc: Global,
+    switch: &mut Switch,
+    routes: &Routes,
+    envelope: &Envelope<'_>,
+) -> Result<Vec<Sent>, StepFault>
+    ensures ok { IfOk result (λ sent. after_request envelope.now.id (requested (bytes_with routes.now) switch.old (content envelope.now)) ≡ Done (Up switch.new) (map sent_seen sent.items)) }
+    ensures fault { IfErr result (λ fault. RefusedAs (refusal_of fault) (after_request envelope.now.id (requested (bytes_with routes.now) switch.old (content envelope.now)))) }
+    ensures few { IfOk result (λ sent. length sent.items ≤ 1) }
+    ensures err { OnErr result (switch.new ≡ switch.old) }
+{
+    let mut sent = Vec::new(alloc);
+    sent.reserve(1)?;
+    match switch.request(routes, envelope) {
+        Ok(routed) => {
+            sent.push_reserved(to_payer_or_back(envelope.id(), routed));
+            Ok(sent)
+        }
+        Err(fault) => Err(request_fault(fault)),
+    }
+}
+
+/// Takes a response. The room for what is sent is had first.
+fn response(
+    alloc: Global,
+    switch: &mut Switch,
+    envelope: &Envelope<'_>,
+) -> Result<Vec<Sent>, StepFault>
+    ensures ok { (routes : RouteMaps) → IfOk result (λ sent. after_response envelope.now.id (responded (bytes_with routes) switch.old (content envelope.now)) ≡ Done (Up switch.new) (map sent_seen sent.items)) }
+    ensures fault { (routes : RouteMaps) → IfErr result (λ fault. RefusedAs (refusal_of fault) (after_response envelope.now.id (responded (bytes_with routes) switch.old (content envelope.now)))) }
+    ensures few { IfOk result (λ sent. length sent.items ≤ 1) }
+    ensures err { OnErr result (switch.new ≡ switch.old) }
+{
+    let mut sent = Vec::new(alloc);
+    sent.reserve(1)?;
+    match switch.response(envelope) {
+        Ok(packet) => {
+            sent.push_reserved(to_pharmacy(envelope.id(), packet));
+            Ok(sent)
+        }
+        Err(fault) => Err(response_fault(fault)),
+    }
+}

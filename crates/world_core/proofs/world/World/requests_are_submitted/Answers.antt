@@ -1,0 +1,5 @@
+use Rattle.claim_model.specs.Bytes.{bytes_with}
+use Rattle.world_core.proofs.world.World.requests_are_submitted.Goals as goal
+
+pub returns : goal.returns
+returns c = rw (← c.self.view_is) (c.requests_are_submitted.ensures (bytes_with c.self.inside.routes) c.self.invariant.settings c.self.inside.parts c.self.invariant.reached)

@@ -1,0 +1,10 @@
+-- In the order in which one explains them.
+pub mod Parts
+pub mod Asked
+pub mod NodeLists
+pub mod Calling
+pub mod Stepping
+pub mod Opening
+pub mod RowViews
+pub mod Reading
+pub mod Headline

@@ -1,0 +1,4 @@
+pub mod Seen
+pub mod Refused
+pub mod Names
+pub mod Taken

@@ -1,0 +1,55 @@
+-- Nodes, calls, packets, events and settings as the model sees them.
+use Rattle.std.specs.Prelude.{map}
+use Rattle.claim_model.specs.Node as model
+use Rattle.claim_model.specs.World as world
+use Rattle.claim_model.specs.Settings as opened
+use Rattle.world_setup.specs.declared.node.Node.{Node}
+use Rattle.world_setup.specs.declared.node.Node.TheVariants as node
+use Rattle.world_setup.specs.declared.call.Call.{Call}
+use Rattle.world_setup.specs.declared.call.Call.TheVariants as call
+use Rattle.world_setup.specs.declared.call.Sent.{Sent}
+use Rattle.world_setup.specs.declared.call.Packet.{Packet}
+use Rattle.world_setup.specs.declared.event.Event.{Event}
+use Rattle.world_setup.specs.declared.event.Event.TheVariants as event
+use Rattle.world_setup.specs.declared.settings.PayerSettings.{PayerSettings}
+use Rattle.world_setup.specs.declared.settings.WorldSettings.{WorldSettings}
+
+-- a node by its kind and its number
+abbrev pub node_seen : Node → model.Node
+node_seen (node.Pharmacy number) = model.Pharmacy number
+node_seen (node.Switch number) = model.Switch number
+node_seen (node.Payer number) = model.Payer number
+
+-- a call, with its texts as lists of bytes
+abbrev pub call_seen : Call → model.Call
+call_seen (call.Submit text) = model.Submit text
+call_seen call.Tick = model.Tick
+call_seen (call.Take from bytes) = model.Take (node_seen from) bytes
+call_seen call.Stop = model.Stop
+call_seen call.Start = model.Start
+call_seen (call.Plan product price) = model.Reprice product price
+
+-- what a node sends
+abbrev pub sent_seen : Sent → model.Sent
+sent_seen s = record { to = node_seen s.to; bytes = s.bytes }
+
+-- a packet
+abbrev pub packet_seen : Packet → world.Packet
+packet_seen p = record { from = node_seen p.from; to = node_seen p.to; bytes = p.bytes }
+
+-- an event, with its texts as lists of bytes
+abbrev pub event_seen : Event → world.Event
+event_seen (event.Submit pharmacy text) = world.Submission pharmacy text
+event_seen (event.Tick pharmacy) = world.Ticking pharmacy
+event_seen (event.Deliver packet) = world.Delivery packet
+event_seen (event.Stop node) = world.Stopping (node_seen node)
+event_seen (event.Start node) = world.Starting (node_seen node)
+event_seen (event.Plan payer product price) = world.PlanChange payer product price
+
+-- what a payer is opened with
+abbrev pub payer_seen : PayerSettings → opened.PayerSettings
+payer_seen p = record { book = p.book; plan = p.plan }
+
+-- what a world is opened with; the routes are not in it, since the model has them in the reading of bytes
+abbrev pub settings_seen : WorldSettings → opened.WorldSettings
+settings_seen s = record { pharmacies = s.pharmacies.items; switches = s.switches.items; payers = map payer_seen s.payers.items }

@@ -1,0 +1,40 @@
+//! Events of a world.
+
+use crate::node::Node;
+use octets::Octets;
+
+/// An event: one call on one node of a world (own). Losing a packet is never delivering it, repeating it is
+/// delivering it again.
+#[derive(Debug, Drop, PartialEq, Eq)]
+pub enum Event {
+    /// A pharmacy submits a request.
+    Submit {
+        /// The pharmacy's number.
+        pharmacy: u16,
+        /// The request's bytes.
+        text: Octets,
+    },
+    /// One tick of a pharmacy's time.
+    Tick {
+        /// The pharmacy's number.
+        pharmacy: u16,
+    },
+    /// The packet of this number, from 1, reaches its addressee.
+    Deliver {
+        /// The packet's number.
+        packet: u64,
+    },
+    /// A node stops.
+    Stop(Node),
+    /// A node starts again.
+    Start(Node),
+    /// A payer changes its plan.
+    Plan {
+        /// The payer's number.
+        payer: u16,
+        /// The product.
+        product: Octets,
+        /// Its price in ten-thousandths of a dollar a unit, or `None` to take it off the plan.
+        price: Option<u32>,
+    },
+}
