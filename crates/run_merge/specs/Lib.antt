@@ -1,0 +1,10 @@
+-- In the order in which one explains them.
+pub mod Naming
+pub mod Order
+pub mod Line
+pub mod LogSeen
+pub mod LineSeen
+pub mod SamePacket
+pub mod PacketNumbers
+pub mod Orders
+pub mod Merged

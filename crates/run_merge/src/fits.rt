@@ -1,0 +1,47 @@
+//! Whether a log fits its node.
+
+ghost use Rattle.std.specs.Prelude.{◌≡◌, map, IfOk, MatchBool};
+ghost use Rattle.claim_model.specs.Bytes.{bytes_with};
+ghost use Rattle.claim_model.specs.Node.{Done};
+ghost use Rattle.claim_logs.specs.Nodes.{AnyNode, node_step};
+ghost use Rattle.run_merge.specs.Order.{Fits};
+
+use crate::record::Record;
+use crate::same::is_same_sent;
+use bin_routes::Routes;
+use node_state::NodeState;
+use std::alloc::{AllocError, Global};
+use world_setup::StepFault;
+
+/// Whether a node accepts these calls, one after another, and sends with each what its record has.
+pub(crate) fn fits(
+    alloc: Global,
+    routes: &Routes,
+    node: &mut NodeState,
+    records: &[Record],
+) -> Result<bool, AllocError>
+    ensures { IfOk result (λ yes. MatchBool yes (Fits (bytes_with routes.now) node.old records.now) (Fits (bytes_with routes.now) node.old records.now → ⊥)) }
+{
+    for record in records {
+        if !does(alloc, routes, node, record)? {
+            return Ok(false);
+        }
+    }
+    Ok(true)
+}
+
+/// Whether a node accepts the call of a record, and sends what the record has.
+fn does(
+    alloc: Global,
+    routes: &Routes,
+    node: &mut NodeState,
+    one: &Record,
+) -> Result<bool, AllocError>
+    ensures { IfOk result (λ yes. MatchBool yes (node_step (bytes_with routes.now) node.old one.now.call ≡ Done node.new one.now.sent) ((after : AnyNode) → node_step (bytes_with routes.now) node.old one.now.call ≡ Done after one.now.sent → ⊥)) }
+{
+    match node.step(alloc, routes, one.call()) {
+        Ok(sent) => Ok(is_same_sent(sent.as_slice(), one.sent())),
+        Err(StepFault::OutOfMemory) => Err(AllocError),
+        Err(_) => Ok(false),
+    }
+}

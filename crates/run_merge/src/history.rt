@@ -1,0 +1,208 @@
+//! Merging logs into the events of one run.
+
+ghost use Rattle.std.specs.Prelude.{◌≡◌, ◌+◌, ◌<◌, ◌≤◌, length, map, true, None, Some, IfOk, IfErr, MatchBool, MatchOption};
+ghost use Rattle.bin_routes.specs.Fault.{first_fault};
+ghost use Rattle.bin_routes.specs.Table.{routes_of};
+ghost use Rattle.claim_model.specs.Bytes.{bytes_with};
+ghost use Rattle.claim_model.specs.Settings.{settings_fault};
+ghost use Rattle.world_setup.specs.Seen.{event_seen, settings_seen, node_seen};
+ghost use Rattle.run_merge.specs.Naming.{is_numbered, is_there, name_at, has_log, all_distinct};
+ghost use Rattle.run_merge.specs.LogSeen.{log_seen, logs_seen};
+ghost use Rattle.run_merge.specs.Merged.{IsMerged, NoMerge, WhereTangled, EachHasLog, FitsAlone, AllFit};
+ghost use Rattle.run_merge.specs.declared.history.MergeFault.TheVariants.{OutOfMemory};
+
+use crate::fits::fits;
+use crate::log::NodeLog;
+use crate::order::in_order;
+use crate::same::is_same_node;
+use bin_routes::Routes;
+use node_state::NodeState;
+use std::alloc::{AllocError, Global};
+use thiserror::Error;
+use world_setup::{Event, Node, WorldFault, WorldSettings};
+
+/// Why logs are not merged.
+#[derive(Clone, Copy, Debug, PartialEq, Eq, Error)]
+pub enum MergeFault {
+    /// Memory was refused.
+    #[error("out of memory")]
+    OutOfMemory,
+    /// No events are a legal interleaving of the logs.
+    #[error("the logs have no history in common")]
+    Tangled,
+}
+
+impl From<AllocError> for MergeFault {
+    ghost from_gives = { λ _ fault. fault ≡ OutOfMemory };
+
+    fn from(_refused: AllocError) -> MergeFault {
+        MergeFault::OutOfMemory
+    }
+}
+
+/// The events of one run that has these logs, one of each node, packets compared byte for byte. No lock is taken and
+/// nothing is waited for.
+///
+/// # Errors
+/// `Tangled` only where no events do so; settings that make no world, and logs that are not one for each node, have
+/// none.
+pub fn merge(
+    alloc: Global,
+    settings: &WorldSettings,
+    logs: &[NodeLog],
+) -> Result<Vec<Event>, MergeFault>
+    ensures ok { IfOk result (λ events. IsMerged settings.now (logs_seen logs.now) (map event_seen events.items)) }
+    ensures tangled { IfErr result (λ fault. WhereTangled fault settings.now (logs_seen logs.now)) }
+{
+    match merged(alloc, settings, logs)? {
+        Some(events) => Ok(events),
+        None => Err(MergeFault::Tangled),
+    }
+}
+
+/// The events of such a run, if there is one.
+fn merged(
+    alloc: Global,
+    settings: &WorldSettings,
+    logs: &[NodeLog],
+) -> Result<Option<Vec<Event>>, AllocError>
+    ensures { IfOk result (λ o. MatchOption o (NoMerge settings.now (logs_seen logs.now)) (λ events. IsMerged settings.now (logs_seen logs.now) (map event_seen events.items))) }
+{
+    match settings.checked_routes(alloc) {
+        Ok(routes) => merged_by(alloc, settings, &routes, logs),
+        Err(WorldFault::OutOfMemory) => Err(AllocError),
+        Err(_) => Ok(None),
+    }
+}
+
+/// The events of such a run in a world that there is, by its routes.
+fn merged_by(
+    alloc: Global,
+    settings: &WorldSettings,
+    routes: &Routes,
+    logs: &[NodeLog],
+) -> Result<Option<Vec<Event>>, AllocError>
+    requires world { settings_fault (settings_seen settings.now) ≡ None }
+    requires rows { first_fault (length settings.now.payers.items) settings.now.routes.items ≡ None }
+    requires routes_are { routes.now ≡ routes_of settings.now.routes.items }
+    ensures { IfOk result (λ o. MatchOption o (NoMerge settings.now (logs_seen logs.now)) (λ events. IsMerged settings.now (logs_seen logs.now) (map event_seen events.items))) }
+{
+    if !each_has_log(settings, logs) {
+        return Ok(None);
+    }
+    if !are_distinct(logs) {
+        return Ok(None);
+    }
+    if !all_fit(alloc, settings, routes, logs)? {
+        return Ok(None);
+    }
+    in_order(alloc, logs)
+}
+
+/// Whether each node of the settings has a log.
+fn each_has_log(settings: &WorldSettings, logs: &[NodeLog]) -> bool
+    requires { settings_fault (settings_seen settings.now) ≡ None }
+    ensures { MatchBool result (EachHasLog (settings_seen settings.now) (logs_seen logs.now)) (EachHasLog (settings_seen settings.now) (logs_seen logs.now) → ⊥) }
+{
+    let pharmacies = settings.pharmacies.len();
+    let switches = settings.switches.len();
+    for place in 0..pharmacies + switches + settings.payers.len() {
+        if !has_log(name_at(pharmacies, switches, place), logs) {
+            return false;
+        }
+    }
+    true
+}
+
+/// The name at a place among those of all nodes: of pharmacies, then of switches, then of payers.
+fn name_at(pharmacies: usize, switches: usize, place: usize) -> Node
+    requires few { pharmacies + switches ≤ 320 }
+    requires place { place < 384 }
+    ensures { node_seen result ≡ name_at pharmacies switches place }
+{
+    let others = pharmacies + switches;
+    if place < pharmacies {
+        Node::Pharmacy(place as u16 + 1)
+    } else if place < others {
+        Node::Switch((place - pharmacies) as u16 + 1)
+    } else {
+        Node::Payer((place - others) as u16 + 1)
+    }
+}
+
+/// Whether no two logs are of one node.
+fn are_distinct(logs: &[NodeLog]) -> bool
+    ensures { result ≡ all_distinct (logs_seen logs.now) }
+{
+    for (place, log) in logs.iter().enumerate() {
+        if has_log(log.node(), &logs[place + 1..]) {
+            return false;
+        }
+    }
+    true
+}
+
+/// Whether one of these logs is of this node.
+fn has_log(node: Node, logs: &[NodeLog]) -> bool
+    ensures { result ≡ has_log (node_seen node) (logs_seen logs.now) }
+{
+    for log in logs {
+        if is_same_node(log.node(), node) {
+            return true;
+        }
+    }
+    false
+}
+
+/// Whether each log by itself fits its node.
+fn all_fit(
+    alloc: Global,
+    settings: &WorldSettings,
+    routes: &Routes,
+    logs: &[NodeLog],
+) -> Result<bool, AllocError>
+    requires { settings_fault (settings_seen settings.now) ≡ None }
+    ensures { IfOk result (λ yes. MatchBool yes (AllFit (bytes_with routes.now) (settings_seen settings.now) (logs_seen logs.now)) (AllFit (bytes_with routes.now) (settings_seen settings.now) (logs_seen logs.now) → ⊥)) }
+{
+    for log in logs {
+        if !fits_alone(alloc, settings, routes, log)? {
+            return Ok(false);
+        }
+    }
+    Ok(true)
+}
+
+/// Whether a log is of a node that is there, and fits it.
+fn fits_alone(
+    alloc: Global,
+    settings: &WorldSettings,
+    routes: &Routes,
+    log: &NodeLog,
+) -> Result<bool, AllocError>
+    requires { settings_fault (settings_seen settings.now) ≡ None }
+    ensures { IfOk result (λ yes. MatchBool yes (FitsAlone (bytes_with routes.now) (settings_seen settings.now) (log_seen log.now)) (FitsAlone (bytes_with routes.now) (settings_seen settings.now) (log_seen log.now) → ⊥)) }
+{
+    if !is_there(settings, log.node()) {
+        return Ok(false);
+    }
+    let mut node = NodeState::opening(alloc, settings, log.node())?;
+    fits(alloc, routes, &mut node, log.records())
+}
+
+/// Whether a world of these settings opens with a node of this name.
+fn is_there(settings: &WorldSettings, node: Node) -> bool
+    ensures { result ≡ is_there (settings_seen settings.now) (node_seen node) }
+{
+    match node {
+        Node::Pharmacy(number) => is_numbered(settings.pharmacies.len(), number),
+        Node::Switch(number) => is_numbered(settings.switches.len(), number),
+        Node::Payer(number) => is_numbered(settings.payers.len(), number),
+    }
+}
+
+/// Whether a number is from 1 to a count.
+fn is_numbered(count: usize, number: u16) -> bool
+    ensures { result ≡ is_numbered count number }
+{
+    number > 0 && number as usize <= count
+}

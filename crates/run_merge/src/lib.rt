@@ -1,0 +1,21 @@
+//! What one node did, as a list: the log of its accepted calls, each with what it sent. A log is replayed on the node's
+//! opening state; the logs of all nodes are merged into the events of one run, exactly where there is such a run.
+#![tactic(auto)]
+
+mod fits;
+mod history;
+mod line;
+mod log;
+mod order;
+mod posted;
+mod record;
+mod replay;
+mod same;
+mod slip;
+mod turn;
+mod woken;
+
+pub use history::{MergeFault, merge};
+pub use log::NodeLog;
+pub use record::Record;
+pub use replay::replay_log;

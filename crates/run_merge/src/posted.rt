@@ -1,0 +1,83 @@
+//! The packets that were sent in an order.
+
+ghost use Rattle.std.specs.Prelude.{◌≡◌, [], ◌∷◌, ◌++◌, map, Some, OnOk, MatchOption};
+ghost use Rattle.claim_model.specs.Numbered.{numbered};
+ghost use Rattle.claim_model.specs.World.{posted};
+ghost use Rattle.world_setup.specs.Seen.{node_seen, sent_seen};
+ghost use Rattle.run_merge.specs.Line.{IsAbsent};
+ghost use Rattle.run_merge.specs.LineSeen.{slip_seen};
+
+use crate::slip::Slip;
+use octets::Octets;
+use std::alloc::{AllocError, Global};
+use std::collections::HashMap;
+use std::marker::Model;
+use world_setup::{Node, Sent};
+
+/// The packets that were sent, numbered from 1, with a number of each.
+#[derive(Drop)]
+pub(crate) struct Posted<'a> {
+    packets: Vec<Slip<'a>>,
+    numbers: HashMap<Slip<'a>, u64>,
+}
+
+impl<'a> Model for Posted<'a> {
+    ghost use Rattle.std.specs.Prelude.{List, map};
+    ghost use Rattle.std.specs.HashMap.{get};
+    ghost use Rattle.claim_model.specs.World.{Packet};
+    ghost use Rattle.run_merge.specs.LineSeen.{slip_seen};
+    ghost use Rattle.run_merge.specs.PacketNumbers.{same_slip, IsNumbered};
+
+    ghost Value = { List Packet };
+
+    ghost view = { λ p. map slip_seen p.packets.items };
+
+    ghost invariant = { λ p. IsNumbered (map slip_seen p.packets.items) (get same_slip p.numbers) };
+}
+
+impl<'a> Posted<'a> {
+    /// No packets.
+    pub(crate) fn new(alloc: Global) -> Posted<'a>
+        ensures { result ≡ [] }
+    {
+        Posted {
+            packets: Vec::new(alloc),
+            numbers: HashMap::new(alloc),
+        }
+    }
+
+    /// Adds what a node sent.
+    pub(crate) fn post(&mut self, from: Node, sent: &'a [Sent]) -> Result<(), AllocError>
+        ensures { OnOk result (self.new ≡ posted self.old (node_seen from) (map sent_seen sent.now)) }
+    {
+        for one in sent {
+            self.push(Slip::new(from, one.to, &one.bytes))?;
+        }
+        Ok(())
+    }
+
+    /// Adds a packet.
+    fn push(&mut self, slip: Slip<'a>) -> Result<(), AllocError>
+        ensures { OnOk result (self.new ≡ self.old ++ slip_seen slip.entry ∷ []) }
+    {
+        self.packets.reserve(1)?;
+        let number = self.packets.len() as u64 + 1;
+        match self.numbers.insert(slip, number) {
+            Ok(_) => {
+                self.packets.push_reserved(slip);
+                Ok(())
+            }
+            Err(_) => Err(AllocError),
+        }
+    }
+
+    /// The number of a packet with this sender, this addressee and these bytes.
+    pub(crate) fn find(&self, from: Node, to: Node, bytes: &'a Octets) -> Option<u64>
+        ensures { MatchOption result (IsAbsent self.now (record { from = node_seen from; to = node_seen to; bytes = bytes.now })) (λ k. numbered self.now k ≡ Some (record { from = node_seen from; to = node_seen to; bytes = bytes.now })) }
+    {
+        match self.numbers.get(&Slip::new(from, to, bytes)) {
+            Some(number) => Some(*number),
+            None => None,
+        }
+    }
+}

@@ -1,0 +1,64 @@
+//! A packet as a key.
+
+ghost use Rattle.std.specs.Prelude.{◌≡◌, ◌∷◌, []};
+ghost use Rattle.world_setup.specs.Seen.{node_seen};
+ghost use Rattle.run_merge.specs.LineSeen.{slip_seen};
+
+use crate::same::is_same_node;
+use octets::Octets;
+use std::hash::{Hash, Hasher};
+use world_setup::Node;
+
+/// A packet: who sent it to whom, and its bytes. It is hashed by its bytes alone.
+#[derive(Clone, Copy)]
+pub(crate) struct Slip<'a> {
+    pub(crate) from: Node,
+    pub(crate) to: Node,
+    pub(crate) bytes: &'a Octets,
+}
+
+impl<'a> Slip<'a> {
+    /// The packet of this sender, this addressee and these bytes.
+    pub(crate) fn new(from: Node, to: Node, bytes: &'a Octets) -> Slip<'a>
+        ensures { slip_seen result ≡ record { from = node_seen from; to = node_seen to; bytes = bytes.now } }
+    {
+        Slip { from, to, bytes }
+    }
+}
+
+impl<'a> PartialEq for Slip<'a> {
+    ghost use Rattle.std.specs.Cmp.{on_per, partial_equiv_from_equiv};
+    ghost use Rattle.run_merge.specs.LineSeen.{slip_seen};
+    ghost use Rattle.run_merge.specs.SamePacket.{same_packet, same_packet_equiv};
+
+    ghost eq = { λ a b. same_packet (slip_seen a) (slip_seen b) };
+
+    ghost laws = { on_per slip_seen (partial_equiv_from_equiv same_packet_equiv) };
+
+    fn eq(&self, other: &Slip<'a>) -> bool {
+        is_same_node(self.from, other.from)
+            && is_same_node(self.to, other.to)
+            && self.bytes == other.bytes
+    }
+}
+
+impl<'a> Eq for Slip<'a> {
+    ghost use Rattle.std.specs.Cmp.{on_equiv};
+    ghost use Rattle.run_merge.specs.LineSeen.{slip_seen};
+    ghost use Rattle.run_merge.specs.SamePacket.{same_packet_equiv};
+
+    ghost laws = { on_equiv slip_seen same_packet_equiv };
+}
+
+impl<'a> Hash for Slip<'a> {
+    ghost use Rattle.run_merge.specs.LineSeen.{slip_seen};
+    ghost use Rattle.run_merge.specs.SamePacket.{same_input};
+
+    ghost hash_input = { λ s. s.bytes.now ∷ [] };
+
+    ghost respects_eq = { λ a b e. same_input (slip_seen a) (slip_seen b) e };
+
+    fn hash<H: Hasher>(&self, state: &mut H) {
+        state.write(self.bytes.as_slice());
+    }
+}
