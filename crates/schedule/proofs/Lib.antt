@@ -1,0 +1,4 @@
+mod EventLists
+mod Fronts
+mod Commas
+mod RunLists

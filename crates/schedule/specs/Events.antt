@@ -1,0 +1,59 @@
+-- The event that a line spells: words parted by exactly one space, and nothing is trimmed.
+use Rattle.std.specs.Prelude.{ℕ, ◌==◌, List, length, nat_le, codes, bytes_eq, Option, Some, None, if◌then◌else◌}
+use Rattle.std.specs.Option.{option_map}
+use Rattle.std.specs.Result.{result_ok}
+use Rattle.outcomes.specs.Options.{◌>>=◌}
+use Rattle.input_text.specs.Words.{split_word}
+use Rattle.input_text.specs.Decimals.{decimal_number}
+use Rattle.input_text.specs.Printing.{unprinted}
+use Rattle.world_setup.specs.declared.event.Event.{Event}
+use Rattle.world_setup.specs.declared.event.Event.TheVariants.{Submit, Tick, Deliver, Stop, Start, Plan}
+use Rattle.schedule.specs.Nodes.{pharmacy_in, payer_in, node_in}
+
+-- a pharmacy and, behind one space, the rest of the line: a request in printed bytes, which may be empty
+unfoldable pub submission : List ℕ → Option Event
+submission rest = do
+  parts ← split_word rest
+  pharmacy ← pharmacy_in parts.0
+  text ← result_ok (unprinted parts.1)
+  Some (Submit pharmacy text)
+
+-- a product: one or more printed bytes without a space; the bytes that they spell may have one
+abbrev pub product_in : List ℕ → Option (List ℕ)
+product_in word = if length word == 0 then None else result_ok (unprinted word)
+
+-- a number of 32 bits
+abbrev pub price_of : ℕ → Option ℕ
+price_of number = if nat_le number 4294967295 then Some number else None
+
+-- a price of at most 18 digits, or `none`
+abbrev pub price_in : List ℕ → Option (Option ℕ)
+price_in word = if bytes_eq word (codes "none") then Some None else option_map (λ price. Some price) (decimal_number 18 word >>= price_of)
+
+-- a payer, a product and a price
+unfoldable pub plan_change : List ℕ → Option Event
+plan_change rest = do
+  parts ← split_word rest
+  payer ← payer_in parts.0
+  words ← split_word parts.1
+  product ← product_in words.0
+  price ← price_in words.1
+  Some (Plan payer product price)
+
+-- the events that have no text: behind their word stands one word
+unfoldable pub plain_event : List ℕ → List ℕ → Option Event
+plain_event word rest =
+    if bytes_eq word (codes "tick") then option_map Tick (pharmacy_in rest) else
+    if bytes_eq word (codes "deliver") then option_map Deliver (decimal_number 18 rest) else
+    if bytes_eq word (codes "stop") then option_map Stop (node_in rest) else
+    if bytes_eq word (codes "start") then option_map Start (node_in rest) else None
+
+-- the event of a word and what stands behind it
+abbrev pub event_with : List ℕ → List ℕ → Option Event
+event_with word rest =
+    if bytes_eq word (codes "submit") then submission rest else
+    if bytes_eq word (codes "plan") then plan_change rest else plain_event word rest
+
+-- the event that a line spells
+unfoldable pub event_of : List ℕ → Option Event
+event_of line = split_word line >>= (λ parts. event_with parts.0 parts.1)

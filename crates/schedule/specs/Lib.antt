@@ -1,0 +1,7 @@
+pub mod Nodes
+pub mod Events
+pub mod Reading
+pub mod Commands
+pub mod Faults
+pub mod Runs
+pub mod Division

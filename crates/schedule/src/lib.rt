@@ -1,0 +1,28 @@
+//! The schedule of an input: where it begins, and the events that its lines spell.
+//!
+//! An input is settings, a line `---`, and the schedule: one event a line, in printed text. What a line is, is std's
+//! `lines`; what an event spells stands in `specs/`.
+#![tactic(auto)]
+
+mod commands;
+mod division;
+mod events;
+mod fault;
+mod link_faults;
+mod nodes;
+mod plans;
+mod reading;
+mod runs;
+mod why;
+
+pub use commands::Command;
+pub use division::{Division, divide};
+pub use fault::ScheduleFault;
+pub use reading::read_schedule;
+pub use runs::{Run, read_run};
+pub use why::{LineFault, command_fault, event_fault};
+
+#[cfg(test)]
+mod run_tests;
+#[cfg(test)]
+mod tests;

@@ -1,0 +1,80 @@
+//! Changes of plans.
+
+ghost use Rattle.std.specs.Prelude.{◌≡◌, IfOk};
+ghost use Rattle.schedule.specs.Events.{plan_change, price_in, price_of, product_in};
+
+use crate::nodes::payer_in;
+use input_text::{PrintedFault, read_decimal, split_word, unprint};
+use octets::Octets;
+use std::alloc::{AllocError, Global};
+use world_setup::Event;
+
+/// The most digits of a price (own).
+const MOST_DIGITS: usize = 18;
+/// The largest number of 32 bits.
+const LARGEST: u64 = 4_294_967_295;
+
+/// The change of a payer, a product and a price.
+#[tactic(auto, unfolding(crate::specs::Events::plan_change))]
+pub(crate) fn plan_change(alloc: Global, rest: &[u8]) -> Result<Option<Event>, AllocError>
+    ensures { IfOk result (λ event. event ≡ plan_change rest.now) }
+{
+    let Some((node, rest)) = split_word(rest) else {
+        return Ok(None);
+    };
+    let Some(payer) = payer_in(node) else {
+        return Ok(None);
+    };
+    let Some((product, price)) = split_word(rest) else {
+        return Ok(None);
+    };
+    let Some(product) = product_in(alloc, product)? else {
+        return Ok(None);
+    };
+    match price_in(price) {
+        Some(price) => Ok(Some(Event::Plan {
+            payer,
+            product,
+            price,
+        })),
+        None => Ok(None),
+    }
+}
+
+/// The product that a word spells.
+pub(crate) fn product_in(alloc: Global, word: &[u8]) -> Result<Option<Octets>, AllocError>
+    ensures { IfOk result (λ product. product ≡ product_in word.now) }
+{
+    if word.is_empty() {
+        return Ok(None);
+    }
+    match unprint(alloc, word) {
+        Ok(product) => Ok(Some(Octets::from_vec(product))),
+        Err(PrintedFault::BadByte(_)) => Ok(None),
+        Err(PrintedFault::OutOfMemory) => Err(AllocError),
+    }
+}
+
+/// The price that a word spells; the inner `None` takes the product off the plan.
+fn price_in(word: &[u8]) -> Option<Option<u32>>
+    ensures { result ≡ price_in word.now }
+{
+    if word == b"none".as_slice() {
+        return Some(None);
+    }
+    let number = read_decimal(word, MOST_DIGITS)?;
+    match price_of(number) {
+        Some(price) => Some(Some(price)),
+        None => None,
+    }
+}
+
+/// A price that fits.
+fn price_of(number: u64) -> Option<u32>
+    ensures { result ≡ price_of number }
+{
+    if number > LARGEST {
+        return None;
+    }
+    Some(number as u32)
+}

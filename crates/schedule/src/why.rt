@@ -1,0 +1,179 @@
+//! What is wrong in a line, for people.
+
+ghost use Rattle.std.specs.Prelude.{◌≡◌, is_none, is_some, IfOk};
+ghost use Rattle.schedule.specs.Commands.{command_of};
+ghost use Rattle.schedule.specs.Events.{event_of};
+
+use crate::commands::command_of;
+use crate::events::event_of;
+use crate::link_faults::fault_of;
+use crate::nodes::{node_in, payer_in, pharmacy_in};
+use crate::plans::product_in;
+use input_text::{PrintedFault, split_word, unprint};
+use std::alloc::{AllocError, Global};
+use thiserror::Error;
+
+/// What is wrong in a line that spells nothing, or nothing in its place: the first thing from the left. The text says
+/// what is wanted.
+#[derive(Clone, Copy, Debug, PartialEq, Eq, Error)]
+pub enum LineFault {
+    /// The first word is none of a replay's.
+    #[error("a line is submit ph1 TEXT, tick ph1, deliver 3, stop sw1, start sw1 or plan pr1 PRODUCT PRICE, with one space between words")]
+    EventWord,
+    /// The first word is none of a run's.
+    #[error("a line is submit ph1 TEXT, tick ph1, plan pr1 PRODUCT PRICE, restart sw1 or await ph1 3, with one space between words, and before all of these fault ph1 sw1 ACTIONS")]
+    CommandWord,
+    /// There is no pharmacy where one has to be.
+    #[error("a pharmacy is wanted: ph and 1 to 5 digits")]
+    Pharmacy,
+    /// There is no payer where one has to be.
+    #[error("a payer is wanted: pr and 1 to 5 digits")]
+    Payer,
+    /// There is no node where one has to be.
+    #[error("a node is wanted: ph, sw or pr and 1 to 5 digits")]
+    Node,
+    /// There is no number where one has to be.
+    #[error("a number is wanted: 1 to 18 digits")]
+    Number,
+    /// There is no request.
+    #[error("behind the pharmacy one space and a request are wanted")]
+    Request,
+    /// A byte of a request, counted from 1, is not printed text.
+    #[error("byte {0} of the request is not printed text: bytes below 0x20 and above 0x7E, and the separators, are written with a backslash")]
+    Printed(usize),
+    /// There is no product.
+    #[error("a product is wanted: one or more printed bytes without a space")]
+    Product,
+    /// There is no price.
+    #[error("a price is wanted: 1 to 18 digits, at most 4294967295, or none")]
+    Price,
+    /// There are no actions.
+    #[error("actions are wanted: deliver, lose, twice and hold, joined by commas")]
+    Actions,
+    /// A fault of a link stands behind a command.
+    #[error("faults of links stand before all commands")]
+    Order,
+}
+
+/// What is wrong in a line of a replay; `None` exactly where it spells an event.
+pub fn event_fault(alloc: Global, line: &[u8]) -> Result<Option<LineFault>, AllocError>
+    ensures { IfOk result (λ fault. is_none fault ≡ is_some (event_of line.now)) }
+{
+    match event_of(alloc, line)? {
+        Some(_) => Ok(None),
+        None => Ok(Some(event_cause(alloc, line)?)),
+    }
+}
+
+/// What is wrong in a line of a run; `None` exactly where it spells a command. A fault of a link is wrong here by its
+/// place alone.
+pub fn command_fault(alloc: Global, line: &[u8]) -> Result<Option<LineFault>, AllocError>
+    ensures { IfOk result (λ fault. is_none fault ≡ is_some (command_of line.now)) }
+{
+    match command_of(alloc, line)? {
+        Some(_) => Ok(None),
+        None => Ok(Some(command_cause(alloc, line)?)),
+    }
+}
+
+/// What is wrong in a line that spells no event.
+fn event_cause(alloc: Global, line: &[u8]) -> Result<LineFault, AllocError> {
+    let Some((word, rest)) = split_word(line) else {
+        return Ok(LineFault::EventWord);
+    };
+    match word {
+        b"submit" => request_cause(alloc, rest),
+        b"plan" => plan_cause(alloc, rest),
+        b"tick" => Ok(LineFault::Pharmacy),
+        b"deliver" => Ok(LineFault::Number),
+        b"stop" | b"start" => Ok(LineFault::Node),
+        _ => Ok(LineFault::EventWord),
+    }
+}
+
+/// What is wrong in a line that spells no command.
+fn command_cause(alloc: Global, line: &[u8]) -> Result<LineFault, AllocError> {
+    if fault_of(alloc, line)?.is_some() {
+        return Ok(LineFault::Order);
+    }
+    let Some((word, rest)) = split_word(line) else {
+        return Ok(LineFault::CommandWord);
+    };
+    match word {
+        b"submit" => request_cause(alloc, rest),
+        b"plan" => plan_cause(alloc, rest),
+        b"tick" => Ok(LineFault::Pharmacy),
+        b"restart" => Ok(LineFault::Node),
+        b"await" => Ok(await_cause(rest)),
+        b"fault" => Ok(link_cause(rest)),
+        _ => Ok(LineFault::CommandWord),
+    }
+}
+
+/// What is wrong behind `submit`.
+fn request_cause(alloc: Global, rest: &[u8]) -> Result<LineFault, AllocError> {
+    let Some((node, text)) = split_word(rest) else {
+        return Ok(match pharmacy_in(rest) {
+            Some(_) => LineFault::Request,
+            None => LineFault::Pharmacy,
+        });
+    };
+    if pharmacy_in(node).is_none() {
+        return Ok(LineFault::Pharmacy);
+    }
+    match unprint(alloc, text) {
+        Ok(_) => Ok(LineFault::Request),
+        Err(PrintedFault::BadByte(place)) => Ok(LineFault::Printed(place.saturating_add(1))),
+        Err(PrintedFault::OutOfMemory) => Err(AllocError),
+    }
+}
+
+/// What is wrong behind `plan`.
+fn plan_cause(alloc: Global, rest: &[u8]) -> Result<LineFault, AllocError> {
+    let Some((node, rest)) = split_word(rest) else {
+        return Ok(match payer_in(rest) {
+            Some(_) => LineFault::Product,
+            None => LineFault::Payer,
+        });
+    };
+    if payer_in(node).is_none() {
+        return Ok(LineFault::Payer);
+    }
+    let Some((product, _)) = split_word(rest) else {
+        return Ok(LineFault::Price);
+    };
+    match product_in(alloc, product)? {
+        Some(_) => Ok(LineFault::Price),
+        None => Ok(LineFault::Product),
+    }
+}
+
+/// What is wrong behind `await`.
+fn await_cause(rest: &[u8]) -> LineFault {
+    let node = match split_word(rest) {
+        Some((node, _)) => node,
+        None => rest,
+    };
+    match pharmacy_in(node) {
+        Some(_) => LineFault::Number,
+        None => LineFault::Pharmacy,
+    }
+}
+
+/// What is wrong behind `fault`.
+fn link_cause(rest: &[u8]) -> LineFault {
+    let Some((from, rest)) = split_word(rest) else {
+        return LineFault::Node;
+    };
+    if node_in(from).is_none() {
+        return LineFault::Node;
+    }
+    let to = match split_word(rest) {
+        Some((to, _)) => to,
+        None => rest,
+    };
+    match node_in(to) {
+        Some(_) => LineFault::Actions,
+        None => LineFault::Node,
+    }
+}

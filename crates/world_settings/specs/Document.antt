@@ -1,0 +1,55 @@
+-- The settings of a world that a table and a text spell.
+use Rattle.std.specs.Prelude.{ℕ, ◌≡◌, List, [], ◌∷◌, map, codes, Option, Some, None, if◌then◌else◌}
+use Rattle.std.specs.Str.{is_utf8}
+use Rattle.outcomes.specs.Options.{◌>>=◌}
+use Rattle.toml.specs.Data.{Members}
+use Rattle.toml.specs.Parse.{parse_document}
+use Rattle.bin_routes.specs.Row.{Row}
+use Rattle.claim_model.specs.Settings.{WorldSettings}
+use Rattle.world_setup.specs.Seen.{payer_seen, settings_seen}
+use Rattle.world_setup.specs.declared.settings.WorldSettings.{WorldSettings as Opened}
+use Rattle.world_settings.specs.declared.fault.SettingsFault.{SettingsFault}
+use Rattle.world_settings.specs.declared.fault.SettingsFault.TheVariants.{OutOfMemory, Settings}
+use Rattle.world_settings.specs.Values.{number_at}
+use Rattle.world_settings.specs.Keys.{only_with}
+use Rattle.world_settings.specs.Lists.{list_at}
+use Rattle.world_settings.specs.Pharmacies.{pharmacy_in}
+use Rattle.world_settings.specs.Payers.{switch_in, payer_in}
+use Rattle.world_settings.specs.Routes.{route_in}
+
+-- what the nodes of a world are opened with, and the rows of its table of routes
+pub record Document : Type 0 where
+  pub world : WorldSettings
+  pub routes : List Row
+
+-- the keys of a document, each of which has to be there
+abbrev pub document_keys : List (List ℕ)
+document_keys = codes "again" ∷ codes "tries" ∷ codes "pharmacy" ∷ codes "switch" ∷ codes "payer" ∷ codes "route" ∷ []
+
+-- the settings that the values of a table spell
+unfoldable pub document_with : Members → Option Document
+document_with table = do
+  again ← number_at (codes "again") 4294967295 table
+  tries ← number_at (codes "tries") 4294967295 table
+  pharmacies ← list_at (pharmacy_in again tries) (codes "pharmacy") table
+  switches ← list_at switch_in (codes "switch") table
+  payers ← list_at payer_in (codes "payer") table
+  routes ← list_at route_in (codes "route") table
+  Some (record { world = record { pharmacies = pharmacies; switches = switches; payers = map payer_seen payers }; routes = routes })
+
+-- the settings that a table spells
+abbrev pub settings_of : Members → Option Document
+settings_of table = only_with document_keys table (document_with table)
+
+-- the settings that a text spells: it is UTF-8, a TOML document, and its table spells them
+unfoldable pub settings_in : List ℕ → Option Document
+settings_in text = if is_utf8 text then parse_document text >>= settings_of else None
+
+-- settings as the definitions have them
+abbrev pub document_seen : Opened → Document
+document_seen s = record { world = settings_seen s; routes = s.routes.items }
+
+-- a text is refused for this cause; where memory ran out nothing is said
+abbrev pub RefusedFor : SettingsFault → Option Document → Type 0
+RefusedFor OutOfMemory spelled = Unit {0}
+RefusedFor Settings spelled = spelled ≡ None

@@ -1,0 +1,7 @@
+pub mod Values
+pub mod Keys
+pub mod Lists
+pub mod Pharmacies
+pub mod Payers
+pub mod Routes
+pub mod Document

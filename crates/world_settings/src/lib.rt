@@ -1,0 +1,23 @@
+//! The settings of a world from the text of a TOML document.
+//!
+//! What table a text means is the promise of the crate `toml`; which settings a table spells, key by key, stands in
+//! `specs/`. Every refusal that is not for want of memory is one and the same.
+#![tactic(auto)]
+
+mod fault;
+mod keys;
+mod lists;
+mod payers;
+mod pharmacies;
+mod routes;
+mod settings;
+mod values;
+mod wanted;
+mod why;
+
+pub use fault::SettingsFault;
+pub use settings::read_settings;
+pub use why::settings_fault;
+
+#[cfg(test)]
+mod tests;

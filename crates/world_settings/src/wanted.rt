@@ -1,0 +1,205 @@
+//! What is wanted at each key, for people.
+
+use std::fmt;
+use std::fmt::{Display, Formatter};
+use toml::Value;
+
+/// A key of a table, and what is wanted there.
+#[derive(Clone, Copy)]
+pub(crate) enum Key {
+    /// It has to be there.
+    Needed(&'static str, Wanted),
+    /// It may be left out.
+    AtWill(&'static str, Wanted),
+}
+
+/// What is wanted of a value.
+#[derive(Clone, Copy)]
+pub(crate) enum Wanted {
+    /// A whole number within these bounds.
+    Number(i64, i64),
+    /// A text of at most so many bytes without a separator.
+    Text(usize),
+    /// Six digits.
+    Bin,
+    /// A text of at most ten bytes, without a separator or a space at its end.
+    Pcn,
+    /// The numbers of switches.
+    Switches,
+    /// Products and their prices.
+    Prices,
+    /// An array of tables.
+    Tables,
+}
+
+/// The largest number of cents, and the largest price.
+const MOST_CENTS: i64 = 99_999_999;
+/// The most entries or rows of a node.
+const MOST_ENTRIES: i64 = 65_536;
+/// The largest serial number.
+const MOST_SERIAL: i64 = 999_999_999_999;
+/// The most digits of a BIN number (101-A1).
+const BIN_DIGITS: usize = 6;
+/// The most bytes of a processor control number (104-A4).
+const MOST_PCN: usize = 10;
+/// The most bytes of a product (407-D7).
+const MOST_PRODUCT: usize = 19;
+/// The most switches and payers of a world.
+const MOST_NODES: i64 = 64;
+
+/// The keys of the whole.
+pub(crate) const TOP: &[Key] = &[
+    Key::Needed("again", Wanted::Number(1, 1_000)),
+    Key::Needed("tries", Wanted::Number(1, 1_000)),
+    Key::Needed("pharmacy", Wanted::Tables),
+    Key::Needed("switch", Wanted::Tables),
+    Key::Needed("payer", Wanted::Tables),
+    Key::Needed("route", Wanted::Tables),
+];
+/// The keys of a pharmacy.
+pub(crate) const PHARMACY: &[Key] = &[
+    Key::Needed("qualifier", Wanted::Text(2)),
+    Key::Needed("provider", Wanted::Text(15)),
+    Key::Needed("nodes", Wanted::Switches),
+    Key::Needed("cap", Wanted::Number(1, MOST_ENTRIES)),
+];
+/// The keys of a switch.
+pub(crate) const SWITCH: &[Key] = &[Key::Needed("cap", Wanted::Number(1, MOST_ENTRIES))];
+/// The keys of a payer.
+pub(crate) const PAYER: &[Key] = &[
+    Key::Needed("fee", Wanted::Number(0, MOST_CENTS)),
+    Key::Needed("copay", Wanted::Number(0, MOST_CENTS)),
+    Key::Needed("cap", Wanted::Number(1, MOST_ENTRIES)),
+    Key::AtWill("serial", Wanted::Number(1, MOST_SERIAL)),
+    Key::AtWill("prices", Wanted::Prices),
+];
+/// The keys of a route.
+pub(crate) const ROUTE: &[Key] = &[
+    Key::Needed("bin", Wanted::Bin),
+    Key::Needed("payer", Wanted::Number(1, MOST_NODES)),
+    Key::AtWill("pcn", Wanted::Pcn),
+];
+
+impl Key {
+    /// Its name.
+    pub(crate) fn name(self) -> &'static str {
+        match self {
+            Key::Needed(name, _) | Key::AtWill(name, _) => name,
+        }
+    }
+
+    /// What is wanted there.
+    pub(crate) fn wanted(self) -> Wanted {
+        match self {
+            Key::Needed(_, wanted) | Key::AtWill(_, wanted) => wanted,
+        }
+    }
+
+    /// Whether it has to be there.
+    pub(crate) fn is_needed(self) -> bool {
+        matches!(self, Key::Needed(_, _))
+    }
+}
+
+impl Wanted {
+    /// Whether a value is what is wanted.
+    pub(crate) fn takes(self, value: &Value) -> bool {
+        match self {
+            Wanted::Number(least, most) => is_within(value, least, most),
+            Wanted::Text(most) => match value.as_str() {
+                Some(text) => is_plain(text.as_bytes(), most),
+                None => false,
+            },
+            Wanted::Bin => match value.as_str() {
+                Some(text) => is_bin(text.as_bytes()),
+                None => false,
+            },
+            Wanted::Pcn => match value.as_str() {
+                Some(text) => is_plain(text.as_bytes(), MOST_PCN)
+                    && !ends_in_space(text.as_bytes()),
+                None => false,
+            },
+            Wanted::Switches => are_switches(value),
+            Wanted::Prices => are_prices(value),
+            Wanted::Tables => are_tables(value),
+        }
+    }
+}
+
+impl Display for Wanted {
+    fn fmt<W: fmt::Write>(&self, f: &mut Formatter<W>) -> fmt::Result {
+        match *self {
+            Wanted::Number(least, most) => write!(f, "a whole number from {least} to {most}"),
+            Wanted::Text(most) => write!(f, "a text of at most {most} bytes without separators"),
+            Wanted::Bin => f.write_str("a text of six digits"),
+            Wanted::Pcn => {
+                f.write_str(
+                    "a text of at most 10 bytes without separators and without a space at its end",
+                )
+            }
+            Wanted::Switches => f.write_str("a list of the numbers of switches, one at least"),
+            Wanted::Prices => f.write_str(
+                "a table of products and their prices: 1 to 19 bytes without separators and without a space at the end, and a whole number from 0 to 99999999",
+            ),
+            Wanted::Tables => f.write_str("an array of tables"),
+        }
+    }
+}
+
+/// Whether a value is a whole number within these bounds.
+fn is_within(value: &Value, least: i64, most: i64) -> bool {
+    match value.as_integer() {
+        Some(number) => least <= number && number <= most,
+        None => false,
+    }
+}
+
+/// Whether a text has at most so many bytes and no separator.
+fn is_plain(text: &[u8], most: usize) -> bool {
+    text.len() <= most && !text.iter().any(|byte| matches!(*byte, 0x1C..=0x1E))
+}
+
+/// Whether a text is a BIN number.
+fn is_bin(text: &[u8]) -> bool {
+    text.len() == BIN_DIGITS && text.iter().all(|byte| byte.is_ascii_digit())
+}
+
+/// Whether the last byte of a text is a space.
+fn ends_in_space(text: &[u8]) -> bool {
+    text.last() == Some(&b' ')
+}
+
+/// Whether a value is a list of numbers of switches.
+fn are_switches(value: &Value) -> bool {
+    let Some(list) = value.as_array() else {
+        return false;
+    };
+    !list.is_empty()
+        && list
+            .as_slice()
+            .iter()
+            .all(|number| is_within(number, 1, MOST_NODES))
+}
+
+/// Whether a value is a table of prices.
+fn are_prices(value: &Value) -> bool {
+    let Some(prices) = value.as_table() else {
+        return false;
+    };
+    for (product, price) in prices.iter() {
+        let text = product.as_str().as_bytes();
+        let known = !text.is_empty() && is_plain(text, MOST_PRODUCT) && !ends_in_space(text);
+        if !known || !is_within(price, 0, MOST_CENTS) {
+            return false;
+        }
+    }
+    true
+}
+
+/// Whether a value is an array of tables.
+fn are_tables(value: &Value) -> bool {
+    let Some(list) = value.as_array() else {
+        return false;
+    };
+    list.as_slice().iter().all(|item| item.as_table().is_some())
+}
