@@ -1,7 +1,7 @@
 //! The program `claimswitch`: one word, standard input and standard output.
 #![tactic(auto)]
 
-use schedule_cli::{ReaderSource, Stop, Word, WriterSink, read_claims, word_of};
+use schedule_cli::{ReaderSource, Stop, Word, WriterSink, read_claims, replay, word_of};
 use std::env;
 use std::process::ExitCode;
 
@@ -24,7 +24,7 @@ fn run(rt: &HostRuntime) -> Result<(), Stop> {
     let words: Vec<String> = words.collect(alloc)?;
     match word_of(alloc, words.as_slice())? {
         Word::Read => read(rt),
-        Word::Replay => Err(Stop::NoReplay),
+        Word::Replay => replay_schedule(rt),
         Word::Run => Err(Stop::NoRun),
     }
 }
@@ -36,6 +36,18 @@ fn read(rt: &HostRuntime) -> Result<(), Stop> {
     let mut source = ReaderSource::new(&mut reader);
     let mut sink = WriterSink::new(&mut writer);
     match read_claims(rt.alloc(), &mut source, &mut sink) {
+        Ok(()) => Ok(()),
+        Err(fault) => Err(Stop::Fault(fault)),
+    }
+}
+
+/// Runs the schedule of standard input and reports on standard output.
+fn replay_schedule(rt: &HostRuntime) -> Result<(), Stop> {
+    let mut reader = rt.stdin();
+    let mut writer = rt.stdout();
+    let mut source = ReaderSource::new(&mut reader);
+    let mut sink = WriterSink::new(&mut writer);
+    match replay(rt.alloc(), &mut source, &mut sink) {
         Ok(()) => Ok(()),
         Err(fault) => Err(Stop::Fault(fault)),
     }

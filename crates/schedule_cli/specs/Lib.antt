@@ -3,3 +3,4 @@ pub mod Sample
 pub mod Lines
 pub mod Said
 pub mod Stops
+pub mod Replays

@@ -13,14 +13,14 @@ StopsFor Settings spelled = ⊥
 StopsFor Write spelled = ⊥
 
 -- an input has this output, and all of it was written
-abbrev pub Written : Option (List ℕ) → Option (List ℕ) → Result (List ℕ) ℕ → Type 0
+abbrev pub Written : {E : Type 0} → Option (List ℕ) → Option (List ℕ) → Result (List ℕ) E → Type 0
 Written before after (Ok output) = Appends before after output
-Written before after (Err line) = ⊥
+Written before after (Err why) = ⊥
 
 -- an input has this output, and a beginning of it was written
-abbrev pub BeginningWritten : Option (List ℕ) → Option (List ℕ) → Result (List ℕ) ℕ → Type 0
+abbrev pub BeginningWritten : {E : Type 0} → Option (List ℕ) → Option (List ℕ) → Result (List ℕ) E → Type 0
 BeginningWritten before after (Ok output) = (count : ℕ) × Appends before after (take count output)
-BeginningWritten before after (Err line) = ⊥
+BeginningWritten before after (Err why) = ⊥
 
 -- where a line is refused, it is the first that spells no entry; other faults say nothing of lines
 abbrev pub IsBadLine : {A : Type 0} → ProgramFault → Result A ℕ → Type 0

@@ -23,9 +23,6 @@ pub enum Stop {
     /// The words are not exactly one of the known words. A wish for help or the version counts here.
     #[error("usage: claimswitch read|replay|run")]
     Usage,
-    /// `replay` is known, and its program is not there yet.
-    #[error("replay is not there yet")]
-    NoReplay,
     /// `run` is known, and its program is not there yet.
     #[error("run is not there yet")]
     NoRun,
@@ -39,7 +36,7 @@ impl Stop {
     pub fn status(&self) -> u8 {
         match self {
             Stop::Usage => 2,
-            Stop::NoReplay | Stop::NoRun | Stop::Fault(_) => 1,
+            Stop::NoRun | Stop::Fault(_) => 1,
         }
     }
 }

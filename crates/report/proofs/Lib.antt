@@ -1,0 +1,4 @@
+pub mod Joining
+pub mod Payments
+pub mod Loops
+pub mod Headers

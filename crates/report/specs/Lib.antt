@@ -1,0 +1,6 @@
+-- In the order in which one explains them.
+pub mod Words
+pub mod Rulings
+pub mod Places
+pub mod BookRows
+pub mod Heads

@@ -1,0 +1,67 @@
+-- When settings open a world, and what a replay of them tells.
+use Rattle.std.proofs.Common.{◌≡◌, ℕ, Bool, true, false, ◌&&◌, List, length, map, Option, Some, None, is_none, option_map, Result, Ok, Err, refl, sym, ap, ◌∙◌}
+use Rattle.std.specs.Prelude.{if◌then◌else◌}
+use Rattle.std.specs.Option.{option_or}
+use Rattle.std.specs.Str.Lines.{lines}
+use Rattle.std.proofs.lemmas.List.{length-map}
+use Rattle.bin_routes.specs.Fault.{first_fault}
+use Rattle.bin_routes.specs.declared.fault.RoutesFault.{RoutesFault}
+use Rattle.claim_model.specs.Settings.{SettingsFault, settings_fault}
+use Rattle.world_setup.specs.Seen.{payer_seen, settings_seen}
+use Rattle.world_setup.specs.declared.event.Event.{Event}
+use Rattle.world_setup.specs.Taken.{named, world_fault}
+use Rattle.world_setup.specs.declared.settings.WorldSettings.{WorldSettings}
+use Rattle.world_setup.specs.declared.world_fault.WorldFault.{WorldFault}
+use Rattle.world_setup.specs.declared.world_fault.WorldFault.TheVariants as fault
+use Rattle.world_core.specs.Parts.{WorldParts}
+use Rattle.world_settings.specs.Document.{document_seen}
+use Rattle.schedule.specs.Division.{settings_text, schedule_lines}
+use Rattle.schedule.specs.Reading.{events_of}
+use Rattle.schedule_cli.specs.declared.fault.ProgramFault.{ProgramFault}
+use Rattle.schedule_cli.specs.declared.fault.ProgramFault.TheVariants as stop
+use Rattle.schedule_cli.specs.Replays.{NoReport, BadSettings, BadLine, is_taken, opened_world, opened_by, world_in, report_from, replay_from, replay_of, OpensNone, HasNone}
+
+none_both : (a : Option SettingsFault) (b : Option RoutesFault) → option_or (option_map named a) (option_map fault.BadRoute b) ≡ None → (is_none a && is_none b) ≡ true
+none_both None None is = refl
+none_both None (Some f) is = absurd cc
+none_both (Some f) b is = absurd cc
+
+some_one : (a : Option SettingsFault) (b : Option RoutesFault) (why : WorldFault) → option_or (option_map named a) (option_map fault.BadRoute b) ≡ Some why → (is_none a && is_none b) ≡ false
+some_one None None why is = absurd cc
+some_one None (Some f) why is = refl
+some_one (Some f) b why is = refl
+
+-- the test of a document, of settings as the code has them
+test_is : (s : WorldSettings) → is_taken (document_seen s) ≡ (is_none (settings_fault (settings_seen s)) && is_none (first_fault (length s.payers.items) s.routes.items))
+test_is s = ap (λ (n : ℕ). is_none (settings_fault (settings_seen s)) && is_none (first_fault n s.routes.items)) (length-map s.payers.items payer_seen)
+
+pub opened_where : (s : WorldSettings) (w : WorldParts) → world_fault s ≡ None → w ≡ opened_world (document_seen s) → opened_by (document_seen s) ≡ Some w
+opened_where s w none is =
+    ap (λ (b : Bool). if b then Some (opened_world (document_seen s)) else None) (test_is s ∙ none_both (settings_fault (settings_seen s)) (first_fault (length s.payers.items) s.routes.items) none)
+    ∙ ap (λ (v : WorldParts). Some v) (sym is)
+
+pub opened_nowhere : (s : WorldSettings) (why : WorldFault) → world_fault s ≡ Some why → opened_by (document_seen s) ≡ None
+opened_nowhere s why some =
+    ap (λ (b : Bool). if b then Some (opened_world (document_seen s)) else None) (test_is s ∙ some_one (settings_fault (settings_seen s)) (first_fault (length s.payers.items) s.routes.items) why some)
+
+-- the report of an input whose settings open a world and whose lines spell events
+pub replay_is : (input : List ℕ) (w : WorldParts) (events : List Event) (report : List ℕ) → world_in (settings_text input) ≡ Some w → events_of (schedule_lines (lines input)) ≡ Ok events
+    → report ≡ report_from w events → replay_of input ≡ Ok report
+unfolding replay_of
+replay_is input w events report opens spells is =
+    ap (λ (o : Option WorldParts). replay_from o (events_of (schedule_lines (lines input)))) opens ∙ (ap (replay_from (Some w)) spells ∙ ap (λ (r : List ℕ). Ok r) (sym is))
+
+-- a line that spells none
+pub replay_stops : (input : List ℕ) (w : WorldParts) (number : ℕ) → world_in (settings_text input) ≡ Some w → events_of (schedule_lines (lines input)) ≡ Err number → replay_of input ≡ Err (BadLine number)
+unfolding replay_of
+replay_stops input w number opens spells =
+    ap (λ (o : Option WorldParts). replay_from o (events_of (schedule_lines (lines input)))) opens ∙ ap (replay_from (Some w)) spells
+
+-- settings that open none
+pub replay_never : (input : List ℕ) (why : ProgramFault) → OpensNone why (world_in (settings_text input)) → HasNone why (replay_of input)
+unfolding replay_of
+replay_never input stop.OutOfMemory none = tt
+replay_never input stop.Settings none = ap (λ (o : Option WorldParts). replay_from o (events_of (schedule_lines (lines input)))) none
+replay_never input (stop.Line number) none = absurd none
+replay_never input stop.Read none = absurd none
+replay_never input stop.Write none = absurd none

@@ -1,0 +1,83 @@
+-- The report that an input has.
+use Rattle.std.specs.Prelude.{◌≡◌, ℕ, Bool, ◌&&◌, List, length, map, Option, Some, None, is_none, option_map, Result, Ok, Err, if◌then◌else◌}
+use Rattle.std.specs.Str.Lines.{lines}
+use Rattle.bin_routes.specs.Fault.{first_fault}
+use Rattle.bin_routes.specs.Table.{routes_of}
+use Rattle.claim_model.specs.Settings.{settings_fault, opening}
+use Rattle.world_setup.specs.Seen.{event_seen}
+use Rattle.world_setup.specs.declared.event.Event.{Event}
+use Rattle.world_core.specs.Parts.{WorldParts, context_of}
+use Rattle.world_settings.specs.Document.{Document, settings_in}
+use Rattle.schedule.specs.Division.{settings_text, schedule_lines}
+use Rattle.schedule.specs.Reading.{events_of}
+use Rattle.report.specs.Words.{lines_text}
+use Rattle.world_report.specs.Events.{run_lines}
+use Rattle.schedule_cli.specs.declared.fault.ProgramFault.{ProgramFault}
+use Rattle.schedule_cli.specs.declared.fault.ProgramFault.TheVariants.{OutOfMemory, Read, Settings, Line, Write}
+
+-- why an input has no report: its settings are none, or the first line of its schedule that spells no event
+pub data NoReport : Type 0 where
+  BadSettings : NoReport
+  BadLine : (number : ℕ) → NoReport
+
+-- a world takes the settings: neither its nodes nor a row of routes is at fault
+abbrev pub is_taken : Document → Bool
+is_taken d = is_none (settings_fault d.world) && is_none (first_fault (length d.world.payers) d.routes)
+
+-- the opening world of settings, with their routes
+abbrev pub opened_world : Document → WorldParts
+opened_world d = record { routes = routes_of d.routes; world = opening d.world }
+
+abbrev pub opened_by : Document → Option WorldParts
+opened_by d = if is_taken d then Some (opened_world d) else None
+
+abbrev pub opened_if : Option Document → Option WorldParts
+opened_if None = None
+opened_if (Some d) = opened_by d
+
+-- the opening world of the settings that a text spells
+unfoldable pub world_in : List ℕ → Option WorldParts
+world_in text = opened_if (settings_in text)
+
+-- the report of these events from this world
+abbrev pub report_from : WorldParts → List Event → List ℕ
+report_from w events = lines_text (run_lines (context_of w) w.world (map event_seen events))
+
+-- the settings come first
+abbrev pub replay_from : Option WorldParts → Result (List Event) ℕ → Result (List ℕ) NoReport
+replay_from None spelled = Err BadSettings
+replay_from (Some w) (Ok events) = Ok (report_from w events)
+replay_from (Some w) (Err number) = Err (BadLine number)
+
+-- the report of an input: settings, a line `---`, and a schedule
+unfoldable pub replay_of : List ℕ → Result (List ℕ) NoReport
+replay_of input = replay_from (world_in (settings_text input)) (events_of (schedule_lines (lines input)))
+
+-- what a replay of an input begins with: the opening world of its settings, and the events that its lines spell
+pub record Begins (input : List ℕ) (w : WorldParts) (events : List Event) : Type 0 where
+  pub opens : world_in (settings_text input) ≡ Some w
+  pub spells : events_of (schedule_lines (lines input)) ≡ Ok events
+
+-- settings open no world for this cause; want of memory says nothing
+abbrev pub OpensNone : ProgramFault → Option WorldParts → Type 0
+OpensNone OutOfMemory opened = Unit {0}
+OpensNone Settings opened = opened ≡ None
+OpensNone (Line number) opened = ⊥
+OpensNone Read opened = ⊥
+OpensNone Write opened = ⊥
+
+-- an input has no report for this cause; want of memory says nothing
+abbrev pub HasNone : ProgramFault → Result (List ℕ) NoReport → Type 0
+HasNone OutOfMemory told = Unit {0}
+HasNone Settings told = told ≡ Err BadSettings
+HasNone (Line number) told = told ≡ Err (BadLine number)
+HasNone Read told = ⊥
+HasNone Write told = ⊥
+
+-- settings and lines are refused only where they are bad; other faults say nothing of the input
+abbrev pub IsRefused : ProgramFault → Result (List ℕ) NoReport → Type 0
+IsRefused OutOfMemory told = Unit {0}
+IsRefused Settings told = told ≡ Err BadSettings
+IsRefused (Line number) told = told ≡ Err (BadLine number)
+IsRefused Read told = Unit {0}
+IsRefused Write told = Unit {0}

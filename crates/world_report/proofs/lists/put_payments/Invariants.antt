@@ -1,0 +1,9 @@
+use Rattle.std.proofs.Common.{◌≡◌, ◌++◌, drop, map}
+use Rattle.std.specs.List.{flat_map}
+use Rattle.report.specs.Words.{lines_text}
+use Rattle.report.specs.Rulings.{paid_line}
+use Rattle.world_report.proofs.lists.put_payments.Given as goal
+
+-- the lines so far, and then those of what is left
+abbrev pub invariant-loop-payment : goal.invariant-loop-payment
+invariant-loop-payment l = l.out.items ++ lines_text (map paid_line (drop l.payment-index l.payments)) ≡ l.initial.out.items ++ lines_text (map paid_line l.payments)

@@ -1,0 +1,3 @@
+-- In the order in which one explains them.
+pub mod Nodes
+pub mod Events
