@@ -1,0 +1,4 @@
+-- In the order in which one explains them.
+pub mod Marks
+pub mod Seen
+pub mod Counts

@@ -1,0 +1,62 @@
+//! The words beside rows: what the event is, why it was refused, what it changed.
+
+use crate::lettering::{put_change, put_event};
+use crate::plan::Plan;
+use crate::rows::event_of;
+use input_text::put_decimal;
+use run_marks::Mark;
+use std::alloc::{AllocError, Global};
+use world_setup::{Event, StepFault};
+
+/// The event whose row a mark begins, and why it was refused.
+pub(crate) fn begun_by(mark: &Mark) -> Option<(u64, Option<StepFault>)> {
+    match *mark {
+        Mark::Submitted { event, .. } => Some((event, None)),
+        Mark::Ticked { event, .. } => Some((event, None)),
+        Mark::Arrived { event, .. } => Some((event, None)),
+        Mark::Stopped { event, .. } => Some((event, None)),
+        Mark::Started { event, .. } => Some((event, None)),
+        Mark::Priced { event, .. } => Some((event, None)),
+        Mark::Refused { event, fault } => Some((event, Some(fault))),
+        Mark::Sent { .. } => None,
+    }
+}
+
+/// What stands at the left of an event's row: its number, the event in the words of a schedule, and why it was refused
+/// where no node of the picture did.
+pub(crate) fn caption_of(
+    plan: &Plan<'_>,
+    event: u64,
+    refused: Option<StepFault>,
+) -> Result<Vec<u8>, AllocError> {
+    let mut caption = Vec::new(plan.alloc);
+    put_decimal(&mut caption, event)?;
+    caption.extend_from_slice(b" ")?;
+    if let Some(event) = event_of(plan.events, event) {
+        put_event(&mut caption, event)?;
+    }
+    if let Some(fault) = refused {
+        if plan.refusal_at(event, fault).is_none() {
+            caption.extend_from_slice(b" refused: ")?;
+            caption.extend_from_slice(fault.name().as_bytes())?;
+        }
+    }
+    Ok(caption)
+}
+
+/// What stands at the node that refused an event.
+pub(crate) fn refusal_of(alloc: Global, fault: StepFault) -> Result<Vec<u8>, AllocError> {
+    let mut words = Vec::new(alloc);
+    words.extend_from_slice(b"refused: ")?;
+    words.extend_from_slice(fault.name().as_bytes())?;
+    Ok(words)
+}
+
+/// The note of a change of a plan.
+pub(crate) fn note_of(alloc: Global, events: &[Event], event: u64) -> Result<Vec<u8>, AllocError> {
+    let mut note = Vec::new(alloc);
+    if let Some(Event::Plan { product, price, .. }) = event_of(events, event) {
+        put_change(&mut note, product.as_slice(), *price)?;
+    }
+    Ok(note)
+}
