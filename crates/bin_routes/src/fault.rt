@@ -13,7 +13,7 @@ pub enum RoutesFault {
     #[error("out of memory")]
     OutOfMemory,
     /// The BIN is not six digits.
-    #[error("row {0}: the BIN is not six digits")]
+    #[error("row {0}: a BIN has six digits")]
     BadBin(usize),
     /// An earlier row has the same BIN, and the two have the same processor control number or both have none.
     #[error("row {0}: an earlier row is for the same BIN and processor control number")]
@@ -22,7 +22,7 @@ pub enum RoutesFault {
     #[error("row {0}: there is no such payer")]
     NoSuchPayer(usize),
     /// The processor control number has over ten bytes, a separator or a trailing space.
-    #[error("row {0}: the processor control number cannot stand in a header")]
+    #[error("row {0}: a processor control number has at most 10 bytes, no separator and no space at its end")]
     BadPcn(usize),
 }
 

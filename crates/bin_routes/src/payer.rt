@@ -3,6 +3,8 @@
 ghost use Rattle.std.specs.Prelude.{◌≡◌, ◌≤◌};
 ghost use Rattle.bin_routes.specs.Payer.{payer_number};
 
+use std::fmt;
+use std::fmt::{Display, Formatter};
 use std::marker::Model;
 
 /// The number of a payer, the processor that adjudicates claims: 1 to 9,999.
@@ -44,5 +46,13 @@ impl PayerNo {
         ensures most { result ≤ 9999 }
     {
         self.number
+    }
+}
+
+impl Display for PayerNo {
+    /// The number, without leading zeros.
+    fn fmt<W: fmt::Write>(&self, f: &mut Formatter<W>) -> fmt::Result {
+        let number = self.get();
+        write!(f, "{number}")
     }
 }

@@ -63,3 +63,11 @@ fn an_empty_processor_control_number_is_ten_spaces(rt: HostRuntime) -> Result<()
     assert_eq!(rt; rows[0].payer(), 1);
     Ok(())
 }
+
+#[test]
+fn payers_are_shown(rt: HostRuntime) -> Result<(), Fail> {
+    let payer = PayerNo::new(7).ok_or("a payer")?;
+    let text = format!(in rt.alloc(); "{payer}")?;
+    assert_eq!(rt; text.as_str(), "7");
+    Ok(())
+}

@@ -1,6 +1,6 @@
 //! Authorization numbers.
 
-ghost use Rattle.std.specs.Prelude.{◌≡◌, ◌≤◌, ◌↔◌, length, IsSome, IfSome};
+ghost use Rattle.std.specs.Prelude.{◌≡◌, ◌≤◌, ◌↔◌, length, replicate, IsSome, IfSome};
 ghost use Rattle.claim_profile.specs.Authorization.{IsAuthorization, authorization_text, authorization_of, authorization_with, padded_number};
 
 use overpunch::read_number;
@@ -91,13 +91,17 @@ fn authorization(payer: u64, serial: u64) -> Option<Auth>
     })
 }
 
-// Writes the last decimal digits of a number, as many as there is room.
+// Writes the last decimal digits of a number over zeros, as many as there is room.
 fn put_digits(number: u64, digits: &mut [u8])
+    requires { digits.old ≡ replicate (length digits.old) 48 }
     ensures { digits.new ≡ padded_number (length digits.old) number }
 {
     let mut rest = number;
     let mut place = digits.len();
     while place > 0 {
+        if rest == 0 {
+            return;
+        }
         place -= 1;
         digits[place] = b'0' + (rest % 10) as u8;
         rest /= 10;

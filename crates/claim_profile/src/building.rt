@@ -19,10 +19,10 @@ pub enum BuildFault {
     OutOfMemory,
     /// A part is longer than its field: more than 20 bytes of cardholder, 12 digits of prescription,
     /// 2 of fill, 19 bytes of product or 10 digits of quantity.
-    #[error("a part is longer than its field")]
+    #[error("a cardholder has at most 20 bytes, a prescription 12 digits, a fill 2, a product 19 bytes and a quantity 10 digits")]
     FieldTooLong,
     /// A separator stands in the cardholder or the product.
-    #[error("a separator stands in a part")]
+    #[error("a separator stands in the cardholder or the product")]
     Separator,
 }
 

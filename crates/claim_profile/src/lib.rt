@@ -20,6 +20,7 @@ mod paid;
 mod readable;
 mod reject;
 mod ruling;
+mod showing;
 mod texts;
 mod values;
 
@@ -50,6 +51,8 @@ mod building_tests;
 mod order_table_tests;
 #[cfg(test)]
 mod reversal_table_tests;
+#[cfg(test)]
+mod showing_tests;
 #[cfg(test)]
 mod tables;
 #[cfg(test)]

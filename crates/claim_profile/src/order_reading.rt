@@ -20,7 +20,7 @@ use thiserror::Error;
 #[derive(Clone, Copy, Debug, PartialEq, Eq, Error)]
 pub enum OrderFault {
     /// Fields are missing or invalid: their reject codes, in order, the first five.
-    #[error("fields of the order are missing or invalid")]
+    #[error("rejected {0}")]
     Rejected(Rejects),
 }
 

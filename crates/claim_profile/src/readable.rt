@@ -22,7 +22,7 @@ pub enum RequestFault {
     OutOfMemory,
     /// The text has more than 32,768 bytes, is not framed as a request, is not of version `D0` (102-A2),
     /// or is neither a billing (`B1`) nor a reversal (`B2`, 103-A3).
-    #[error("the request is unreadable")]
+    #[error("the request is no billing or reversal of at most 32,768 bytes")]
     Unreadable,
 }
 

@@ -33,16 +33,16 @@ pub enum Kind {
 #[derive(Clone, Copy, Debug, PartialEq, Eq, Error)]
 pub enum EnvelopeFault {
     /// There are fewer bytes than a head has.
-    #[error("shorter than the head of an envelope")]
+    #[error("shorter than the 18 bytes of an envelope's head")]
     Short,
     /// The first two bytes are not `PS`.
-    #[error("not an envelope")]
+    #[error("an envelope begins with PS")]
     NotEnvelope,
     /// The version is not 1.
-    #[error("an envelope of another version")]
+    #[error("the version of an envelope is 1")]
     Version,
     /// The kind is neither 1 nor 2.
-    #[error("an envelope of no known kind")]
+    #[error("the kind of an envelope is 1, a request, or 2, an answer")]
     Kind,
     /// The pharmacy or the number is zero.
     #[error("the pharmacy or the number is zero")]
@@ -56,7 +56,7 @@ pub enum EnvelopeFault {
         found: usize,
     },
     /// The payload has more than 32,768 bytes.
-    #[error("the payload is too long")]
+    #[error("a payload has at most 32,768 bytes")]
     TooLong,
 }
 

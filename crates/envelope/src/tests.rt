@@ -96,3 +96,17 @@ fn a_payload_has_at_most_32768_bytes(rt: HostRuntime) -> Result<(), Fail> {
     assert_eq!(rt; Envelope::read(&text).err(), Some(EnvelopeFault::TooLong));
     Ok(())
 }
+
+#[test]
+fn ids_and_faults_are_shown(rt: HostRuntime) -> Result<(), Fail> {
+    let id = TxnId::new(1, 23).ok_or("an id")?;
+    let text = format!(in rt.alloc(); "{id}")?;
+    assert_eq!(rt; text.as_str(), "1.23");
+    let fault = EnvelopeFault::Short;
+    let text = format!(in rt.alloc(); "{fault}")?;
+    assert_eq!(rt;
+        text.as_str(),
+        "shorter than the 18 bytes of an envelope's head"
+    );
+    Ok(())
+}

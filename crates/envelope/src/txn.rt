@@ -2,6 +2,8 @@
 
 ghost use Rattle.std.specs.Prelude.{◌≡◌, ◌<◌, SomeIff};
 
+use std::fmt;
+use std::fmt::{Display, Formatter};
 use std::marker::Model;
 
 /// Which transaction it is: the pharmacy that numbered it, and the number there, neither zero.
@@ -49,5 +51,14 @@ impl TxnId {
         ensures above_zero { 0 < result }
     {
         self.number
+    }
+}
+
+impl Display for TxnId {
+    /// The pharmacy and the number, with a point between, as reports have them.
+    fn fmt<W: fmt::Write>(&self, f: &mut Formatter<W>) -> fmt::Result {
+        let pharmacy = self.pharmacy();
+        let number = self.number();
+        write!(f, "{pharmacy}.{number}")
     }
 }

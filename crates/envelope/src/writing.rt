@@ -16,7 +16,7 @@ pub enum WriteFault {
     #[error("out of memory")]
     OutOfMemory,
     /// The payload has more than 32,768 bytes.
-    #[error("the payload is too long")]
+    #[error("a payload has at most 32,768 bytes")]
     TooLong,
 }
 

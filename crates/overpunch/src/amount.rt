@@ -34,7 +34,7 @@ pub enum AmountFault {
     #[error("the amount is empty")]
     Empty,
     /// There are more than eight bytes.
-    #[error("the amount is too long")]
+    #[error("an amount has at most 8 digits")]
     TooLong,
     /// The first byte before the last one that is no digit, by its offset.
     #[error("byte {0} of the amount is no digit")]

@@ -14,7 +14,7 @@ pub enum NumberFault {
     #[error("the number is empty")]
     Empty,
     /// There are more bytes than the field has digits.
-    #[error("the number is too long")]
+    #[error("the number has more digits than its field")]
     TooLong,
     /// The first byte that is no digit, by its offset.
     #[error("byte {0} of the number is no digit")]
@@ -63,31 +63,17 @@ pub(crate) fn spelled(text: &[u8]) -> Result<u64, usize>
     ensures value { result ≡ spelled_number text.now }
     ensures small { IfOk result (λ number. number < 10 ^ length text.now) }
 {
-    match first_other(text) {
-        Some(place) => Err(place),
-        None => Ok(value_of(text)),
+    let mut value = 0u64;
+    let mut place = 0;
+    while place < text.len() {
+        let byte = text[place];
+        if !byte.is_ascii_digit() {
+            return Err(place);
+        }
+        value = value * 10 + u64::from(byte - b'0');
+        place += 1;
     }
-}
-
-/// The place of the first byte that is no digit.
-fn first_other(text: &[u8]) -> Option<usize>
-    ensures { result ≡ first_other text.now }
-{
-    text.iter().position(|byte| !byte.is_ascii_digit())
-}
-
-/// The number that the digits spell.
-fn value_of(text: &[u8]) -> u64
-    requires short { length text.now ≤ 18 }
-    requires digits { EachIndex text.now (λ k. IsAsciiDigit (slice_index text.now k)) }
-    ensures value { result ≡ number_value text.now }
-    ensures small { result < 10 ^ length text.now }
-{
-    let mut value = 0;
-    for byte in text {
-        value = value * 10 + u64::from(*byte - b'0');
-    }
-    value
+    Ok(value)
 }
 
 /// Writes the digits of a number, none for zero, at the front of `text`, and counts them.

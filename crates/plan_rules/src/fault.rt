@@ -13,16 +13,16 @@ pub enum PlanFault {
     #[error("out of memory")]
     OutOfMemory,
     /// The price is over 99,999,999 ten-thousandths of a dollar a unit.
-    #[error("the price is too large")]
+    #[error("a price is at most 99,999,999 ten-thousandths of a dollar")]
     PriceTooLarge,
     /// The product does not have 1 to 19 bytes, holds a separator, or ends in a space.
-    #[error("the product is not one")]
+    #[error("a product has 1 to 19 bytes, no separator and no space at its end")]
     BadProduct,
     /// The product is new, and the plan has 4,096 products.
-    #[error("the plan is full")]
+    #[error("a plan has at most 4,096 products")]
     PlanFull,
     /// The fee or the copay is below zero.
-    #[error("the fee or the copay is negative")]
+    #[error("a fee and a copay are not negative")]
     NegativeAmount,
 }
 

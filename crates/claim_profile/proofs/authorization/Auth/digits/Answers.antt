@@ -1,7 +1,10 @@
 use Rattle.std.proofs.Common.{◌≡◌, ℕ, List, ◌++◌, length, refl, ap, ◌∙◌}
 use Rattle.claim_profile.specs.Authorization.{Authorization, padded_number}
-use Rattle.claim_profile.proofs.AuthorizationLemmas.{length-padded_number, digits_joined, twelve_left}
+use Rattle.claim_profile.proofs.AuthorizationLemmas.{length-padded_number, digits_joined, twelve_left, zeros_behind}
 use Rattle.claim_profile.proofs.authorization.Auth.digits.Goals as goal
+
+pub put_digits-requires-2 : goal.put_digits-requires-2
+put_digits-requires-2 c = zeros_behind c.put_digits.new.digits (ap length c.put_digits.ensures ∙ length-padded_number 4 c.from.result)
 
 pub returns : goal.returns
 returns c =

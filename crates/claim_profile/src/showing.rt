@@ -1,0 +1,68 @@
+//! Authorizations and reject codes as people read them.
+
+use crate::authorization::Auth;
+use crate::reject::{Code, Rejects};
+use std::fmt;
+use std::fmt::{Display, Formatter};
+
+impl Display for Auth {
+    /// Its sixteen digits: four of the payer, then twelve of the serial.
+    fn fmt<W: fmt::Write>(&self, f: &mut Formatter<W>) -> fmt::Result {
+        let payer = self.payer();
+        let serial = self.serial();
+        write!(f, "{payer:04}{serial:012}")
+    }
+}
+
+impl Display for Code {
+    /// Its two bytes, as field 511-FB has them.
+    fn fmt<W: fmt::Write>(&self, f: &mut Formatter<W>) -> fmt::Result {
+        f.write_str(match self {
+            Code::Bin => "01",
+            Code::Cardholder => "07",
+            Code::DateOfService => "15",
+            Code::Prescription => "16",
+            Code::FillNumber => "17",
+            Code::Product => "21",
+            Code::IngredientCost => "23",
+            Code::Quantity => "E7",
+            Code::DispensingFee => "DC",
+            Code::NotCovered => "70",
+            Code::DuplicateClaim => "83",
+            Code::ReversalNotProcessed => "87",
+        })
+    }
+}
+
+impl Display for Rejects {
+    /// The codes, joined by commas.
+    fn fmt<W: fmt::Write>(&self, f: &mut Formatter<W>) -> fmt::Result {
+        for (place, code) in self.as_slice().iter().enumerate() {
+            if place > 0 {
+                f.write_str(",")?;
+            }
+            write!(f, "{code}")?;
+        }
+        Ok(())
+    }
+}
+
+impl Code {
+    /// The short name that the standard's list of reject codes gives it. "M/I" is "missing or invalid".
+    pub fn name(self) -> &'static str {
+        match self {
+            Code::Bin => "M/I BIN Number",
+            Code::Cardholder => "M/I Cardholder ID",
+            Code::DateOfService => "M/I Date of Service",
+            Code::Prescription => "M/I Prescription/Service Reference Number",
+            Code::FillNumber => "M/I Fill Number",
+            Code::Product => "M/I Product/Service ID",
+            Code::IngredientCost => "M/I Ingredient Cost Submitted",
+            Code::Quantity => "M/I Quantity Dispensed",
+            Code::DispensingFee => "M/I Dispensing Fee Submitted",
+            Code::NotCovered => "Product/Service Not Covered",
+            Code::DuplicateClaim => "Duplicate Paid/Captured Claim",
+            Code::ReversalNotProcessed => "Reversal Not Processed",
+        }
+    }
+}
