@@ -14,10 +14,10 @@ pub enum RecordFault {
     #[error("out of memory")]
     OutOfMemory,
     /// There are fewer bytes than a head has: 9 for a journal, 29 for a book.
-    #[error("shorter than the head of a record")]
+    #[error("shorter than the head of a record, 9 bytes of a journal and 29 of a book")]
     Short,
     /// The version is neither 1 nor 2.
-    #[error("a record of another version")]
+    #[error("the version of a record is 1 or 2")]
     Version,
     /// The record at this place is cut off, is beyond the cap, or has a part that cannot stand there; or
     /// bytes follow the last record.

@@ -14,7 +14,7 @@ pub enum BookFault {
     #[error("out of memory")]
     OutOfMemory,
     /// The request is longer than 32,768 bytes, is no transmission of version `D0`, or is neither a billing (B1) nor a reversal (B2).
-    #[error("the request is unreadable")]
+    #[error("the request is no billing or reversal of at most 32,768 bytes")]
     Unreadable,
     /// The request's BIN and processor control number lead to another payer, or to none.
     #[error("the request is for another payer")]
@@ -50,7 +50,7 @@ impl<T: Drop> From<AllocFailed<T>> for BookFault {
 #[derive(Clone, Copy, Debug, PartialEq, Eq, Error)]
 pub enum SettingFault {
     /// A number lies outside its range.
-    #[error("a setting is out of its range")]
+    #[error("a first serial is 1 to 999,999,999,999, and a cap 1 to 65,536")]
     BadSetting,
 }
 

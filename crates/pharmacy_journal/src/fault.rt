@@ -9,7 +9,7 @@ use thiserror::Error;
 #[derive(Clone, Copy, Debug, PartialEq, Eq, Error)]
 pub enum SettingFault {
     /// `again` or `tries` is not 1 to 1,000, the cap is not 1 to 65,536, or the identity has a separator.
-    #[error("a setting is out of its limits")]
+    #[error("again and tries are 1 to 1,000, a cap is 1 to 65,536, and an identity has no separator")]
     BadSetting,
 }
 
@@ -37,13 +37,13 @@ pub enum SubmitFault {
     #[error("the version is not D0")]
     Version,
     /// The code (103-A3) is neither `B1` nor `B2`.
-    #[error("the transaction code is not carried")]
+    #[error("the transaction code is neither B1 nor B2")]
     CodeNotCarried,
     /// The service provider (202-B2, 201-B1) is not the pharmacy.
     #[error("the request is of another provider")]
     NotOwnProvider,
     /// The text has more than 32,768 bytes.
-    #[error("the request is too long")]
+    #[error("a request has at most 32,768 bytes")]
     TooLong,
     /// The journal has as many entries as it may have.
     #[error("the journal is full")]

@@ -7,7 +7,7 @@ use thiserror::Error;
 #[derive(Clone, Copy, Debug, PartialEq, Eq, Error)]
 pub enum SettingFault {
     /// A number lies outside its range.
-    #[error("a setting is out of its range")]
+    #[error("a cap is 1 to 65,536")]
     BadSetting,
 }
 
@@ -19,7 +19,7 @@ pub enum RequestFault {
     OutOfMemory,
     /// The envelope is of another kind than request; or its payload is not framed as a request, is not of
     /// version `D0` (102-A2), or is neither a billing (`B1`) nor a reversal (`B2`, 103-A3).
-    #[error("the request is unreadable")]
+    #[error("the request is no billing or reversal of at most 32,768 bytes")]
     Unreadable,
     /// The table has the number with another request.
     #[error("the number was used for another request")]
