@@ -1,5 +1,5 @@
 -- What is read of a node of any kind.
-use Rattle.std.specs.Prelude.{ℕ, Bool, true, false, not, nat_eq, List, length, Option, None, option_and_then, option_map}
+use Rattle.std.specs.Prelude.{ℕ, Bool, true, false, not, nat_eq, List, length, Option, None, Some, option_and_then, option_map}
 use Rattle.claim_model.specs.Words.{TxnId}
 use Rattle.claim_model.specs.Context.{Context}
 use Rattle.claim_model.specs.Numbered.{numbered}
@@ -16,6 +16,12 @@ abbrev pub entries_of : AnyNode → ℕ
 entries_of (OfPharmacy node) = length (journal_in node).entries
 entries_of (OfSwitch node) = 0
 entries_of (OfPayer node) = 0
+
+-- the journal of a pharmacy; none of another node
+abbrev pub journal_of : AnyNode → Option JournalAtRest
+journal_of (OfPharmacy node) = Some (journal_in node)
+journal_of (OfSwitch node) = None
+journal_of (OfPayer node) = None
 
 -- the request of a pharmacy's entry; none of another node
 abbrev pub request_of : AnyNode → ℕ → Option (List ℕ)

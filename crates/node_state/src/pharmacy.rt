@@ -14,7 +14,7 @@ ghost use Rattle.node_state.specs.Sends.{is_up, most_due};
 use crate::journal_bytes::JournalBytes;
 use crate::journal_reading::JournalReading;
 use crate::pharmacy_calls;
-use pharmacy_journal::{Pharmacy, PharmacySettings};
+use pharmacy_journal::{JournalAtRest, Pharmacy, PharmacySettings};
 use std::alloc::{AllocError, Global};
 use std::marker::Model;
 use world_setup::{Call, Sent, StepFault};
@@ -192,6 +192,17 @@ impl PharmacyNode {
         match &self.state {
             PharmacyState::Up(_) => None,
             PharmacyState::AtRest(kept) => Some(kept.bytes()),
+        }
+    }
+
+    /// Its journal, where the node is no longer needed: as it stands, or at rest read from the record.
+    pub fn into_journal(self, alloc: Global) -> Result<JournalAtRest, AllocError>
+        ensures { IfOk result (λ journal. journal ≡ journal_in self) }
+    {
+        let PharmacyNode { state } = self;
+        match state {
+            PharmacyState::Up(pharmacy) => Ok(pharmacy.stop()),
+            PharmacyState::AtRest(kept) => kept.read(alloc),
         }
     }
 

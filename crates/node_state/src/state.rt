@@ -6,7 +6,7 @@ ghost use Rattle.claim_model.specs.Bytes.{bytes_with};
 ghost use Rattle.claim_model.specs.Node.{Done};
 ghost use Rattle.world_setup.specs.Seen.{sent_seen, call_seen};
 ghost use Rattle.world_setup.specs.Refused.{refusal_of, RefusedAs};
-ghost use Rattle.node_state.specs.Nodes.{OfPharmacy, OfSwitch, OfPayer, node_step, entries_of, request_of, held_of};
+ghost use Rattle.node_state.specs.Nodes.{OfPharmacy, OfSwitch, OfPayer, node_step, entries_of, journal_of, request_of, held_of};
 
 use crate::held::copied;
 use crate::payer::PayerNode;
@@ -15,6 +15,7 @@ use crate::switch::SwitchNode;
 use bin_routes::Routes;
 use envelope::TxnId;
 use octets::Octets;
+use pharmacy_journal::JournalAtRest;
 use std::alloc::{AllocError, Global};
 use std::marker::Model;
 use world_setup::{Call, Sent, StepFault};
@@ -90,6 +91,19 @@ impl NodeState {
             StateKind::Pharmacy(node) => node.step(alloc, call),
             StateKind::Switch(node) => node.step(alloc, routes, call),
             StateKind::Payer(node) => node.step(alloc, routes, call),
+        }
+    }
+
+    /// A pharmacy's journal, where the node is no longer needed: as it stands, or at rest read from the record. Another node
+    /// has none.
+    pub fn into_journal(self, alloc: Global) -> Result<Option<JournalAtRest>, AllocError>
+        ensures { IfOk result (λ journal. journal ≡ journal_of self) }
+    {
+        let NodeState { kind } = self;
+        match kind {
+            StateKind::Pharmacy(node) => Ok(Some(node.into_journal(alloc)?)),
+            StateKind::Switch(_) => Ok(None),
+            StateKind::Payer(_) => Ok(None),
         }
     }
 

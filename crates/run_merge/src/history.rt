@@ -190,7 +190,7 @@ fn fits_alone(
 }
 
 /// Whether a world of these settings opens with a node of this name.
-fn is_there(settings: &WorldSettings, node: Node) -> bool
+pub fn is_there(settings: &WorldSettings, node: Node) -> bool
     ensures { result ≡ is_there (settings_seen settings.now) (node_seen node) }
 {
     match node {

@@ -15,7 +15,7 @@ mod slip;
 mod turn;
 mod woken;
 
-pub use history::{MergeFault, merge};
+pub use history::{MergeFault, is_there, merge};
 pub use log::NodeLog;
 pub use record::Record;
 pub use replay::replay_log;

@@ -224,7 +224,7 @@ fn what_is_wrong_is_told_by_table_and_key(rt: HostRuntime) -> Result<(), Fail> {
         (
             "[1, 2]",
             "[1, 3]",
-            "the settings make no world: a node is missing",
+            "the settings make no world: a pharmacy, a switch or a payer is missing",
         ),
     ];
     for (from, to, want) in cases {

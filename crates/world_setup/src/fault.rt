@@ -38,19 +38,19 @@ pub enum NodeFault {
     #[error("{0}")]
     Envelope(EnvelopeFault),
     /// The text is no request, or the packet has no request or no answer that the node takes.
-    #[error("unreadable")]
+    #[error("the bytes are no request or answer that the node takes")]
     Unreadable,
     /// The version (102-A2) of a submission is not `D0`.
     #[error("the version is not D0")]
     Version,
     /// The code (103-A3) of a submission is neither `B1` nor `B2`.
-    #[error("the transaction code is not carried")]
+    #[error("the transaction code is neither B1 nor B2")]
     CodeNotCarried,
     /// The service provider (202-B2, 201-B1) of a submission is not the pharmacy.
     #[error("the request is of another provider")]
     NotOwnProvider,
     /// A submission has more than 32,768 bytes.
-    #[error("the request is too long")]
+    #[error("a request has at most 32,768 bytes")]
     TooLong,
     /// The pharmacy's journal has as many entries as it may have.
     #[error("the journal is full")]
@@ -83,13 +83,13 @@ pub enum NodeFault {
     #[error("the serial numbers are used up")]
     SerialsUsedUp,
     /// The price is over 99,999,999 ten-thousandths of a dollar a unit.
-    #[error("the price is too large")]
+    #[error("a price is at most 99,999,999 ten-thousandths of a dollar")]
     PriceTooLarge,
     /// The product does not have 1 to 19 bytes, holds a separator, or ends in a space.
-    #[error("the product is not one")]
+    #[error("a product has 1 to 19 bytes, no separator and no space at its end")]
     BadProduct,
     /// The product is new, and the plan has 4,096 products.
-    #[error("the plan is full")]
+    #[error("a plan has at most 4,096 products")]
     PlanFull,
 }
 

@@ -15,14 +15,14 @@ pub enum WorldFault {
     #[error("out of memory")]
     OutOfMemory,
     /// There are more than 256 pharmacies, 64 switches or 64 payers (own).
-    #[error("there are too many nodes")]
+    #[error("there are more than 256 pharmacies, 64 switches or 64 payers")]
     TooMany,
     /// There is no pharmacy, no switch or no payer, or a pharmacy's list of switches is empty or names one that is
     /// not there.
-    #[error("a node is missing")]
+    #[error("a pharmacy, a switch or a payer is missing, or a pharmacy names no switch or one that is not there")]
     NoNode,
     /// Two pharmacies have the same service provider qualifier and ID (202-B2, 201-B1).
-    #[error("two pharmacies are one provider")]
+    #[error("two pharmacies have the same provider qualifier and provider")]
     SameProvider,
     /// A row of routes is bad.
     #[error("{0}")]
