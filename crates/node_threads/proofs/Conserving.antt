@@ -8,7 +8,7 @@ use lib.ListN.{get_elem?}
 use Rattle.crossbeam_channel.specs.Fifo.{Pushes, Pops, Forks, Learns}
 use Rattle.node_threads.specs.declared.inbox.mail.Mail.{Mail}
 use Rattle.node_threads.specs.declared.inbox.traffic.Traffic.{Traffic}
-use Rattle.node_threads.specs.InboxRule.{traffic, all_put, all_taken, Conserved, Moment, Added, Removed}
+use Rattle.node_threads.specs.InboxRule.{traffic, all_put, all_taken, Conserved, Added, Removed}
 
 -- where one pass has one more, all passes together have one more
 one_more : (f : Traffic → List Mail) (passes : List Traffic) (seat : ℕ) (before after : Traffic) (mail : Mail) → get_elem? passes seat ≡ some before → f after ≡ f before ++ mail ∷ []

@@ -1,5 +1,9 @@
-//! Tests of what stands between nodes on threads, over several threads.
+//! Tests of nodes on threads: inboxes and posts.
 #![tactic(auto)]
 
 #[cfg(test)]
 mod inboxes;
+#[cfg(test)]
+mod inputs;
+#[cfg(test)]
+mod posts;

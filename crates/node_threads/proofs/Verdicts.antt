@@ -1,0 +1,42 @@
+-- A verdict on logs, said of the logs that it carries.
+use Rattle.std.proofs.Common.{◌≡◌, List, map, Result, Ok, Err, sym, subst, IfOk}
+use Rattle.std.specs.Prelude.{IfErr, OnOk}
+use Rattle.std.specs.List.{AllByRecursion}
+use Rattle.bin_routes.specs.Table.{routes_of}
+use Rattle.claim_model.specs.Settings.{opening}
+use Rattle.claim_model.specs.World.{run}
+use Rattle.world_setup.specs.Seen.{event_seen, settings_seen}
+use Rattle.world_setup.specs.declared.settings.WorldSettings.{WorldSettings}
+use Rattle.run_merge.specs.LogSeen.{logs_seen}
+use Rattle.run_merge.specs.Merged.{IsMerged}
+use Rattle.run_merge.specs.declared.log.NodeLog.{NodeLog}
+use Rattle.node_threads.specs.Tills.{Till}
+use Rattle.node_threads.specs.Replayed.{context_with, ledgers_of}
+use Rattle.node_threads.specs.Judged.{AreReceipts, AreHeard}
+use Rattle.node_threads.specs.Causes.{IsCause}
+use Rattle.node_threads.specs.Verdicts.{IsRun, logs_in}
+use Rattle.node_threads.specs.declared.judging.verdict.Finished.{Finished}
+use Rattle.node_threads.specs.declared.judging.finish_fault.FinishFault.{FinishFault}
+use Rattle.node_threads.specs.declared.judging.finish_fault.FinishFault.TheVariants as fault
+
+pub run_carried : (s : WorldSettings) (tills : List Till) (logs : List NodeLog) (r : Result Finished FinishFault)
+    → IfOk r (λ f. f.logs.items ≡ logs)
+    → IfOk r (λ f. IsMerged s (logs_seen logs) (map event_seen f.events.items))
+    → IfOk r (λ f. f.world ≡ record { routes = routes_of s.routes.items; world = run (context_with s) (opening (settings_seen s)) (map event_seen f.events.items) })
+    → OnOk r (AllByRecursion (AreReceipts tills) (ledgers_of s (logs_seen logs)))
+    → OnOk r (AllByRecursion (AreHeard tills) (ledgers_of s (logs_seen logs)))
+    → IfOk r (λ f. IsRun s tills f f.logs.items)
+run_carried s tills logs (Ok f) same events world receipts heard =
+    subst (λ (l : List NodeLog). IsRun s tills f l) (sym same) (record { events = events; world = world; receipts = receipts; heard = heard })
+run_carried s tills logs (Err fault) same events world receipts heard = tt
+
+cause_of : (s : WorldSettings) (tills : List Till) (logs : List NodeLog) (why : FinishFault) → IsCause s logs tills why → IsCause s (logs_in why) tills why
+cause_of s tills logs fault.OutOfMemory is = tt
+cause_of s tills logs (fault.TillMissing pharmacy kept) is = subst (λ (l : List NodeLog). IsCause s l tills (fault.TillMissing pharmacy kept)) (sym is.0) is
+cause_of s tills logs (fault.ReceiptMissing kept) is = subst (λ (l : List NodeLog). IsCause s l tills (fault.ReceiptMissing kept)) (sym is.0) is
+cause_of s tills logs (fault.HeardDiffers kept) is = subst (λ (l : List NodeLog). IsCause s l tills (fault.HeardDiffers kept)) (sym is.0) is
+cause_of s tills logs (fault.Tangled kept) is = subst (λ (l : List NodeLog). IsCause s l tills (fault.Tangled kept)) (sym is.0) is
+
+pub cause_carried : (s : WorldSettings) (tills : List Till) (logs : List NodeLog) (r : Result Finished FinishFault) → IfErr r (λ why. IsCause s logs tills why) → IfErr r (λ why. IsCause s (logs_in why) tills why)
+cause_carried s tills logs (Ok f) is = tt
+cause_carried s tills logs (Err why) is = cause_of s tills logs why is

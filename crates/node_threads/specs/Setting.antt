@@ -1,0 +1,25 @@
+-- What nodes on threads are opened with, and how they read bytes.
+use Rattle.std.specs.Prelude.{◌≡◌, length, Option, None}
+use Rattle.bin_routes.specs.Fault.{first_fault}
+use Rattle.bin_routes.specs.Table.{RouteMaps, routes_of}
+use Rattle.claim_model.specs.Context.{Context}
+use Rattle.claim_model.specs.Bytes.{bytes_with}
+use Rattle.claim_model.specs.Settings.{settings_fault, opening}
+use Rattle.claim_model.specs.Node.{Node}
+use Rattle.world_setup.specs.Seen.{settings_seen}
+use Rattle.world_setup.specs.declared.settings.WorldSettings.{WorldSettings}
+use Rattle.claim_logs.specs.Nodes.{AnyNode, node_at}
+
+-- a world takes these settings, and this is the table of their routes
+pub record IsTaken (s : WorldSettings) (routes : RouteMaps) : Type 0 where
+  pub nodes : settings_fault (settings_seen s) ≡ None
+  pub rows : first_fault (length s.payers.items) s.routes.items ≡ None
+  pub table : routes ≡ routes_of s.routes.items
+
+-- how nodes of these settings read bytes: by the table of their routes
+abbrev pub context_of : WorldSettings → Context
+context_of s = bytes_with (routes_of s.routes.items)
+
+-- the node of that name as it opens, up and empty, where it is there
+abbrev pub opened : WorldSettings → Node → Option AnyNode
+opened s node = node_at (opening (settings_seen s)) node

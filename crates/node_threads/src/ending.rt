@@ -1,0 +1,42 @@
+//! The end of a running system.
+
+ghost use Rattle.std.specs.Prelude.{◌≡◌, IfOk, IfErr};
+ghost use Rattle.std.specs.Arc.{arc_value};
+ghost use Rattle.node_threads.specs.Causes.{IsCause};
+ghost use Rattle.node_threads.specs.LedgerSeen.{tills_seen};
+ghost use Rattle.node_threads.specs.Verdicts.{IsRun, logs_in};
+
+use crate::hall::Hall;
+use crate::judging::{FinishFault, Finished, judge};
+use crate::shared::Shared;
+use crate::till::Till;
+use run_merge::NodeLog;
+use std::alloc::Global;
+use std::sync::{Arc, Wait};
+
+/// The verdict on these logs, by the settings that their nodes shared.
+pub(crate) fn judged(
+    alloc: Global,
+    shared: &Shared,
+    logs: Vec<NodeLog>,
+    tills: &[Till],
+) -> Result<Finished, FinishFault>
+    ensures ok { IfOk result (λ f. IsRun shared.now (tills_seen tills.now) f f.logs.items) }
+    ensures refused { IfErr result (λ why. IsCause shared.now (logs_in why) (tills_seen tills.now) why) }
+{
+    judge(alloc, shared.settings(), logs, tills)
+}
+
+/// The hall, once its other owners, the workers, have ended.
+pub(crate) fn last_owner<R: Wait>(rt: &R, hall: Arc<Hall>) -> Hall
+    ensures { result ≡ arc_value hall }
+{
+    let mut shared = hall;
+    for _ in rt.forever() {
+        match Arc::try_unwrap(shared) {
+            Ok(hall) => return hall,
+            Err(still) => shared = still,
+        }
+    }
+    unreachable!()
+}

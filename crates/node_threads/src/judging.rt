@@ -1,0 +1,13 @@
+//! Judging what the nodes did against what the callers have.
+
+mod counting;
+mod finish_fault;
+mod hearing;
+mod ledger;
+mod objection;
+mod receipts;
+mod replaying;
+mod verdict;
+
+pub use finish_fault::FinishFault;
+pub use verdict::{Finished, judge};
