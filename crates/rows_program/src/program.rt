@@ -1,102 +1,9 @@
-//! What `read` writes, with readers and writers that give and take pieces, or fail.
+//! What `read` and `replay` write, whole outputs.
 
-use schedule_cli::{ProgramFault, ReaderSource, WriterSink, read_claims};
-use std::alloc::Global;
-use std::io;
-use std::io::{Read, Write};
+use crate::fakes::{ALL, Paper, Pieces};
+use crate::inputs::{lines, one_pharmacy, price_change, price_change_report};
+use schedule_cli::{ProgramFault, read_claims, replay};
 use std::test::Fail;
-
-/// A reader that gives at most `most` bytes a call, and fails at the call of that number.
-#[derive(Drop)]
-struct Pieces<'a> {
-    rest: &'a [u8],
-    most: usize,
-    fails_at: u64,
-    calls: u64,
-}
-
-impl Read for Pieces<'_> {
-    fn read(&mut self, buf: &mut [u8]) -> io::Result<usize> {
-        self.calls = self.calls.saturating_add(1);
-        if self.calls == self.fails_at {
-            return Err(io::Error::from(io::ErrorKind::Other));
-        }
-        let count = self.most.min(self.rest.len()).min(buf.len());
-        let (front, rest) = self.rest.split_at(count);
-        buf[..count].copy_from_slice(front);
-        self.rest = rest;
-        Ok(count)
-    }
-}
-
-/// A writer that takes at most `most` bytes a call, and fails once it has `room` of them.
-#[derive(Drop)]
-struct Paper {
-    taken: Vec<u8>,
-    most: usize,
-    room: usize,
-}
-
-impl Write for Paper {
-    fn write(&mut self, buf: &[u8]) -> io::Result<usize> {
-        if self.taken.len() >= self.room {
-            return Err(io::Error::from(io::ErrorKind::Other));
-        }
-        let count = self.most.min(buf.len());
-        self.taken.extend_from_slice(&buf[..count])?;
-        Ok(count)
-    }
-
-    fn flush(&mut self) -> io::Result<()> {
-        Ok(())
-    }
-}
-
-impl Paper {
-    fn new(alloc: Global, most: usize, room: usize) -> Paper {
-        Paper {
-            taken: Vec::new(alloc),
-            most,
-            room,
-        }
-    }
-}
-
-impl<'a> Pieces<'a> {
-    fn new(input: &'a [u8], most: usize, fails_at: u64) -> Pieces<'a> {
-        Pieces {
-            rest: input,
-            most,
-            fails_at,
-            calls: 0,
-        }
-    }
-}
-
-/// The program `read` over a standard reader and writer.
-fn run<R: Read, W: Write>(
-    alloc: Global,
-    reader: &mut R,
-    writer: &mut W,
-) -> Result<(), ProgramFault> {
-    let mut source = ReaderSource::new(reader);
-    let mut sink = WriterSink::new(writer);
-    read_claims(alloc, &mut source, &mut sink)
-}
-
-/// A line `number text` for each pair.
-fn lines(alloc: Global, entries: &[(&str, &str)]) -> Result<Vec<u8>, Fail> {
-    let mut all = Vec::new(alloc);
-    for (number, text) in entries {
-        all.extend_from_slice(number.as_bytes())?;
-        all.extend_from_slice(b" ")?;
-        all.extend_from_slice(text.as_bytes())?;
-        all.extend_from_slice(b"\n")?;
-    }
-    Ok(all)
-}
-
-const ANY: usize = usize::MAX;
 
 #[test]
 fn answers_each_line(rt: HostRuntime) -> Result<(), Fail> {
@@ -114,16 +21,12 @@ fn answers_each_line(rt: HostRuntime) -> Result<(), Fail> {
         &[("2", "refused Unreadable"), ("3", "refused Unreadable")],
     )?;
     want.extend_from_slice(refused.as_slice())?;
-    for most in [1, 7, ANY] {
-        let mut writer = Paper::new(alloc, most, ANY);
+    for most in [1, 7, ALL] {
+        let mut writer = Paper::new(alloc, most, 0);
         let mut reader = Pieces::new(input.as_slice(), most, 0);
-        let outcome = run(alloc, &mut reader, &mut writer);
+        let outcome = read_claims(alloc, &mut reader, &mut writer);
         assert_eq!(rt; outcome, Ok(()), "{most} bytes a call");
-        assert_eq!(rt;
-            writer.taken.as_slice(),
-            want.as_slice(),
-            "{most} bytes a call"
-        );
+        assert_eq!(rt; writer.taken(), want.as_slice(), "{most} bytes a call");
     }
     Ok(())
 }
@@ -152,11 +55,11 @@ fn answers_a_day(rt: HostRuntime) -> Result<(), Fail> {
         ("6", "refused NotOurs"),
     ];
     let input = lines(alloc, &day)?;
-    let mut reader = Pieces::new(input.as_slice(), ANY, 0);
-    let mut writer = Paper::new(alloc, ANY, ANY);
-    let outcome = run(alloc, &mut reader, &mut writer);
+    let mut reader = Pieces::new(input.as_slice(), ALL, 0);
+    let mut writer = Paper::new(alloc, ALL, 0);
+    let outcome = read_claims(alloc, &mut reader, &mut writer);
     assert_eq!(rt; outcome, Ok(()));
-    assert_eq!(rt; writer.taken.as_slice(), lines(alloc, &answers)?.as_slice());
+    assert_eq!(rt; writer.taken(), lines(alloc, &answers)?.as_slice());
     Ok(())
 }
 
@@ -175,82 +78,45 @@ fn names_the_first_line_that_is_no_entry(rt: HostRuntime) -> Result<(), Fail> {
         ("+1 x\n", 1),
     ];
     for (input, number) in cases {
-        let mut writer = Paper::new(alloc, ANY, ANY);
-        let mut reader = Pieces::new(input.as_bytes(), ANY, 0);
-        let outcome = run(alloc, &mut reader, &mut writer);
+        let mut writer = Paper::new(alloc, ALL, 0);
+        let mut reader = Pieces::new(input.as_bytes(), ALL, 0);
+        let outcome = read_claims(alloc, &mut reader, &mut writer);
         assert_eq!(rt; outcome, Err(ProgramFault::Line(number)), "{input:?}");
-        assert_eq!(rt; writer.taken.len(), 0, "{input:?}");
+        assert_eq!(rt; writer.taken().len(), 0, "{input:?}");
     }
     Ok(())
 }
 
 #[test]
-fn stops_where_reading_fails(rt: HostRuntime) -> Result<(), Fail> {
+fn reports_on_a_price_change(rt: HostRuntime) -> Result<(), Fail> {
     let alloc = rt.alloc();
-    let input = lines(alloc, &[("1", vectors::billing())])?;
-    for call in 1..6u64 {
-        let mut writer = Paper::new(alloc, ANY, ANY);
-        let mut reader = Pieces::new(input.as_slice(), 50, call);
-        let outcome = run(alloc, &mut reader, &mut writer);
-        assert_eq!(rt; outcome, Err(ProgramFault::Read), "call {call}");
-        assert_eq!(rt; writer.taken.len(), 0, "call {call}");
-    }
+    let input = price_change(alloc)?;
+    let mut reader = Pieces::new(input.as_bytes(), ALL, 0);
+    let mut writer = Paper::new(alloc, ALL, 0);
+    let outcome = replay(alloc, &mut reader, &mut writer);
+    assert_eq!(rt; outcome, Ok(()));
+    let same = writer.taken() == price_change_report().as_bytes();
+    assert!(rt; same);
     Ok(())
 }
 
 #[test]
-fn stops_where_writing_fails(rt: HostRuntime) -> Result<(), Fail> {
+fn settings_are_refused_before_lines(rt: HostRuntime) -> Result<(), Fail> {
     let alloc = rt.alloc();
-    let input = lines(alloc, &[("1", vectors::billing())])?;
-    let want = lines(alloc, &[("1", vectors::paid())])?;
-    for most in [1, 7, ANY] {
-        for room in [0, 1, 10, 100] {
-            let mut writer = Paper::new(alloc, most, room);
-            let mut reader = Pieces::new(input.as_slice(), ANY, 0);
-            let outcome = run(alloc, &mut reader, &mut writer);
-            if most == ANY && room > 0 {
-                assert_eq!(rt; outcome, Ok(()), "{room} of all at once");
-            } else {
-                assert_eq!(rt; outcome, Err(ProgramFault::Write), "{room}, {most}");
-                assert!(rt; want.starts_with(writer.taken.as_slice()), "{room}, {most}");
-            }
-        }
+    let settings = one_pharmacy();
+    let cases = [
+        ("", "---\ndeliver x\n", ProgramFault::Line(1)),
+        ("", "---\n# x\n\ndeliver 1\n---\n", ProgramFault::Line(4)),
+        ("again = 0\n", "---\ndeliver x\n", ProgramFault::Settings),
+        ("", "bin = 1\n", ProgramFault::Settings),
+    ];
+    for (front, behind, fault) in cases {
+        let input = format!(in alloc; "{front}{settings}{behind}")?;
+        let mut reader = Pieces::new(input.as_bytes(), ALL, 0);
+        let mut writer = Paper::new(alloc, ALL, 0);
+        let outcome = replay(alloc, &mut reader, &mut writer);
+        assert_eq!(rt; outcome, Err(fault), "{behind}");
+        assert_eq!(rt; writer.taken().len(), 0);
     }
     Ok(())
-}
-
-#[test]
-fn takes_a_writer_that_takes_nothing_for_a_failed_one(rt: HostRuntime) -> Result<(), Fail> {
-    let alloc = rt.alloc();
-    let input = lines(alloc, &[("1", vectors::billing())])?;
-    let mut writer = Paper::new(alloc, 0, ANY);
-    let mut reader = Pieces::new(input.as_slice(), ANY, 0);
-    let outcome = run(alloc, &mut reader, &mut writer);
-    assert_eq!(rt; outcome, Err(ProgramFault::Write));
-    assert_eq!(rt; writer.taken.len(), 0);
-    Ok(())
-}
-
-/// A reader that never ends.
-#[derive(Drop)]
-struct Endless {
-    calls: u64,
-}
-
-impl Read for Endless {
-    fn read(&mut self, buf: &mut [u8]) -> io::Result<usize> {
-        self.calls = self.calls.saturating_add(1);
-        buf.fill(b'#');
-        Ok(buf.len().min(64))
-    }
-}
-
-#[test]
-fn gives_up_on_a_reader_that_never_ends(rt: HostRuntime) {
-    let mut reader = Endless { calls: 0 };
-    let mut writer = Paper::new(rt.alloc(), ANY, ANY);
-    let outcome = run(rt.alloc(), &mut reader, &mut writer);
-    assert_eq!(rt; outcome, Err(ProgramFault::Read));
-    assert!(rt; reader.calls <= 16_777_218);
-    assert_eq!(rt; writer.taken.len(), 0);
 }

@@ -1,6 +1,7 @@
 -- Why a program stops, and what was written until then.
-use Rattle.std.specs.Prelude.{ℕ, ◌≡◌, List, take, Option, Result, Ok, Err}
+use Rattle.std.specs.Prelude.{ℕ, ◌≡◌, ◌≤◌, List, length, take, Option, Result, Ok, Err}
 use Rattle.std.specs.Io.KnownBytes.{Appends}
+use Rattle.schedule_cli.specs.declared.input.TheConstants.{MOST_INPUT}
 use Rattle.schedule_cli.specs.declared.fault.ProgramFault.{ProgramFault}
 use Rattle.schedule_cli.specs.declared.fault.ProgramFault.TheVariants.{OutOfMemory, Read, Settings, Line, Write}
 
@@ -29,3 +30,15 @@ IsBadLine (Line number) spelled = spelled ≡ Err number
 IsBadLine Read spelled = Unit {0}
 IsBadLine Settings spelled = Unit {0}
 IsBadLine Write spelled = Unit {0}
+
+-- a program that has checked its input has all of it, and it is not too long; want of memory says nothing
+abbrev pub FitsBehind : ProgramFault → List ℕ → Type 0
+FitsBehind OutOfMemory input = Unit {0}
+FitsBehind Read input = Unit {0}
+FitsBehind Settings input = length input ≤ MOST_INPUT
+FitsBehind (Line number) input = length input ≤ MOST_INPUT
+FitsBehind Write input = length input ≤ MOST_INPUT
+
+abbrev pub Fits : {A : Type 0} → Result A ProgramFault → List ℕ → Type 0
+Fits (Ok done) input = length input ≤ MOST_INPUT
+Fits (Err fault) input = FitsBehind fault input

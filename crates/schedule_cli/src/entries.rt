@@ -44,7 +44,7 @@ pub(crate) fn entries(alloc: Global, input: &[u8]) -> Result<Vec<Entry>, Program
 
 /// The entry that a line spells, if it spells one.
 #[tactic(auto, unfolding(crate::specs::Entries::entry_of))]
-fn entry_of(alloc: Global, line: &[u8]) -> Result<Option<Entry>, AllocError>
+pub(crate) fn entry_of(alloc: Global, line: &[u8]) -> Result<Option<Entry>, AllocError>
     ensures { IfOk result (λ entry. entry ≡ entry_of line.now) }
 {
     let Some((word, text)) = split_word(line) else {
@@ -64,7 +64,7 @@ fn entry_of(alloc: Global, line: &[u8]) -> Result<Option<Entry>, AllocError>
 }
 
 /// The id that the number of a line stands for, if the word is a number.
-fn id_in(word: &[u8]) -> Option<TxnId>
+pub(crate) fn id_in(word: &[u8]) -> Option<TxnId>
     ensures { result ≡ id_in word.now }
 {
     let number = read_decimal(word, MOST_DIGITS)?;

@@ -3,6 +3,7 @@
 ghost use Rattle.std.specs.Prelude.{◌≡◌, ◌≢◌, ◌+◌, ◌<◌, ◌≤◌, ◌⊎◌, ℕ, length, take, Some, Ok, IfOk, IfErr, IfSome, IsTrue, IsErrOf, OnOk, OnErr};
 ghost use Rattle.std.specs.Io.KnownBytes.{Appends};
 ghost use Rattle.schedule_cli.specs.Replays.{replay_of, HasNone, IsRefused, Begins};
+ghost use Rattle.schedule_cli.specs.Stops.{Fits};
 
 use crate::fault::ProgramFault;
 use crate::input::{MOST_CALLS, MOST_INPUT, read_all};
@@ -48,6 +49,8 @@ pub fn read_scheduled<S: Source>(alloc: Global, source: &mut S) -> Result<Schedu
     // A call of the source failed, or the input is too long.
     ensures read { IsErrOf result ProgramFault.Read → IsTrue (S.has_failed source.new)
         ⊎ IfSome (S.remaining source.old) (λ input. MOST_INPUT < length input) }
+    // What is checked was read to its end, and is not too long.
+    ensures fits { IfSome (S.remaining source.old) (λ input. Fits result input) }
     // Settings are refused only where they open no world, and a line only where it is the first that spells no event.
     ensures refused { IfErr result (λ fault. IfSome (S.remaining source.old) (λ input. IsRefused fault (replay_of input))) }
     // Nothing is written.
@@ -58,13 +61,15 @@ pub fn read_scheduled<S: Source>(alloc: Global, source: &mut S) -> Result<Schedu
     begin(alloc, input.as_slice())
 }
 
-/// Writes a finished output.
+/// Writes a finished output, and flushes it.
 ///
 /// # Errors
 /// `Write` where a call of the sink failed; what was written until then is a beginning of the bytes.
 pub fn write_output<K: Sink>(sink: &mut K, bytes: &[u8]) -> Result<(), ProgramFault>
     ensures all { OnOk result (Appends (K.contents sink.old) (K.contents sink.new) bytes.now) }
     ensures front { OnErr result ((count : ℕ) × Appends (K.contents sink.old) (K.contents sink.new) (take count bytes.now)) }
+    ensures flushed { OnOk result (IsTrue (K.is_flushed sink.new)) }
+    ensures same_reference { K.loan sink.new ≡ K.loan sink.old }
     ensures faults { IfErr result (λ fault. fault ≡ ProgramFault.Write) }
     ensures failed { OnErr result (IsTrue (K.has_failed sink.new)) }
 {

@@ -18,7 +18,7 @@ const CHUNK: usize = 65_536;
 ///
 /// # Errors
 /// `Read` where a call failed, or where there are more than 16,777,216 bytes; `OutOfMemory`.
-pub(crate) fn read_all<S: Source>(alloc: Global, source: &mut S) -> Result<Vec<u8>, ProgramFault>
+pub fn read_all<S: Source>(alloc: Global, source: &mut S) -> Result<Vec<u8>, ProgramFault>
     ensures all { IfOk result (λ input. IfSome (S.remaining source.old) (λ bytes. input.items ≡ bytes)) }
     ensures fits { IfOk result (λ input. vec_len input ≤ MOST_INPUT) }
     ensures fault { IsErrOf result ProgramFault.Read → IsTrue (S.has_failed source.new)

@@ -8,22 +8,28 @@ mod entries;
 mod exchange;
 mod fault;
 mod input;
+mod kept;
 mod output;
 mod read;
 mod replaying;
 mod sample;
 mod sink;
 mod source;
+mod standard;
 mod whole;
+mod why;
 mod words;
 
 pub use exchange::{Scheduled, read_scheduled, write_output};
 pub use fault::ProgramFault;
-pub use input::{MOST_CALLS, MOST_INPUT};
-pub use read::read_claims;
+pub use input::{MOST_CALLS, MOST_INPUT, read_all};
+pub use kept::KeptReader;
+pub use read::read_claims_over;
 pub use sink::{Sink, WriterSink};
 pub use source::{Failed, ReaderSource, Source};
-pub use whole::replay;
+pub use standard::{read_claims, replay};
+pub use whole::replay_over;
+pub use why::{EntryFault, entry_fault, why_refused};
 pub use words::{Stop, Word, word_of};
 
 #[cfg(test)]

@@ -6,13 +6,15 @@ ghost use Rattle.std.specs.Io.KnownBytes.{Appends};
 use crate::fault::ProgramFault;
 use crate::sink::Sink;
 
-/// Writes all of the bytes, in as many calls as the sink wants.
+/// Writes all of the bytes, in as many calls as the sink wants, and flushes them.
 ///
 /// # Errors
 /// `Write` where a call of the sink failed; what was written until then is a beginning of the bytes.
 pub(crate) fn write_all<K: Sink>(sink: &mut K, bytes: &[u8]) -> Result<(), ProgramFault>
     ensures all { OnOk result (Appends (K.contents sink.old) (K.contents sink.new) bytes.now) }
     ensures front { OnErr result ((count : ℕ) × Appends (K.contents sink.old) (K.contents sink.new) (take count bytes.now)) }
+    ensures flushed { OnOk result (IsTrue (K.is_flushed sink.new)) }
+    ensures same_reference { K.loan sink.new ≡ K.loan sink.old }
     ensures faults { IfErr result (λ fault. fault ≡ ProgramFault.Write) }
     ensures failed { OnErr result (IsTrue (K.has_failed sink.new)) }
 {

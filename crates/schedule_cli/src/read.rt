@@ -2,7 +2,7 @@
 
 ghost use Rattle.std.specs.Prelude.{◌≡◌, ◌≢◌, ◌+◌, ◌<◌, ◌≤◌, ◌⊎◌, length, IfErr, IfSome, IsTrue, IsErrOf, OnOk, OnErr};
 ghost use Rattle.schedule_cli.specs.Lines.{output_of};
-ghost use Rattle.schedule_cli.specs.Stops.{BeginningWritten, IsBadLine, Written};
+ghost use Rattle.schedule_cli.specs.Stops.{BeginningWritten, Fits, IsBadLine, Written};
 
 use crate::answers::answers;
 use crate::fault::ProgramFault;
@@ -21,7 +21,7 @@ use std::alloc::Global;
 /// # Errors
 /// `Read`, then `Line` of the first line that is no entry, before anything is written; then `Write`.
 /// `OutOfMemory` may stand in place of any answer, and then nothing was written.
-pub fn read_claims<S: Source, K: Sink>(
+pub fn read_claims_over<S: Source, K: Sink>(
     alloc: Global,
     source: &mut S,
     sink: &mut K,
@@ -33,8 +33,13 @@ pub fn read_claims<S: Source, K: Sink>(
         ⊎ IfSome (S.remaining source.old) (λ input. MOST_INPUT < length input) }
     // A line is refused only where it is the first that spells no entry.
     ensures line { IfErr result (λ fault. IfSome (S.remaining source.old) (λ input. IsBadLine fault (output_of input))) }
+    // What is checked was read to its end, and is not too long.
+    ensures fits { IfSome (S.remaining source.old) (λ input. Fits result input) }
     // Nothing is written before all is answered.
     ensures quiet { IfErr result (λ fault. fault ≢ ProgramFault.Write → sink.new ≡ sink.old) }
+    // What was written is flushed.
+    ensures flushed { OnOk result (IsTrue (K.is_flushed sink.new)) }
+    ensures same_reference { K.loan sink.new ≡ K.loan sink.old }
     // A call of the sink failed, and a beginning of the lines was written.
     ensures write { IsErrOf result ProgramFault.Write → IsTrue (K.has_failed sink.new) }
     ensures beginning { IsErrOf result ProgramFault.Write → IfSome (S.remaining source.old) (λ input. BeginningWritten (K.contents sink.old) (K.contents sink.new) (output_of input)) }

@@ -1,6 +1,6 @@
 //! Where a program's input comes from.
 
-ghost use Rattle.std.specs.Prelude.{◌≡◌, ℕ, ◌+◌, ◌-◌, ◌^◌, ◌≤◌, Bool, List, Option, min, length, IfOk, IsTrue, OnOk, OnErr};
+ghost use Rattle.std.specs.Prelude.{◌≡◌, ℕ, ◌+◌, ◌-◌, ◌^◌, ◌≤◌, Bool, false, List, Option, min, length, IfOk, IsTrue, OnOk, OnErr};
 ghost use Rattle.std.specs.Io.KnownBytes.{ReadConsumes};
 
 use std::io::Read;
@@ -39,7 +39,11 @@ pub struct ReaderSource<'a, R: Read> {
 
 impl<'a, R: Read> ReaderSource<'a, R> {
     /// The reader, not yet called.
-    pub fn new(reader: &'a mut R) -> ReaderSource<'a, R> {
+    pub fn new(reader: &'a mut R) -> ReaderSource<'a, R>
+        ensures reader { result.reader.now ≡ reader.old }
+        ensures uncalled { result.calls ≡ 0 }
+        ensures works { result.failed ≡ false }
+    {
         ReaderSource {
             reader,
             calls: 0,

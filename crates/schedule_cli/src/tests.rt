@@ -37,7 +37,6 @@ fn takes_exactly_one_known_word(rt: HostRuntime) -> Result<(), Fail> {
 fn tells_why_it_stops(rt: HostRuntime) -> Result<(), Fail> {
     let cases = [
         (Stop::Usage, 2, "usage: claimswitch read|replay|run"),
-        (Stop::NoRun, 1, "run is not there yet"),
         (Stop::Fault(ProgramFault::OutOfMemory), 1, "out of memory"),
         (Stop::Fault(ProgramFault::Read), 1, "read fault"),
         (Stop::Fault(ProgramFault::Settings), 1, "settings refused"),

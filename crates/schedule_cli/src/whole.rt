@@ -2,7 +2,7 @@
 
 ghost use Rattle.std.specs.Prelude.{◌≡◌, ◌≢◌, ◌+◌, ◌<◌, ◌≤◌, ◌⊎◌, length, IfErr, IfSome, IsTrue, IsErrOf, OnOk, OnErr};
 ghost use Rattle.schedule_cli.specs.Replays.{replay_of, IsRefused};
-ghost use Rattle.schedule_cli.specs.Stops.{BeginningWritten, Written};
+ghost use Rattle.schedule_cli.specs.Stops.{BeginningWritten, Fits, Written};
 
 use crate::fault::ProgramFault;
 use crate::input::{MOST_CALLS, MOST_INPUT, read_all};
@@ -20,7 +20,7 @@ use std::alloc::Global;
 /// # Errors
 /// `Read`, then `Settings`, then `Line` of the first line that spells no event, before anything is written; then
 /// `Write`. `OutOfMemory` may stand in place of any answer, and then nothing was written.
-pub fn replay<S: Source, K: Sink>(
+pub fn replay_over<S: Source, K: Sink>(
     alloc: Global,
     source: &mut S,
     sink: &mut K,
@@ -32,8 +32,13 @@ pub fn replay<S: Source, K: Sink>(
         ⊎ IfSome (S.remaining source.old) (λ input. MOST_INPUT < length input) }
     // Settings are refused only where they open no world, and a line only where it is the first that spells no event.
     ensures refused { IfErr result (λ fault. IfSome (S.remaining source.old) (λ input. IsRefused fault (replay_of input))) }
+    // What is checked was read to its end, and is not too long.
+    ensures fits { IfSome (S.remaining source.old) (λ input. Fits result input) }
     // Nothing is written before all is checked and run.
     ensures quiet { IfErr result (λ fault. fault ≢ ProgramFault.Write → sink.new ≡ sink.old) }
+    // What was written is flushed.
+    ensures flushed { OnOk result (IsTrue (K.is_flushed sink.new)) }
+    ensures same_reference { K.loan sink.new ≡ K.loan sink.old }
     // A call of the sink failed, and a beginning of the report was written.
     ensures write { IsErrOf result ProgramFault.Write → IsTrue (K.has_failed sink.new) }
     ensures beginning { IsErrOf result ProgramFault.Write → IfSome (S.remaining source.old) (λ input. BeginningWritten (K.contents sink.old) (K.contents sink.new) (replay_of input)) }

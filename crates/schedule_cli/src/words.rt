@@ -23,9 +23,6 @@ pub enum Stop {
     /// The words are not exactly one of the known words. A wish for help or the version counts here.
     #[error("usage: claimswitch read|replay|run")]
     Usage,
-    /// `run` is known, and its program is not there yet.
-    #[error("run is not there yet")]
-    NoRun,
     /// A program stopped.
     #[error("{0}")]
     Fault(ProgramFault),
@@ -36,7 +33,7 @@ impl Stop {
     pub fn status(&self) -> u8 {
         match self {
             Stop::Usage => 2,
-            Stop::NoRun | Stop::Fault(_) => 1,
+            Stop::Fault(_) => 1,
         }
     }
 }

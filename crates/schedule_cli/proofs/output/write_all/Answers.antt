@@ -11,4 +11,5 @@ loop-written-preserved g c = record {
       let all = Appends-append _ _ _ _ _ c.loop-written.invariant.front c.in-Ok.ensures.bytes in
       let e = take-next c.loop-written.written c.in-Ok.count c.args.bytes.now (grind (arith, common_steps)) in
       rw e at all;
+  same_reference = c.in-Ok.ensures.same_reference ∙ c.loop-written.invariant.same_reference;
 }
