@@ -1,54 +1,146 @@
 //! The program `claimswitch`: one word, standard input and standard output.
 #![tactic(auto)]
 
-use schedule_cli::{ReaderSource, Stop, Word, WriterSink, read_claims, replay, word_of};
-use std::env;
+use schedule_cli::{
+    KeptReader, ProgramFault, Stop, Word, read_claims, replay, why_refused, word_of,
+};
+use schedule_run::{RunFault, run_schedule};
+use std::alloc::AllocError;
+use std::fmt::{Display, Formatter};
+use std::io::{IsTerminal, Read};
 use std::process::ExitCode;
+use std::sync::Wait;
+use std::thread::Threads;
+use std::time::Clock;
+use std::{env, fmt};
 
-fn main(rt: HostRuntime) -> ExitCode {
-    match run(&rt) {
-        Ok(()) => ExitCode::SUCCESS,
-        Err(stop) => {
-            let _ = eprintln!(rt; "claimswitch: {stop}");
-            ExitCode::from(stop.status())
+/// The variable of the environment that asks for what was wrong in a refused input.
+const EXPLAIN: &str = "CLAIMSWITCH_EXPLAIN";
+
+/// Why the program ends without having written all.
+#[derive(Clone, Copy)]
+enum End {
+    /// The words are wrong, or a program that waits for nobody stopped.
+    Stop(Stop),
+    /// A run on threads stopped.
+    Run(RunFault),
+}
+
+impl End {
+    /// The exit status.
+    fn status(self) -> u8 {
+        match self {
+            End::Stop(stop) => stop.status(),
+            End::Run(_) => 1,
+        }
+    }
+
+    /// The fault of the input, where it has one.
+    fn fault(self) -> Option<ProgramFault> {
+        match self {
+            End::Stop(Stop::Fault(fault)) | End::Run(RunFault::Program(fault)) => Some(fault),
+            End::Stop(_) | End::Run(_) => None,
         }
     }
 }
 
-/// Does what the word of the command line asks for.
-fn run(rt: &HostRuntime) -> Result<(), Stop> {
+impl From<ProgramFault> for End {
+    fn from(fault: ProgramFault) -> End {
+        End::Stop(Stop::Fault(fault))
+    }
+}
+
+impl From<RunFault> for End {
+    fn from(fault: RunFault) -> End {
+        End::Run(fault)
+    }
+}
+
+impl Display for End {
+    fn fmt<W: fmt::Write>(&self, f: &mut Formatter<W>) -> fmt::Result {
+        match self {
+            End::Stop(stop) => write!(f, "{stop}"),
+            End::Run(fault) => write!(f, "{fault}"),
+        }
+    }
+}
+
+/// Why the program ends, and what was wrong in its input, where that is told.
+#[derive(Drop)]
+struct Stopped {
+    end: End,
+    why: Option<String>,
+}
+
+impl From<Stop> for Stopped {
+    fn from(stop: Stop) -> Stopped {
+        Stopped {
+            end: End::Stop(stop),
+            why: None,
+        }
+    }
+}
+
+impl From<AllocError> for Stopped {
+    fn from(refused: AllocError) -> Stopped {
+        Stopped::from(Stop::from(refused))
+    }
+}
+
+fn main(rt: HostRuntime) -> ExitCode {
+    match run(&rt, &rt) {
+        Ok(()) => ExitCode::SUCCESS,
+        Err(Stopped { end, why }) => {
+            let _ = eprintln!(rt; "claimswitch: {end}");
+            if let Some(why) = why {
+                let _ = eprintln!(rt; "claimswitch: {why}");
+            }
+            ExitCode::from(end.status())
+        }
+    }
+}
+
+/// Does what the word of the command line asks for. A run has its threads from `threads`.
+fn run<T>(rt: &HostRuntime, threads: &T) -> Result<(), Stopped>
+where
+    T: Threads + Wait + Clock + Copy + Send + 'static,
+{
     let alloc = rt.alloc();
     let Ok(words) = env::args(rt) else {
-        return Err(Stop::Usage);
+        return Err(Stopped::from(Stop::Usage));
     };
     let words: Vec<String> = words.collect(alloc)?;
-    match word_of(alloc, words.as_slice())? {
-        Word::Read => read(rt),
-        Word::Replay => replay_schedule(rt),
-        Word::Run => Err(Stop::NoRun),
+    let word = word_of(alloc, words.as_slice())?;
+    let mut reader = KeptReader::new(alloc, rt.stdin(), is_explained(rt));
+    match serve(rt, threads, word, &mut reader) {
+        Ok(()) => Ok(()),
+        Err(end) => {
+            let why = match (end.fault(), reader.kept()) {
+                (Some(fault), Some(input)) => {
+                    why_refused(alloc, word, input, fault).unwrap_or(None)
+                }
+                _ => None,
+            };
+            Err(Stopped { end, why })
+        }
     }
 }
 
 /// Answers standard input on standard output.
-fn read(rt: &HostRuntime) -> Result<(), Stop> {
-    let mut reader = rt.stdin();
+fn serve<T, R: Read>(rt: &HostRuntime, threads: &T, word: Word, reader: &mut R) -> Result<(), End>
+where
+    T: Threads + Wait + Clock + Copy + Send + 'static,
+{
+    let alloc = rt.alloc();
     let mut writer = rt.stdout();
-    let mut source = ReaderSource::new(&mut reader);
-    let mut sink = WriterSink::new(&mut writer);
-    match read_claims(rt.alloc(), &mut source, &mut sink) {
-        Ok(()) => Ok(()),
-        Err(fault) => Err(Stop::Fault(fault)),
+    match word {
+        Word::Read => Ok(read_claims(alloc, reader, &mut writer)?),
+        Word::Replay => Ok(replay(alloc, reader, &mut writer)?),
+        Word::Run => Ok(run_schedule(threads, alloc, reader, &mut writer)?),
     }
 }
 
-/// Runs the schedule of standard input and reports on standard output.
-fn replay_schedule(rt: &HostRuntime) -> Result<(), Stop> {
-    let mut reader = rt.stdin();
-    let mut writer = rt.stdout();
-    let mut source = ReaderSource::new(&mut reader);
-    let mut sink = WriterSink::new(&mut writer);
-    match replay(rt.alloc(), &mut source, &mut sink) {
-        Ok(()) => Ok(()),
-        Err(fault) => Err(Stop::Fault(fault)),
-    }
+/// Whether people are told what was wrong: standard error is a terminal, or they ask for it.
+fn is_explained(rt: &HostRuntime) -> bool {
+    rt.stderr().is_terminal() || !matches!(env::var(rt, EXPLAIN), Err(env::VarError::NotPresent))
 }

@@ -1,0 +1,9 @@
+//! Tests of `run`: nodes on threads, and what is written of them.
+#![tactic(auto)]
+
+#[cfg(test)]
+mod fakes;
+#[cfg(test)]
+mod inputs;
+#[cfg(test)]
+mod runs;

@@ -1,0 +1,63 @@
+//! What the input of a run asks for.
+
+ghost use Rattle.std.specs.Prelude.{◌≡◌, Some, Ok, IfOk, IfErr};
+ghost use Rattle.world_settings.specs.Document.{document_seen};
+ghost use Rattle.schedule.specs.Runs.{run_seen};
+ghost use Rattle.schedule_cli.specs.Replays.{world_in, opened_by, opened_world, OpensNone};
+ghost use Rattle.schedule_run.specs.Asked.{asked_in, AsksNone};
+
+use schedule::{Run, ScheduleFault, divide, read_run};
+use schedule_cli::ProgramFault;
+use std::alloc::Global;
+use world_settings::{SettingsFault, read_settings};
+use world_setup::{WorldFault, WorldSettings};
+
+/// The settings of a run, and what its schedule says.
+#[derive(Drop)]
+pub(crate) struct Asked {
+    pub(crate) settings: WorldSettings,
+    pub(crate) run: Run,
+}
+
+/// What an input asks for: settings that a world takes, and then the faults of links and the commands.
+///
+/// # Errors
+/// `Settings` where the settings are none; then `Line` of the first line that spells no fault and no command in its place;
+/// `OutOfMemory`.
+pub(crate) fn asked_of(alloc: Global, input: &[u8]) -> Result<Asked, ProgramFault>
+    ensures asked { IfOk result (λ a. asked_in input.now ≡ Ok (run_seen a.run)) }
+    ensures fault { IfErr result (λ fault. AsksNone fault (asked_in input.now)) }
+{
+    let parts = divide(alloc, input)?;
+    let settings = settings_of(alloc, parts.settings.as_slice())?;
+    match read_run(alloc, parts.schedule) {
+        Ok(run) => Ok(Asked { settings, run }),
+        Err(ScheduleFault::OutOfMemory) => Err(ProgramFault::OutOfMemory),
+        Err(ScheduleFault::Line(number)) => Err(ProgramFault::Line(number)),
+    }
+}
+
+/// The settings that a text spells, where they open a world.
+#[tactic(auto, unfolding(schedule_cli::specs::Replays::world_in))]
+fn settings_of(alloc: Global, text: &[u8]) -> Result<WorldSettings, ProgramFault>
+    ensures opens { IfOk result (λ settings. world_in text.now ≡ Some (opened_world (document_seen settings))) }
+    ensures fault { IfErr result (λ fault. OpensNone fault (world_in text.now)) }
+{
+    match read_settings(alloc, text) {
+        Ok(settings) => taken(alloc, settings),
+        Err(SettingsFault::OutOfMemory) => Err(ProgramFault::OutOfMemory),
+        Err(SettingsFault::Settings) => Err(ProgramFault::Settings),
+    }
+}
+
+/// The settings, where they open a world.
+fn taken(alloc: Global, settings: WorldSettings) -> Result<WorldSettings, ProgramFault>
+    ensures opens { IfOk result (λ taken. opened_by (document_seen settings) ≡ Some (opened_world (document_seen taken))) }
+    ensures fault { IfErr result (λ fault. OpensNone fault (opened_by (document_seen settings))) }
+{
+    match settings.checked_routes(alloc) {
+        Ok(_) => Ok(settings),
+        Err(WorldFault::OutOfMemory) => Err(ProgramFault::OutOfMemory),
+        Err(_) => Err(ProgramFault::Settings),
+    }
+}

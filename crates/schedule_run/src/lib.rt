@@ -1,0 +1,18 @@
+//! The program `run`: the nodes of an input's settings on threads, the commands of its schedule made by one caller, and the
+//! report on the nodes once all threads have ended.
+//!
+//! Which answers come, and after how many turns, hangs on the threads; so what is written is shown by tests.
+#![tactic(auto)]
+
+mod asked;
+mod awaiting;
+mod commands;
+mod fault;
+mod lines;
+mod running;
+
+pub use fault::{RunFault, Unjudged};
+pub use running::run_schedule;
+
+#[cfg(test)]
+mod tests;
