@@ -4,6 +4,10 @@
 pub(crate) const MARGIN: u64 = 16;
 /// From one line of words to the next.
 pub(crate) const LINE: u64 = 18;
+/// How far letters reach above the line that they stand on.
+pub(crate) const ASCENT: u64 = 12;
+/// How far they reach below it.
+pub(crate) const DESCENT: u64 = 4;
 /// Where the boxes with the names of nodes begin.
 pub(crate) const NAMES: u64 = 116;
 /// The height of such a box.

@@ -1,9 +1,9 @@
 //! Shapes that several parts of the picture draw.
 
 use crate::lanes::Side;
-use crate::measures::{back, on};
+use crate::measures::{ASCENT, DESCENT, back, on, width_of};
 use std::alloc::AllocError;
-use svg_text::{Anchor, Drawing, Face, Point, Stroke};
+use svg_text::{Anchor, Drawing, Face, Fill, Point, Size, Stroke};
 
 /// Half the width of a cross.
 const CROSS: u64 = 6;
@@ -29,7 +29,7 @@ pub(crate) fn draw_cross(drawing: &mut Drawing, x: u64, y: u64) -> Result<(), Al
     )
 }
 
-/// Writes words beside a lifeline.
+/// Writes words beside a lifeline, on a blank box, so that no line shows between them.
 pub(crate) fn write_beside(
     drawing: &mut Drawing,
     side: Side,
@@ -37,22 +37,32 @@ pub(crate) fn write_beside(
     y: u64,
     words: &[u8],
 ) -> Result<(), AllocError> {
+    let width = width_of(words.len());
+    let x = beside(side, x, BESIDE);
+    let at = Point { x, y };
     match side {
         Side::Left => {
-            let at = Point {
-                x: back(x, BESIDE),
-                y,
-            };
+            draw_blank(drawing, back(x, width), y, width)?;
             drawing.words(Face::Edged, Anchor::End, at, words)
         }
         Side::Right => {
-            let at = Point {
-                x: on(x, BESIDE),
-                y,
-            };
+            draw_blank(drawing, x, y, width)?;
             drawing.words(Face::Edged, Anchor::Start, at, words)
         }
     }
+}
+
+/// Draws a blank box behind words of this width whose left end is here.
+fn draw_blank(drawing: &mut Drawing, left: u64, y: u64, width: u64) -> Result<(), AllocError> {
+    let corner = Point {
+        x: left,
+        y: back(y, ASCENT),
+    };
+    let size = Size {
+        width,
+        height: ASCENT + DESCENT,
+    };
+    drawing.rect(Fill::Blank, corner, size)
 }
 
 /// A place this far from a lifeline.

@@ -1,0 +1,187 @@
+//! What the picture of a run shows, from the input of a replay to the file.
+
+use run_marks::{Mark, mark_run};
+use run_picture::{Extent, draw_replay, picture};
+use schedule_cli::{ProgramFault, ReaderSource, Scheduled, WriterSink, read_scheduled};
+use std::alloc::Global;
+use std::test::Fail;
+use world_days::settings::one_pharmacy;
+use world_setup::{Node, StepFault};
+
+/// A billing whose delivery is refused once, since its switch is stopped, and then goes to the payer and back.
+fn input(alloc: Global) -> Result<Vec<u8>, Fail> {
+    let mut input = Vec::new(alloc);
+    input.extend_from_slice(one_pharmacy().as_bytes())?;
+    input.extend_from_slice(b"---\nsubmit ph1 ")?;
+    input.extend_from_slice(vectors::billing().as_bytes())?;
+    input.extend_from_slice(b"\nstop sw1\ndeliver 1\nstart sw1\n# it is up again\ndeliver 1\n")?;
+    input.extend_from_slice(
+        b"plan pr1 00093721410 20000\ndeliver 2\ndeliver 3\ndeliver 4\ntick ph1\n",
+    )?;
+    Ok(input)
+}
+
+/// What these bytes begin a replay with.
+fn begun(alloc: Global, input: &[u8]) -> Result<Scheduled, ProgramFault> {
+    let mut reader = input;
+    let mut source = ReaderSource::new(&mut reader);
+    read_scheduled(alloc, &mut source)
+}
+
+/// What the program writes of these bytes, and how it ends.
+fn written(alloc: Global, input: &[u8], extent: Extent) -> Result<Vec<u8>, ProgramFault> {
+    let mut reader = input;
+    let mut file = Vec::new(alloc);
+    let mut source = ReaderSource::new(&mut reader);
+    let mut sink = WriterSink::new(&mut file);
+    draw_replay(alloc, &mut source, &mut sink, extent)?;
+    Ok(file)
+}
+
+/// How often a text stands in a file.
+fn count_of(file: &[u8], text: &[u8]) -> usize {
+    let mut count = 0usize;
+    for place in 0..file.len() {
+        if file[place..].starts_with(text) {
+            count = count.saturating_add(1);
+        }
+    }
+    count
+}
+
+#[test]
+fn reads_the_settings_and_the_events(rt: HostRuntime) -> Result<(), Fail> {
+    let alloc = rt.alloc();
+    let input = input(alloc)?;
+    let begun = begun(alloc, input.as_slice())?;
+    assert_eq!(rt; begun.events.len(), 10);
+    assert_eq!(rt; begun.world.packets().len(), 0);
+    assert_eq!(rt; begun.world.switches().len(), 2);
+    Ok(())
+}
+
+#[test]
+fn tells_what_is_no_settings_or_no_event(rt: HostRuntime) -> Result<(), Fail> {
+    let alloc = rt.alloc();
+    let cases = [
+        ("again = 1\n---\n", "", ProgramFault::Settings),
+        (
+            one_pharmacy(),
+            "---\ntick ph1\n\ndeliver x\n",
+            ProgramFault::Line(3),
+        ),
+    ];
+    for (settings, schedule, want) in cases {
+        let mut input = Vec::new(alloc);
+        input.extend_from_slice(settings.as_bytes())?;
+        input.extend_from_slice(schedule.as_bytes())?;
+        let outcome = begun(alloc, input.as_slice()).err();
+        assert_eq!(rt; outcome, Some(want), "{schedule:?}");
+        let outcome = written(alloc, input.as_slice(), Extent::Ends).err();
+        assert_eq!(rt; outcome, Some(want), "{schedule:?}");
+    }
+    Ok(())
+}
+
+#[test]
+fn marks_what_each_event_did(rt: HostRuntime) -> Result<(), Fail> {
+    let alloc = rt.alloc();
+    let input = input(alloc)?;
+    let Scheduled { mut world, events } = begun(alloc, input.as_slice())?;
+    let marks = mark_run(alloc, &mut world, events.as_slice())?;
+    let (pharmacy, switch, payer) = (Node::Pharmacy(1), Node::Switch(1), Node::Payer(1));
+    let want = [
+        Mark::Submitted {
+            event: 1,
+            pharmacy: 1,
+        },
+        Mark::Sent {
+            event: 1,
+            packet: 1,
+            from: pharmacy,
+            to: switch,
+        },
+        Mark::Stopped {
+            event: 2,
+            node: switch,
+        },
+        Mark::Refused {
+            event: 3,
+            fault: StepFault::Down,
+        },
+        Mark::Started {
+            event: 4,
+            node: switch,
+        },
+        Mark::Arrived {
+            event: 5,
+            packet: 1,
+        },
+        Mark::Sent {
+            event: 5,
+            packet: 2,
+            from: switch,
+            to: payer,
+        },
+        Mark::Priced { event: 6, payer: 1 },
+        Mark::Arrived {
+            event: 7,
+            packet: 2,
+        },
+        Mark::Sent {
+            event: 7,
+            packet: 3,
+            from: payer,
+            to: switch,
+        },
+        Mark::Arrived {
+            event: 8,
+            packet: 3,
+        },
+        Mark::Sent {
+            event: 8,
+            packet: 4,
+            from: switch,
+            to: pharmacy,
+        },
+        Mark::Arrived {
+            event: 9,
+            packet: 4,
+        },
+        Mark::Ticked {
+            event: 10,
+            pharmacy: 1,
+        },
+    ];
+    assert_eq!(rt; marks.as_slice(), want.as_slice());
+    Ok(())
+}
+
+#[test]
+fn draws_every_arrow_and_says_what_it_carries(rt: HostRuntime) -> Result<(), Fail> {
+    let alloc = rt.alloc();
+    let input = input(alloc)?;
+    let Scheduled { mut world, events } = begun(alloc, input.as_slice())?;
+    let marks = mark_run(alloc, &mut world, events.as_slice())?;
+    let file = picture(
+        alloc,
+        &world,
+        events.as_slice(),
+        marks.as_slice(),
+        Extent::All,
+    )?;
+    let shown: [(&[u8], usize); 6] = [
+        (b"marker-end=\"url(#head)\"", 4),
+        (b">1: request 1.1 B1</text>", 1),
+        (b">3: answer 1.1 B1 P $51.50</text>", 1),
+        (b">00093721410 costs $2.0000 a unit</text>", 1),
+        (b">refused: Down</text>", 1),
+        (b"</svg>\n", 1),
+    ];
+    for (text, count) in shown {
+        assert_eq!(rt; count_of(file.as_slice(), text), count, "{text:?}");
+    }
+    let whole = written(alloc, input.as_slice(), Extent::All)?;
+    assert_eq!(rt; whole.as_slice(), file.as_slice());
+    Ok(())
+}
