@@ -6,6 +6,4 @@ mod pauses;
 #[cfg(test)]
 mod promises;
 #[cfg(test)]
-mod random;
-#[cfg(test)]
 mod walks;

@@ -1,12 +1,12 @@
 //! A node stops and starts again after any one event of a day. The promises are walked after each event.
 
-use crate::promises::{Walks, nodes_of};
+use crate::promises::Walks;
 use std::alloc::Global;
 use std::process::Abort;
 use std::test::Fail;
 use world_core::World;
 use world_days::days::Day;
-use world_days::{Told, days, long_days, nodes_told, read_day};
+use world_days::{Told, days, long_days, nodes_of, nodes_told, read_day};
 use world_setup::{Event, Node, StepFault};
 
 /// Makes an event, refused or not, and walks the promises.

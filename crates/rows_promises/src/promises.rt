@@ -10,7 +10,7 @@ use std::alloc::{AllocError, Global};
 use std::collections::BTreeMap;
 use std::test::Fail;
 use world_core::World;
-use world_days::holds;
+use world_days::{holds, nodes_of};
 use world_setup::Node;
 
 /// What a walk met.
@@ -156,25 +156,4 @@ fn put_standing(
         }
     }
     Ok(())
-}
-
-/// The names of all nodes.
-pub(crate) fn nodes_of(alloc: Global, world: &World) -> Result<Vec<Node>, AllocError> {
-    let mut nodes = Vec::new(alloc);
-    let mut number = 0u16;
-    for _ in world.pharmacies() {
-        number = number.saturating_add(1);
-        nodes.push(Node::Pharmacy(number))?;
-    }
-    number = 0;
-    for _ in world.switches() {
-        number = number.saturating_add(1);
-        nodes.push(Node::Switch(number))?;
-    }
-    number = 0;
-    for _ in world.payers() {
-        number = number.saturating_add(1);
-        nodes.push(Node::Payer(number))?;
-    }
-    Ok(nodes)
 }

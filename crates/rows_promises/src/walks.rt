@@ -1,11 +1,10 @@
 //! The promises after each of five thousand random events.
 
 use crate::promises::{Met, Walks};
-use crate::random::Random;
 use std::alloc::Global;
 use std::test::Fail;
 use world_core::World;
-use world_days::settings;
+use world_days::{Random, settings};
 use world_settings::read_settings;
 use world_setup::StepFault;
 

@@ -1,174 +1,142 @@
-//! The logs of all nodes of a run, and the events that they are merged into.
+//! The logs of all nodes of a day, and the events that they are merged into.
 
-use crate::inputs;
-use octets::Octets;
+use crate::changes::{exchanged, sent_changed, with_log};
 use run_merge::{MergeFault, NodeLog, merge};
 use std::alloc::Global;
 use std::test::Fail;
-use world_core::{RowView, World};
-use world_setup::{Call, Event, Node, Packet, Sent};
+use world_days::days::Day;
+use world_days::{Recorded, days, holds, is_same_log, long_days, nodes_told, read_day};
+use world_setup::{Event, WorldSettings};
 
-/// No packet has this place.
-const NONE: usize = usize::MAX;
+/// The logs of a day, what its nodes were opened with, and the report's lines of them.
+#[derive(Drop)]
+struct Lived {
+    settings: WorldSettings,
+    logs: Vec<NodeLog>,
+    nodes: &'static str,
+}
 
-/// Who is called by an event, and the call.
-fn call_of(world: &World, event: &Event) -> Result<(Node, Call), Fail> {
-    match event {
-        Event::Submit { pharmacy, text } => {
-            Ok((Node::Pharmacy(*pharmacy), Call::Submit(text.copy()?)))
-        }
-        Event::Tick { pharmacy } => Ok((Node::Pharmacy(*pharmacy), Call::Tick)),
-        Event::Deliver { packet } => taking(world, *packet),
-        Event::Stop(node) => Ok((*node, Call::Stop)),
-        Event::Start(node) => Ok((*node, Call::Start)),
-        Event::Plan {
-            payer,
-            product,
-            price,
-        } => {
-            let product = product.copy()?;
-            let price = *price;
-            Ok((Node::Payer(*payer), Call::Plan { product, price }))
-        }
+/// Makes the events of a day.
+fn live(alloc: Global, day: Day) -> Result<Lived, Fail> {
+    let told = read_day(alloc, day)?.ok_or("a day")?;
+    let mut recorded = Recorded::opening(alloc, &told.settings)?;
+    for event in &told.events {
+        recorded.make(event)?;
     }
+    Ok(Lived {
+        settings: told.settings,
+        logs: recorded.logs,
+        nodes: told.nodes,
+    })
 }
 
-/// The addressee of a packet, and its taking of it.
-fn taking(world: &World, number: u64) -> Result<(Node, Call), Fail> {
-    let place = (number as usize).saturating_sub(1);
-    let packet = world.packets().get(place).ok_or("packet")?;
-    let from = packet.from;
-    let bytes = packet.bytes.copy()?;
-    Ok((packet.to, Call::Take { from, bytes }))
-}
-
-/// The packets from a place on, as they were sent; of the one at the place `changed` the last byte is another.
-fn sent_from(
+/// The run of these events: each is accepted, and the nodes have these logs.
+pub(crate) fn run_with_logs(
     alloc: Global,
-    packets: &[Packet],
-    start: usize,
-    changed: usize,
-) -> Result<Vec<Sent>, Fail> {
-    let mut all = Vec::new(alloc);
-    for (place, packet) in packets.iter().enumerate() {
-        if place >= start {
-            let to = packet.to;
-            let bytes = bytes_of(packet, place == changed)?;
-            all.push(Sent { to, bytes })?;
-        }
-    }
-    Ok(all)
-}
-
-/// The bytes of a packet, or with another last byte.
-fn bytes_of(packet: &Packet, change: bool) -> Result<Octets, Fail> {
-    let mut bytes = packet.bytes.copy()?.into_vec();
-    if change {
-        bytes.pop();
-        bytes.push(b'?')?;
-    }
-    Ok(Octets::from_vec(bytes))
-}
-
-/// Records a call in the log of its node.
-fn record(logs: &mut [NodeLog], node: Node, call: Call, sent: Vec<Sent>) -> Result<(), Fail> {
-    let place = logs.iter().position(|log| log.node() == node);
-    let log = logs.get_mut(place.ok_or("log")?).ok_or("log")?;
-    log.reserve()?;
-    log.record(call, sent);
-    Ok(())
-}
-
-/// Makes an event, and records its call where it is accepted.
-fn step(
-    alloc: Global,
-    world: &mut World,
-    logs: &mut [NodeLog],
-    event: &Event,
-    changed: usize,
-) -> Result<(), Fail> {
-    let (node, call) = call_of(world, event)?;
-    let start = world.packets().len();
-    if world.step(event).is_ok() {
-        let sent = sent_from(alloc, world.packets(), start, changed)?;
-        record(logs, node, call, sent)?;
-    }
-    Ok(())
-}
-
-/// The logs of no calls.
-fn empty_logs(alloc: Global) -> Result<Vec<NodeLog>, Fail> {
-    let mut logs = Vec::new(alloc);
-    logs.push(NodeLog::new(alloc, Node::Pharmacy(1)))?;
-    logs.push(NodeLog::new(alloc, Node::Switch(1)))?;
-    logs.push(NodeLog::new(alloc, Node::Switch(2)))?;
-    logs.push(NodeLog::new(alloc, Node::Payer(1)))?;
-    Ok(logs)
-}
-
-/// The logs of all nodes; a byte of what is recorded of the packet at the place `changed` is another.
-fn logs_of(
-    alloc: Global,
-    world: &mut World,
+    settings: &WorldSettings,
     events: &[Event],
-    changed: usize,
-) -> Result<Vec<NodeLog>, Fail> {
-    let mut logs = empty_logs(alloc)?;
+    logs: &[NodeLog],
+) -> Result<Recorded, Fail> {
+    let mut run = Recorded::opening(alloc, settings)?;
     for event in events {
-        step(alloc, world, logs.as_mut_slice(), event, changed)?;
+        run.make(event)?;
     }
-    Ok(logs)
+    holds(run.calls == events.len() as u64, "an event is refused")?;
+    holds(run.logs.len() == logs.len(), "another node")?;
+    let same = run.logs.iter().zip(logs).all(|(a, b)| is_same_log(a, b));
+    holds(same, "another log")?;
+    Ok(run)
 }
 
-/// Whether two worlds have as many packets, and payer 1 the same rows.
-fn are_alike(a: &World, b: &World) -> Result<bool, Fail> {
-    let rows = a.rows(1)?;
-    let others = b.rows(1)?;
-    Ok(a.packets().len() == b.packets().len() && are_same(rows.as_slice(), others.as_slice()))
-}
-
-/// Whether rows are the same.
-fn are_same(rows: &[RowView], others: &[RowView]) -> bool {
-    rows.len() == others.len() && rows.iter().zip(others).all(|(a, b)| is_same(a, b))
-}
-
-/// Whether a row is another.
-fn is_same(a: &RowView, b: &RowView) -> bool {
-    a.id() == b.id() && a.code() == b.code() && a.rulings() == b.rulings()
-}
-
-#[test]
-fn logs_merge_into_a_run_with_the_same_rows(rt: HostRuntime) -> Result<(), Fail> {
-    let alloc = rt.alloc();
-    let input = inputs::read(alloc, inputs::price_change())?;
-    let mut world = World::new(alloc, input.settings.copy()?)?;
-    let logs = logs_of(alloc, &mut world, input.events.as_slice(), NONE)?;
-    let events = merge(alloc, &input.settings, logs.as_slice())?;
-    let mut again = World::new(alloc, input.settings)?;
-    again.run(events.as_slice()).ok().ok_or("memory")?;
-    assert_eq!(rt; again.packets().len(), 6, "packets");
-    assert!(rt; are_alike(&world, &again)?, "rows");
+/// The logs of a day merge into a run with these logs and the nodes of the day.
+fn merges_back(alloc: Global, day: Day) -> Result<(), Fail> {
+    let lived = live(alloc, day)?;
+    let logs = lived.logs.as_slice();
+    let events = merge(alloc, &lived.settings, logs)?;
+    let mut run = run_with_logs(alloc, &lived.settings, events.as_slice(), logs)?;
+    let nodes = nodes_told(alloc, &mut run.world)?;
+    holds(nodes.as_slice() == lived.nodes.as_bytes(), "the nodes")?;
     Ok(())
 }
 
+/// Logs have no run in common.
+fn are_tangled(alloc: Global, settings: &WorldSettings, logs: &[NodeLog]) -> Result<(), Fail> {
+    match merge(alloc, settings, logs) {
+        Err(MergeFault::Tangled) => Ok(()),
+        Err(MergeFault::OutOfMemory) => Err(Fail::from("memory")),
+        Ok(_) => Err(Fail::from("merged")),
+    }
+}
+
 #[test]
-fn logs_that_do_not_fit_are_tangled(rt: HostRuntime) -> Result<(), Fail> {
+fn logs_of_a_change_of_price_merge(rt: HostRuntime) -> Result<(), Fail> {
+    merges_back(rt.alloc(), days::price_change())
+}
+
+#[test]
+fn logs_of_a_reversal_that_comes_first_merge(rt: HostRuntime) -> Result<(), Fail> {
+    merges_back(rt.alloc(), days::reversal_first())
+}
+
+#[test]
+fn logs_of_a_lost_answer_merge(rt: HostRuntime) -> Result<(), Fail> {
+    merges_back(rt.alloc(), days::lost_answer())
+}
+
+#[test]
+fn logs_of_another_switch_merge(rt: HostRuntime) -> Result<(), Fail> {
+    merges_back(rt.alloc(), days::other_switch())
+}
+
+#[test]
+fn logs_of_what_has_no_route_merge(rt: HostRuntime) -> Result<(), Fail> {
+    merges_back(rt.alloc(), days::unrouted())
+}
+
+#[test]
+fn logs_of_a_full_journal_merge(rt: HostRuntime) -> Result<(), Fail> {
+    merges_back(rt.alloc(), days::full_journal())
+}
+
+#[test]
+fn logs_of_a_foreign_reversal_merge(rt: HostRuntime) -> Result<(), Fail> {
+    merges_back(rt.alloc(), long_days::foreign_reversal())
+}
+
+#[test]
+fn logs_of_four_transactions_merge(rt: HostRuntime) -> Result<(), Fail> {
+    merges_back(rt.alloc(), long_days::four_at_once())
+}
+
+/// The place of the payer's log among those of one pharmacy, two switches and one payer.
+const PAYER: usize = 3;
+
+#[test]
+fn logs_with_another_byte_are_tangled(rt: HostRuntime) -> Result<(), Fail> {
     let alloc = rt.alloc();
-    let input = inputs::read(alloc, inputs::price_change())?;
-    let mut world = World::new(alloc, input.settings.copy()?)?;
-    let logs = logs_of(alloc, &mut world, input.events.as_slice(), 0)?;
-    let changed = merge(alloc, &input.settings, logs.as_slice());
-    assert!(rt;
-        matches!(changed, Err(MergeFault::Tangled)),
-        "a byte is another"
-    );
-    let mut world = World::new(alloc, input.settings.copy()?)?;
-    let mut logs = logs_of(alloc, &mut world, input.events.as_slice(), NONE)?;
-    logs.pop();
-    let short = merge(alloc, &input.settings, logs.as_slice());
-    assert!(rt;
-        matches!(short, Err(MergeFault::Tangled)),
-        "a log is left out"
-    );
-    Ok(())
+    let lived = live(alloc, days::price_change())?;
+    let logs = lived.logs.as_slice();
+    let payer = logs.get(PAYER).ok_or("a log")?;
+    let other = sent_changed(alloc, payer, 0, 0)?.ok_or("an answer")?;
+    let changed = with_log(alloc, logs, PAYER, other)?;
+    are_tangled(alloc, &lived.settings, changed.as_slice())
+}
+
+#[test]
+fn a_payer_that_changed_its_price_first_is_tangled(rt: HostRuntime) -> Result<(), Fail> {
+    let alloc = rt.alloc();
+    let lived = live(alloc, days::price_change())?;
+    let logs = lived.logs.as_slice();
+    let payer = logs.get(PAYER).ok_or("a log")?;
+    let other = exchanged(alloc, payer, 0, 1)?.ok_or("two calls")?;
+    let changed = with_log(alloc, logs, PAYER, other)?;
+    are_tangled(alloc, &lived.settings, changed.as_slice())
+}
+
+#[test]
+fn logs_without_one_of_a_node_are_tangled(rt: HostRuntime) -> Result<(), Fail> {
+    let alloc = rt.alloc();
+    let mut lived = live(alloc, days::price_change())?;
+    lived.logs.pop();
+    are_tangled(alloc, &lived.settings, lived.logs.as_slice())
 }
