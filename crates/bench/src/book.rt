@@ -9,6 +9,9 @@ use payer_book::{Book, BookSettings};
 use plan_rules::Plan;
 use std::alloc::Global;
 
+/// The greatest number of rows that a book may have.
+const MOST_ROWS: u32 = 65_536;
+
 /// Pays so many claims, each of a prescription of its own.
 pub(crate) fn claims(alloc: Global, count: u32) -> Option<()> {
     with_claims(alloc, count)?;
@@ -17,19 +20,32 @@ pub(crate) fn claims(alloc: Global, count: u32) -> Option<()> {
 
 /// A book that paid so many claims.
 pub(crate) fn with_claims(alloc: Global, count: u32) -> Option<Book> {
+    let mut book = opened(alloc, MOST_ROWS)?;
+    fill(alloc, &mut book, count)?;
+    Some(book)
+}
+
+/// A book that paid so many claims and has no room for more.
+pub(crate) fn full(alloc: Global, count: u32) -> Option<Book> {
+    let mut book = opened(alloc, count)?;
+    fill(alloc, &mut book, count)?;
+    Some(book)
+}
+
+/// Pays so many claims, each of a prescription of its own.
+fn fill(alloc: Global, book: &mut Book, count: u32) -> Option<()> {
     let routes = routes(alloc)?;
-    let mut book = opened(alloc)?;
     for number in 0..count {
         let request = billing_of(alloc, number)?;
-        answer(&routes, &mut book, number, &request)?;
+        answer(&routes, book, number, &request)?;
     }
-    Some(book)
+    Some(())
 }
 
 /// Pays the claim of one prescription and reverses it, in turn, so many requests in all.
 pub(crate) fn turns(alloc: Global, count: u32) -> Option<()> {
     let routes = routes(alloc)?;
-    let mut book = opened(alloc)?;
+    let mut book = opened(alloc, MOST_ROWS)?;
     let claim = billing_of(alloc, 1)?;
     let reversal = reversal_of(alloc, 1)?;
     for number in 0..count {
@@ -46,11 +62,11 @@ fn answer(routes: &Routes, book: &mut Book, number: u32, request: &[u8]) -> Opti
     Some(())
 }
 
-/// An empty book of payer 1 with room for 65,536 rows.
-fn opened(alloc: Global) -> Option<Book> {
+/// An empty book of payer 1 with room for so many rows.
+fn opened(alloc: Global, rows: u32) -> Option<Book> {
     let mut plan = Plan::new(alloc, Amount::new(150)?, Amount::new(1000)?).ok()?;
     plan.set(b"00093721410", 18_567).ok()?;
-    let settings = BookSettings::new(1, 65_536).ok()?;
+    let settings = BookSettings::new(1, rows).ok()?;
     Some(Book::new(alloc, PayerNo::new(1)?, settings, plan))
 }
 

@@ -29,6 +29,15 @@ pub(crate) fn with_answers(alloc: Global, size: u32) -> Option<Pharmacy> {
     Some(pharmacy)
 }
 
+/// A journal that is full of so many settled entries.
+pub(crate) fn full_of_answers(alloc: Global, size: u32) -> Option<Pharmacy> {
+    let mut pharmacy = filled(alloc, size, size)?;
+    for number in 0..size {
+        settle(alloc, &mut pharmacy, number)?;
+    }
+    Some(pharmacy)
+}
+
 /// Ticks so often.
 fn turn(pharmacy: &mut Pharmacy, times: u32) -> Option<()> {
     for _ in 0..times {
@@ -39,14 +48,24 @@ fn turn(pharmacy: &mut Pharmacy, times: u32) -> Option<()> {
 
 /// Settings of a provider whose packets go out every 1,000 ticks, with room for 65,536 entries.
 pub(crate) fn settings(alloc: Global) -> Option<PharmacySettings> {
+    settings_for(alloc, 65_536)
+}
+
+/// The same with room for so many entries.
+fn settings_for(alloc: Global, cap: u32) -> Option<PharmacySettings> {
     let nodes = Vec::from_slice(alloc, &[1, 2]).ok()?;
     let (qualifier, provider) = (*b"01", *b"1234567893     ");
-    PharmacySettings::new(qualifier, provider, nodes, 1000, 2, 65_536).ok()
+    PharmacySettings::new(qualifier, provider, nodes, 1000, 2, cap).ok()
 }
 
 /// A journal of so many open entries.
 fn with_entries(alloc: Global, size: u32) -> Option<Pharmacy> {
-    let settings = settings(alloc)?;
+    filled(alloc, size, 65_536)
+}
+
+/// A journal of so many open entries, with room for `cap`.
+fn filled(alloc: Global, size: u32, cap: u32) -> Option<Pharmacy> {
+    let settings = settings_for(alloc, cap)?;
     if settings.nodes().is_empty() {
         return None;
     }

@@ -1,8 +1,10 @@
 //! Work for valgrind to count: a node that has `size` entries does one thing `times` more.
-//! Usage: bench WORK SIZE TIMES, where WORK is claims, turns, ticks, settled, table, books, saved or journals.
+//! Usage: bench WORK SIZE TIMES, where WORK is claims, turns, ticks, settled, table, books, saved, journals,
+//! or a flood: full-new, full-repeats, full-reused, full-unreadable, full-submissions, full-heard or full-differs.
 #![tactic(auto)]
 
 mod book;
+mod floods;
 mod journal;
 mod records;
 mod table;
@@ -39,6 +41,20 @@ fn work(alloc: Global, name: &str, size: u32, times: u32) -> Option<()> {
         "books" => records::books(alloc, size, times),
         "saved" => records::saved_books(alloc, size, times),
         "journals" => records::journals(alloc, size, times),
+        _ => flood(alloc, name, size, times),
+    }
+}
+
+/// Floods a full node in the way of that name.
+fn flood(alloc: Global, name: &str, size: u32, times: u32) -> Option<()> {
+    match name {
+        "full-new" => floods::new_requests(alloc, size, times),
+        "full-repeats" => floods::repeats(alloc, size, times),
+        "full-reused" => floods::reused_numbers(alloc, size, times),
+        "full-unreadable" => floods::unreadable_requests(alloc, size, times),
+        "full-submissions" => floods::submissions(alloc, size, times),
+        "full-heard" => floods::answers_again(alloc, size, times),
+        "full-differs" => floods::other_answers(alloc, size, times),
         _ => None,
     }
 }
