@@ -1,5 +1,5 @@
 -- Counting payments: what is kept of a list of outcomes while it is walked.
-use Rattle.std.proofs.Common.{◌≡◌, ℕ, ◌+◌, ◌<◌, ◌≤◌, Bool, true, false, cond, not, ◌||◌, ◌&&◌, eqb, List, [], ◌∷◌, ◌++◌, length, map, take, drop, Option, Some, None, Result, Ok, Err, min, refl, sym, ap, ◌∙◌, arith, ⊎_elim}
+use Rattle.std.proofs.Common.{◌≡◌, ℕ, ◌+◌, ◌<◌, ◌≤◌, Bool, true, false, cond, not, ◌||◌, ◌&&◌, eqb, List, [], ◌∷◌, ◌++◌, length, map, take, drop, Option, Some, None, Result, Ok, Err, min, refl, sym, ap, ◌∙◌, arith, subst, ⊎_elim}
 use Rattle.std.specs.Prelude.{filter, if◌then◌else◌}
 use Rattle.std.specs.List.{list_any, filter_map}
 use Rattle.std.specs.BTreeMap.{is_at}
@@ -7,7 +7,8 @@ use Rattle.std.specs.declared.cmp.Ordering.{Ordering}
 use Rattle.std.proofs.lemmas.Bool.{cases_eq, cases_lt, eq-eqb, ne_eqb}
 use Rattle.std.proofs.lemmas.List.Folds.{list_any-append}
 use Rattle.std.proofs.lemmas.List.Elements.{filter_map-append}
-use Rattle.std.proofs.lemmas.List.{append_assoc, drop_more, drop_all}
+use Rattle.std.proofs.lemmas.List.{append_assoc, drop_more, drop_all, length-map, get_or-map}
+use Rattle.std.specs.Option.{option_to_list}
 use Rattle.d0_segments.specs.declared.fault.FramingFault.{FramingFault}
 use Rattle.d0_segments.specs.Framing.{request_kind, framing_fault, transmission_of}
 use Rattle.bin_routes.specs.Table.{RouteMaps}
@@ -18,6 +19,8 @@ use Rattle.claim_model.specs.Payments.{same_auth, reverses, undone, is_auth}
 use Rattle.claim_model.specs.Counted.{Counted, firsts, named, named_by, ruled_answer, ruled_entries, told, is_reversed, counted}
 use Rattle.claim_model.specs.Journal.{Kept, JournalAtRest}
 use Rattle.pharmacy_journal.specs.Entries.{kept_of}
+use Rattle.pharmacy_journal.specs.Reading.{header_of}
+use Rattle.pharmacy_journal.specs.Listing.{Listed, listed_by, listed_from}
 use Rattle.pharmacy_journal.specs.declared.slot.Slot.{Slot}
 use Rattle.pharmacy_journal.specs.Counting.{Outcome, fill_billed, fills_in, rulings_told, outcomes_between, outcomes_of, outcomes, named_in, payment_of, takes_back, has_auth, without, counted_in}
 
@@ -198,3 +201,42 @@ counted_is routes j =
 pub or_false : (b : Bool) → (b || false) ≡ b
 or_false true = refl
 or_false false = refl
+
+-- ---- groups
+
+-- a group with its ruling, and those after it
+pub group_step : {G : Type 0} (order : G → Result Order (List Code)) (groups : List G) (none : G) (rulings : List Ruling) (i : ℕ) (fill : Option Fill) (ruling : Ruling) → i < length groups → i < length rulings → fill ≡ fill_billed (order (Rattle.std.proofs.Common.get_or groups i none)) →
+    ruling ≡ Rattle.std.proofs.Common.get_or rulings i ruling →
+    outcomes_between (drop i (map fill_billed (map order groups))) (drop i rulings) ≡ record { fill = fill; ruling = ruling } ∷ outcomes_between (drop (i + 1) (map fill_billed (map order groups))) (drop (i + 1) rulings)
+group_step order groups none rulings i fill ruling lg lr isf isr =
+    let orders = map order groups in
+    let many : length orders ≡ length groups = length-map groups order in
+    let as_many : length (map fill_billed orders) ≡ length groups = length-map orders fill_billed ∙ many in
+    let at : Rattle.std.proofs.Common.get_or (map fill_billed orders) i fill ≡ fill_billed (order (Rattle.std.proofs.Common.get_or groups i none)) =
+    get_or-map fill_billed orders i (order none) fill (omega (arith, many, lg)) ∙ ap fill_billed (get_or-map order groups i none (order none) lg) in
+    outcomes_between-at (map fill_billed orders) rulings i fill ruling (omega (arith, as_many, lg)) lr (isf ∙ sym at) isr
+
+-- the payment that one outcome names, as a list
+pub one_named : (fill : Option Fill) (ruling : Ruling) → option_to_list (payment_of fill ruling) ≡ filter_map named_in (record { fill = fill; ruling = ruling } ∷ [])
+one_named None ruling = refl
+one_named (Some fill) (Paid auth prescription amounts) = refl
+one_named (Some fill) (Duplicate auth prescription amounts) = refl
+one_named (Some fill) (Reversed auth prescription) = refl
+one_named (Some fill) (Rejected codes) = refl
+
+-- past the last group or ruling nothing is left
+pub groups-end : {G : Type 0} (order : G → Result Order (List Code)) (groups : List G) (rulings : List Ruling) (k : ℕ) → min (length groups) (length rulings) ≤ k → outcomes_between (drop k (map fill_billed (map order groups))) (drop k rulings) ≡ []
+groups-end order groups rulings k h =
+    let as_many : length groups ≡ length (map fill_billed (map order groups)) = sym (length-map (map order groups) fill_billed ∙ length-map groups order) in
+    outcomes_between-end (map fill_billed (map order groups)) rulings k (subst (λ (n : ℕ). min n (length rulings) ≤ k) as_many h)
+
+-- ---- entries
+
+-- an entry that is listed, and those after it
+pub listed_step : (views views' : List Listed) (view : Listed) (slots : List Slot) (i number : ℕ) (slot : Slot) → i < length slots → slot ≡ Rattle.std.proofs.Common.get_or slots i slot → views' ≡ views ++ view ∷ [] → listed_by number (kept_of slot).answer (header_of (kept_of slot).request) ≡ view ∷ [] →
+    views' ++ listed_from (number + 1) (map kept_of (drop (i + 1) slots)) ≡ views ++ listed_from number (map kept_of (drop i slots))
+listed_step views views' view slots i number slot lt is e one =
+    let more = listed_from (number + 1) (map kept_of (drop (i + 1) slots)) in
+    ap (λ (vs : List Listed). vs ++ more) e ∙ append_assoc views (view ∷ []) more
+    ∙ ap (λ (vs : List Listed). views ++ (vs ++ more)) (sym one)
+    ∙ ap (λ (xs : List Slot). views ++ listed_from number (map kept_of xs)) (sym (drop_more slots i slot lt ∙ ap (λ (x : Slot). x ∷ drop (i + 1) slots) (sym is)))

@@ -13,6 +13,7 @@ ghost use Rattle.claim_model.specs.Payments.{same_auth, undone, is_auth};
 ghost use Rattle.claim_model.specs.Counted.{counted, firsts};
 ghost use Rattle.claim_model.specs.Journal.{stopped};
 ghost use Rattle.pharmacy_journal.specs.Entries.{kept_of};
+ghost use Rattle.pharmacy_journal.specs.Listing.{rulings_of};
 ghost use Rattle.pharmacy_journal.specs.Counting.{fill_billed, outcomes_between, fills_in, rulings_told, outcomes_of, outcomes, payment_of, named_in, takes_back, has_auth, without, counted_in};
 ghost use Rattle.claim_profile.specs.declared.answer_reading.AnswerFault.TheVariants.{OutOfMemory as NoAnswerMemory};
 
@@ -91,15 +92,34 @@ impl JournalAtRest {
 fn paid_in(alloc: Global, slots: &[Slot]) -> Result<Vec<CountedPayment>, AllocError>
     ensures { IfOk result (λ paid. paid.items ≡ counted_in (outcomes (map kept_of slots.now))) }
 {
-    let Told { named, reversed } = read_all(alloc, slots)?;
-    first_of_each(alloc, named.as_slice(), reversed)
+    let told = read_all(alloc, slots)?;
+    counted_of(alloc, told)
 }
 
 /// What entries tell: the payments that are named, in order, and the authorizations that are taken back.
 #[derive(Drop)]
-struct Told {
-    named: Vec<CountedPayment>,
-    reversed: BTreeSet<Auth>,
+pub(crate) struct Told {
+    pub(crate) named: Vec<CountedPayment>,
+    pub(crate) reversed: BTreeSet<Auth>,
+}
+
+/// What no entries tell.
+pub(crate) fn nothing_told(alloc: Global) -> Told
+    ensures named { result.named.items ≡ [] }
+    ensures reversed { result.reversed.keys ≡ [] }
+{
+    Told {
+        named: Vec::new(alloc),
+        reversed: BTreeSet::new(alloc),
+    }
+}
+
+/// The payments that are counted of what entries tell.
+pub(crate) fn counted_of(alloc: Global, told: Told) -> Result<Vec<CountedPayment>, AllocError>
+    ensures { IfOk result (λ paid. paid.items ≡ without told.reversed.keys (firsts told.named.items)) }
+{
+    let Told { named, reversed } = told;
+    first_of_each(alloc, named.as_slice(), reversed)
 }
 
 /// What these entries tell.
@@ -107,10 +127,7 @@ fn read_all(alloc: Global, slots: &[Slot]) -> Result<Told, AllocError>
     ensures named { IfOk result (λ t. t.named.items ≡ filter_map named_in (outcomes (map kept_of slots.now))) }
     ensures reversed { IfOk result (λ t. (a : AuthSeen) → has_auth t.reversed.keys a ≡ list_any (takes_back a) (outcomes (map kept_of slots.now))) }
 {
-    let mut told = Told {
-        named: Vec::new(alloc),
-        reversed: BTreeSet::new(alloc),
-    };
+    let mut told = nothing_told(alloc);
     for slot in slots {
         read_slot(alloc, slot, &mut told)?;
     }
@@ -122,24 +139,55 @@ fn read_slot(alloc: Global, slot: &Slot, told: &mut Told) -> Result<(), AllocErr
     ensures named { OnOk result (told.new.named.items ≡ told.old.named.items ++ filter_map named_in (outcomes_of (kept_of slot.now).request (kept_of slot.now).answer)) }
     ensures reversed { OnOk result ((a : AuthSeen) → has_auth told.new.reversed.keys a ≡ (has_auth told.old.reversed.keys a || list_any (takes_back a) (outcomes_of (kept_of slot.now).request (kept_of slot.now).answer))) }
 {
+    let rulings = rulings_of(alloc, slot)?;
+    take_slot(told, slot, rulings.as_slice())
+}
+
+/// The rulings of an entry's answer.
+pub(crate) fn rulings_of(alloc: Global, slot: &Slot) -> Result<Vec<Ruling>, AllocError>
+    ensures { IfOk result (λ rulings. rulings.items ≡ rulings_of (kept_of slot.now).answer) }
+{
     match slot {
-        Slot::Waiting(_) => Ok(()),
-        Slot::Settled(txn) => {
-            let fills = fills_in(alloc, txn.request())?;
-            let rulings = rulings_in(alloc, txn.answer())?;
-            take_all(told, fills.as_slice(), rulings.as_slice())
-        }
+        Slot::Waiting(_) => Ok(Vec::new(alloc)),
+        Slot::Settled(txn) => rulings_in(alloc, txn.answer()),
     }
 }
 
-/// Adds what the rulings on these groups tell.
-fn take_all(told: &mut Told, fills: &[Option<Fill>], rulings: &[Ruling]) -> Result<(), AllocError>
-    ensures named { OnOk result (told.new.named.items ≡ told.old.named.items ++ filter_map named_in (outcomes_between fills.now rulings.now)) }
-    ensures reversed { OnOk result ((a : AuthSeen) → has_auth told.new.reversed.keys a ≡ (has_auth told.old.reversed.keys a || list_any (takes_back a) (outcomes_between fills.now rulings.now))) }
+/// Adds what an entry with these rulings tells.
+pub(crate) fn take_slot(told: &mut Told, slot: &Slot, rulings: &[Ruling]) -> Result<(), AllocError>
+    requires { rulings.now ≡ rulings_of (kept_of slot.now).answer }
+    ensures named { OnOk result (told.new.named.items ≡ told.old.named.items ++ filter_map named_in (outcomes_of (kept_of slot.now).request (kept_of slot.now).answer)) }
+    ensures reversed { OnOk result ((a : AuthSeen) → has_auth told.new.reversed.keys a ≡ (has_auth told.old.reversed.keys a || list_any (takes_back a) (outcomes_of (kept_of slot.now).request (kept_of slot.now).answer))) }
 {
-    let count = fills.len().min(rulings.len());
+    match slot {
+        Slot::Waiting(_) => Ok(()),
+        Slot::Settled(txn) => take_all(told, txn.request(), rulings),
+    }
+}
+
+/// Adds what the rulings on the groups of a request tell.
+fn take_all(told: &mut Told, request: &[u8], rulings: &[Ruling]) -> Result<(), AllocError>
+    ensures named { OnOk result (told.new.named.items ≡ told.old.named.items ++ filter_map named_in (outcomes_between (fills_in request.now) rulings.now)) }
+    ensures reversed { OnOk result ((a : AuthSeen) → has_auth told.new.reversed.keys a ≡ (has_auth told.old.reversed.keys a || list_any (takes_back a) (outcomes_between (fills_in request.now) rulings.now))) }
+{
+    match check_request(request) {
+        Ok(framed) => take_groups(told, &framed, rulings),
+        Err(_) => Ok(()),
+    }
+}
+
+/// Adds what the rulings on the groups of a framed request tell.
+fn take_groups(
+    told: &mut Told,
+    framed: &Framed<'_, RequestHeader>,
+    rulings: &[Ruling],
+) -> Result<(), AllocError>
+    ensures named { OnOk result (told.new.named.items ≡ told.old.named.items ++ filter_map named_in (outcomes_between (map fill_billed (orders_in (Some (framed_parts framed.now)))) rulings.now)) }
+    ensures reversed { OnOk result ((a : AuthSeen) → has_auth told.new.reversed.keys a ≡ (has_auth told.old.reversed.keys a || list_any (takes_back a) (outcomes_between (map fill_billed (orders_in (Some (framed_parts framed.now)))) rulings.now))) }
+{
+    let count = framed.group_count().min(rulings.len());
     for place in 0..count {
-        take_one(told, fills[place], &rulings[place])?;
+        take_one(told, fill_at(framed, place), &rulings[place])?;
     }
     Ok(())
 }
@@ -266,30 +314,6 @@ fn answer_memory(fault: AnswerFault) -> Result<(), AllocError>
         AnswerFault::OutOfMemory => Err(AllocError),
         _ => Ok(()),
     }
-}
-
-/// The fills that a request bills, by its groups, none where the bytes are no request.
-fn fills_in(alloc: Global, request: &[u8]) -> Result<Vec<Option<Fill>>, AllocError>
-    ensures { IfOk result (λ fills. fills.items ≡ fills_in request.now) }
-{
-    match check_request(request) {
-        Ok(framed) => fills_of(alloc, &framed),
-        Err(_) => Ok(Vec::new(alloc)),
-    }
-}
-
-/// The fills that the groups of a request bill.
-fn fills_of(
-    alloc: Global,
-    framed: &Framed<'_, RequestHeader>,
-) -> Result<Vec<Option<Fill>>, AllocError>
-    ensures { IfOk result (λ fills. fills.items ≡ map fill_billed (orders_in (Some (framed_parts framed.now)))) }
-{
-    let mut fills = Vec::new(alloc);
-    for place in 0..framed.group_count() {
-        fills.push(fill_at(framed, place))?;
-    }
-    Ok(fills)
 }
 
 /// The fill that the group at a place bills, where it reads as a claim.

@@ -15,6 +15,7 @@ mod sent;
 mod settings;
 mod slot;
 mod submitting;
+mod telling;
 mod timetable;
 mod transaction;
 

@@ -7,10 +7,10 @@ ghost use Rattle.pharmacy_journal.specs.Listing.{listed, listed_from, listed_by,
 ghost use Rattle.pharmacy_journal.specs.Reading.{header_of};
 
 use crate::at_rest::JournalAtRest;
-use crate::counting::rulings_in;
+use crate::counting::rulings_of;
 use crate::pharmacy::Pharmacy;
 use crate::slot::Slot;
-use crate::transaction::header_of;
+use crate::transaction::{code_of, count_of};
 use claim_profile::Ruling;
 use std::alloc::{AllocError, Global};
 use std::marker::Model;
@@ -95,25 +95,16 @@ fn list_of(alloc: Global, slots: &[Slot]) -> Result<Vec<EntryView>, AllocError>
 }
 
 /// What is told of an entry.
-fn view_of(alloc: Global, number: u64, slot: &Slot) -> Result<EntryView, AllocError>
-    ensures { IfOk result (λ view. listed_by number (kept_of slot.now).answer (header_of (kept_of slot.now).request) ≡ view ∷ []) }
+pub(crate) fn view_of(alloc: Global, number: u64, slot: &Slot) -> Result<EntryView, AllocError>
+    ensures seen { IfOk result (λ view. listed_by number (kept_of slot.now).answer (header_of (kept_of slot.now).request) ≡ view ∷ []) }
+    ensures rulings { IfOk result (λ view. view.rulings ≡ rulings_of (kept_of slot.now).answer) }
 {
-    let header = header_of(slot.request());
+    let request = slot.request();
     let rulings = rulings_of(alloc, slot)?;
     Ok(EntryView {
         number,
-        code: header.code(),
-        count: header.count(),
+        code: code_of(request),
+        count: count_of(request),
         rulings,
     })
-}
-
-/// The rulings of an entry's answer.
-fn rulings_of(alloc: Global, slot: &Slot) -> Result<Vec<Ruling>, AllocError>
-    ensures { IfOk result (λ rulings. rulings.items ≡ rulings_of (kept_of slot.now).answer) }
-{
-    match slot {
-        Slot::Waiting(_) => Ok(Vec::new(alloc)),
-        Slot::Settled(txn) => rulings_in(alloc, txn.answer()),
-    }
 }

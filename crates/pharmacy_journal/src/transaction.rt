@@ -1,8 +1,9 @@
 //! Transactions of a pharmacy: open ones, which have a packet to send, and settled ones, which have an
 //! answer.
 
-ghost use Rattle.std.specs.Prelude.{◌≡◌, ◌≢◌, ◌≤◌, true, false, Some, IsSome, IfOk, IfErr, OnOk, length, bytes_eq, ◌&&◌, ◌==◌};
+ghost use Rattle.std.specs.Prelude.{◌≡◌, ◌≢◌, ◌≤◌, true, false, IsSome, IfOk, IfErr, OnOk, length, bytes_eq, ◌&&◌, ◌==◌};
 ghost use Rattle.bin_routes.specs.Table.{RouteMaps};
+ghost use Rattle.d0_header.specs.Request.{request_of};
 ghost use Rattle.claim_profile.specs.Readable.{readable_header};
 ghost use Rattle.claim_model.specs.Readable.{settles};
 ghost use Rattle.claim_model.specs.Bytes.{bytes_with};
@@ -13,7 +14,7 @@ ghost use Rattle.pharmacy_journal.specs.declared.fault.SettleFault.TheVariants.{
 
 use crate::fault::SettleFault;
 use claim_profile::check_answer;
-use d0_header::{RequestHeader, ResponseHeader, request_text_laws};
+use d0_header::ResponseHeader;
 use envelope::{Kind, TxnId, WriteFault, write};
 use octets::Octets;
 use std::alloc::{AllocError, Global};
@@ -161,33 +162,41 @@ pub(crate) fn judge(request: &[u8], answer: &[u8]) -> Result<(), SettleFault>
     ensures ok { OnOk result (settles_with request.now answer.now ≡ true) }
     ensures fault { IfErr result (λ e. e ≢ OutOfMemory → settles_with request.now answer.now ≡ false) }
 {
-    let header = header_of(request);
     let answered = match check_answer(answer) {
         Ok(answered) => answered,
         Err(_) => return Err(SettleFault::Unreadable),
     };
-    if fits(&header, &answered) {
+    if fits(request, &answered) {
         Ok(())
     } else {
         Err(SettleFault::Unreadable)
     }
 }
 
-/// Whether a response has the request's code and count.
-fn fits(request: &RequestHeader, response: &ResponseHeader) -> bool
-    ensures { result ≡ (bytes_eq response.now.code request.now.code && (response.now.count == request.now.count)) }
+/// Whether a response has a readable request's code and count.
+fn fits(request: &[u8], response: &ResponseHeader) -> bool
+    requires { IsSome (readable_header request.now) }
+    ensures { result ≡ (bytes_eq response.now.code (request_of request.now).code && (response.now.count == (request_of request.now).count)) }
 {
-    response.code() == request.code() && response.count() == request.count()
+    response.code() == code_of(request) && response.count() == count_of(request)
 }
 
-/// The header of a readable request.
-pub(crate) fn header_of(request: &[u8]) -> RequestHeader
+/// The code (103-A3) of a readable request, as it stands in its header.
+#[tactic(auto, using(crate::proofs::ReadingLemmas::readable_long))]
+pub(crate) fn code_of(request: &[u8]) -> [u8; 2]
     requires { IsSome (readable_header request.now) }
-    ensures { readable_header request.now ≡ Some result }
+    ensures { result ≡ (request_of request.now).code }
 {
-    request_text_laws();
-    match RequestHeader::read(request) {
-        Ok(header) => header,
-        Err(_) => unreachable!(),
-    }
+    let mut code = [0; 2];
+    code.copy_from_slice(&request[8..10]);
+    code
+}
+
+/// The count (109-A9) of a readable request, as it stands in its header.
+#[tactic(auto, using(crate::proofs::ReadingLemmas::readable_long, crate::proofs::ReadingLemmas::readable_count))]
+pub(crate) fn count_of(request: &[u8]) -> u8
+    requires { IsSome (readable_header request.now) }
+    ensures { result ≡ (request_of request.now).count }
+{
+    request[20] - b'0'
 }

@@ -1,8 +1,10 @@
 -- The header of a readable request is cut from its front.
 use Rattle.std.proofs.Common.{◌≡◌, ℕ, Bool, true, false, List, length, Option, Some, None, option_map, refl, sym, ap, ◌∙◌}
-use Rattle.std.specs.Prelude.{nat_le, option_and_then, if◌then◌else◌, IsSome}
+use Rattle.std.proofs.lemmas.Bool.{ltb-false}
+use Rattle.std.specs.Prelude.{◌≤◌, nat_le, nat_lt, option_and_then, if◌then◌else◌, IsSome}
 use Rattle.d0_header.specs.Request.{Request, request_of, request_fault}
 use Rattle.d0_header.specs.declared.fault.HeaderFault.{HeaderFault}
+use Rattle.d0_header.specs.declared.fault.HeaderFault.TheVariants.{Short}
 use Rattle.d0_segments.specs.declared.fault.FramingFault.{FramingFault}
 use Rattle.d0_segments.specs.Parts.{TransmissionParts}
 use Rattle.d0_segments.specs.Framing.{request_kind, transmission_of, framing_fault, after_header, unless}
@@ -44,3 +46,15 @@ readable_cut text s =
     let f = found (readable_header text) s in
     let cut = header_cut text f.0 (framed (nat_le (length text) longest_request) (framed_header (transmission_of request_kind text)) f.0 f.1) in
     (cut.0, f.1 ∙ ap (λ (h : Request). Some h) (sym cut.1))
+
+not_short : (b : Bool) (later : Option HeaderFault) → (if b then Some Short else later) ≡ None → b ≡ false
+not_short false later e = refl
+not_short true later e = absurd cc
+
+long_enough : (text : List ℕ) → request_fault text ≡ None → 56 ≤ length text
+unfolding request_fault
+long_enough text e = ltb-false (length text) 56 (not_short (nat_lt (length text) 56) _ e)
+
+-- and it is long enough for one
+pub readable_long : (text : List ℕ) → IsSome (readable_header text) → 56 ≤ length text
+readable_long text s = long_enough text (readable_cut text s).0

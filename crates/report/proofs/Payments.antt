@@ -1,13 +1,13 @@
 -- How the words of payments and rulings follow one another.
 use Rattle.std.proofs.Common.{◌≡◌, ℕ, ◌-◌, ◌<◌, ◌≤◌, List, [], ◌∷◌, ◌++◌, length, take, drop, get_or, map, refl, sym, ap, ◌∙◌, append_assoc, append-nil, arith}
 use Rattle.std.proofs.lemmas.List.{take_all}
-use Rattle.std.specs.Prelude.{codes, decimal}
-use Rattle.std.specs.List.{flat_map, join_with_byte}
+use Rattle.std.specs.Prelude.{decimal}
+use Rattle.std.specs.List.{flat_map}
 use Rattle.claim_profile.specs.Reject.{code_text}
 use Rattle.claim_profile.specs.declared.reject.Code.{Code}
 use Rattle.claim_profile.specs.declared.reject.Code.TheVariants.{Bin}
 use Rattle.claim_model.specs.Words.{Amounts}
-use Rattle.report.specs.Words.{Line, behind_spaces}
+use Rattle.report.specs.Words.{behind_spaces}
 use Rattle.report.specs.Rulings.{amount_words, codes_word}
 use Rattle.report.proofs.Joining.{words_join, join_with_byte-cons}
 
@@ -61,3 +61,15 @@ codes_split_join a b c (first ∷ more) some one two =
 pub no_codes_join : (a b : List ℕ) (rejects : List Code) → length rejects < 1 → b ≡ a ++ behind_spaces ([] ∷ []) → b ≡ a ++ behind_spaces (codes_word rejects ∷ [])
 no_codes_join a b [] none one = one ∙ ap (λ (w : List ℕ). a ++ behind_spaces (w ∷ [])) (sym codes_word-nil)
 no_codes_join a b (first ∷ more) none one = absurd (omega (arith, none))
+
+-- amounts that were written from the last to the first
+pub amounts_text : (t0 t1 t2 t3 t4 : List ℕ) (r1 r2 r3 r4 : ℕ) (m : Amounts) (cost fee copay total : ℕ) → cost ≡ m.cost → fee ≡ m.fee → copay ≡ m.copay → total ≡ m.total → drop 44 t0 ≡ [] →
+    drop r1 t1 ≡ 32 ∷ (decimal total ++ drop 44 t0) → drop r2 t2 ≡ 32 ∷ (decimal copay ++ drop r1 t1) → drop r3 t3 ≡ 32 ∷ (decimal fee ++ drop r2 t2) → drop r4 t4 ≡ 32 ∷ (decimal cost ++ drop r3 t3) → drop r4 t4 ≡ behind_spaces (amount_words m)
+unfolding behind_spaces
+amounts_text t0 t1 t2 t3 t4 r1 r2 r3 r4 m cost fee copay total w x y z none one two three four =
+    four
+    ∙ ap (λ (t : List ℕ). 32 ∷ (decimal cost ++ t)) (three ∙ ap (λ (t : List ℕ). 32 ∷ (decimal fee ++ t)) (two ∙ ap (λ (t : List ℕ). 32 ∷ (decimal copay ++ t)) (one ∙ ap (λ (t : List ℕ). 32 ∷ (decimal total ++ t)) none)))
+    ∙ ap (λ (n : ℕ). flat_map (λ (word : List ℕ). 32 ∷ word) (decimal n ∷ decimal fee ∷ decimal copay ∷ decimal total ∷ [])) w
+    ∙ ap (λ (n : ℕ). flat_map (λ (word : List ℕ). 32 ∷ word) (decimal m.cost ∷ decimal n ∷ decimal copay ∷ decimal total ∷ [])) x
+    ∙ ap (λ (n : ℕ). flat_map (λ (word : List ℕ). 32 ∷ word) (decimal m.cost ∷ decimal m.fee ∷ decimal n ∷ decimal total ∷ [])) y
+    ∙ ap (λ (n : ℕ). flat_map (λ (word : List ℕ). 32 ∷ word) (decimal m.cost ∷ decimal m.fee ∷ decimal m.copay ∷ decimal n ∷ [])) z

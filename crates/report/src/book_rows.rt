@@ -12,7 +12,6 @@ ghost use Rattle.report.specs.BookRows.{code_in, is_reversed, was_reversed, row_
 use crate::places::Place;
 use crate::rows::put_row_place;
 use claim_profile::{Auth, Ruling};
-use d0_header::{RequestHeader, request_text_laws};
 use payer_book::{Book, Row};
 use std::alloc::AllocError;
 
@@ -42,16 +41,15 @@ fn code_of(row: &Row) -> [u8; 2]
     request_code(row.request())
 }
 
-/// The code of a readable request.
+/// The code of a readable request, as it stands in its header.
+#[tactic(auto, using(crate::proofs::Headers::readable_long))]
 fn request_code(request: &[u8]) -> [u8; 2]
     requires { IsSome (readable_header request.now) }
     ensures { result ≡ code_in (readable_header request.now) }
 {
-    request_text_laws();
-    match RequestHeader::read(request) {
-        Ok(header) => header.code(),
-        Err(_) => unreachable!(),
-    }
+    let mut code = [0; 2];
+    code.copy_from_slice(&request[8..10]);
+    code
 }
 
 /// Whether a ruling made a payment that was reversed.

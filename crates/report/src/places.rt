@@ -24,6 +24,6 @@ pub(crate) fn put_mark(out: &mut Vec<u8>, place: &Place) -> Result<(), AllocErro
     if place.count == 1 {
         return Ok(());
     }
-    out.extend_from_slice(b"/")?;
+    out.push(b'/')?;
     put_decimal(out, place.number)
 }

@@ -78,6 +78,6 @@ fn put_txn(out: &mut Vec<u8>, id: TxnId) -> Result<(), AllocError>
     ensures { OnOk result (out.new.items ≡ out.old.items ++ txn_name id) }
 {
     put_decimal(out, u64::from(id.pharmacy()))?;
-    out.extend_from_slice(b".")?;
+    out.push(b'.')?;
     put_decimal(out, id.number())
 }

@@ -11,7 +11,7 @@ use std::alloc::AllocError;
 pub(crate) fn put_word(out: &mut Vec<u8>, word: &[u8]) -> Result<(), AllocError>
     ensures { OnOk result (out.new.items ≡ out.old.items ++ behind_spaces (word.now ∷ [])) }
 {
-    out.extend_from_slice(b" ")?;
+    out.push(b' ')?;
     out.extend_from_slice(word)
 }
 
@@ -20,7 +20,7 @@ pub(crate) fn put_word(out: &mut Vec<u8>, word: &[u8]) -> Result<(), AllocError>
 pub(crate) fn put_number(out: &mut Vec<u8>, number: u64) -> Result<(), AllocError>
     ensures { OnOk result (out.new.items ≡ out.old.items ++ behind_spaces (decimal number ∷ [])) }
 {
-    out.extend_from_slice(b" ")?;
+    out.push(b' ')?;
     put_decimal(out, number)
 }
 
@@ -28,5 +28,6 @@ pub(crate) fn put_number(out: &mut Vec<u8>, number: u64) -> Result<(), AllocErro
 pub(crate) fn end_line(out: &mut Vec<u8>) -> Result<(), AllocError>
     ensures { OnOk result (out.new.items ≡ out.old.items ++ codes "\n") }
 {
-    out.extend_from_slice(b"\n")
+    out.push(b'\n')?;
+    Ok(())
 }

@@ -1,16 +1,19 @@
-use Rattle.std.proofs.Common.{◌||◌, ◌++◌, List, sym, ap, ◌∙◌, arith}
+use Rattle.std.proofs.Common.{◌||◌, ◌++◌, List, Option, sym, ap, ◌∙◌}
 use Rattle.std.specs.List.{list_any, filter_map}
 use Rattle.std.proofs.lemmas.List.{append-nil}
-use Rattle.pharmacy_journal.specs.Counting.{Outcome, named_in, takes_back, has_auth}
-use Rattle.pharmacy_journal.proofs.Payable.{outcomes_between-end, or_false}
+use Rattle.claim_model.specs.Words.{Fill}
+use Rattle.pharmacy_journal.specs.Counting.{outcomes_between, named_in, takes_back, has_auth}
+use Rattle.pharmacy_journal.proofs.Payable.{no_fills, or_false}
 use Rattle.pharmacy_journal.proofs.counting.take_all.Goals as goal
 
-pub returns-clause-named : goal.returns-clause-named
-returns-clause-named c =
-    let end = outcomes_between-end c.args.fills.now c.args.rulings.now c.loop-place.place (omega (arith, c.min-count.ensures, c.loop-place-test.false)) in
-    sym (append-nil c.loop-place.told.named.items) ∙ ap (λ (os : List Outcome). c.loop-place.told.named.items ++ filter_map named_in os) (sym end) ∙ c.loop-place.invariant.named
+pub returns-in-Err-clause-named : goal.returns-in-Err-clause-named
+returns-in-Err-clause-named c =
+    let told = c.args.told.now in
+    sym (append-nil told.named.items)
+    ∙ ap (λ (fills : List (Option Fill)). told.named.items ++ filter_map named_in (outcomes_between fills c.args.rulings.now)) (no_fills c.args.request.now c.in-Err.field-0 (sym c.in-Err.ensures.fault))
 
-pub returns-clause-reversed : goal.returns-clause-reversed
-returns-clause-reversed c = λ a.
-    let end = outcomes_between-end c.args.fills.now c.args.rulings.now c.loop-place.place (omega (arith, c.min-count.ensures, c.loop-place-test.false)) in
-    sym (or_false (has_auth c.loop-place.told.reversed.keys a)) ∙ ap (λ (os : List Outcome). has_auth c.loop-place.told.reversed.keys a || list_any (takes_back a) os) (sym end) ∙ c.loop-place.invariant.reversed a
+pub returns-in-Err-clause-reversed : goal.returns-in-Err-clause-reversed
+returns-in-Err-clause-reversed c = λ a.
+    let told = c.args.told.now in
+    sym (or_false (has_auth told.reversed.keys a))
+    ∙ ap (λ (fills : List (Option Fill)). has_auth told.reversed.keys a || list_any (takes_back a) (outcomes_between fills c.args.rulings.now)) (no_fills c.args.request.now c.in-Err.field-0 (sym c.in-Err.ensures.fault))

@@ -1,5 +1,6 @@
 use Rattle.std.proofs.Common.{◌∙◌}
-use Rattle.pharmacy_journal.proofs.ReadingLemmas.{settles_at, settles_none}
+use Rattle.d0_header.specs.Request.{request_of}
+use Rattle.pharmacy_journal.proofs.ReadingLemmas.{readable_cut, settles_at, settles_none}
 use Rattle.pharmacy_journal.proofs.transaction.judge.Goals as goal
 
 pub returns-in-Err-clause-fault : goal.returns-in-Err-clause-fault
@@ -7,8 +8,8 @@ returns-in-Err-clause-fault c = λ _. settles_none c.args.request.now c.args.ans
 
 pub returns-then-fits-clause-ok : goal.returns-then-fits-clause-ok
 returns-then-fits-clause-ok c =
-    settles_at c.args.request.now c.args.answer.now c.header_of-header.result _ c.header_of-header.ensures c.in-Ok.ensures.read.1 ∙ (cc)
+    settles_at c.args.request.now c.args.answer.now (request_of c.args.request.now) _ (readable_cut c.args.request.now c.requires).1 c.in-Ok.ensures.read.1 ∙ (cc)
 
 pub returns-else-fits-clause-fault : goal.returns-else-fits-clause-fault
 returns-else-fits-clause-fault c = λ _.
-    settles_at c.args.request.now c.args.answer.now c.header_of-header.result _ c.header_of-header.ensures c.in-Ok.ensures.read.1 ∙ (cc)
+    settles_at c.args.request.now c.args.answer.now (request_of c.args.request.now) _ (readable_cut c.args.request.now c.requires).1 c.in-Ok.ensures.read.1 ∙ (cc)

@@ -1,7 +1,6 @@
-use Rattle.std.proofs.Common.{◌≡◌, ◌++◌, ◌+◌, ap, sym, ◌∙◌}
+use Rattle.std.proofs.Common.{◌∙◌}
 use Rattle.claim_model.specs.Bytes.{bytes_with}
-use Rattle.report.specs.Words.{line_text}
-use Rattle.report.specs.Places.{place_line, txn_name, row_words}
+use Rattle.report.specs.Places.{txn_name}
 use Rattle.report.specs.BookRows.{told_row}
 use Rattle.report.proofs.Loops.{told_goes_on, told_is_done}
 use Rattle.report.proofs.book_rows.put_row.Goals as goal

@@ -1,8 +1,6 @@
-use Rattle.std.proofs.Common.{◌≡◌, ◌∷◌, ◌++◌, ℕ, List, map, ap, ◌∙◌}
+use Rattle.std.proofs.Common.{◌∙◌}
 use Rattle.std.specs.Prelude.{decimal}
-use Rattle.report.specs.Words.{lines_text}
 use Rattle.report.specs.Rulings.{ruling_words}
-use Rattle.report.specs.Places.{place_lines}
 use Rattle.report.proofs.Loops.{told_goes_on, told_is_done}
 use Rattle.report.proofs.entries.put_told.Goals as goal
 

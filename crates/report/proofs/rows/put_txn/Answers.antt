@@ -1,5 +1,3 @@
-use Rattle.std.proofs.Common.{[], ◌∷◌, ◌++◌, ap, ◌∙◌}
-use Rattle.std.specs.Prelude.{codes, decimal}
 use Rattle.std.proofs.lemmas.Result.{on_ok_weaker}
 use Rattle.report.proofs.Loops.{txn_joins}
 use Rattle.report.proofs.rows.put_txn.Goals as goal
@@ -7,6 +5,6 @@ use Rattle.report.proofs.rows.put_txn.Goals as goal
 pub returns : goal.returns
 returns c =
     on_ok_weaker c.put_decimal-2.result
-    (λ last. txn_joins c.args.out.now.items c.put_decimal.new.out.items c.extend_from_slice.new.self.items c.put_decimal-2.new.out.items c.args.id c.from.result c.number.result (cc) (cc)
-    c.in_ok-put_decimal.ensures.ok c.in_ok-extend_from_slice.ensures.items last)
+    (λ last. txn_joins c.args.out.now.items c.put_decimal.new.out.items c.push.new.self.items c.put_decimal-2.new.out.items c.args.id c.from.result c.number.result (cc) (cc)
+    c.in_ok-put_decimal.ensures.ok c.in_ok-push.ensures.items last)
     c.put_decimal-2.ensures.ok

@@ -1,8 +1,6 @@
 use Rattle.std.proofs.Common.{[], ◌∷◌}
 use Rattle.std.specs.Prelude.{codes}
 use Rattle.std.proofs.lemmas.Result.{on_ok_weaker}
-use Rattle.claim_profile.specs.Authorization.{authorization_text}
-use Rattle.report.specs.Rulings.{payment_words, codes_word}
 use Rattle.report.proofs.Joining.{words_join}
 use Rattle.report.proofs.rulings.put_ruling.Goals as goal
 

@@ -1,0 +1,19 @@
+use Rattle.std.proofs.Common.{◌≡◌, List, map, ap, ◌∙◌}
+use Rattle.std.proofs.lemmas.Result.{IfOk-weaker}
+use Rattle.claim_model.specs.Journal.{JournalAtRest, Kept}
+use Rattle.pharmacy_journal.specs.Entries.{kept_of}
+use Rattle.pharmacy_journal.specs.Listing.{listed, listed_from}
+use Rattle.pharmacy_journal.specs.Counting.{outcomes, counted_in}
+use Rattle.pharmacy_journal.proofs.Payable.{counted_is}
+use Rattle.pharmacy_journal.proofs.at_rest.JournalAtRest.told.Goals as goal
+
+pub returns-clause-entries : goal.returns-clause-entries
+unfolding listed
+returns-clause-entries c =
+    let entries : map kept_of c.as_slice.result.now ≡ c.args.self.now.entries = ap (map kept_of) c.as_slice.ensures.value ∙ ap (λ (j : JournalAtRest). j.entries) c.self.view_is in
+    IfOk-weaker c.told_by.result _ _ (λ told e. e ∙ ap (λ (ks : List Kept). listed_from 1 ks) entries) c.told_by.ensures.entries
+
+pub returns-clause-paid : goal.returns-clause-paid
+returns-clause-paid c = λ routes.
+    let entries : map kept_of c.as_slice.result.now ≡ c.args.self.now.entries = ap (map kept_of) c.as_slice.ensures.value ∙ ap (λ (j : JournalAtRest). j.entries) c.self.view_is in
+    IfOk-weaker c.told_by.result _ _ (λ told e. e ∙ ap (λ (ks : List Kept). counted_in (outcomes ks)) entries ∙ counted_is routes c.args.self.now) c.told_by.ensures.paid

@@ -1,0 +1,71 @@
+//! What a journal tells at once: its entries, and the payments that it counts.
+
+ghost use Rattle.std.specs.Prelude.{◌≡◌, map, IfOk};
+ghost use Rattle.std.specs.List.{list_any, filter_map};
+ghost use Rattle.bin_routes.specs.Table.{RouteMaps};
+ghost use Rattle.claim_model.specs.Words.{Auth as AuthSeen};
+ghost use Rattle.claim_model.specs.Bytes.{bytes_with};
+ghost use Rattle.claim_model.specs.Counted.{counted};
+ghost use Rattle.claim_model.specs.Journal.{stopped};
+ghost use Rattle.pharmacy_journal.specs.Entries.{kept_of};
+ghost use Rattle.pharmacy_journal.specs.Listing.{listed, listed_from};
+ghost use Rattle.pharmacy_journal.specs.Counting.{outcomes, counted_in, named_in, takes_back, has_auth};
+
+use crate::at_rest::JournalAtRest;
+use crate::counting::{CountedPayment, Told, counted_of, nothing_told, take_slot};
+use crate::listing::{EntryView, view_of};
+use crate::pharmacy::Pharmacy;
+use crate::slot::Slot;
+use std::alloc::{AllocError, Global};
+
+impl Pharmacy {
+    /// All entries, in order of their numbers, and the payments that the pharmacy counts, with each answer read once:
+    /// what `list` and `paid` give.
+    pub fn told(&self, alloc: Global) -> Result<(Vec<EntryView>, Vec<CountedPayment>), AllocError>
+        ensures entries { IfOk result (λ told. told.0.items ≡ listed (stopped self.now)) }
+        ensures paid { (routes : RouteMaps) → IfOk result (λ told. told.1.items ≡ counted (bytes_with routes) (stopped self.now)) }
+    {
+        told_by(alloc, self.slots.as_slice())
+    }
+}
+
+impl JournalAtRest {
+    /// All entries and the payments that the pharmacy counts, as for one that is up.
+    pub fn told(&self, alloc: Global) -> Result<(Vec<EntryView>, Vec<CountedPayment>), AllocError>
+        ensures entries { IfOk result (λ told. told.0.items ≡ listed self.now) }
+        ensures paid { (routes : RouteMaps) → IfOk result (λ told. told.1.items ≡ counted (bytes_with routes) self.now) }
+    {
+        told_by(alloc, self.slots.as_slice())
+    }
+}
+
+/// What is told of these entries, and the payments that they count.
+fn told_by(
+    alloc: Global,
+    slots: &[Slot],
+) -> Result<(Vec<EntryView>, Vec<CountedPayment>), AllocError>
+    ensures entries { IfOk result (λ told. told.0.items ≡ listed_from 1 (map kept_of slots.now)) }
+    ensures paid { IfOk result (λ told. told.1.items ≡ counted_in (outcomes (map kept_of slots.now))) }
+{
+    let (views, told) = read_both(alloc, slots)?;
+    let paid = counted_of(alloc, told)?;
+    Ok((views, paid))
+}
+
+/// What is told of these entries one by one, and what they tell together.
+fn read_both(alloc: Global, slots: &[Slot]) -> Result<(Vec<EntryView>, Told), AllocError>
+    ensures entries { IfOk result (λ told. told.0.items ≡ listed_from 1 (map kept_of slots.now)) }
+    ensures named { IfOk result (λ told. told.1.named.items ≡ filter_map named_in (outcomes (map kept_of slots.now))) }
+    ensures reversed { IfOk result (λ told. (a : AuthSeen) → has_auth told.1.reversed.keys a ≡ list_any (takes_back a) (outcomes (map kept_of slots.now))) }
+{
+    let mut views = Vec::new(alloc);
+    let mut told = nothing_told(alloc);
+    let mut number = 1;
+    for slot in slots {
+        let view = view_of(alloc, number, slot)?;
+        take_slot(&mut told, slot, view.rulings())?;
+        views.push(view)?;
+        number += 1;
+    }
+    Ok((views, told))
+}
