@@ -1,16 +1,18 @@
 //! The processor's book.
 
-use crate::texts::{billing_of, reversal_of};
+use crate::texts::{billing_of, chosen_billing, reversal_of};
 use bin_routes::{PayerNo, RouteRow, Routes};
 use claim_profile::Amount;
 use envelope::TxnId;
 use octets::Octets;
-use payer_book::{Book, BookSettings};
+use payer_book::{Book, BookSettings, HashKeys};
 use plan_rules::Plan;
 use std::alloc::Global;
 
 /// The greatest number of rows that a book may have.
 const MOST_ROWS: u32 = 65_536;
+/// How many digits a prescription has that is chosen.
+const DIGITS: usize = 12;
 
 /// Pays so many claims, each of a prescription of its own.
 pub(crate) fn claims(alloc: Global, count: u32) -> Option<()> {
@@ -42,6 +44,19 @@ fn fill(alloc: Global, book: &mut Book, count: u32) -> Option<()> {
     Some(())
 }
 
+/// Pays the claims of the first so many prescriptions of a text, one of 12 digits a line.
+pub(crate) fn chosen(alloc: Global, keys: &HashKeys, text: &[u8], count: u32) -> Option<()> {
+    let routes = routes(alloc)?;
+    let mut book = keyed(alloc, MOST_ROWS, keys)?;
+    let mut lines = text.chunks(DIGITS.saturating_add(1));
+    for number in 0..count {
+        let digits = lines.next()?.get(..DIGITS)?;
+        let request = chosen_billing(alloc, digits)?;
+        answer(&routes, &mut book, number, &request)?;
+    }
+    Some(())
+}
+
 /// Pays the claim of one prescription and reverses it, in turn, so many requests in all.
 pub(crate) fn turns(alloc: Global, count: u32) -> Option<()> {
     let routes = routes(alloc)?;
@@ -64,10 +79,16 @@ fn answer(routes: &Routes, book: &mut Book, number: u32, request: &[u8]) -> Opti
 
 /// An empty book of payer 1 with room for so many rows.
 fn opened(alloc: Global, rows: u32) -> Option<Book> {
+    keyed(alloc, rows, &HashKeys::fixed())
+}
+
+/// The same, and its maps hash with these keys.
+fn keyed(alloc: Global, rows: u32, keys: &HashKeys) -> Option<Book> {
     let mut plan = Plan::new(alloc, Amount::new(150)?, Amount::new(1000)?).ok()?;
     plan.set(b"00093721410", 18_567).ok()?;
     let settings = BookSettings::new(1, rows).ok()?;
-    Some(Book::new(alloc, PayerNo::new(1)?, settings, plan))
+    let payer = PayerNo::new(1)?;
+    Some(Book::keyed(alloc, payer, settings, plan, keys))
 }
 
 /// One BIN, which leads to payer 1.

@@ -1,6 +1,8 @@
 //! Work for valgrind to count: a node that has `size` entries does one thing `times` more.
 //! Usage: bench WORK SIZE TIMES, where WORK is claims, turns, ticks, settled, table, books, saved, journals,
-//! or a flood: full-new, full-repeats, full-reused, full-unreadable, full-submissions, full-heard or full-differs.
+//! or a flood: full-new, full-repeats, full-reused, full-unreadable, full-submissions, full-heard or full-differs; or
+//! chosen or chosen-secret, which pay SIZE claims of the prescriptions on standard input, one of 12 digits a line, in a
+//! book whose maps hash with the fixed keys or with random ones.
 #![tactic(auto)]
 
 mod book;
@@ -10,8 +12,10 @@ mod records;
 mod table;
 mod texts;
 
+use payer_book::HashKeys;
 use std::alloc::Global;
 use std::env;
+use std::io::Read;
 use std::process::ExitCode;
 
 fn main(rt: HostRuntime) -> ExitCode {
@@ -27,7 +31,18 @@ fn run(rt: &HostRuntime) -> Option<()> {
     let words: Vec<String> = env::args(rt).ok()?.collect(alloc).ok()?;
     let size: u32 = words.get(2)?.parse().ok()?;
     let times: u32 = words.get(3)?.parse().ok()?;
-    work(alloc, words.get(1)?.as_str(), size, times)
+    match words.get(1)?.as_str() {
+        "chosen" => chosen(rt, &HashKeys::fixed(), size),
+        "chosen-secret" => chosen(rt, &HashKeys::random(rt).ok()?, size),
+        name => work(alloc, name, size, times),
+    }
+}
+
+/// Pays the claims of the first so many prescriptions on standard input, in a book whose maps hash with these keys.
+fn chosen(rt: &HostRuntime, keys: &HashKeys, count: u32) -> Option<()> {
+    let mut text = Vec::new(rt.alloc());
+    rt.stdin().read_to_end(&mut text).ok()?;
+    book::chosen(rt.alloc(), keys, &text, count)
 }
 
 /// Does the work of that name.

@@ -22,6 +22,16 @@ pub(crate) fn billing_of(alloc: Global, prescription: u32) -> Option<Vec<u8>> {
     numbered(alloc, billing(), 88, prescription)
 }
 
+/// The billing of a prescription that these digits spell.
+pub(crate) fn chosen_billing(alloc: Global, digits: &[u8]) -> Option<Vec<u8>> {
+    let text = billing();
+    let mut copy = Vec::new(alloc);
+    copy.extend_from_slice(text.get(..88)?).ok()?;
+    copy.extend_from_slice(digits).ok()?;
+    copy.extend_from_slice(text.get(94..)?).ok()?;
+    Some(copy)
+}
+
 /// The reversal of that prescription.
 pub(crate) fn reversal_of(alloc: Global, prescription: u32) -> Option<Vec<u8>> {
     numbered(alloc, reversal(), 70, prescription)

@@ -12,13 +12,13 @@ use crate::fault::RecordFault;
 use crate::products::read_products;
 use crate::rows::read_rows;
 use claim_profile::Amount;
-use payer_book::{BookAtRest, BookSettings, PayerNo, Plan};
+use payer_book::{BookAtRest, BookSettings, HashKeys, PayerNo, Plan};
 use std::alloc::Global;
 
 /// The book of this payer with these settings that the bytes are, all of the bytes.
 ///
 /// Version 2 is read, and version 1 where every request has exactly one transaction. A row stands where `BookAtRest::add`
-/// takes it, so a Paid ruling may have any amounts.
+/// takes it, so a Paid ruling may have any amounts. Its maps hash with keys that are the same in every program.
 ///
 /// # Errors
 /// In this order: `Short`, `NotABook`, `Version`, `BadRecord` at 29 where no plan has such a fee, such a copay or so many
@@ -35,8 +35,27 @@ pub fn read_book(
     // What is read can be made, and the bytes are its text.
     ensures found { IfOk result (λ book. IsTextOf payer settings bytes.now book) }
 {
+    read_book_keyed(alloc, bytes, payer, settings, &HashKeys::fixed())
+}
+
+/// The same, and the maps of the book hash with these keys.
+///
+/// # Errors
+/// Those of `read_book`.
+pub fn read_book_keyed(
+    alloc: Global,
+    bytes: &[u8],
+    payer: PayerNo,
+    settings: BookSettings,
+    keys: &HashKeys,
+) -> Result<BookAtRest, RecordFault>
+    ensures ok { IfOk result (λ book. book_in payer settings bytes.now ≡ Ok book) }
+    ensures fault { IfErr result (λ e. e ≢ OutOfMemory → book_in payer settings bytes.now ≡ Err e) }
+    // What is read can be made, and the bytes are its text.
+    ensures found { IfOk result (λ book. IsTextOf payer settings bytes.now book) }
+{
     book_is_its_text();
-    read_parts(alloc, bytes, payer, settings)
+    read_parts(alloc, bytes, payer, settings, keys)
 }
 
 /// The same, part by part.
@@ -46,6 +65,7 @@ fn read_parts(
     bytes: &[u8],
     payer: PayerNo,
     settings: BookSettings,
+    keys: &HashKeys,
 ) -> Result<BookAtRest, RecordFault>
     ensures ok { IfOk result (λ book. book_in payer settings bytes.now ≡ Ok book) }
     ensures fault { IfErr result (λ e. e ≢ OutOfMemory → book_in payer settings bytes.now ≡ Err e) }
@@ -54,7 +74,7 @@ fn read_parts(
     let (head, rest) = BookHead::open(bytes, payer.get(), settings.serial())?;
     let plan = plan_of(alloc, head);
     let (plan, rest) = read_products(total, head.products, plan, rest)?;
-    let book = BookAtRest::new(alloc, payer, settings, plan);
+    let book = BookAtRest::keyed(alloc, payer, settings, plan, keys);
     read_rows(alloc, head.version, total, head.rows, book, rest)
 }
 

@@ -19,7 +19,7 @@ mod rows;
 mod versions;
 
 pub use book_laws::{book_is_its_text, book_reads_back, books_share_no_text};
-pub use book_reading::read_book;
+pub use book_reading::{read_book, read_book_keyed};
 pub use book_writing::{save_book, write_book};
 pub use fault::RecordFault;
 pub use journal_laws::{journal_is_its_text, journal_reads_back, journals_share_no_text};

@@ -4,16 +4,17 @@ ghost use Rattle.std.specs.Prelude.{◌≡◌, IfOk};
 ghost use Rattle.kept_records.specs.Books.{book_text};
 
 use bin_routes::PayerNo;
-use kept_records::{RecordFault, read_book, save_book};
-use payer_book::{Book, BookAtRest, BookSettings};
+use kept_records::{RecordFault, read_book_keyed, save_book};
+use payer_book::{Book, BookAtRest, BookSettings, HashKeys};
 use std::alloc::{AllocError, Global};
 use std::marker::Model;
 
-/// The bytes of a book's record, beside the payer's number and the book's settings.
+/// The bytes of a book's record, beside the payer's number, the book's settings and the keys that its maps hash with.
 #[derive(Drop)]
 pub(crate) struct BookBytes {
     payer: PayerNo,
     settings: BookSettings,
+    keys: HashKeys,
     bytes: Vec<u8>,
 }
 
@@ -38,6 +39,7 @@ impl BookBytes {
         Ok(BookBytes {
             payer: book.payer(),
             settings: book.settings(),
+            keys: book.keys(),
             bytes,
         })
     }
@@ -63,7 +65,8 @@ impl BookBytes {
     fn read(&self, alloc: Global) -> Result<BookAtRest, AllocError>
         ensures { IfOk result (λ book. book ≡ self.now) }
     {
-        match read_book(alloc, self.bytes.as_slice(), self.payer, self.settings) {
+        let bytes = self.bytes.as_slice();
+        match read_book_keyed(alloc, bytes, self.payer, self.settings, &self.keys) {
             Ok(book) => Ok(book),
             Err(RecordFault::OutOfMemory) => Err(AllocError),
             Err(_) => unreachable!(),

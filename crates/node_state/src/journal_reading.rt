@@ -124,4 +124,15 @@ impl<'a> JournalReading<'a> {
             JournalSource::Resting(journal) => journal.list(alloc),
         }
     }
+
+    /// All entries, in order of their numbers, and the payments that the pharmacy counts, with each answer read once.
+    pub fn told(&self, alloc: Global) -> Result<(Vec<EntryView>, Vec<CountedPayment>), AllocError>
+        ensures entries { IfOk result (λ told. told.0.items ≡ listed self.now) }
+        ensures paid { (routes : RouteMaps) → IfOk result (λ told. told.1.items ≡ counted (bytes_with routes) self.now) }
+    {
+        match &self.source {
+            JournalSource::Running(pharmacy) => pharmacy.told(alloc),
+            JournalSource::Resting(journal) => journal.told(alloc),
+        }
+    }
 }

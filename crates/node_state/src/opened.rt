@@ -81,5 +81,6 @@ fn payer_of(alloc: Global, payers: &[PayerSettings], number: u16) -> Result<Paye
         unreachable!()
     };
     let settings = payers[number as usize - 1].copy()?;
-    Ok(PayerNode::new(alloc, payer, settings.book, settings.plan))
+    let PayerSettings { book, plan, keys } = settings;
+    Ok(PayerNode::keyed(alloc, payer, book, plan, &keys))
 }

@@ -15,7 +15,7 @@ use crate::book_bytes::BookBytes;
 use crate::book_reading::BookReading;
 use crate::payer_calls;
 use bin_routes::{PayerNo, Routes};
-use payer_book::{Book, BookSettings, Plan};
+use payer_book::{Book, BookSettings, HashKeys, Plan};
 use std::alloc::{AllocError, Global};
 use std::marker::Model;
 use world_setup::{Call, Node, Sent, StepFault};
@@ -45,12 +45,25 @@ impl Model for PayerNode {
 }
 
 impl PayerNode {
-    /// A payer that is up, with an empty book.
+    /// A payer that is up, with an empty book. Its book's maps hash with keys that are the same in every program.
     pub fn new(alloc: Global, payer: PayerNo, settings: BookSettings, plan: Plan) -> PayerNode
         ensures { result ≡ Up (record { payer = payer; settings = settings; plan = plan; rows = [] }) }
     {
+        PayerNode::keyed(alloc, payer, settings, plan, &HashKeys::fixed())
+    }
+
+    /// The same, and its book's maps hash with these keys, as often as it is stopped and started.
+    pub fn keyed(
+        alloc: Global,
+        payer: PayerNo,
+        settings: BookSettings,
+        plan: Plan,
+        keys: &HashKeys,
+    ) -> PayerNode
+        ensures { result ≡ Up (record { payer = payer; settings = settings; plan = plan; rows = [] }) }
+    {
         PayerNode {
-            state: PayerState::Up(Book::new(alloc, payer, settings, plan)),
+            state: PayerState::Up(Book::keyed(alloc, payer, settings, plan, keys)),
         }
     }
 

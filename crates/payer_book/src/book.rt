@@ -12,6 +12,7 @@ ghost use Rattle.claim_model.specs.Held.{row_answer};
 ghost use Rattle.payer_book.specs.Views.{payment_view, view_of};
 ghost use Rattle.payer_book.specs.Added.{kept_row, added_all};
 
+use crate::keys::HashKeys;
 use crate::payment::Payment;
 use crate::payments::Payments;
 use crate::row::Row;
@@ -67,8 +68,22 @@ pub struct PaymentView {
 }
 
 impl Book {
-    /// An empty book, with memory from `alloc`. Nothing is taken before the first row.
+    /// An empty book, with memory from `alloc`. Nothing is taken before the first row. Its maps hash with keys that are the
+    /// same in every program.
     pub fn new(alloc: Global, payer: PayerNo, settings: BookSettings, plan: Plan) -> Book
+        ensures { result ≡ record { payer = payer; settings = settings; plan = plan; rows = [] } }
+    {
+        Book::keyed(alloc, payer, settings, plan, &HashKeys::fixed())
+    }
+
+    /// The same, and its maps hash with these keys.
+    pub fn keyed(
+        alloc: Global,
+        payer: PayerNo,
+        settings: BookSettings,
+        plan: Plan,
+        keys: &HashKeys,
+    ) -> Book
         ensures { result ≡ record { payer = payer; settings = settings; plan = plan; rows = [] } }
     {
         let _number = payer.get();
@@ -76,8 +91,8 @@ impl Book {
             payer,
             settings,
             plan,
-            rows: Rows::new(alloc),
-            payments: Payments::new(alloc, payer, settings.serial()),
+            rows: Rows::new(alloc, keys),
+            payments: Payments::new(alloc, payer, settings.serial(), keys),
         }
     }
 
@@ -105,6 +120,11 @@ impl Book {
     /// The allocator that the book was opened with.
     pub fn allocator(&self) -> Global {
         self.rows.allocator()
+    }
+
+    /// The keys that its maps hash with.
+    pub fn keys(&self) -> HashKeys {
+        self.rows.keys()
     }
 
     /// The decided requests, oldest first.

@@ -13,6 +13,7 @@ mod entering;
 mod entry;
 mod fault;
 mod judging;
+mod keys;
 mod laws;
 mod matches;
 mod payment;
@@ -28,6 +29,7 @@ pub use bin_routes::PayerNo;
 pub use book::{Book, PaymentView, Reply};
 pub use envelope::TxnId;
 pub use fault::{BookFault, RowFault, SettingFault};
+pub use keys::HashKeys;
 pub use laws::{added_rows_are_kept, kept_rows_follow_rules};
 pub use payment::{Payment, Reversed, Standing};
 pub use plan_rules::{Plan, PlanFault};
@@ -37,6 +39,8 @@ pub use settings::BookSettings;
 
 #[cfg(test)]
 mod adding_tests;
+#[cfg(test)]
+mod keys_tests;
 #[cfg(test)]
 mod many_tests;
 #[cfg(test)]

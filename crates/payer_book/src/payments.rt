@@ -10,6 +10,7 @@ ghost use Rattle.payer_book.specs.Drafts.{auth_after};
 ghost use Rattle.payer_book.specs.Matches.{tally, is_match, matched, matches_between, fill_for};
 
 use crate::changes::{Change, payments_in};
+use crate::keys::{HashKeys, HashStart};
 use crate::matches::{Matches, is_match};
 use crate::payment::{Payment, Standing};
 use bin_routes::PayerNo;
@@ -28,7 +29,7 @@ pub(crate) struct Payments {
     payer: PayerNo,
     first: u64,
     list: Vec<Payment>,
-    standing: HashMap<Fill, usize>,
+    standing: HashMap<Fill, usize, HashStart>,
 }
 
 impl Model for Payments {
@@ -45,8 +46,8 @@ impl Model for Payments {
 }
 
 impl Payments {
-    /// No payments, with memory from `alloc`.
-    pub(crate) fn new(alloc: Global, payer: PayerNo, first: u64) -> Payments
+    /// No payments, with memory from `alloc`, found by these keys.
+    pub(crate) fn new(alloc: Global, payer: PayerNo, first: u64, keys: &HashKeys) -> Payments
         requires { 1 ≤ first }
         ensures payer { result.payer ≡ payer }
         ensures first { result.first ≡ first }
@@ -56,7 +57,7 @@ impl Payments {
             payer,
             first,
             list: Vec::new(alloc),
-            standing: HashMap::new(alloc),
+            standing: HashMap::with_hasher(alloc, keys.start()),
         }
     }
 

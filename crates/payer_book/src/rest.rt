@@ -7,6 +7,7 @@ ghost use Rattle.payer_book.specs.Added.{kept_row, added, added_all};
 
 use crate::book::Book;
 use crate::fault::RowFault;
+use crate::keys::HashKeys;
 use crate::row::Row;
 use crate::settings::BookSettings;
 use bin_routes::PayerNo;
@@ -39,12 +40,26 @@ impl Book {
 }
 
 impl BookAtRest {
-    /// An empty book at rest, with memory from `alloc`. Nothing is taken before the first row.
+    /// An empty book at rest, with memory from `alloc`. Nothing is taken before the first row. Its maps hash with keys that
+    /// are the same in every program.
     pub fn new(alloc: Global, payer: PayerNo, settings: BookSettings, plan: Plan) -> BookAtRest
         ensures { result ≡ record { payer = payer; settings = settings; plan = plan; rows = [] } }
     {
+        BookAtRest::keyed(alloc, payer, settings, plan, &HashKeys::fixed())
+    }
+
+    /// The same, and its maps hash with these keys.
+    pub fn keyed(
+        alloc: Global,
+        payer: PayerNo,
+        settings: BookSettings,
+        plan: Plan,
+        keys: &HashKeys,
+    ) -> BookAtRest
+        ensures { result ≡ record { payer = payer; settings = settings; plan = plan; rows = [] } }
+    {
         BookAtRest {
-            book: Book::new(alloc, payer, settings, plan),
+            book: Book::keyed(alloc, payer, settings, plan, keys),
         }
     }
 

@@ -4,6 +4,7 @@ ghost use Rattle.std.specs.Prelude.{◌≡◌, [], ◌∷◌, ◌++◌, length, 
 ghost use Rattle.std.specs.Option.{option_copied};
 ghost use Rattle.claim_model.specs.Book.{row_of};
 
+use crate::keys::{HashKeys, HashStart};
 use crate::row::Row;
 use envelope::TxnId;
 use std::alloc::{AllocError, Global};
@@ -14,7 +15,7 @@ use std::marker::Model;
 #[derive(Drop)]
 pub(crate) struct Rows {
     list: Vec<Row>,
-    places: HashMap<TxnId, usize>,
+    places: HashMap<TxnId, usize, HashStart>,
 }
 
 impl Model for Rows {
@@ -32,19 +33,24 @@ impl Model for Rows {
 }
 
 impl Rows {
-    /// No rows, with memory from `alloc`.
-    pub(crate) fn new(alloc: Global) -> Rows
+    /// No rows, with memory from `alloc`, found by these keys.
+    pub(crate) fn new(alloc: Global, keys: &HashKeys) -> Rows
         ensures { result ≡ [] }
     {
         Rows {
             list: Vec::new(alloc),
-            places: HashMap::new(alloc),
+            places: HashMap::with_hasher(alloc, keys.start()),
         }
     }
 
     /// The allocator that the rows were opened with.
     pub(crate) fn allocator(&self) -> Global {
         *self.list.allocator()
+    }
+
+    /// The keys that the rows are found by.
+    pub(crate) fn keys(&self) -> HashKeys {
+        HashKeys::from_start(*self.places.hasher())
     }
 
     /// How many rows there are.

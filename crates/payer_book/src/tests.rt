@@ -43,7 +43,7 @@ fn answers_line<R: Abort + AllocGlobal>(
     Ok(())
 }
 
-fn paid_once() -> &'static str {
+pub(crate) fn paid_once() -> &'static str {
     "1 claim new paid-1
 1 claim kept paid-1
 2 longer-number new again-1
@@ -63,7 +63,7 @@ fn a_claim_is_paid_once(rt: HostRuntime) -> Result<(), Fail> {
     Ok(())
 }
 
-fn paid_anew() -> &'static str {
+pub(crate) fn paid_anew() -> &'static str {
     "1 reversal new 87
 2 claim new paid-1
 3 reversal new undone-1

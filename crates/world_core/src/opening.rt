@@ -92,12 +92,12 @@ fn open_payers(alloc: Global, settings: Vec<PayerSettings>) -> Result<Vec<PayerN
     let mut nodes = Vec::new(alloc);
     let mut number = 1;
     for each in settings {
-        let PayerSettings { book, plan } = each;
+        let PayerSettings { book, plan, keys } = each;
         let _serial = book.serial();
         let Some(payer) = PayerNo::new(number) else {
             unreachable!()
         };
-        nodes.push(PayerNode::new(alloc, payer, book, plan))?;
+        nodes.push(PayerNode::keyed(alloc, payer, book, plan, &keys))?;
         number += 1;
     }
     Ok(nodes)

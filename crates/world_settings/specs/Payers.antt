@@ -55,7 +55,7 @@ payer_with table = do
   serial ← number_or 1 18446744073709551615 (get_member (codes "serial") table)
   book ← result_ok (settings_of serial cap)
   plan ← with_prices (bare_plan fee copay) (get_member (codes "prices") table)
-  Some (record { book = book; plan = plan })
+  Some (record { book = book; plan = plan; keys = tt })
 
 abbrev pub payer_of : Members → Option PayerSettings
 payer_of table = only_with payer_keys table (payer_with table)

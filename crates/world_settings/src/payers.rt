@@ -108,7 +108,7 @@ fn payer_with(alloc: Global, table: &Table) -> Result<Option<PayerSettings>, All
     };
     let bare = bare_plan(alloc, fee, copay);
     match with_prices(bare, table)? {
-        Some(plan) => Ok(Some(PayerSettings { book, plan })),
+        Some(plan) => Ok(Some(PayerSettings::new(book, plan))),
         None => Ok(None),
     }
 }

@@ -4,19 +4,21 @@ ghost use Rattle.std.specs.Prelude.{◌≡◌, map, IfOk};
 ghost use Rattle.world_setup.specs.Seen.{payer_seen, settings_seen};
 
 use bin_routes::RouteRow;
-use payer_book::BookSettings;
+use payer_book::{BookSettings, HashKeys};
 use pharmacy_journal::PharmacySettings;
 use plan_rules::Plan;
 use std::alloc::{AllocError, Global};
 use switch_node::SwitchSettings;
 
-/// What a payer is opened with: the settings of its book, and its plan.
+/// What a payer is opened with: the settings of its book, its plan, and the keys that its book's maps hash with.
 #[derive(Drop)]
 pub struct PayerSettings {
     /// The first serial number and the most rows.
     pub book: BookSettings,
     /// The plan in force.
     pub plan: Plan,
+    /// What the maps of the book hash with (own). Nothing that a payer does hangs on them.
+    pub keys: HashKeys,
 }
 
 /// What a world is opened with: each kind of node, numbered from 1 in the order of its list, and the routes from the
@@ -34,6 +36,17 @@ pub struct WorldSettings {
 }
 
 impl PayerSettings {
+    /// Settings whose keys are the same in every program.
+    pub fn new(book: BookSettings, plan: Plan) -> PayerSettings
+        ensures { result ≡ record { book = book; plan = plan; keys = tt } }
+    {
+        PayerSettings {
+            book,
+            plan,
+            keys: HashKeys::fixed(),
+        }
+    }
+
     /// Equal settings, in memory of their own.
     pub fn copy(&self) -> Result<PayerSettings, AllocError>
         ensures { IfOk result (λ copy. payer_seen copy ≡ payer_seen self.now) }
@@ -41,6 +54,7 @@ impl PayerSettings {
         Ok(PayerSettings {
             book: self.book,
             plan: self.plan.copy()?,
+            keys: self.keys.copy(),
         })
     }
 }
@@ -57,6 +71,24 @@ impl WorldSettings {
             payers: payers_copied(*self.payers.allocator(), &self.payers)?,
             routes: routes_copied(*self.routes.allocator(), &self.routes)?,
         })
+    }
+
+    /// The same settings, and the maps of every payer's book hash with these keys.
+    pub fn with_keys(mut self, keys: &HashKeys) -> WorldSettings
+        ensures nodes { settings_seen result ≡ settings_seen self }
+        ensures routes { result.routes.items ≡ self.routes.items }
+    {
+        give_keys(&mut self.payers, keys);
+        self
+    }
+}
+
+/// Gives these keys to the settings of each payer.
+fn give_keys(payers: &mut [PayerSettings], keys: &HashKeys)
+    ensures { payers.new ≡ payers.old }
+{
+    for payer in payers.iter_mut() {
+        payer.keys = keys.copy();
     }
 }
 
