@@ -57,31 +57,19 @@ fn put_journal(
 {
     let count = journal.entries() as u64;
     put_head(out, b"pharmacy", number, up, b"entries", count)?;
-    put_all_entries(out, alloc, journal)?;
-    put_all_paid(out, alloc, journal)
+    put_told(out, alloc, journal)
 }
 
-/// Appends the lines of all entries.
-fn put_all_entries(
+/// Appends the lines of all entries and those of all counted payments.
+fn put_told(
     out: &mut Vec<u8>,
     alloc: Global,
     journal: &JournalReading<'_>,
 ) -> Result<(), AllocError>
-    ensures { OnOk result (out.new.items ≡ out.old.items ++ lines_text (flat_map entry_lines (listed journal.now))) }
+    ensures { (routes : RouteMaps) → OnOk result (out.new.items ≡ out.old.items ++ lines_text (flat_map entry_lines (listed journal.now) ++ map paid_line (counted (bytes_with routes) journal.now))) }
 {
-    let entries = journal.list(alloc)?;
-    put_entries(out, entries.as_slice())
-}
-
-/// Appends the lines of all counted payments.
-fn put_all_paid(
-    out: &mut Vec<u8>,
-    alloc: Global,
-    journal: &JournalReading<'_>,
-) -> Result<(), AllocError>
-    ensures { (routes : RouteMaps) → OnOk result (out.new.items ≡ out.old.items ++ lines_text (map paid_line (counted (bytes_with routes) journal.now))) }
-{
-    let paid = journal.paid(alloc)?;
+    let (entries, paid) = journal.told(alloc)?;
+    put_entries(out, entries.as_slice())?;
     put_payments(out, paid.as_slice())
 }
 
