@@ -10,7 +10,8 @@ use Rattle.run_merge.specs.LogSeen.{logs_seen}
 use Rattle.run_merge.specs.declared.log.NodeLog.{NodeLog as Kept}
 use Rattle.node_threads.specs.Tills.{Till}
 use Rattle.node_threads.specs.Ledgers.{lacking, has_receipts, has_answers}
-use Rattle.node_threads.specs.Replayed.{context_with, ledgers_of}
+use Rattle.node_threads.specs.Setting.{context_of}
+use Rattle.node_threads.specs.Replayed.{ledgers_of}
 use Rattle.node_threads.specs.Objections.{first_objection, objection_by}
 use Rattle.node_threads.specs.Causes.{AreRight, Stands, IsCause, IsUnmerged}
 use Rattle.node_threads.specs.declared.judging.objection.Objection.{Objection}
@@ -30,7 +31,7 @@ told s logs tills = by (lacking tills (ledgers_of s logs)) refl
 
     by : (o : Option ℕ) → lacking tills (ledgers_of s logs) ≡ o → MatchOption (objection_by o tills (ledgers_of s logs)) (AreRight tills (ledgers_of s logs)) (Stands tills (ledgers_of s logs))
     by None l = heard (list_all (has_receipts tills) (ledgers_of s logs)) (list_all (has_answers tills) (ledgers_of s logs)) refl refl l
-    by (Some pharmacy) l = lacks (context_with s) logs tills (opening (settings_seen s)).pharmacies pharmacy l
+    by (Some pharmacy) l = lacks (context_of s) logs tills (opening (settings_seen s)).pharmacies pharmacy l
 
 -- the first objection stands, and nothing before it
 pub objections_stand : {E : Type 0} (s : WorldSettings) (logs : List NodeLog) (tills : List Till) (r : Result (Option Objection) E) → IfOk r (λ o. o ≡ first_objection tills (ledgers_of s logs))

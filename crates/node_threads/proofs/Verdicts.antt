@@ -11,7 +11,8 @@ use Rattle.run_merge.specs.LogSeen.{logs_seen}
 use Rattle.run_merge.specs.Merged.{IsMerged}
 use Rattle.run_merge.specs.declared.log.NodeLog.{NodeLog}
 use Rattle.node_threads.specs.Tills.{Till}
-use Rattle.node_threads.specs.Replayed.{context_with, ledgers_of}
+use Rattle.node_threads.specs.Setting.{context_of}
+use Rattle.node_threads.specs.Replayed.{ledgers_of}
 use Rattle.node_threads.specs.Judged.{AreReceipts, AreHeard}
 use Rattle.node_threads.specs.Causes.{IsCause}
 use Rattle.node_threads.specs.Verdicts.{IsRun, logs_in}
@@ -22,7 +23,7 @@ use Rattle.node_threads.specs.declared.judging.finish_fault.FinishFault.TheVaria
 pub run_carried : (s : WorldSettings) (tills : List Till) (logs : List NodeLog) (r : Result Finished FinishFault)
     → IfOk r (λ f. f.logs.items ≡ logs)
     → IfOk r (λ f. IsMerged s (logs_seen logs) (map event_seen f.events.items))
-    → IfOk r (λ f. f.world ≡ record { routes = routes_of s.routes.items; world = run (context_with s) (opening (settings_seen s)) (map event_seen f.events.items) })
+    → IfOk r (λ f. f.world ≡ record { routes = routes_of s.routes.items; world = run (context_of s) (opening (settings_seen s)) (map event_seen f.events.items) })
     → OnOk r (AllByRecursion (AreReceipts tills) (ledgers_of s (logs_seen logs)))
     → OnOk r (AllByRecursion (AreHeard tills) (ledgers_of s (logs_seen logs)))
     → IfOk r (λ f. IsRun s tills f f.logs.items)

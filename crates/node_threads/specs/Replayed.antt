@@ -1,8 +1,6 @@
 -- The ledgers of all pharmacies, after the calls of their logs.
 use Rattle.std.specs.Prelude.{ℕ, ◌+◌, List, [], ◌∷◌}
-use Rattle.bin_routes.specs.Table.{routes_of}
 use Rattle.claim_model.specs.Context.{Context}
-use Rattle.claim_model.specs.Bytes.{bytes_with}
 use Rattle.claim_model.specs.Held.{journal_in}
 use Rattle.claim_model.specs.Journal.{Journal, JournalAtRest, Kept}
 use Rattle.claim_model.specs.Node.{Power, Pharmacy}
@@ -12,11 +10,8 @@ use Rattle.claim_logs.specs.Logs.{NodeLog, replay}
 use Rattle.world_setup.specs.Seen.{settings_seen}
 use Rattle.world_setup.specs.declared.settings.WorldSettings.{WorldSettings}
 use Rattle.run_merge.specs.Naming.{calls_of}
+use Rattle.node_threads.specs.Setting.{context_of}
 use Rattle.node_threads.specs.Ledgers.{Ledger}
-
--- how the nodes of such settings read bytes
-abbrev pub context_with : WorldSettings → Context
-context_with s = bytes_with (routes_of s.routes.items)
 
 -- the entries of a pharmacy's journal; another node has none
 abbrev pub entries_in : AnyNode → List Kept
@@ -35,4 +30,4 @@ ledgers_from ctx logs number (pharmacy ∷ more) = ledger_after ctx logs number 
 
 -- the ledgers of all pharmacies of the settings, each after the calls of its log
 abbrev pub ledgers_of : WorldSettings → List NodeLog → List Ledger
-ledgers_of s logs = ledgers_from (context_with s) logs 1 (opening (settings_seen s)).pharmacies
+ledgers_of s logs = ledgers_from (context_of s) logs 1 (opening (settings_seen s)).pharmacies

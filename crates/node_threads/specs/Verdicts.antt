@@ -10,7 +10,8 @@ use Rattle.run_merge.specs.LogSeen.{logs_seen}
 use Rattle.run_merge.specs.Merged.{IsMerged}
 use Rattle.run_merge.specs.declared.log.NodeLog.{NodeLog}
 use Rattle.node_threads.specs.Tills.{Till}
-use Rattle.node_threads.specs.Replayed.{context_with, ledgers_of}
+use Rattle.node_threads.specs.Setting.{context_of}
+use Rattle.node_threads.specs.Replayed.{ledgers_of}
 use Rattle.node_threads.specs.Judged.{AreReceipts, AreHeard}
 use Rattle.node_threads.specs.declared.judging.verdict.Finished.{Finished}
 use Rattle.node_threads.specs.declared.judging.finish_fault.FinishFault.{FinishFault}
@@ -19,7 +20,7 @@ use Rattle.node_threads.specs.declared.judging.finish_fault.FinishFault.TheVaria
 -- the events are a legal interleaving of the logs, the world is their run, and the tills have the receipts and answers of the journals
 pub record IsRun (s : WorldSettings) (tills : List Till) (f : Finished) (logs : List NodeLog) : Type 0 where
   pub events : IsMerged s (logs_seen logs) (map event_seen f.events.items)
-  pub world : f.world ≡ record { routes = routes_of s.routes.items; world = run (context_with s) (opening (settings_seen s)) (map event_seen f.events.items) }
+  pub world : f.world ≡ record { routes = routes_of s.routes.items; world = run (context_of s) (opening (settings_seen s)) (map event_seen f.events.items) }
   pub receipts : AllByRecursion (AreReceipts tills) (ledgers_of s (logs_seen logs))
   pub heard : AllByRecursion (AreHeard tills) (ledgers_of s (logs_seen logs))
 

@@ -8,6 +8,7 @@ ghost use Rattle.node_state.specs.Nodes.{entries_of, held_of};
 ghost use Rattle.run_merge.specs.LogSeen.{log_seen};
 ghost use Rattle.world_setup.specs.Seen.{node_seen, call_seen, sent_seen};
 ghost use Rattle.world_setup.specs.Refused.{refusal_of, RefusedAs};
+ghost use Rattle.world_setup.specs.declared.fault.StepFault.TheVariants.{OutOfMemory};
 ghost use Rattle.node_threads.specs.Setting.{context_of, opened};
 ghost use Rattle.node_threads.specs.Holding.{after_call, after_restart, last_sent};
 ghost use Rattle.node_threads.specs.Tills.{with_receipt};
@@ -91,9 +92,11 @@ impl Held {
     /// at rest.
     ///
     /// # Errors
-    /// Those of `call`. The node is then as it was, or it was stopped.
+    /// Memory was refused, and nothing else: no node refuses a stop while it is up, or a start while it is down. The node
+    /// is then as it was, or it was stopped.
     pub fn restart(&mut self, alloc: Global) -> Result<(), StepFault>
         ensures ok { OnOk result (after_restart self.old ≡ Some self.new) }
+        ensures fault { IfErr result (λ fault. fault ≡ OutOfMemory) }
         ensures err { OnErr result ((self.new ≡ self.old) ⊎ (after_call self.old Stop ≡ Some self.new)) }
     {
         match self.call(alloc, Call::Stop) {

@@ -129,7 +129,7 @@ impl System {
     /// # Errors
     /// `NoSuchNode`.
     pub fn restart<R: Wait>(&self, rt: &R, node: Node) -> Result<(), StepFault>
-        ensures { is_there (settings_seen self.now) (node_seen node) ≡ false → result ≡ Err NoSuchNode }
+        ensures { (result ≡ Err NoSuchNode) ↔ (is_there (settings_seen self.now) (node_seen node) ≡ false) }
     {
         let station = self.there(node)?;
         station.post().lock(rt).restart(self.hall.alloc())

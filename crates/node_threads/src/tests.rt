@@ -32,7 +32,7 @@ fn settings(alloc: Global) -> Result<WorldSettings, Fail> {
     let plan = Plan::new(alloc, fee, copay)?;
     let book = BookSettings::new(1, 1000)?;
     let mut payers = Vec::new(alloc);
-    payers.push(PayerSettings { book, plan })?;
+    payers.push(PayerSettings::new(book, plan))?;
     let mut routes = Vec::new(alloc);
     let bin = Octets::copy_of(alloc, b"610455")?;
     routes.push(RouteRow::new(bin, None, 1))?;

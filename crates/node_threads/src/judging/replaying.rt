@@ -10,7 +10,8 @@ ghost use Rattle.claim_logs.specs.Logs.{replay};
 ghost use Rattle.world_setup.specs.Seen.{node_seen, settings_seen};
 ghost use Rattle.run_merge.specs.Naming.{calls_of};
 ghost use Rattle.run_merge.specs.LogSeen.{logs_seen};
-ghost use Rattle.node_threads.specs.Replayed.{context_with, ledger_after, ledgers_of};
+ghost use Rattle.node_threads.specs.Setting.{context_of};
+ghost use Rattle.node_threads.specs.Replayed.{ledger_after, ledgers_of};
 
 use crate::judging::ledger::Ledger;
 use node_state::NodeState;
@@ -45,7 +46,7 @@ fn ledger_of(
     requires world { settings_fault (settings_seen settings.now) ≡ None }
     requires rows { first_fault (length settings.now.payers.items) settings.now.routes.items ≡ None }
     requires there { place < length settings.now.pharmacies.items }
-    ensures { IfOk result (λ ledger. option_map (ledger_after (context_with settings.now) (logs_seen logs.now) (place + 1)) (numbered (opening (settings_seen settings.now)).pharmacies (place + 1)) ≡ Some ledger) }
+    ensures { IfOk result (λ ledger. option_map (ledger_after (context_of settings.now) (logs_seen logs.now) (place + 1)) (numbered (opening (settings_seen settings.now)).pharmacies (place + 1)) ≡ Some ledger) }
 {
     let number = place as u16 + 1;
     let node = node_after(alloc, settings, logs, Node::Pharmacy(number))?;
@@ -65,7 +66,7 @@ fn node_after(
     requires world { settings_fault (settings_seen settings.now) ≡ None }
     requires rows { first_fault (length settings.now.payers.items) settings.now.routes.items ≡ None }
     requires there { IsSome (node_at (opening (settings_seen settings.now)) (node_seen node)) }
-    ensures { IfOk result (λ after. option_map (λ s. replay (context_with settings.now) s (calls_of (logs_seen logs.now) (node_seen node))) (node_at (opening (settings_seen settings.now)) (node_seen node)) ≡ Some after) }
+    ensures { IfOk result (λ after. option_map (λ s. replay (context_of settings.now) s (calls_of (logs_seen logs.now) (node_seen node))) (node_at (opening (settings_seen settings.now)) (node_seen node)) ≡ Some after) }
 {
     match log_of(logs, node) {
         Some(log) => replay_log(alloc, settings, log),

@@ -10,7 +10,8 @@ ghost use Rattle.world_setup.specs.Seen.{event_seen, settings_seen};
 ghost use Rattle.run_merge.specs.LogSeen.{logs_seen};
 ghost use Rattle.run_merge.specs.Merged.{IsMerged};
 ghost use Rattle.node_threads.specs.LedgerSeen.{tills_seen};
-ghost use Rattle.node_threads.specs.Replayed.{context_with, ledgers_of};
+ghost use Rattle.node_threads.specs.Setting.{context_of};
+ghost use Rattle.node_threads.specs.Replayed.{ledgers_of};
 ghost use Rattle.node_threads.specs.Judged.{AreReceipts, AreHeard};
 ghost use Rattle.world_setup.specs.declared.settings.WorldSettings.{WorldSettings as Settings};
 ghost use Rattle.node_threads.specs.Tills.{Till as TillSeen};
@@ -54,7 +55,7 @@ pub fn judge(
     // The logs are those that were handed in, and the events are a legal interleaving of them.
     ensures logs { IfOk result (λ f. f.logs.items ≡ logs.items) }
     ensures events { IfOk result (λ f. IsMerged settings.now (logs_seen logs.items) (map event_seen f.events.items)) }
-    ensures world { IfOk result (λ f. f.world ≡ record { routes = routes_of settings.now.routes.items; world = run (context_with settings.now) (opening (settings_seen settings.now)) (map event_seen f.events.items) }) }
+    ensures world { IfOk result (λ f. f.world ≡ record { routes = routes_of settings.now.routes.items; world = run (context_of settings.now) (opening (settings_seen settings.now)) (map event_seen f.events.items) }) }
     // For each pharmacy the receipts are the numbers and requests of its journal, and what was heard is the journal's.
     ensures receipts { OnOk result (AllByRecursion (AreReceipts (tills_seen tills.now)) (ledgers_of settings.now (logs_seen logs.items))) }
     ensures heard { OnOk result (AllByRecursion (AreHeard (tills_seen tills.now)) (ledgers_of settings.now (logs_seen logs.items))) }
@@ -87,7 +88,7 @@ fn run_of(
     requires rows { first_fault (length settings.now.payers.items) settings.now.routes.items ≡ None }
     ensures logs { IfOk result (λ f. f.logs.items ≡ logs.items) }
     ensures events { IfOk result (λ f. IsMerged settings.now (logs_seen logs.items) (map event_seen f.events.items)) }
-    ensures world { IfOk result (λ f. f.world ≡ record { routes = routes_of settings.now.routes.items; world = run (context_with settings.now) (opening (settings_seen settings.now)) (map event_seen f.events.items) }) }
+    ensures world { IfOk result (λ f. f.world ≡ record { routes = routes_of settings.now.routes.items; world = run (context_of settings.now) (opening (settings_seen settings.now)) (map event_seen f.events.items) }) }
     ensures refused { IfErr result (λ fault. IsUnmerged settings.now logs.items fault) }
 {
     match merge(alloc, settings, &logs) {
@@ -112,7 +113,7 @@ fn world_after(
 ) -> Result<World, AllocError>
     requires world { settings_fault (settings_seen settings.now) ≡ None }
     requires rows { first_fault (length settings.now.payers.items) settings.now.routes.items ≡ None }
-    ensures { IfOk result (λ w. w ≡ record { routes = routes_of settings.now.routes.items; world = run (context_with settings.now) (opening (settings_seen settings.now)) (map event_seen events.now) }) }
+    ensures { IfOk result (λ w. w ≡ record { routes = routes_of settings.now.routes.items; world = run (context_of settings.now) (opening (settings_seen settings.now)) (map event_seen events.now) }) }
 {
     let mut world = opening_world(alloc, settings)?;
     match world.run(events) {

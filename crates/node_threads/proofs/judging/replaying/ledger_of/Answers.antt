@@ -5,7 +5,7 @@ use Rattle.claim_model.specs.Settings.{opening}
 use Rattle.world_setup.specs.Seen.{settings_seen}
 use Rattle.run_merge.specs.Naming.{calls_of}
 use Rattle.run_merge.specs.LogSeen.{logs_seen}
-use Rattle.node_threads.specs.Replayed.{context_with}
+use Rattle.node_threads.specs.Setting.{context_of}
 use Rattle.node_threads.proofs.Replaying.{there_at, has_journal}
 use Rattle.node_threads.proofs.judging.replaying.ledger_of.Goals as goal
 
@@ -14,5 +14,5 @@ node_after-requires-clause-there c = there_at c.args.settings.now.pharmacies.ite
 
 pub unreachable-requires : goal.unreachable-requires
 unreachable-requires c =
-    has_journal (context_with c.args.settings.now) (calls_of (logs_seen c.args.logs.now) (Pharmacy (c.args.place + 1))) (numbered (opening (settings_seen c.args.settings.now)).pharmacies (c.args.place + 1)) c.in_ok-node.node c.in_ok-node.ensures
+    has_journal (context_of c.args.settings.now) (calls_of (logs_seen c.args.logs.now) (Pharmacy (c.args.place + 1))) (numbered (opening (settings_seen c.args.settings.now)).pharmacies (c.args.place + 1)) c.in_ok-node.node c.in_ok-node.ensures
     (sym c.in_ok-journal.ensures ∙ c.in-None.is)
