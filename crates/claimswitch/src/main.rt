@@ -2,9 +2,10 @@
 #![tactic(auto)]
 
 use schedule_cli::{
-    KeptReader, ProgramFault, Stop, Word, read_claims, replay, why_refused, word_of,
+    HashKeys, KeptReader, ProgramFault, Stop, Word, read_claims_keyed, replay_keyed, why_refused,
+    word_of,
 };
-use schedule_run::{RunFault, run_schedule};
+use schedule_run::{RunFault, run_schedule_keyed};
 use std::alloc::AllocError;
 use std::fmt::{Display, Formatter};
 use std::io::{IsTerminal, Read};
@@ -132,11 +133,21 @@ where
     T: Threads + Wait + Clock + Copy + Send + 'static,
 {
     let alloc = rt.alloc();
+    let keys = hash_keys(rt);
     let mut writer = rt.stdout();
     match word {
-        Word::Read => Ok(read_claims(alloc, reader, &mut writer)?),
-        Word::Replay => Ok(replay(alloc, reader, &mut writer)?),
-        Word::Run => Ok(run_schedule(threads, alloc, reader, &mut writer)?),
+        Word::Read => Ok(read_claims_keyed(alloc, &keys, reader, &mut writer)?),
+        Word::Replay => Ok(replay_keyed(alloc, &keys, reader, &mut writer)?),
+        Word::Run => Ok(run_schedule_keyed(threads, alloc, &keys, reader, &mut writer)?),
+    }
+}
+
+/// What the maps of books hash with: keys that nobody knows. Where the system has no random bytes to give, the fixed keys
+/// serve, since no answer hangs on them.
+fn hash_keys(rt: &HostRuntime) -> HashKeys {
+    match HashKeys::random(rt) {
+        Ok(keys) => keys,
+        Err(_) => HashKeys::fixed(),
     }
 }
 

@@ -2,7 +2,7 @@
 
 use crate::fakes::{ALL, Paper, Pieces};
 use crate::inputs::{lines, one_pharmacy, price_change, price_change_report};
-use schedule_cli::{ProgramFault, read_claims, replay};
+use schedule_cli::{HashKeys, ProgramFault, read_claims, read_claims_keyed, replay, replay_keyed};
 use std::test::Fail;
 
 #[test]
@@ -94,6 +94,27 @@ fn reports_on_a_price_change(rt: HostRuntime) -> Result<(), Fail> {
     let mut reader = Pieces::new(input.as_bytes(), ALL, 0);
     let mut writer = Paper::new(alloc, ALL, 0);
     let outcome = replay(alloc, &mut reader, &mut writer);
+    assert_eq!(rt; outcome, Ok(()));
+    let same = writer.taken() == price_change_report().as_bytes();
+    assert!(rt; same);
+    Ok(())
+}
+
+#[test]
+fn random_keys_change_no_answer(rt: HostRuntime) -> Result<(), Fail> {
+    let alloc = rt.alloc();
+    let keys = HashKeys::random(&rt)?;
+    let input = lines(alloc, &[("1", vectors::billing())])?;
+    let mut reader = Pieces::new(input.as_slice(), ALL, 0);
+    let mut writer = Paper::new(alloc, ALL, 0);
+    let outcome = read_claims_keyed(alloc, &keys, &mut reader, &mut writer);
+    assert_eq!(rt; outcome, Ok(()));
+    let want = lines(alloc, &[("1", vectors::paid())])?;
+    assert_eq!(rt; writer.taken(), want.as_slice());
+    let input = price_change(alloc)?;
+    let mut reader = Pieces::new(input.as_bytes(), ALL, 0);
+    let mut writer = Paper::new(alloc, ALL, 0);
+    let outcome = replay_keyed(alloc, &keys, &mut reader, &mut writer);
     assert_eq!(rt; outcome, Ok(()));
     let same = writer.taken() == price_change_report().as_bytes();
     assert!(rt; same);

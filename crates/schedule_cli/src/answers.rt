@@ -13,30 +13,30 @@ use crate::fault::ProgramFault;
 use crate::sample;
 use bin_routes::Routes;
 use input_text::{put_decimal, put_printed};
-use payer_book::{Book, BookFault, Reply};
+use payer_book::{Book, BookFault, HashKeys, Reply};
 use std::alloc::Global;
 
 /// The whole output for an input.
 ///
 /// # Errors
 /// `Line` of the first line that spells no entry; `OutOfMemory`.
-pub(crate) fn answers(alloc: Global, input: &[u8]) -> Result<Vec<u8>, ProgramFault>
+pub(crate) fn answers(alloc: Global, keys: &HashKeys, input: &[u8]) -> Result<Vec<u8>, ProgramFault>
     ensures all { IfOk result (λ output. output_of input.now ≡ Ok output.items) }
     ensures fault { IfErr result (λ fault. StopsFor fault (output_of input.now)) }
 {
     match entries(alloc, input) {
-        Ok(entries) => all_lines(alloc, entries.as_slice()),
+        Ok(entries) => all_lines(alloc, keys, entries.as_slice()),
         Err(fault) => Err(fault),
     }
 }
 
 /// The lines of all entries, from the book as it opens.
-fn all_lines(alloc: Global, entries: &[Entry]) -> Result<Vec<u8>, ProgramFault>
+fn all_lines(alloc: Global, keys: &HashKeys, entries: &[Entry]) -> Result<Vec<u8>, ProgramFault>
     ensures ok { IfOk result (λ output. output.items ≡ answer_lines sample_routes opening_book entries.now) }
     ensures err { IfErr result (λ fault. fault ≡ OutOfMemory) }
 {
     let routes = sample::routes(alloc)?;
-    let mut book = sample::book(alloc)?;
+    let mut book = sample::book(alloc, keys)?;
     let mut output = Vec::new(alloc);
     for entry in entries {
         put_line(&mut output, &mut book, &routes, entry)?;

@@ -11,6 +11,7 @@ use crate::output::write_all;
 use crate::replaying::opened;
 use crate::sink::Sink;
 use crate::source::Source;
+use payer_book::HashKeys;
 use schedule::{ScheduleFault, divide, read_schedule};
 use std::alloc::Global;
 use world_core::World;
@@ -23,16 +24,16 @@ pub struct Scheduled {
     pub events: Vec<Event>,
 }
 
-/// What a replay of an input begins with.
+/// What a replay of an input begins with. The maps of its books hash with these keys.
 ///
 /// # Errors
 /// `Settings` where the settings are none; then `Line` of the first line that spells no event; `OutOfMemory`.
-pub(crate) fn begin(alloc: Global, input: &[u8]) -> Result<Scheduled, ProgramFault>
+pub(crate) fn begin(alloc: Global, keys: &HashKeys, input: &[u8]) -> Result<Scheduled, ProgramFault>
     ensures begins { IfOk result (λ s. Begins input.now s.world s.events.items) }
     ensures fault { IfErr result (λ fault. HasNone fault (replay_of input.now)) }
 {
     let parts = divide(alloc, input)?;
-    let world = opened(alloc, parts.settings.as_slice())?;
+    let world = opened(alloc, keys, parts.settings.as_slice())?;
     match read_schedule(alloc, parts.schedule) {
         Ok(events) => Ok(Scheduled { world, events }),
         Err(ScheduleFault::OutOfMemory) => Err(ProgramFault::OutOfMemory),
@@ -40,7 +41,8 @@ pub(crate) fn begin(alloc: Global, input: &[u8]) -> Result<Scheduled, ProgramFau
     }
 }
 
-/// Reads the input of a replay, as `replay` does: the world that its settings open, and its events.
+/// Reads the input of a replay, as `replay` does: the world that its settings open, and its events. The maps of its books
+/// hash with keys that are the same in every program.
 ///
 /// # Errors
 /// `Read`, then `Settings`, then `Line` of the first line that spells no event; `OutOfMemory`.
@@ -58,7 +60,7 @@ pub fn read_scheduled<S: Source>(alloc: Global, source: &mut S) -> Result<Schedu
     ensures calls { S.calls source.new ≤ S.calls source.old + MOST_CALLS }
 {
     let input = read_all(alloc, source)?;
-    begin(alloc, input.as_slice())
+    begin(alloc, &HashKeys::fixed(), input.as_slice())
 }
 
 /// Writes a finished output, and flushes it.

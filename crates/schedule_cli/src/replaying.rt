@@ -10,6 +10,7 @@ ghost use Rattle.schedule_cli.specs.Replays.{world_in, opened_by, report_from, r
 
 use crate::exchange::{Scheduled, begin};
 use crate::fault::ProgramFault;
+use payer_book::HashKeys;
 use std::alloc::{AllocError, Global};
 use world_core::{World, WorldFault};
 use world_report::put_report;
@@ -20,24 +21,28 @@ use world_setup::WorldSettings;
 ///
 /// # Errors
 /// `Settings` where the settings are none; then `Line` of the first line that spells no event; `OutOfMemory`.
-pub(crate) fn report_on(alloc: Global, input: &[u8]) -> Result<Vec<u8>, ProgramFault>
+pub(crate) fn report_on(
+    alloc: Global,
+    keys: &HashKeys,
+    input: &[u8],
+) -> Result<Vec<u8>, ProgramFault>
     ensures all { IfOk result (λ report. replay_of input.now ≡ Ok report.items) }
     ensures fault { IfErr result (λ fault. HasNone fault (replay_of input.now)) }
 {
-    match begin(alloc, input) {
+    match begin(alloc, keys, input) {
         Ok(begun) => Ok(report_of(alloc, begun)?),
         Err(fault) => Err(fault),
     }
 }
 
-/// The opening world of the settings that a text spells.
+/// The opening world of the settings that a text spells. The maps of its books hash with these keys.
 #[tactic(auto, unfolding(crate::specs::Replays::world_in))]
-pub(crate) fn opened(alloc: Global, text: &[u8]) -> Result<World, ProgramFault>
+pub(crate) fn opened(alloc: Global, keys: &HashKeys, text: &[u8]) -> Result<World, ProgramFault>
     ensures made { IfOk result (λ world. world_in text.now ≡ Some world) }
     ensures fault { IfErr result (λ fault. OpensNone fault (world_in text.now)) }
 {
     match read_settings(alloc, text) {
-        Ok(settings) => world_of(alloc, settings),
+        Ok(settings) => world_of(alloc, settings.with_keys(keys)),
         Err(SettingsFault::OutOfMemory) => Err(ProgramFault::OutOfMemory),
         Err(SettingsFault::Settings) => Err(ProgramFault::Settings),
     }

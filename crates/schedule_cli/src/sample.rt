@@ -8,7 +8,7 @@ use crate::fault::ProgramFault;
 use bin_routes::{PayerNo, RouteRow, Routes};
 use octets::Octets;
 use overpunch::Amount;
-use payer_book::{Book, BookSettings};
+use payer_book::{Book, BookSettings, HashKeys};
 use plan_rules::Plan;
 use std::alloc::Global;
 
@@ -27,8 +27,8 @@ const FIRST_SERIAL: u64 = 1;
 
 const MOST_ROWS: u32 = 1_000;
 
-/// An empty book of payer 1, of at most 1,000 rows, whose plan has the one product.
-pub(crate) fn book(alloc: Global) -> Result<Book, ProgramFault>
+/// An empty book of payer 1, of at most 1,000 rows, whose plan has the one product and whose maps hash with these keys.
+pub(crate) fn book(alloc: Global, keys: &HashKeys) -> Result<Book, ProgramFault>
     ensures made { IfOk result (λ book. book ≡ opening_book) }
     ensures fault { IfErr result (λ fault. fault ≡ OutOfMemory) }
 {
@@ -39,7 +39,7 @@ pub(crate) fn book(alloc: Global) -> Result<Book, ProgramFault>
         unreachable!()
     };
     let plan = plan(alloc)?;
-    Ok(Book::new(alloc, payer, settings, plan))
+    Ok(Book::keyed(alloc, payer, settings, plan, keys))
 }
 
 /// The plan with the one product.

@@ -12,7 +12,7 @@ mod lines;
 mod running;
 
 pub use fault::{RunFault, Unjudged};
-pub use running::run_schedule;
+pub use running::{run_schedule, run_schedule_keyed};
 
 #[cfg(test)]
 mod tests;

@@ -5,7 +5,9 @@ use crate::commands::make_commands;
 use crate::fault::RunFault;
 use node_threads::{Gate, System, Till, Workers};
 use schedule::{Command, Run};
-use schedule_cli::{ProgramFault, ReaderSource, Sink, WriterSink, read_all, write_output};
+use schedule_cli::{
+    HashKeys, ProgramFault, ReaderSource, Sink, WriterSink, read_all, write_output,
+};
 use std::alloc::{AllocError, Global};
 use std::io::{Read, Write};
 use std::sync::{Arc, Wait};
@@ -29,7 +31,8 @@ impl Gate for Open {
 /// The input is settings in TOML, a line `---`, and one fault of a link or command a line, as `schedule::read_run` says. A
 /// fault prints `ok`. A command prints `ok`, or `refused` and the refusal's name; a submission that is taken prints `number`
 /// and the number of its entry. `await` prints for each place of the request what was ruled, or that it is open after
-/// 10,000 turns. The lines of the nodes are those of a replay's report.
+/// 10,000 turns. The lines of the nodes are those of a replay's report. The maps of books hash with keys that are the same in
+/// every program.
 ///
 /// # Errors
 /// `Program` with `Read`, then `Settings`, then `Line` of the first line that spells neither in its place, and then
@@ -44,9 +47,27 @@ pub fn run_schedule<T, R: Read, W: Write>(
 where
     T: Threads + Wait + Clock + Copy + Send + 'static,
 {
+    run_schedule_keyed(rt, alloc, &HashKeys::fixed(), reader, writer)
+}
+
+/// The same, and the maps of books hash with these keys.
+///
+/// # Errors
+/// Those of `run_schedule`.
+pub fn run_schedule_keyed<T, R: Read, W: Write>(
+    rt: &T,
+    alloc: Global,
+    keys: &HashKeys,
+    reader: &mut R,
+    writer: &mut W,
+) -> Result<(), RunFault>
+where
+    T: Threads + Wait + Clock + Copy + Send + 'static,
+{
     let input = read_all(alloc, &mut ReaderSource::new(reader))?;
     let Asked { settings, run } = asked_of(alloc, input.as_slice())?;
     let pharmacies = settings.pharmacies.len();
+    let settings = settings.with_keys(keys);
     let gate = Arc::new(alloc, Open)?;
     let (system, workers) = System::start(rt, alloc, settings, &gate, run.faults.as_slice())?;
     let mut sink = WriterSink::new(writer);
