@@ -34,6 +34,8 @@ pub fn draw_replay<S: Source, K: Sink>(
     ensures refused { IfErr result (λ fault. IfSome (S.remaining source.old) (λ input. IsRefused fault (replay_of input))) }
     // Nothing is written before all is checked, run and drawn.
     ensures quiet { IfErr result (λ fault. fault ≢ ProgramFault.Write → sink.new ≡ sink.old) }
+    // What was written is flushed.
+    ensures flushed { OnOk result (IsTrue (K.is_flushed sink.new)) }
     // A call of the sink failed, and a beginning of a picture was written.
     ensures write { IsErrOf result ProgramFault.Write → IsTrue (K.has_failed sink.new) }
     ensures beginning { IsErrOf result ProgramFault.Write → BeginningBehind (K.contents sink.old) (K.contents sink.new) }
