@@ -1,5 +1,8 @@
 //! Why the program ends without having written all.
 
+ghost use Rattle.std.specs.Prelude.{◌≡◌};
+ghost use Rattle.run_picture.specs.Stops.{exit_status};
+
 use clap::Error as ClapError;
 use clap::error::ErrorKind;
 use schedule_cli::ProgramFault;
@@ -19,7 +22,9 @@ pub enum PictureStop {
 
 impl PictureStop {
     /// The exit status: 2 where the words are wrong, else 1.
-    pub fn status(&self) -> u8 {
+    pub fn status(&self) -> u8
+        ensures { result ≡ exit_status self.now }
+    {
         match self {
             PictureStop::Usage => 2,
             PictureStop::Fault(_) => 1,

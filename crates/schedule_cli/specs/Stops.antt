@@ -4,6 +4,13 @@ use Rattle.std.specs.Io.KnownBytes.{Appends}
 use Rattle.schedule_cli.specs.declared.input.TheConstants.{MOST_INPUT}
 use Rattle.schedule_cli.specs.declared.fault.ProgramFault.{ProgramFault}
 use Rattle.schedule_cli.specs.declared.fault.ProgramFault.TheVariants.{OutOfMemory, Read, Settings, Line, Write}
+use Rattle.schedule_cli.specs.declared.words.Stop.{Stop}
+use Rattle.schedule_cli.specs.declared.words.Stop.TheVariants.{Usage, Fault}
+
+-- the exit status: 2 where the words are wrong, else 1
+abbrev pub exit_status : Stop → ℕ
+exit_status Usage = 2
+exit_status (Fault fault) = 1
 
 -- what is spelled line by line stops at the first line that spells nothing, or for want of memory, which says nothing
 abbrev pub StopsFor : {A : Type 0} → ProgramFault → Result A ℕ → Type 0

@@ -25,11 +25,11 @@ pub use fault::ProgramFault;
 pub use input::{MOST_CALLS, MOST_INPUT, read_all};
 pub use kept::KeptReader;
 pub use payer_book::HashKeys;
-pub use read::{read_claims_keyed_over, read_claims_over};
+pub use read::read_claims_over;
 pub use sink::{Sink, WriterSink};
 pub use source::{Failed, ReaderSource, Source};
 pub use standard::{read_claims, read_claims_keyed, replay, replay_keyed};
-pub use whole::{replay_keyed_over, replay_over};
+pub use whole::replay_over;
 pub use why::{EntryFault, entry_fault, why_refused};
 pub use words::{Stop, Word, word_of};
 

@@ -1,8 +1,8 @@
 //! A schedule of events over all nodes: a line for each event, and then each node.
 
-ghost use Rattle.std.specs.Prelude.{◌≡◌, ◌≢◌, ◌+◌, ◌<◌, ◌≤◌, ◌⊎◌, length, IfErr, IfSome, IsTrue, IsErrOf, OnOk, OnErr};
+ghost use Rattle.std.specs.Prelude.{◌≡◌, ◌+◌, ◌<◌, ◌≤◌, ◌⊎◌, length, IfSome, IsTrue, IsErrOf, OnOk};
 ghost use Rattle.schedule_cli.specs.Replays.{replay_of, IsRefused};
-ghost use Rattle.schedule_cli.specs.Stops.{BeginningWritten, Fits, Written};
+ghost use Rattle.schedule_cli.specs.Serving.{Serves};
 
 use crate::fault::ProgramFault;
 use crate::input::{MOST_CALLS, MOST_INPUT, read_all};
@@ -17,65 +17,27 @@ use std::alloc::Global;
 ///
 /// The input is settings in TOML, a line `---`, and one event a line. The report has a line for each event, made or
 /// refused, and then the lines of each pharmacy, switch and payer as they are after all events. The maps of books
-/// hash with keys that are the same in every program.
+/// hash with these keys.
 ///
 /// # Errors
 /// `Read`, then `Settings`, then `Line` of the first line that spells no event, before anything is written; then
 /// `Write`. `OutOfMemory` may stand in place of any answer, and then nothing was written.
 pub fn replay_over<S: Source, K: Sink>(
     alloc: Global,
-    source: &mut S,
-    sink: &mut K,
-) -> Result<(), ProgramFault>
-    // Exactly the report of the input was written.
-    ensures report { OnOk result (IfSome (S.remaining source.old) (λ input. Written (K.contents sink.old) (K.contents sink.new) (replay_of input))) }
-    // A call of the source failed, or the input is too long.
-    ensures read { IsErrOf result ProgramFault.Read → IsTrue (S.has_failed source.new)
-        ⊎ IfSome (S.remaining source.old) (λ input. MOST_INPUT < length input) }
-    // Settings are refused only where they open no world, and a line only where it is the first that spells no event.
-    ensures refused { IfErr result (λ fault. IfSome (S.remaining source.old) (λ input. IsRefused fault (replay_of input))) }
-    // What is checked was read to its end, and is not too long.
-    ensures fits { IfSome (S.remaining source.old) (λ input. Fits result input) }
-    // Nothing is written before all is checked and run.
-    ensures quiet { IfErr result (λ fault. fault ≢ ProgramFault.Write → sink.new ≡ sink.old) }
-    // What was written is flushed.
-    ensures flushed { OnOk result (IsTrue (K.is_flushed sink.new)) }
-    ensures same_reference { K.loan sink.new ≡ K.loan sink.old }
-    // A call of the sink failed, and a beginning of the report was written.
-    ensures write { IsErrOf result ProgramFault.Write → IsTrue (K.has_failed sink.new) }
-    ensures beginning { IsErrOf result ProgramFault.Write → IfSome (S.remaining source.old) (λ input. BeginningWritten (K.contents sink.old) (K.contents sink.new) (replay_of input)) }
-    ensures calls { S.calls source.new ≤ S.calls source.old + MOST_CALLS }
-{
-    replay_keyed_over(alloc, &HashKeys::fixed(), source, sink)
-}
-
-/// The same, and the maps of books hash with these keys.
-///
-/// # Errors
-/// Those of `replay_over`.
-pub fn replay_keyed_over<S: Source, K: Sink>(
-    alloc: Global,
     keys: &HashKeys,
     source: &mut S,
     sink: &mut K,
 ) -> Result<(), ProgramFault>
-    // Exactly the report of the input was written.
-    ensures report { OnOk result (IfSome (S.remaining source.old) (λ input. Written (K.contents sink.old) (K.contents sink.new) (replay_of input))) }
+    // Exactly the report of the input was written, or the input or a write is at fault.
+    ensures serves { Serves replay_of IsRefused result (S.remaining source.old) K.contents sink.old sink.new }
     // A call of the source failed, or the input is too long.
     ensures read { IsErrOf result ProgramFault.Read → IsTrue (S.has_failed source.new)
         ⊎ IfSome (S.remaining source.old) (λ input. MOST_INPUT < length input) }
-    // Settings are refused only where they open no world, and a line only where it is the first that spells no event.
-    ensures refused { IfErr result (λ fault. IfSome (S.remaining source.old) (λ input. IsRefused fault (replay_of input))) }
-    // What is checked was read to its end, and is not too long.
-    ensures fits { IfSome (S.remaining source.old) (λ input. Fits result input) }
-    // Nothing is written before all is checked and run.
-    ensures quiet { IfErr result (λ fault. fault ≢ ProgramFault.Write → sink.new ≡ sink.old) }
     // What was written is flushed.
     ensures flushed { OnOk result (IsTrue (K.is_flushed sink.new)) }
     ensures same_reference { K.loan sink.new ≡ K.loan sink.old }
-    // A call of the sink failed, and a beginning of the report was written.
+    // A call of the sink failed.
     ensures write { IsErrOf result ProgramFault.Write → IsTrue (K.has_failed sink.new) }
-    ensures beginning { IsErrOf result ProgramFault.Write → IfSome (S.remaining source.old) (λ input. BeginningWritten (K.contents sink.old) (K.contents sink.new) (replay_of input)) }
     ensures calls { S.calls source.new ≤ S.calls source.old + MOST_CALLS }
 {
     let input = read_all(alloc, source)?;

@@ -1,5 +1,8 @@
 //! The words of the command line, and what the program says when it stops.
 
+ghost use Rattle.std.specs.Prelude.{◌≡◌};
+ghost use Rattle.schedule_cli.specs.Stops.{exit_status};
+
 use crate::fault::ProgramFault;
 use clap::error::ErrorKind;
 use clap::{Arg, ArgAction, Command, Error as ClapError};
@@ -30,7 +33,9 @@ pub enum Stop {
 
 impl Stop {
     /// The exit status: 2 where the words are wrong, else 1.
-    pub fn status(&self) -> u8 {
+    pub fn status(&self) -> u8
+        ensures { result ≡ exit_status self.now }
+    {
         match self {
             Stop::Usage => 2,
             Stop::Fault(_) => 1,
