@@ -1,7 +1,7 @@
 //! Reads and writes that fail, each call in turn.
 
-use crate::fakes::{ALL, Endless, Paper, Pieces};
 use crate::inputs::{price_change, price_change_report, repeated_answer, repeated_claim};
+use fake_io::{ALL, Endless, Paper, Pieces, pieces_in};
 use schedule_cli::{MOST_CALLS, ProgramFault, Word, read_claims, replay};
 use std::alloc::Global;
 use std::io::Read;
@@ -72,23 +72,18 @@ fn fail_each_write(
     Err(Fail::from("too many writes"))
 }
 
-/// How many pieces of at most so many bytes there are.
-fn pieces(bytes: &[u8], most: usize) -> u64 {
-    bytes.chunks(most.max(1)).count() as u64
-}
-
 /// Each read of a run fails in turn, and then each write, at readers and writers of small and large pieces.
 fn each_call_fails(alloc: Global, word: Word, input: &[u8], want: &[u8]) -> Result<bool, Fail> {
     for most in [7, 100, ALL] {
         // One more call says that no more comes.
         let reads = fail_each_read(alloc, word, input, want, most)?;
-        if reads != pieces(input, most).saturating_add(1) {
+        if reads != pieces_in(input, most).saturating_add(1) {
             return Ok(false);
         }
     }
     for most in [1, 7, ALL] {
         let writes = fail_each_write(alloc, word, input, want, most)?;
-        if writes != pieces(want, most) {
+        if writes != pieces_in(want, most) {
             return Ok(false);
         }
     }

@@ -1,7 +1,7 @@
 //! What is told of an input that is refused: each text once.
 
-use crate::fakes::{ALL, Paper, Pieces};
 use crate::inputs::one_pharmacy;
+use fake_io::{ALL, Paper, Pieces};
 use schedule_cli::{KeptReader, ProgramFault, Word, read_claims, replay, why_refused};
 use std::alloc::Global;
 use std::test::Fail;

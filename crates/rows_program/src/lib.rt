@@ -6,8 +6,6 @@ mod edges;
 #[cfg(test)]
 mod explained;
 #[cfg(test)]
-mod fakes;
-#[cfg(test)]
 mod inputs;
 #[cfg(test)]
 mod program;

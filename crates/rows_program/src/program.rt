@@ -1,7 +1,7 @@
 //! What `read` and `replay` write, whole outputs.
 
-use crate::fakes::{ALL, Paper, Pieces};
 use crate::inputs::{lines, one_pharmacy, price_change, price_change_report};
+use fake_io::{ALL, Paper, Pieces};
 use schedule_cli::{HashKeys, ProgramFault, read_claims, read_claims_keyed, replay, replay_keyed};
 use std::test::Fail;
 

@@ -1,15 +1,16 @@
-//! Readers and writers that give and take pieces, or fail.
+//! Readers and writers for tests, which give and take pieces, or fail.
+#![tactic(auto)]
 
 use std::alloc::Global;
 use std::io;
 use std::io::{Read, Write};
 
 /// As many bytes as there are.
-pub(crate) const ALL: usize = usize::MAX;
+pub const ALL: usize = usize::MAX;
 
 /// A reader that gives at most `most` bytes a call, and fails at the call of that number.
 #[derive(Drop)]
-pub(crate) struct Pieces<'a> {
+pub struct Pieces<'a> {
     rest: &'a [u8],
     most: usize,
     fails_at: u64,
@@ -18,7 +19,7 @@ pub(crate) struct Pieces<'a> {
 
 impl<'a> Pieces<'a> {
     /// A reader of this input. No call has the number 0.
-    pub(crate) fn new(input: &'a [u8], most: usize, fails_at: u64) -> Pieces<'a> {
+    pub fn new(input: &'a [u8], most: usize, fails_at: u64) -> Pieces<'a> {
         Pieces {
             rest: input,
             most,
@@ -44,18 +45,18 @@ impl Read for Pieces<'_> {
 
 /// A reader that never ends.
 #[derive(Drop)]
-pub(crate) struct Endless {
+pub struct Endless {
     calls: u64,
 }
 
 impl Endless {
     /// A reader that was not called.
-    pub(crate) fn new() -> Endless {
+    pub fn new() -> Endless {
         Endless { calls: 0 }
     }
 
     /// How often it was called.
-    pub(crate) fn calls(&self) -> u64 {
+    pub fn calls(&self) -> u64 {
         self.calls
     }
 }
@@ -71,7 +72,7 @@ impl Read for Endless {
 
 /// A writer that takes at most `most` bytes a call, fails at the write of that number, and counts its flushes.
 #[derive(Drop)]
-pub(crate) struct Paper {
+pub struct Paper {
     taken: Vec<u8>,
     most: usize,
     fails_at: u64,
@@ -82,7 +83,7 @@ pub(crate) struct Paper {
 
 impl Paper {
     /// A writer that took nothing yet. No write has the number 0.
-    pub(crate) fn new(alloc: Global, most: usize, fails_at: u64) -> Paper {
+    pub fn new(alloc: Global, most: usize, fails_at: u64) -> Paper {
         Paper {
             taken: Vec::new(alloc),
             most,
@@ -94,7 +95,7 @@ impl Paper {
     }
 
     /// A writer that takes all, and fails when it is flushed.
-    pub(crate) fn failing_at_its_flush(alloc: Global) -> Paper {
+    pub fn failing_at_its_flush(alloc: Global) -> Paper {
         Paper {
             flush_fails: true,
             ..Paper::new(alloc, ALL, 0)
@@ -102,12 +103,12 @@ impl Paper {
     }
 
     /// What it took.
-    pub(crate) fn taken(&self) -> &[u8] {
+    pub fn taken(&self) -> &[u8] {
         self.taken.as_slice()
     }
 
     /// How often it was flushed since its last write.
-    pub(crate) fn flushes(&self) -> u64 {
+    pub fn flushes(&self) -> u64 {
         self.flushes
     }
 }
@@ -131,4 +132,9 @@ impl Write for Paper {
         self.flushes = self.flushes.saturating_add(1);
         Ok(())
     }
+}
+
+/// How many pieces of at most so many bytes there are.
+pub fn pieces_in(bytes: &[u8], most: usize) -> u64 {
+    bytes.chunks(most.max(1)).count() as u64
 }
