@@ -1,5 +1,5 @@
 -- When two packets are the same: sender, addressee and every byte.
-use Rattle.std.specs.Prelude.{◌≡◌, ℕ, Bool, true, ◌&&◌, List, [], ◌∷◌, nat_eq}
+use Rattle.std.specs.Prelude.{◌≡◌, ℕ, Bool, true, ◌&&◌, List, [], ◌∷◌, nat_eq, take}
 use Rattle.std.proofs.Common.{refl, sym, ap, ◌∙◌}
 use Rattle.std.proofs.lemmas.Bool.{and_parts, and_from}
 use Rattle.std.specs.Cmp.{IsEquivalence, both_ways}
@@ -36,6 +36,6 @@ same_packet_equiv = record {
   congr = λ p q r e. ap (λ (x : Packet). same_packet x r) (same_is_equal p q e);
 }
 
--- what a hash of the bytes is fed
-pub same_input : (p q : Packet) → same_packet p q ≡ true → ◌≡◌ {A = List (List ℕ)} (p.bytes ∷ []) (q.bytes ∷ [])
-same_input p q e = ap (λ (x : Packet). x.bytes ∷ []) (same_is_equal p q e)
+-- what a hash of the head is fed
+pub same_input : (p q : Packet) → same_packet p q ≡ true → ◌≡◌ {A = List (List ℕ)} (take 18 p.bytes ∷ []) (take 18 q.bytes ∷ [])
+same_input p q e = ap (λ (x : Packet). take 18 x.bytes ∷ []) (same_is_equal p q e)

@@ -1,6 +1,6 @@
 //! A packet as a key.
 
-ghost use Rattle.std.specs.Prelude.{◌≡◌, ◌∷◌, []};
+ghost use Rattle.std.specs.Prelude.{◌≡◌, ◌∷◌, [], take};
 ghost use Rattle.world_setup.specs.Seen.{node_seen};
 ghost use Rattle.run_merge.specs.LineSeen.{slip_seen};
 
@@ -9,7 +9,11 @@ use octets::Octets;
 use std::hash::{Hash, Hasher};
 use world_setup::Node;
 
-/// A packet: who sent it to whom, and its bytes. It is hashed by its bytes alone.
+/// How many bytes the head of an envelope has: its kind, its transaction and how long it is.
+const HEAD: usize = 18;
+
+/// A packet: who sent it to whom, and its bytes. It is hashed by the head of its envelope alone: what nodes send under one
+/// head are the same bytes, and of a head a pharmacy chooses no more than the length.
 #[derive(Clone, Copy)]
 pub(crate) struct Slip<'a> {
     pub(crate) from: Node,
@@ -23,6 +27,18 @@ impl<'a> Slip<'a> {
         ensures { slip_seen result ≡ record { from = node_seen from; to = node_seen to; bytes = bytes.now } }
     {
         Slip { from, to, bytes }
+    }
+
+    /// The head of its envelope; all of its bytes where they are fewer.
+    fn head(&self) -> &'a [u8]
+        ensures { result.now ≡ take 18 self.now.bytes.now }
+    {
+        let bytes = self.bytes.as_slice();
+        if bytes.len() < HEAD {
+            bytes
+        } else {
+            &bytes[..HEAD]
+        }
     }
 }
 
@@ -54,11 +70,11 @@ impl<'a> Hash for Slip<'a> {
     ghost use Rattle.run_merge.specs.LineSeen.{slip_seen};
     ghost use Rattle.run_merge.specs.SamePacket.{same_input};
 
-    ghost hash_input = { λ s. s.bytes.now ∷ [] };
+    ghost hash_input = { λ s. take 18 s.bytes.now ∷ [] };
 
     ghost respects_eq = { λ a b e. same_input (slip_seen a) (slip_seen b) e };
 
     fn hash<H: Hasher>(&self, state: &mut H) {
-        state.write(self.bytes.as_slice());
+        state.write(self.head());
     }
 }
