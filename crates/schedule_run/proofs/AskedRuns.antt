@@ -1,12 +1,12 @@
 -- When an input asks for a run.
-use Rattle.std.proofs.Common.{◌≡◌, ℕ, List, Option, Some, None, Result, Ok, Err, refl, ap, ◌∙◌}
+use Rattle.std.proofs.Common.{◌≡◌, ℕ, List, Option, Some, Ok, Err, ap, ◌∙◌}
 use Rattle.std.specs.Str.Lines.{lines}
 use Rattle.world_core.specs.Parts.{WorldParts}
 use Rattle.schedule.specs.Division.{settings_text, schedule_lines}
 use Rattle.schedule.specs.Runs.{RunParts, run_of}
 use Rattle.schedule_cli.specs.declared.fault.ProgramFault.{ProgramFault}
 use Rattle.schedule_cli.specs.declared.fault.ProgramFault.TheVariants as stop
-use Rattle.schedule_cli.specs.Replays.{NoReport, BadSettings, BadLine, world_in, OpensNone}
+use Rattle.schedule_cli.specs.Replays.{BadLine, world_in, OpensNone}
 use Rattle.schedule_run.specs.Asked.{asked_from, asked_in, AsksNone}
 
 -- settings that open a world, and lines that spell a run

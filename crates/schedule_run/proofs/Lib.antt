@@ -1,1 +1,6 @@
 pub mod AskedRuns
+pub mod Words
+pub mod Places
+pub mod Turns
+pub mod Tills
+pub mod Endings

@@ -1,1 +1,4 @@
 pub mod Asked
+pub mod Told
+pub mod Hearing
+pub mod Output

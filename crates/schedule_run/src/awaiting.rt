@@ -1,5 +1,9 @@
 //! Waiting for the answer of a request.
 
+ghost use Rattle.std.specs.Prelude.{◌≡◌, IfOk};
+ghost use Rattle.node_threads.specs.TillSeen.{till_seen};
+ghost use Rattle.schedule_run.specs.Hearing.{after_waiting};
+
 use node_threads::{Status, StatusFault, System, Till};
 use octets::Octets;
 use std::alloc::AllocError;
@@ -37,7 +41,9 @@ pub(crate) fn wait_for<T: Wait + Clock>(
     system: &System,
     till: &mut Till,
     number: u64,
-) -> Result<Awaited, AllocError> {
+) -> Result<Awaited, AllocError>
+    ensures { IfOk result (λ awaited. till_seen till.new ≡ after_waiting number (till_seen till.old) awaited) }
+{
     for passed in 0..TURNS {
         match system.status(rt, till, number) {
             Ok(Status::Settled(answer)) => return Ok(Awaited::Settled(answer)),

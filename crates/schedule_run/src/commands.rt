@@ -1,5 +1,12 @@
 //! Making the commands of a run.
 
+ghost use Rattle.std.specs.Prelude.{◌≡◌, ◌++◌, ◌<◌, ◌⊎◌, List, length, slice_get, IfErr, IfSome, OnOk};
+ghost use Rattle.std.specs.Io.KnownBytes.{Appends};
+ghost use Rattle.report.specs.Words.{Line, lines_text};
+ghost use Rattle.node_threads.specs.TillSeen.{till_seen};
+ghost use Rattle.node_threads.specs.LedgerSeen.{tills_seen};
+ghost use Rattle.schedule_run.specs.Told.{AreTold, IsAwaited, IsSubmitted, IsTold};
+
 use crate::awaiting::{Awaited, wait_for};
 use crate::lines::{put_open, put_outcome, put_refused, put_settled, put_submitted};
 use claim_profile::check_readable;
@@ -22,7 +29,11 @@ pub(crate) fn make_commands<T: Wait + Clock, K: Sink>(
     tills: &mut [Till],
     commands: &[Command],
     sink: &mut K,
-) -> Result<(), ProgramFault> {
+) -> Result<(), ProgramFault>
+    ensures told { OnOk result ((lines : List Line) × Appends (K.contents sink.old) (K.contents sink.new) (lines_text lines) × AreTold commands.now (tills_seen tills.old) lines (tills_seen tills.new)) }
+    ensures faults { IfErr result (λ fault. (fault ≡ ProgramFault.Write) ⊎ (fault ≡ ProgramFault.OutOfMemory)) }
+    ensures same_reference { K.loan sink.new ≡ K.loan sink.old }
+{
     for command in commands {
         let mut told = Vec::new(alloc);
         make_command(&mut told, rt, alloc, system, tills, command)?;
@@ -39,7 +50,9 @@ fn make_command<T: Wait + Clock>(
     system: &System,
     tills: &mut [Till],
     command: &Command,
-) -> Result<(), AllocError> {
+) -> Result<(), AllocError>
+    ensures { OnOk result ((lines : List Line) × (told.new.items ≡ told.old.items ++ lines_text lines) × IsTold command.now (tills_seen tills.old) lines (tills_seen tills.new)) }
+{
     match command {
         Command::Submit { pharmacy, text } => {
             submit(told, rt, system, tills, *pharmacy, text.as_slice())
@@ -68,9 +81,11 @@ fn submit<T: Wait>(
     tills: &mut [Till],
     pharmacy: u16,
     request: &[u8],
-) -> Result<(), AllocError> {
-    match till_of(tills, pharmacy) {
-        Some(till) => put_submitted(told, system.submit(rt, till, request)),
+) -> Result<(), AllocError>
+    ensures { OnOk result ((lines : List Line) × (told.new.items ≡ told.old.items ++ lines_text lines) × IsSubmitted pharmacy request.now (tills_seen tills.old) lines (tills_seen tills.new)) }
+{
+    match place_of(tills, pharmacy) {
+        Some(place) => put_submitted(told, system.submit(rt, &mut tills[place], request)),
         None => put_outcome(told, Err(StepFault::NoSuchNode)),
     }
 }
@@ -84,23 +99,29 @@ fn await_answer<T: Wait + Clock>(
     tills: &mut [Till],
     pharmacy: u16,
     number: u64,
-) -> Result<(), AllocError> {
-    let Some(till) = till_of(tills, pharmacy) else {
+) -> Result<(), AllocError>
+    ensures { OnOk result ((lines : List Line) × (told.new.items ≡ told.old.items ++ lines_text lines) × IsAwaited pharmacy number (tills_seen tills.old) lines (tills_seen tills.new)) }
+{
+    let Some(place) = place_of(tills, pharmacy) else {
         return put_outcome(told, Err(StepFault::NoSuchNode));
     };
-    match wait_for(rt, system, till, number)? {
+    match wait_for(rt, system, &mut tills[place], number)? {
         Awaited::Settled(answer) => {
             put_settled(told, alloc, pharmacy, number, answer.as_slice())
         }
-        Awaited::Open => put_open(told, pharmacy, number, places_of(till, number)),
+        Awaited::Open => put_open(told, pharmacy, number, places_of(&tills[place], number)),
         Awaited::NotThisTill => put_refused(told, b"NotThisTill"),
     }
 }
 
-/// The till of a pharmacy; the tills stand in the order of the pharmacies.
-fn till_of(tills: &mut [Till], pharmacy: u16) -> Option<&mut Till> {
+/// The place of a pharmacy's till; the tills stand in the order of the pharmacies.
+fn place_of(tills: &[Till], pharmacy: u16) -> Option<usize>
+    ensures within { IfSome result (λ place. place < length tills.now) }
+    ensures of { IfSome result (λ place. IfSome (slice_get tills.now place) (λ till. till.pharmacy ≡ pharmacy)) }
+{
     let place = usize::from(pharmacy).checked_sub(1)?;
-    tills.get_mut(place)
+    let till = tills.get(place)?;
+    (till.pharmacy() == pharmacy).then_some(place)
 }
 
 /// How many transactions the request of a receipt has; one where there is none.

@@ -3,6 +3,7 @@
 ghost use Rattle.std.specs.Prelude.{◌≡◌};
 ghost use Rattle.schedule_cli.specs.declared.fault.ProgramFault.TheVariants.{OutOfMemory};
 ghost use Rattle.schedule_run.specs.declared.fault.RunFault.TheVariants.{Program};
+ghost use Rattle.schedule_run.specs.Output.{start_told, finish_told};
 
 use node_threads::{FinishFault, StartFault};
 use schedule_cli::ProgramFault;
@@ -67,6 +68,8 @@ impl From<ProgramFault> for RunFault {
 }
 
 impl From<StartFault> for RunFault {
+    ghost from_gives = { λ fault run. run ≡ start_told fault };
+
     fn from(fault: StartFault) -> RunFault {
         match fault {
             StartFault::World(WorldFault::OutOfMemory) => {
@@ -79,6 +82,8 @@ impl From<StartFault> for RunFault {
 }
 
 impl From<FinishFault> for RunFault {
+    ghost from_gives = { λ fault run. run ≡ finish_told fault };
+
     fn from(fault: FinishFault) -> RunFault {
         match fault {
             FinishFault::OutOfMemory => RunFault::Program(ProgramFault::OutOfMemory),

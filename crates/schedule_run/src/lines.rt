@@ -1,5 +1,14 @@
 //! The lines of commands.
 
+ghost use Rattle.std.specs.Prelude.{◌≡◌, ◌∷◌, [], ◌++◌, true, codes, decimal, IfSome, IsSome, MatchResult, OnOk};
+ghost use Rattle.claim_profile.specs.Ruling.{answer_of};
+ghost use Rattle.world_setup.specs.Refused.{refusal_of};
+ghost use Rattle.world_setup.specs.Names.{refusal_name};
+ghost use Rattle.report.specs.Words.{Line, behind_spaces, line_text, lines_text};
+ghost use Rattle.report.specs.Rulings.{ruling_words};
+ghost use Rattle.report.specs.Places.{place_line, place_mark};
+ghost use Rattle.schedule_run.specs.Told.{IsRefusal, is_unreadable, done_line, number_line, refusal_line, pharmacy_word, answer_lines, open_lines, settled_lines};
+
 use claim_profile::{AnswerFault, Ruling, read_answer};
 use input_text::put_decimal;
 use report::put_ruling;
@@ -10,9 +19,11 @@ use world_setup::StepFault;
 pub(crate) fn put_outcome(
     out: &mut Vec<u8>,
     outcome: Result<(), StepFault>,
-) -> Result<(), AllocError> {
+) -> Result<(), AllocError>
+    ensures { OnOk result ((line : Line) × (out.new.items ≡ out.old.items ++ line_text line) × MatchResult outcome (λ _. line ≡ done_line) (λ _. IsRefusal line)) }
+{
     match outcome {
-        Ok(()) => out.extend_from_slice(b"ok\n"),
+        Ok(()) => put_done(out),
         Err(fault) => put_fault(out, fault),
     }
 }
@@ -21,19 +32,38 @@ pub(crate) fn put_outcome(
 pub(crate) fn put_submitted(
     out: &mut Vec<u8>,
     outcome: Result<u64, StepFault>,
-) -> Result<(), AllocError> {
+) -> Result<(), AllocError>
+    ensures { OnOk result ((line : Line) × (out.new.items ≡ out.old.items ++ line_text line) × MatchResult outcome (λ number. line ≡ number_line number) (λ _. IsRefusal line)) }
+{
     match outcome {
-        Ok(number) => {
-            out.extend_from_slice(b"number ")?;
-            put_decimal(out, number)?;
-            out.extend_from_slice(b"\n")
-        }
+        Ok(number) => put_number(out, number),
         Err(fault) => put_fault(out, fault),
     }
 }
 
+/// Appends the line of what was made.
+pub(crate) fn put_done(out: &mut Vec<u8>) -> Result<(), AllocError>
+    ensures { OnOk result (out.new.items ≡ out.old.items ++ line_text done_line) }
+{
+    out.extend_from_slice(b"ok")?;
+    end_line(out)
+}
+
+/// Appends the line of a submission that was taken.
+fn put_number(out: &mut Vec<u8>, number: u64) -> Result<(), AllocError>
+    ensures { OnOk result (out.new.items ≡ out.old.items ++ line_text (number_line number)) }
+{
+    out.extend_from_slice(b"number")?;
+    out.extend_from_slice(b" ")?;
+    put_decimal(out, number)?;
+    end_line(out)
+}
+
 /// Appends the line of what a node refused.
-fn put_fault(out: &mut Vec<u8>, fault: StepFault) -> Result<(), AllocError> {
+fn put_fault(out: &mut Vec<u8>, fault: StepFault) -> Result<(), AllocError>
+    ensures line { OnOk result (IfSome (refusal_of fault) (λ why. out.new.items ≡ out.old.items ++ line_text (refusal_line (refusal_name why)))) }
+    ensures known { OnOk result (IsSome (refusal_of fault)) }
+{
     match fault {
         StepFault::OutOfMemory => Err(AllocError),
         _ => put_refused(out, fault.name().as_bytes()),
@@ -41,10 +71,13 @@ fn put_fault(out: &mut Vec<u8>, fault: StepFault) -> Result<(), AllocError> {
 }
 
 /// Appends the line of a refusal.
-pub(crate) fn put_refused(out: &mut Vec<u8>, name: &[u8]) -> Result<(), AllocError> {
-    out.extend_from_slice(b"refused ")?;
+pub(crate) fn put_refused(out: &mut Vec<u8>, name: &[u8]) -> Result<(), AllocError>
+    ensures { OnOk result (out.new.items ≡ out.old.items ++ line_text (refusal_line name.now)) }
+{
+    out.extend_from_slice(b"refused")?;
+    out.extend_from_slice(b" ")?;
     out.extend_from_slice(name)?;
-    out.extend_from_slice(b"\n")
+    end_line(out)
 }
 
 /// Appends the lines of a request that is still open: one for each of its places.
@@ -53,12 +86,30 @@ pub(crate) fn put_open(
     pharmacy: u16,
     number: u64,
     places: u8,
-) -> Result<(), AllocError> {
-    for place in 1..=places {
-        put_place(out, pharmacy, number, u64::from(place), places > 1)?;
-        out.extend_from_slice(b" open\n")?;
+) -> Result<(), AllocError>
+    ensures { OnOk result (out.new.items ≡ out.old.items ++ lines_text (open_lines pharmacy number places)) }
+{
+    let count = u64::from(places);
+    for passed in 0..count {
+        put_open_place(out, pharmacy, number, passed + 1, count)?;
     }
     Ok(())
+}
+
+/// Appends the line of a place without an answer.
+fn put_open_place(
+    out: &mut Vec<u8>,
+    pharmacy: u16,
+    number: u64,
+    place: u64,
+    count: u64,
+) -> Result<(), AllocError>
+    ensures { OnOk result (out.new.items ≡ out.old.items ++ line_text (pharmacy_word pharmacy ∷ place_line (decimal number) count place (codes "open") [])) }
+{
+    put_pharmacy(out, pharmacy)?;
+    put_place(out, number, place, count)?;
+    out.extend_from_slice(b" open")?;
+    end_line(out)
 }
 
 /// Appends the lines of a request that is settled: one for each place of the request.
@@ -68,11 +119,23 @@ pub(crate) fn put_settled(
     pharmacy: u16,
     number: u64,
     answer: &[u8],
-) -> Result<(), AllocError> {
+) -> Result<(), AllocError>
+    ensures { OnOk result (out.new.items ≡ out.old.items ++ lines_text (answer_lines pharmacy number (answer_of answer.now))) }
+{
     match read_answer(alloc, answer) {
         Ok(answer) => put_rulings(out, pharmacy, number, answer.rulings()),
-        Err(AnswerFault::OutOfMemory) => Err(AllocError),
-        Err(_) => put_refused(out, b"Unreadable"),
+        Err(fault) => put_unread(out, fault),
+    }
+}
+
+/// Appends the line of an answer that cannot be read.
+fn put_unread(out: &mut Vec<u8>, fault: AnswerFault) -> Result<(), AllocError>
+    ensures line { OnOk result (out.new.items ≡ out.old.items ++ line_text (refusal_line (codes "Unreadable"))) }
+    ensures known { OnOk result (is_unreadable fault ≡ true) }
+{
+    match fault {
+        AnswerFault::OutOfMemory => Err(AllocError),
+        _ => put_refused(out, b"Unreadable"),
     }
 }
 
@@ -82,32 +145,66 @@ fn put_rulings(
     pharmacy: u16,
     number: u64,
     rulings: &[Ruling],
-) -> Result<(), AllocError> {
+) -> Result<(), AllocError>
+    ensures { OnOk result (out.new.items ≡ out.old.items ++ lines_text (settled_lines pharmacy number rulings.now)) }
+{
+    let count = rulings.len() as u64;
     for (passed, ruling) in rulings.iter().enumerate() {
-        let place = (passed as u64).saturating_add(1);
-        put_place(out, pharmacy, number, place, rulings.len() > 1)?;
-        out.extend_from_slice(b" settled")?;
-        put_ruling(out, ruling)?;
-        out.extend_from_slice(b"\n")?;
+        put_settled_place(out, pharmacy, number, passed as u64 + 1, count, ruling)?;
     }
     Ok(())
 }
 
-/// Appends the pharmacy and the number of a request, and the place where it has several.
-fn put_place(
+/// Appends the line of a place with its ruling.
+fn put_settled_place(
     out: &mut Vec<u8>,
     pharmacy: u16,
     number: u64,
     place: u64,
-    is_one_of_several: bool,
-) -> Result<(), AllocError> {
+    count: u64,
+    ruling: &Ruling,
+) -> Result<(), AllocError>
+    ensures { OnOk result (out.new.items ≡ out.old.items ++ line_text (pharmacy_word pharmacy ∷ place_line (decimal number) count place (codes "settled") (ruling_words ruling.now))) }
+{
+    put_pharmacy(out, pharmacy)?;
+    put_place(out, number, place, count)?;
+    out.extend_from_slice(b" settled")?;
+    put_ruling(out, ruling)?;
+    end_line(out)
+}
+
+/// Appends the pharmacy of a request.
+fn put_pharmacy(out: &mut Vec<u8>, pharmacy: u16) -> Result<(), AllocError>
+    ensures { OnOk result (out.new.items ≡ out.old.items ++ pharmacy_word pharmacy) }
+{
     out.extend_from_slice(b"ph")?;
-    put_decimal(out, u64::from(pharmacy))?;
+    put_decimal(out, u64::from(pharmacy))
+}
+
+/// Appends the number of a request, and the place where it has several.
+fn put_place(out: &mut Vec<u8>, number: u64, place: u64, count: u64) -> Result<(), AllocError>
+    ensures { OnOk result (out.new.items ≡ out.old.items ++ behind_spaces ((decimal number ++ place_mark count place) ∷ [])) }
+{
     out.extend_from_slice(b" ")?;
     put_decimal(out, number)?;
-    if is_one_of_several {
-        out.extend_from_slice(b"/")?;
-        put_decimal(out, place)?;
+    put_mark(out, place, count)
+}
+
+/// Appends the place of a request that has several.
+fn put_mark(out: &mut Vec<u8>, place: u64, count: u64) -> Result<(), AllocError>
+    ensures { OnOk result (out.new.items ≡ out.old.items ++ place_mark count place) }
+{
+    if count == 1 {
+        return Ok(());
     }
+    out.extend_from_slice(b"/")?;
+    put_decimal(out, place)
+}
+
+/// Ends a line.
+fn end_line(out: &mut Vec<u8>) -> Result<(), AllocError>
+    ensures { OnOk result (out.new.items ≡ out.old.items ++ codes "\n") }
+{
+    out.push(b'\n')?;
     Ok(())
 }

@@ -1,12 +1,24 @@
 //! A run from its input to its report.
 
+ghost use Rattle.std.specs.Prelude.{◌≡◌, ◌⊎◌, ℕ, true, None, List, [], length, replicate, IfOk, IfErr, IfSome, OnOk};
+ghost use Rattle.std.specs.Io.KnownBytes.{Appends};
+ghost use Rattle.std.specs.List.{AllByRecursion};
+ghost use Rattle.world_setup.specs.Taken.{world_fault};
+ghost use Rattle.report.specs.Words.{Line, lines_text};
+ghost use Rattle.schedule.specs.Runs.{run_seen};
+ghost use Rattle.node_threads.specs.LedgerSeen.{tills_seen};
+ghost use Rattle.schedule_run.specs.Asked.{asked_in};
+ghost use Rattle.schedule_run.specs.Told.{IsEmpty, RunTold, done_line};
+ghost use Rattle.schedule_run.specs.Output.{IsOutput, IsReported, Runs, EndsAs, StopsRun, FitsRun, is_early, is_start, is_late, node_lines};
+
 use crate::asked::{Asked, asked_of};
 use crate::commands::make_commands;
 use crate::fault::RunFault;
+use crate::lines::put_done;
 use node_threads::{Gate, System, Till, Workers};
 use schedule::{Command, Run};
 use schedule_cli::{
-    HashKeys, ProgramFault, ReaderSource, Sink, WriterSink, read_all, write_output,
+    HashKeys, ProgramFault, ReaderSource, Sink, Source, WriterSink, read_all, write_output,
 };
 use std::alloc::{AllocError, Global};
 use std::io::{Read, Write};
@@ -46,6 +58,8 @@ pub fn run_schedule<T, R: Read, W: Write>(
 ) -> Result<(), RunFault>
 where
     T: Threads + Wait + Clock + Copy + Send + 'static,
+    // What the commands were told and the nodes as they ended were written, or the input, a thread, the end or a write is at fault.
+    ensures { Runs result (R.remaining reader.old) W.contents writer.old writer.new }
 {
     run_schedule_keyed(rt, alloc, &HashKeys::fixed(), reader, writer)
 }
@@ -63,16 +77,51 @@ pub fn run_schedule_keyed<T, R: Read, W: Write>(
 ) -> Result<(), RunFault>
 where
     T: Threads + Wait + Clock + Copy + Send + 'static,
+    // What the commands were told and the nodes as they ended were written, or the input, a thread, the end or a write is at fault.
+    ensures { Runs result (R.remaining reader.old) W.contents writer.old writer.new }
 {
-    let input = read_all(alloc, &mut ReaderSource::new(reader))?;
-    let Asked { settings, run } = asked_of(alloc, input.as_slice())?;
+    let mut source = ReaderSource::new(reader);
+    let mut sink = WriterSink::new(writer);
+    run_over(rt, alloc, keys, &mut source, &mut sink)
+}
+
+/// The same over a source and a sink.
+fn run_over<T, S: Source, K: Sink>(
+    rt: &T,
+    alloc: Global,
+    keys: &HashKeys,
+    source: &mut S,
+    sink: &mut K,
+) -> Result<(), RunFault>
+where
+    T: Threads + Wait + Clock + Copy + Send + 'static,
+    ensures output { OnOk result (IfSome (S.remaining source.old) (λ input. (output : List ℕ) × IsOutput input output × Appends (K.contents sink.old) (K.contents sink.new) output)) }
+    ensures refused { IfErr result (λ fault. IfSome (S.remaining source.old) (λ input. StopsRun fault (asked_in input))) }
+    ensures fits { IfSome (S.remaining source.old) (λ input. FitsRun result input) }
+    ensures quiet { IfErr result (λ fault. is_early fault ≡ true → sink.new ≡ sink.old) }
+    ensures same_reference { K.loan sink.new ≡ K.loan sink.old }
+{
+    let input = read_all(alloc, source)?;
+    let asked = asked_of(alloc, keys, input.as_slice())?;
+    run_asked(rt, alloc, asked, sink)
+}
+
+/// Starts the nodes, makes the commands, and writes the lines of all nodes.
+fn run_asked<T, K: Sink>(rt: &T, alloc: Global, asked: Asked, sink: &mut K) -> Result<(), RunFault>
+where
+    T: Threads + Wait + Clock + Copy + Send + 'static,
+    requires taken { world_fault asked.settings ≡ None }
+    ensures output { OnOk result ((output : List ℕ) × IsReported asked.settings (run_seen asked.run) output × Appends (K.contents sink.old) (K.contents sink.new) output) }
+    ensures unwritten { IfErr result (λ fault. is_early fault ≡ true → sink.new ≡ sink.old) }
+    ensures started { IfErr result (λ fault. is_start fault ≡ true) }
+    ensures same_reference { K.loan sink.new ≡ K.loan sink.old }
+{
+    let Asked { settings, run } = asked;
     let pharmacies = settings.pharmacies.len();
-    let settings = settings.with_keys(keys);
     let gate = Arc::new(alloc, Open)?;
     let (system, workers) = System::start(rt, alloc, settings, &gate, run.faults.as_slice())?;
-    let mut sink = WriterSink::new(writer);
-    let world = run_to_end(rt, alloc, system, workers, pharmacies, &run, &mut sink)?;
-    write_nodes(alloc, &world, &mut sink)?;
+    let world = run_to_end(rt, alloc, system, workers, pharmacies, &run, sink)?;
+    write_nodes(alloc, &world, sink)?;
     Ok(())
 }
 
@@ -88,6 +137,9 @@ fn run_to_end<T, K: Sink>(
 ) -> Result<World, RunFault>
 where
     T: Threads + Wait + Clock,
+    ensures ended { IfOk result (λ world. (lines : List Line) × Appends (K.contents sink.old) (K.contents sink.new) (lines_text lines) × EndsAs system (run_seen run.now) lines world) }
+    ensures faults { IfErr result (λ fault. is_late fault ≡ true) }
+    ensures same_reference { K.loan sink.new ≡ K.loan sink.old }
 {
     let mut tills = Vec::new(alloc);
     let made = serve(rt, alloc, &system, &mut tills, pharmacies, run, sink);
@@ -105,7 +157,12 @@ fn serve<T: Wait + Clock, K: Sink>(
     pharmacies: usize,
     run: &Run,
     sink: &mut K,
-) -> Result<(), ProgramFault> {
+) -> Result<(), ProgramFault>
+    requires none { tills.now.items ≡ [] }
+    ensures told { OnOk result ((lines : List Line) × Appends (K.contents sink.old) (K.contents sink.new) (lines_text lines) × RunTold (run_seen run.now) lines (tills_seen tills.new.items)) }
+    ensures faults { IfErr result (λ fault. (fault ≡ ProgramFault.Write) ⊎ (fault ≡ ProgramFault.OutOfMemory)) }
+    ensures same_reference { K.loan sink.new ≡ K.loan sink.old }
+{
     open_tills(system, tills, pharmacies)?;
     let told = faults_told(alloc, run.faults.as_slice())?;
     write_output(sink, told.as_slice())?;
@@ -120,7 +177,10 @@ fn serve<T: Wait + Clock, K: Sink>(
 }
 
 /// Opens a till at each pharmacy, in their order.
-fn open_tills(system: &System, tills: &mut Vec<Till>, pharmacies: usize) -> Result<(), AllocError> {
+fn open_tills(system: &System, tills: &mut Vec<Till>, pharmacies: usize) -> Result<(), AllocError>
+    requires none { tills.now.items ≡ [] }
+    ensures { AllByRecursion IsEmpty (tills_seen tills.new.items) }
+{
     for number in 1..=u16::MAX {
         if tills.len() >= pharmacies {
             return Ok(());
@@ -133,16 +193,22 @@ fn open_tills(system: &System, tills: &mut Vec<Till>, pharmacies: usize) -> Resu
 }
 
 /// The lines of the faults of links.
-fn faults_told(alloc: Global, faults: &[LinkFault]) -> Result<Vec<u8>, AllocError> {
+fn faults_told(alloc: Global, faults: &[LinkFault]) -> Result<Vec<u8>, AllocError>
+    ensures { IfOk result (λ told. told.items ≡ lines_text (replicate (length faults.now) done_line)) }
+{
     let mut told = Vec::new(alloc);
     for _ in faults {
-        told.extend_from_slice(b"ok\n")?;
+        put_done(&mut told)?;
     }
     Ok(told)
 }
 
 /// Writes the lines of all nodes.
-fn write_nodes<K: Sink>(alloc: Global, world: &World, sink: &mut K) -> Result<(), ProgramFault> {
+fn write_nodes<K: Sink>(alloc: Global, world: &World, sink: &mut K) -> Result<(), ProgramFault>
+    ensures all { OnOk result (Appends (K.contents sink.old) (K.contents sink.new) (lines_text (node_lines world.now))) }
+    ensures faults { IfErr result (λ fault. (fault ≡ ProgramFault.Write) ⊎ (fault ≡ ProgramFault.OutOfMemory)) }
+    ensures same_reference { K.loan sink.new ≡ K.loan sink.old }
+{
     let mut told = Vec::new(alloc);
     put_nodes(&mut told, alloc, world)?;
     write_output(sink, told.as_slice())

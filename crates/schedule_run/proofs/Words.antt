@@ -1,0 +1,60 @@
+-- How the words of a line follow one another.
+use Rattle.std.proofs.Common.{◌≡◌, ℕ, true, List, [], ◌∷◌, ◌++◌, refl, sym, ap, ◌∙◌, append-nil}
+use Rattle.std.proofs.lemmas.Bool.{false≢true}
+use Rattle.std.specs.Prelude.{codes, IfSome, IsSome, Option, Some, None, Result, Ok, Err, OnOk}
+use Rattle.claim_profile.specs.Ruling.{AnswerParts, FailsAs}
+use Rattle.claim_profile.specs.declared.answer_reading.AnswerFault.{AnswerFault}
+use Rattle.claim_profile.specs.declared.answer_reading.AnswerFault.TheVariants as fault
+use Rattle.claim_model.specs.Refusal.{Refusal}
+use Rattle.world_setup.specs.Names.{refusal_name}
+use Rattle.report.specs.Words.{Line, behind_spaces, line_text, lines_text}
+use Rattle.report.proofs.Joining.{texts_join}
+use Rattle.schedule_run.specs.Told.{IsRefusal, answer_lines, is_unreadable, refusal_line}
+
+-- a space and a word
+pub spaced : (a b c word : List ℕ) → b ≡ a ++ codes " " → c ≡ b ++ word → c ≡ a ++ behind_spaces (word ∷ [])
+unfolding behind_spaces
+spaced a b c word one two = texts_join a b c (codes " ") word one two ∙ ap (λ (t : List ℕ). a ++ (32 ∷ t)) (sym (append-nil word))
+
+-- a word with its space before it
+pub open_word : (a b : List ℕ) → b ≡ a ++ codes " open" → b ≡ a ++ behind_spaces (codes "open" ∷ [])
+unfolding behind_spaces
+open_word a b one = one
+
+pub settled_word : (a b : List ℕ) → b ≡ a ++ codes " settled" → b ≡ a ++ behind_spaces (codes "settled" ∷ [])
+unfolding behind_spaces
+settled_word a b one = one
+
+-- one line is the text of a list of one
+pub one_line_text : (line : Line) → lines_text (line ∷ []) ≡ line_text line
+unfolding lines_text
+one_line_text line = append-nil (line_text line)
+
+-- the line of a refusal that is known
+pub refusal_told : (known : Option Refusal) (a b : List ℕ) → IfSome known (λ why. b ≡ a ++ line_text (refusal_line (refusal_name why))) × IsSome known → (line : Line) × (b ≡ a ++ line_text line) × IsRefusal line
+refusal_told None a b told = absurd (false≢true told.1)
+refusal_told (Some why) a b told = (refusal_line (refusal_name why), told.0, (why, refl))
+
+-- two facts of a call that ends well
+pub on_ok_both : {T E : Type 0} (P Q : Type 0) (r : Result T E) → OnOk r P → OnOk r Q → OnOk r (P × Q)
+on_ok_both P Q (Ok x) p q = (p, q)
+on_ok_both P Q (Err e) p q = tt
+
+-- an answer that cannot be read
+pub unread_told : (pharmacy number : ℕ) (fault : AnswerFault) (reading : Result AnswerParts AnswerFault) → FailsAs fault reading → is_unreadable fault ≡ true
+    → answer_lines pharmacy number reading ≡ refusal_line (codes "Unreadable") ∷ []
+unread_told pharmacy number fault.OutOfMemory reading fails is = absurd (false≢true is)
+unread_told pharmacy number fault.Framing reading fails is = ap (answer_lines pharmacy number) fails
+unread_told pharmacy number fault.NoStatus reading fails is = ap (answer_lines pharmacy number) fails
+unread_told pharmacy number fault.BadStatus reading fails is = ap (answer_lines pharmacy number) fails
+unread_told pharmacy number fault.BadAmount reading fails is = ap (answer_lines pharmacy number) fails
+unread_told pharmacy number fault.BadAuthorization reading fails is = ap (answer_lines pharmacy number) fails
+unread_told pharmacy number fault.BadRejects reading fails is = ap (answer_lines pharmacy number) fails
+unread_told pharmacy number fault.BadClaim reading fails is = ap (answer_lines pharmacy number) fails
+
+-- its lines
+pub unread_lines : (pharmacy number : ℕ) (a b : List ℕ) (fault : AnswerFault) (reading : Result AnswerParts AnswerFault) → FailsAs fault reading
+    → (b ≡ a ++ line_text (refusal_line (codes "Unreadable"))) × (is_unreadable fault ≡ true) → b ≡ a ++ lines_text (answer_lines pharmacy number reading)
+unread_lines pharmacy number a b fault reading fails told =
+    told.0 ∙ (ap (λ (t : List ℕ). a ++ t) (sym (one_line_text (refusal_line (codes "Unreadable"))))
+    ∙ ap (λ (ls : List Line). a ++ lines_text ls) (sym (unread_told pharmacy number fault reading fails told.1)))

@@ -1,0 +1,21 @@
+use Rattle.std.proofs.Common.{[], ◌++◌, refl, ◌∙◌}
+use Rattle.node_threads.specs.LedgerSeen.{tills_seen}
+use Rattle.schedule_run.proofs.Turns.{nothing_written, turn_told, written_more}
+use Rattle.schedule_run.proofs.commands.make_commands.Goals as goal
+
+pub loop-command-init : goal.loop-command-init
+loop-command-init g c = (([], nothing_written (g.K.Sink.contents c.args.sink.now), (refl, refl)), refl)
+
+pub loop-command-preserved : goal.loop-command-preserved
+loop-command-preserved g c =
+    let so_far = c.loop-command.invariant.0 in
+    let told = c.in_ok-make_command.ensures in
+    let text = rw (c.as_slice.ensures.value, told.1, c.new-told.ensures.items) at c.in_ok-write_output.ensures.all in (
+      (
+        so_far.0 ++ told.0,
+        written_more _ _ _ so_far.0 told.0 so_far.1 text,
+        turn_told c.args.commands.now c.loop-command.command-index c.command-item.result (tills_seen c.args.tills.now) (tills_seen c.loop-command.tills) (tills_seen c.make_command.new.tills) so_far.0 told.0 c.loop-command-test.true c.command-item.is
+            so_far.2 told.2,
+      ),
+      c.in_ok-write_output.ensures.same_reference ∙ c.loop-command.invariant.1,
+    )

@@ -1,0 +1,17 @@
+use Rattle.std.proofs.Common.{length, replicate, ap, sym, ◌∙◌}
+use Rattle.std.proofs.lemmas.Result.{on_ok_weaker}
+use Rattle.report.specs.Words.{lines_text}
+use Rattle.schedule.specs.Runs.{run_seen}
+use Rattle.schedule_run.specs.Told.{done_line}
+use Rattle.schedule_run.proofs.Endings.{run_told}
+use Rattle.schedule_run.proofs.running.serve.Goals as goal
+
+pub returns-clause-told : goal.returns-clause-told
+returns-clause-told g c =
+    let items = c.open_tills.new.tills.items in
+    let text = c.as_slice-2.ensures.value ∙ (c.in_ok-told.ensures ∙ ap (λ fs. lines_text (replicate (length fs) done_line)) c.as_slice.ensures.value) in
+    let made = rw (c.as_slice-3.ensures.value, c.as_mut_slice.ensures.value) at c.make_commands.ensures.told in
+    on_ok_weaker c.make_commands.result
+    (run_told _ _ _ (run_seen c.args.run.now) items c.make_commands.new.tills c.open_tills.new.tills.len c.as_slice-2.result.now c.in_ok-open_tills.ensures
+    (sym c.as_mut_slice.ensures.len ∙ ap length c.as_mut_slice.ensures.value) text c.in_ok-write_output.ensures.all)
+    made

@@ -1,0 +1,134 @@
+-- What a run writes, and why it stops.
+use Rattle.std.specs.Prelude.{◌≡◌, ℕ, ◌≤◌, Bool, true, false, List, ◌++◌, length, Option, Some, Result, Ok, Err, IfErr, IfSome, OnOk}
+use Rattle.std.specs.Io.KnownBytes.{Appends}
+use Rattle.world_setup.specs.declared.world_fault.WorldFault.TheVariants as world
+use Rattle.world_setup.specs.declared.settings.WorldSettings.{WorldSettings}
+use Rattle.world_settings.specs.Document.{document_seen}
+use Rattle.world_core.specs.Parts.{WorldParts, context_of}
+use Rattle.schedule.specs.Division.{settings_text}
+use Rattle.schedule.specs.Runs.{RunParts}
+use Rattle.node_threads.specs.Tills.{Till}
+use Rattle.node_threads.specs.Verdicts.{IsRun}
+use Rattle.node_threads.specs.declared.judging.verdict.Finished.{Finished}
+use Rattle.node_threads.specs.declared.starting.StartFault.{StartFault}
+use Rattle.node_threads.specs.declared.starting.StartFault.TheVariants as start
+use Rattle.node_threads.specs.declared.judging.finish_fault.FinishFault.{FinishFault}
+use Rattle.node_threads.specs.declared.judging.finish_fault.FinishFault.TheVariants as finish
+use Rattle.report.specs.Words.{Line, lines_text}
+use Rattle.world_report.specs.Nodes.{world_lines}
+use Rattle.schedule_cli.specs.Replays.{NoReport, BadSettings, BadLine, world_in, opened_world}
+use Rattle.schedule_cli.specs.Stops.{FitsBehind}
+use Rattle.schedule_cli.specs.declared.input.TheConstants.{MOST_INPUT}
+use Rattle.schedule_cli.specs.declared.fault.ProgramFault.TheVariants.{OutOfMemory, Read, Settings, Write}
+use Rattle.schedule_cli.specs.declared.fault.ProgramFault.TheVariants as program
+use Rattle.schedule_run.specs.declared.fault.RunFault.{RunFault}
+use Rattle.schedule_run.specs.declared.fault.RunFault.TheVariants.{Program, Finish, NoThread}
+use Rattle.schedule_run.specs.declared.fault.Unjudged.TheVariants as unjudged
+use Rattle.schedule_run.specs.Asked.{asked_in}
+use Rattle.schedule_run.specs.Told.{RunTold}
+
+-- the lines of the nodes of a world
+abbrev pub node_lines : WorldParts → List Line
+node_lines w = world_lines (context_of w) w.world
+
+-- nodes of these settings ended in this world, of which the commands were told these lines: it is the world of a run that is judged by the tills of the
+-- one who made the commands, so each receipt is an entry of a journal, each entry has its receipt, and each answer that was told is the journal's
+pub record EndsAs (s : WorldSettings) (run : RunParts) (told : List Line) (world : WorldParts) : Type 0 where
+  pub tills : List Till
+  pub commands : RunTold run told tills
+  pub end : Finished
+  pub judged : IsRun s tills end end.logs.items
+  pub world_is : world ≡ end.world
+
+-- an output of nodes of these settings: what the commands were told, and behind that the lines of the nodes of the world that they ended in
+pub record IsReported (s : WorldSettings) (run : RunParts) (output : List ℕ) : Type 0 where
+  pub told : List Line
+  pub world : WorldParts
+  pub ends : EndsAs s run told world
+  pub whole : output ≡ lines_text (told ++ node_lines world)
+
+-- an input asks for a run, and this is an output of it
+pub record IsOutput (input output : List ℕ) : Type 0 where
+  pub run : RunParts
+  pub asked : asked_in input ≡ Ok run
+  pub settings : WorldSettings
+  pub opens : world_in (settings_text input) ≡ Some (opened_world (document_seen settings))
+  pub reported : IsReported settings run output
+
+-- why the nodes do not start, as the run tells it
+abbrev pub start_told : StartFault → RunFault
+start_told (start.World world.OutOfMemory) = Program OutOfMemory
+start_told (start.World world.TooMany) = Program Settings
+start_told (start.World world.NoNode) = Program Settings
+start_told (start.World world.SameProvider) = Program Settings
+start_told (start.World (world.BadRoute fault)) = Program Settings
+start_told start.NoThread = NoThread
+
+-- why what the nodes did is no run, as the run tells it
+abbrev pub finish_told : FinishFault → RunFault
+finish_told finish.OutOfMemory = Program OutOfMemory
+finish_told (finish.TillMissing pharmacy logs) = Finish unjudged.TillMissing
+finish_told (finish.ReceiptMissing logs) = Finish unjudged.ReceiptMissing
+finish_told (finish.HeardDiffers logs) = Finish unjudged.HeardDiffers
+finish_told (finish.Tangled logs) = Finish unjudged.Tangled
+
+-- a run stops for these causes before anything is written
+abbrev pub is_early : RunFault → Bool
+is_early (Program OutOfMemory) = false
+is_early (Program Read) = true
+is_early (Program Settings) = true
+is_early (Program (program.Line number)) = true
+is_early (Program Write) = false
+is_early (Finish why) = false
+is_early NoThread = true
+
+-- a run whose commands are being made stops for these causes
+abbrev pub is_late : RunFault → Bool
+is_late (Program OutOfMemory) = true
+is_late (Program Read) = false
+is_late (Program Settings) = false
+is_late (Program (program.Line number)) = false
+is_late (Program Write) = true
+is_late (Finish why) = true
+is_late NoThread = false
+
+-- a run that was asked for stops for these causes: a thread is missing, or a later one
+abbrev pub is_start : RunFault → Bool
+is_start (Program why) = is_late (Program why)
+is_start (Finish why) = true
+is_start NoThread = true
+
+-- an input asks for a run
+abbrev pub AsksOne : Result RunParts NoReport → Type 0
+AsksOne asked = (run : RunParts) × (asked ≡ Ok run)
+
+-- settings and lines are refused only where they are bad, and nodes start only where they are not; want of memory and a failed read say nothing of the input
+abbrev pub StopsRun : RunFault → Result RunParts NoReport → Type 0
+StopsRun (Program OutOfMemory) asked = Unit {0}
+StopsRun (Program Read) asked = Unit {0}
+StopsRun (Program Settings) asked = asked ≡ Err BadSettings
+StopsRun (Program (program.Line number)) asked = asked ≡ Err (BadLine number)
+StopsRun (Program Write) asked = AsksOne asked
+StopsRun (Finish why) asked = AsksOne asked
+StopsRun NoThread asked = AsksOne asked
+
+-- what is checked was read to its end, and is not too long
+abbrev pub FitsBehindRun : RunFault → List ℕ → Type 0
+FitsBehindRun (Program why) input = FitsBehind why input
+FitsBehindRun (Finish why) input = length input ≤ MOST_INPUT
+FitsBehindRun NoThread input = length input ≤ MOST_INPUT
+
+abbrev pub FitsRun : {A : Type 0} → Result A RunFault → List ℕ → Type 0
+FitsRun (Ok done) input = length input ≤ MOST_INPUT
+FitsRun (Err fault) input = FitsBehindRun fault input
+
+-- what a run does from its input to its output, where its reader and its writer tell their bytes
+pub record Runs {W : Type 0} (result : Result (Unit {0}) RunFault) (input : Option (List ℕ)) (contents : W → Option (List ℕ)) (old new : W) : Type 0 where
+  -- what the commands were told was written, and behind it the lines of the nodes, which bear out the numbers and answers that were told
+  pub output : OnOk result (IfSome input (λ bytes. (output : List ℕ) × IsOutput bytes output × Appends (contents old) (contents new) output))
+  -- settings are refused only where they open no world, and a line only where it is the first that spells nothing in its place
+  pub refused : IfErr result (λ fault. IfSome input (λ bytes. StopsRun fault (asked_in bytes)))
+  -- what is checked was read to its end, and is not too long
+  pub fits : IfSome input (λ bytes. FitsRun result bytes)
+  -- nothing is written before all is checked and the threads have started
+  pub quiet : IfErr result (λ fault. is_early fault ≡ true → new ≡ old)

@@ -1,0 +1,113 @@
+-- What the commands of a run are told, as lines of words. Which of the stated lines they are hangs on the threads.
+use Rattle.std.specs.Prelude.{◌≡◌, ◌⊎◌, ℕ, Bool, true, false, List, [], ◌∷◌, ◌++◌, length, map, replicate, set, slice_get, Some, Result, Ok, Err, codes, decimal}
+use Rattle.std.specs.List.{AllByRecursion}
+use Rattle.claim_model.specs.Refusal.{Refusal}
+use Rattle.claim_model.specs.Words.{Ruling}
+use Rattle.world_setup.specs.Names.{refusal_name}
+use Rattle.schedule.specs.declared.commands.Command.{Command}
+use Rattle.schedule.specs.declared.commands.Command.TheVariants.{Submit, Tick, Plan, Restart, Await}
+use Rattle.schedule.specs.Runs.{RunParts}
+use Rattle.report.specs.Words.{Line}
+use Rattle.report.specs.Rulings.{ruling_words}
+use Rattle.report.specs.Places.{place_lines}
+use Rattle.claim_profile.specs.Ruling.{AnswerParts, answer_of}
+use Rattle.claim_profile.specs.declared.answer_reading.AnswerFault.{AnswerFault}
+use Rattle.claim_profile.specs.declared.answer_reading.AnswerFault.TheVariants.{OutOfMemory, Framing, NoStatus, BadStatus, BadAmount, BadAuthorization, BadRejects, BadClaim}
+use Rattle.node_threads.specs.Tills.{Till, with_receipt, with_answer}
+
+-- a call that was made
+abbrev pub done_line : Line
+done_line = codes "ok" ∷ []
+
+-- a submission that was taken: the number of its entry
+abbrev pub number_line : ℕ → Line
+number_line number = codes "number" ∷ decimal number ∷ []
+
+-- what was refused, by the refusal's name
+abbrev pub refusal_line : List ℕ → Line
+refusal_line name = codes "refused" ∷ name ∷ []
+
+-- the lines of the places of a request: its pharmacy, its number and the place, and what is told of each
+abbrev pub pharmacy_word : ℕ → List ℕ
+pharmacy_word pharmacy = codes "ph" ++ decimal pharmacy
+
+-- each place with its ruling
+abbrev pub settled_lines : ℕ → ℕ → List Ruling → List Line
+settled_lines pharmacy number rulings =
+    map (λ line. pharmacy_word pharmacy ∷ line) (place_lines (decimal number) (length rulings) (codes "settled") 1 (map ruling_words rulings))
+
+-- so many places without a ruling
+abbrev pub open_lines : ℕ → ℕ → ℕ → List Line
+open_lines pharmacy number places =
+    map (λ line. pharmacy_word pharmacy ∷ line) (place_lines (decimal number) places (codes "open") 1 (replicate places []))
+
+-- the refusal of a node
+abbrev pub IsRefusal : Line → Type 0
+IsRefusal line = (why : Refusal) × (line ≡ refusal_line (refusal_name why))
+
+-- made, or refused
+abbrev pub IsOutcome : Line → Type 0
+IsOutcome line = (line ≡ done_line) ⊎ IsRefusal line
+
+-- one line, which refuses
+abbrev pub RefusedBy : List Line → Type 0
+RefusedBy lines = (line : Line) × (lines ≡ line ∷ []) × IsRefusal line
+
+-- one till of this pharmacy changes so, and the others stay
+abbrev pub TillChanges : ℕ → (Till → Till) → List Till → List Till → Type 0
+TillChanges pharmacy change before after =
+    (place : ℕ) × (till : Till) × (slice_get before place ≡ Some till) × (till.pharmacy ≡ pharmacy) × (after ≡ set before place (change till))
+
+-- a submission: refused, or its number is told, and a till of the pharmacy has a receipt of that number and of the request
+abbrev pub IsSubmitted : ℕ → List ℕ → List Till → List Line → List Till → Type 0
+IsSubmitted pharmacy request before lines after =
+    (RefusedBy lines × (after ≡ before)) ⊎ ((number : ℕ) × (lines ≡ number_line number ∷ []) × TillChanges pharmacy (with_receipt number request) before after)
+
+-- the lines of an answer: its rulings; no answer that a journal has is unreadable
+abbrev pub answer_lines : ℕ → ℕ → Result AnswerParts AnswerFault → List Line
+answer_lines pharmacy number (Ok answer) = settled_lines pharmacy number answer.rulings
+answer_lines pharmacy number (Err why) = refusal_line (codes "Unreadable") ∷ []
+
+-- an answer cannot be read for this cause; want of memory is none
+abbrev pub is_unreadable : AnswerFault → Bool
+is_unreadable OutOfMemory = false
+is_unreadable Framing = true
+is_unreadable NoStatus = true
+is_unreadable BadStatus = true
+is_unreadable BadAmount = true
+is_unreadable BadAuthorization = true
+is_unreadable BadRejects = true
+is_unreadable BadClaim = true
+
+-- an await: an answer is told, which a till of the pharmacy hears; or so many places are open; or no receipt has that number; or the pharmacy is not there
+abbrev pub IsAwaited : ℕ → ℕ → List Till → List Line → List Till → Type 0
+IsAwaited pharmacy number before lines after =
+    ((answer : List ℕ) × (lines ≡ answer_lines pharmacy number (answer_of answer)) × TillChanges pharmacy (with_answer number answer) before after)
+    ⊎ ((((places : ℕ) × (lines ≡ open_lines pharmacy number places)) ⊎ ((lines ≡ refusal_line (codes "NotThisTill") ∷ []) ⊎ RefusedBy lines)) × (after ≡ before))
+
+-- a call that gives nothing: it was made, or refused; no till changes
+abbrev pub IsCalled : List Till → List Line → List Till → Type 0
+IsCalled before lines after = ((line : Line) × (lines ≡ line ∷ []) × IsOutcome line) × (after ≡ before)
+
+-- what a command is told, and the tills before it and after it
+abbrev pub IsTold : Command → List Till → List Line → List Till → Type 0
+IsTold (Submit pharmacy text) before lines after = IsSubmitted pharmacy text before lines after
+IsTold (Tick pharmacy) before lines after = IsCalled before lines after
+IsTold (Plan payer product price) before lines after = IsCalled before lines after
+IsTold (Restart node) before lines after = IsCalled before lines after
+IsTold (Await pharmacy number) before lines after = IsAwaited pharmacy number before lines after
+
+-- each command in its turn
+abbrev pub AreTold : List Command → List Till → List Line → List Till → Type 0
+AreTold [] before lines after = (lines ≡ []) × (after ≡ before)
+AreTold (command ∷ more) before lines after =
+    (first : List Line) × (rest : List Line) × (mid : List Till) × (lines ≡ first ++ rest) × IsTold command before first mid × AreTold more mid rest after
+
+-- a till without receipts that has heard nothing
+abbrev pub IsEmpty : Till → Type 0
+IsEmpty till = (till.receipts ≡ []) × (till.heard ≡ [])
+
+-- a line for each fault of a link, and then what the commands are told, by tills that are empty before the first
+abbrev pub RunTold : RunParts → List Line → List Till → Type 0
+RunTold run lines after =
+    (empty : List Till) × (rest : List Line) × AllByRecursion IsEmpty empty × (lines ≡ replicate (length run.faults) done_line ++ rest) × AreTold run.commands empty rest after
