@@ -31,6 +31,35 @@ pub(crate) fn settled() -> &'static str {
     "ok\nnumber 1\nph1 1 settled P 0001000000000001 5570 150 1000 4720\npharmacy 1 up entries 1\n"
 }
 
+/// The lines of the commands of it, each in a piece of its own.
+pub(crate) fn settled_commands() -> &'static [&'static str] {
+    &[
+        "ok\n",
+        "number 1\n",
+        "ph1 1 settled P 0001000000000001 5570 150 1000 4720\n",
+    ]
+}
+
+/// What may be written for it where the pharmacy goes on with sending: switch 1 has the request where the pharmacy sent it
+/// once more, and a switch has it without the answer where the run ended before that was back. The answer came over one of them.
+pub(crate) fn settled_over_either_switch(alloc: Global) -> Result<Vec<String>, Fail> {
+    let switches = [
+        "0\nswitch 2 up entries 1\n1.1 answered",
+        "1\n1.1 open\nswitch 2 up entries 1\n1.1 answered",
+        "1\n1.1 answered\nswitch 2 up entries 1\n1.1 open",
+        "1\n1.1 answered\nswitch 2 up entries 1\n1.1 answered",
+    ];
+    let front = settled();
+    let behind = one_row();
+    let mut outputs = Vec::new(alloc);
+    for between in switches {
+        outputs.push(format!(in alloc;
+            "{front}1 B1 P 0001000000000001 5570 150 1000 4720\npaid 0001000000000001 5570 150 1000 4720\nswitch 1 up entries {between}\n{behind}"
+        )?)?;
+    }
+    Ok(outputs)
+}
+
 /// The lines of its payer.
 pub(crate) fn one_row() -> &'static str {
     "payer 1 up rows 1\n1.1 B1 P 0001000000000001 5570 150 1000 4720 standing\n"

@@ -2,7 +2,7 @@
 #![tactic(auto)]
 
 #[cfg(test)]
-mod fakes;
+mod edges;
 #[cfg(test)]
 mod inputs;
 #[cfg(test)]

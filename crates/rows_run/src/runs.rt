@@ -1,10 +1,10 @@
 //! Whole runs.
 
-use crate::fakes::Paper;
 use crate::inputs::{
     commands, four_given_up, four_lost, four_places, four_rulings, given_up, lost_request, one_row,
     outcomes, sending_again, settled, settled_over_the_second_switch,
 };
+use fake_io::{ALL, Paper};
 use schedule_cli::ProgramFault;
 use schedule_run::{RunFault, run_schedule};
 use std::alloc::Global;
@@ -13,7 +13,7 @@ use std::test::Fail;
 use std::thread::Threads;
 use std::time::Clock;
 
-/// A run of an input, with a writer that fails at the write of that number.
+/// A run of an input.
 fn run<R>(rt: &R, alloc: Global, input: &str, writer: &mut Paper) -> Result<(), RunFault>
 where
     R: Threads + Wait + Clock + Copy + Send + 'static,
@@ -26,7 +26,7 @@ where
 fn an_answer_comes_over_the_second_switch(rt: HostRuntime) -> Result<(), Fail> {
     let alloc = rt.alloc();
     let input = lost_request(alloc, 1)?;
-    let mut writer = Paper::new(alloc, 0);
+    let mut writer = Paper::new(alloc, ALL, 0);
     let outcome = run(&rt, alloc, input.as_str(), &mut writer);
     assert_eq!(rt; outcome, Ok(()));
     let begins = writer.taken().starts_with(settled().as_bytes());
@@ -40,7 +40,7 @@ fn an_answer_comes_over_the_second_switch(rt: HostRuntime) -> Result<(), Fail> {
 fn nothing_else_is_sent_again(rt: HostRuntime) -> Result<(), Fail> {
     let alloc = rt.alloc();
     let input = lost_request(alloc, 60)?;
-    let mut writer = Paper::new(alloc, 0);
+    let mut writer = Paper::new(alloc, ALL, 0);
     let outcome = run(&rt, alloc, input.as_str(), &mut writer);
     assert_eq!(rt; outcome, Ok(()));
     let same = writer.taken() == settled_over_the_second_switch().as_bytes();
@@ -52,7 +52,7 @@ fn nothing_else_is_sent_again(rt: HostRuntime) -> Result<(), Fail> {
 fn each_place_of_a_request_is_told(rt: HostRuntime) -> Result<(), Fail> {
     let alloc = rt.alloc();
     let input = four_places(alloc)?;
-    let mut writer = Paper::new(alloc, 0);
+    let mut writer = Paper::new(alloc, ALL, 0);
     let outcome = run(&rt, alloc, input.as_str(), &mut writer);
     assert_eq!(rt; outcome, Ok(()));
     let begins = writer.taken().starts_with(four_rulings().as_bytes());
@@ -64,7 +64,7 @@ fn each_place_of_a_request_is_told(rt: HostRuntime) -> Result<(), Fail> {
 fn each_place_that_is_open_is_told(rt: HostRuntime) -> Result<(), Fail> {
     let alloc = rt.alloc();
     let input = four_lost(alloc)?;
-    let mut writer = Paper::new(alloc, 0);
+    let mut writer = Paper::new(alloc, ALL, 0);
     let outcome = run(&rt, alloc, input.as_str(), &mut writer);
     assert_eq!(rt; outcome, Ok(()));
     let begins = writer.taken().starts_with(four_given_up().as_bytes());
@@ -78,7 +78,7 @@ fn each_command_tells_what_came_of_it(rt: HostRuntime) -> Result<(), Fail> {
     let settings = sending_again(alloc, 1)?;
     let lines = commands();
     let input = format!(in alloc; "{settings}---\n{lines}")?;
-    let mut writer = Paper::new(alloc, 0);
+    let mut writer = Paper::new(alloc, ALL, 0);
     let outcome = run(&rt, alloc, input.as_str(), &mut writer);
     assert_eq!(rt; outcome, Ok(()));
     let same = writer.taken() == outcomes().as_bytes();
@@ -90,29 +90,11 @@ fn each_command_tells_what_came_of_it(rt: HostRuntime) -> Result<(), Fail> {
 fn waiting_ends_without_an_answer(rt: HostRuntime) -> Result<(), Fail> {
     let alloc = rt.alloc();
     let input = lost_request(alloc, 1000)?;
-    let mut writer = Paper::new(alloc, 0);
+    let mut writer = Paper::new(alloc, ALL, 0);
     let outcome = run(&rt, alloc, input.as_str(), &mut writer);
     assert_eq!(rt; outcome, Ok(()));
     let same = writer.taken() == given_up().as_bytes();
     assert!(rt; same);
-    Ok(())
-}
-
-#[test]
-fn a_run_ends_where_a_write_fails(rt: HostRuntime) -> Result<(), Fail> {
-    let alloc = rt.alloc();
-    let input = lost_request(alloc, 1)?;
-    for write in 1..5u64 {
-        let mut writer = Paper::new(alloc, write);
-        let outcome = run(&rt, alloc, input.as_str(), &mut writer);
-        assert_eq!(rt;
-            outcome,
-            Err(RunFault::Program(ProgramFault::Write)),
-            "{write}"
-        );
-        let front = settled().as_bytes().starts_with(writer.taken());
-        assert!(rt; front, "{write}");
-    }
     Ok(())
 }
 
@@ -136,7 +118,7 @@ fn settings_are_refused_before_lines(rt: HostRuntime) -> Result<(), Fail> {
     ];
     for (front, behind, fault) in cases {
         let input = format!(in alloc; "{front}{settings}{behind}")?;
-        let mut writer = Paper::new(alloc, 0);
+        let mut writer = Paper::new(alloc, ALL, 0);
         let outcome = run(&rt, alloc, input.as_str(), &mut writer);
         assert_eq!(rt; outcome, Err(RunFault::Program(fault)), "{behind}");
         assert_eq!(rt; writer.taken().len(), 0);
