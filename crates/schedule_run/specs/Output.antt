@@ -32,7 +32,7 @@ abbrev pub node_lines : WorldParts → List Line
 node_lines w = world_lines (context_of w) w.world
 
 -- nodes of these settings ended in this world, of which the commands were told these lines: it is the world of a run that is judged by the tills of the
--- one who made the commands, so each receipt is an entry of a journal, each entry has its receipt, and each answer that was told is the journal's
+-- one who made the commands, so each receipt is an entry of a journal, each entry has its receipt, and the first answer that was told for a number is the journal's
 pub record EndsAs (s : WorldSettings) (run : RunParts) (told : List Line) (world : WorldParts) : Type 0 where
   pub tills : List Till
   pub commands : RunTold run told tills

@@ -27,16 +27,16 @@ number_line number = codes "number" ∷ decimal number ∷ []
 abbrev pub refusal_line : List ℕ → Line
 refusal_line name = codes "refused" ∷ name ∷ []
 
--- the lines of the places of a request: its pharmacy, its number and the place, and what is told of each
+-- the pharmacy of a request, as the first word of a line
 abbrev pub pharmacy_word : ℕ → List ℕ
 pharmacy_word pharmacy = codes "ph" ++ decimal pharmacy
 
--- each place with its ruling
+-- a line for each place of a request: its number and the place, and the ruling there
 abbrev pub settled_lines : ℕ → ℕ → List Ruling → List Line
 settled_lines pharmacy number rulings =
     map (λ line. pharmacy_word pharmacy ∷ line) (place_lines (decimal number) (length rulings) (codes "settled") 1 (map ruling_words rulings))
 
--- so many places without a ruling
+-- a line for each of so many places without a ruling
 abbrev pub open_lines : ℕ → ℕ → ℕ → List Line
 open_lines pharmacy number places =
     map (λ line. pharmacy_word pharmacy ∷ line) (place_lines (decimal number) places (codes "open") 1 (replicate places []))
