@@ -70,6 +70,17 @@ pub(crate) fn turns(alloc: Global, count: u32) -> Option<()> {
     Some(())
 }
 
+/// Asks a book of so many paid claims so often for the answer of the first again.
+pub(crate) fn repeats(alloc: Global, size: u32, times: u32) -> Option<()> {
+    let routes = routes(alloc)?;
+    let mut book = with_claims(alloc, size)?;
+    let request = billing_of(alloc, 0)?;
+    for _ in 0..times {
+        answer(&routes, &mut book, 0, &request)?;
+    }
+    Some(())
+}
+
 /// Answers the request under a number, from 0.
 fn answer(routes: &Routes, book: &mut Book, number: u32, request: &[u8]) -> Option<()> {
     let id = TxnId::new(1, u64::from(number) + 1)?;

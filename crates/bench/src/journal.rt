@@ -5,6 +5,8 @@ use envelope::{Envelope, Kind, TxnId, write};
 use pharmacy_journal::{Pharmacy, PharmacySettings};
 use std::alloc::Global;
 
+/// How many answers are made before any is heard.
+const MOST_ANSWERS: u32 = 1000;
 /// A tick for every so many submissions, so that what is sent is spread over a round.
 const SUBMISSIONS_A_TICK: u32 = 66;
 
@@ -18,6 +20,29 @@ pub(crate) fn ticks(alloc: Global, size: u32, times: u32) -> Option<()> {
 pub(crate) fn settled_ticks(alloc: Global, size: u32, times: u32) -> Option<()> {
     let mut pharmacy = with_answers(alloc, size)?;
     turn(&mut pharmacy, times)
+}
+
+/// Submits one request so often to a journal of so many open entries.
+pub(crate) fn submissions(alloc: Global, size: u32, times: u32) -> Option<()> {
+    let mut pharmacy = with_entries(alloc, size)?;
+    let request = billing_of(alloc, 0)?;
+    for _ in 0..times {
+        pharmacy.submit(&request).ok()?;
+    }
+    Some(())
+}
+
+/// Hears the answers to the first so many of a journal's open entries. The answers to the first 1,000 are made in any case.
+pub(crate) fn answers(alloc: Global, size: u32, times: u32) -> Option<()> {
+    let mut pharmacy = with_entries(alloc, size)?;
+    let mut packets = Vec::new(alloc);
+    for place in 0..MOST_ANSWERS {
+        packets.push(answer_to(alloc, place)?).ok()?;
+    }
+    for packet in packets.iter().take(times as usize) {
+        pharmacy.hear(&Envelope::read(packet).ok()?).ok()?;
+    }
+    Some(())
 }
 
 /// A journal of so many settled entries.
@@ -81,8 +106,12 @@ fn filled(alloc: Global, size: u32, cap: u32) -> Option<Pharmacy> {
 
 /// Hears the answer to an entry, by its place from 0.
 fn settle(alloc: Global, pharmacy: &mut Pharmacy, place: u32) -> Option<()> {
+    let packet = answer_to(alloc, place)?;
+    pharmacy.hear(&Envelope::read(&packet).ok()?).ok()
+}
+
+/// The packet with the answer to an entry, by its place from 0.
+fn answer_to(alloc: Global, place: u32) -> Option<Vec<u8>> {
     let id = TxnId::new(1, u64::from(place) + 1)?;
-    let bytes = write(alloc, Kind::Answer, id, &paid_of(alloc, place)?).ok()?;
-    let envelope = Envelope::read(&bytes).ok()?;
-    pharmacy.hear(&envelope).ok()
+    write(alloc, Kind::Answer, id, &paid_of(alloc, place)?).ok()
 }

@@ -1,5 +1,6 @@
 //! Work for valgrind to count: a node that has `size` entries does one thing `times` more.
-//! Usage: bench WORK SIZE TIMES, where WORK is claims, turns, ticks, settled, table, books, saved, journals,
+//! Usage: bench WORK SIZE TIMES, where WORK is claims, kept, turns, submits, hears, ticks, settled, table, exchanges, books,
+//! saved, journals,
 //! or a flood: full-new, full-repeats, full-reused, full-unreadable, full-submissions, full-heard or full-differs; or
 //! chosen or chosen-secret, which pay SIZE claims of the prescriptions on standard input, one of 12 digits a line, in a
 //! book whose maps hash with the fixed keys or with random ones.
@@ -49,10 +50,14 @@ fn chosen(rt: &HostRuntime, keys: &HashKeys, count: u32) -> Option<()> {
 fn work(alloc: Global, name: &str, size: u32, times: u32) -> Option<()> {
     match name {
         "claims" => book::claims(alloc, size.saturating_add(times)),
+        "kept" => book::repeats(alloc, size, times),
         "turns" => book::turns(alloc, size.saturating_add(times)),
+        "submits" => journal::submissions(alloc, size, times),
+        "hears" => journal::answers(alloc, size, times),
         "ticks" => journal::ticks(alloc, size, times),
         "settled" => journal::settled_ticks(alloc, size, times),
         "table" => table::requests(alloc, size, times),
+        "exchanges" => table::exchanges(alloc, size, times),
         "books" => records::books(alloc, size, times),
         "saved" => records::saved_books(alloc, size, times),
         "journals" => records::journals(alloc, size, times),

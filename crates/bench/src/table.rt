@@ -1,20 +1,56 @@
 //! The in-flight table of a switch.
 
 use crate::book::routes;
-use crate::texts::billing_of;
+use crate::texts::{billing_of, paid_of};
 use envelope::{Envelope, Kind, TxnId, write};
 use std::alloc::Global;
 use switch_node::{Switch, SwitchSettings};
 
+/// How many requests are made, and their answers, before any is handed over.
+const MOST_EXCHANGES: u32 = 1000;
+/// The greatest number of entries that a table may have.
+const MOST_ENTRIES: u32 = 65_536;
+
 /// Takes so many new requests more than the table has room for.
 pub(crate) fn requests(alloc: Global, cap: u32, times: u32) -> Option<()> {
+    with_requests(alloc, cap, cap.saturating_add(times))?;
+    Some(())
+}
+
+/// Takes so many requests, each with its answer, behind `size` requests in flight. The packets of 1,000 are made in any
+/// case.
+pub(crate) fn exchanges(alloc: Global, size: u32, times: u32) -> Option<()> {
     let routes = routes(alloc)?;
-    let mut switch = Switch::new(alloc, SwitchSettings::new(cap).ok()?);
-    for number in 0..cap.saturating_add(times) {
-        let id = TxnId::new(1, u64::from(number) + 1)?;
-        let bytes = write(alloc, Kind::Request, id, &billing_of(alloc, number)?).ok()?;
-        let envelope = Envelope::read(&bytes).ok()?;
-        switch.request(&routes, &envelope).ok()?;
+    let mut switch = with_requests(alloc, MOST_ENTRIES, size)?;
+    let mut packets = Vec::new(alloc);
+    for extra in 0..MOST_EXCHANGES {
+        let place = size.saturating_add(extra);
+        let request = packet(alloc, Kind::Request, place, &billing_of(alloc, place)?)?;
+        let answer = packet(alloc, Kind::Answer, place, &paid_of(alloc, place)?)?;
+        packets.push((request, answer)).ok()?;
+    }
+    for (request, answer) in packets.iter().take(times as usize) {
+        switch
+            .request(&routes, &Envelope::read(request).ok()?)
+            .ok()?;
+        switch.response(&Envelope::read(answer).ok()?).ok()?;
     }
     Some(())
+}
+
+/// A switch with room for `cap` requests that took so many.
+fn with_requests(alloc: Global, cap: u32, count: u32) -> Option<Switch> {
+    let routes = routes(alloc)?;
+    let mut switch = Switch::new(alloc, SwitchSettings::new(cap).ok()?);
+    for place in 0..count {
+        let bytes = packet(alloc, Kind::Request, place, &billing_of(alloc, place)?)?;
+        switch.request(&routes, &Envelope::read(&bytes).ok()?).ok()?;
+    }
+    Some(switch)
+}
+
+/// The packet of a kind under the number of a place, from 0.
+fn packet(alloc: Global, kind: Kind, place: u32, payload: &[u8]) -> Option<Vec<u8>> {
+    let id = TxnId::new(1, u64::from(place) + 1)?;
+    write(alloc, kind, id, payload).ok()
 }

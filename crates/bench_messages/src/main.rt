@@ -67,11 +67,21 @@ fn orders(alloc: Global, times: u32) -> Option<()> {
     let first = order_of(&text)?;
     for number in 0..times {
         numbered(&mut text, 90, number)?;
-        if !order_of(&text)?.same_claim(&first) {
+        if !asks_the_same(&order_of(&text)?, &first) {
             return None;
         }
     }
     Some(())
+}
+
+/// Whether two claims are equal but for their prescriptions.
+fn asks_the_same(a: &Claim, b: &Claim) -> bool {
+    a.date == b.date
+        && a.cardholder == b.cardholder
+        && a.product == b.product
+        && a.quantity == b.quantity
+        && a.cost == b.cost
+        && a.fee == b.fee
 }
 
 fn order_of(text: &[u8]) -> Option<Claim> {
@@ -93,7 +103,7 @@ fn listed(alloc: Global, times: u32) -> Option<()> {
     let first = order_in_lists(alloc, &text)?;
     for number in 0..times {
         numbered(&mut text, 90, number)?;
-        if !order_in_lists(alloc, &text)?.same_claim(&first) {
+        if !asks_the_same(&order_in_lists(alloc, &text)?, &first) {
             return None;
         }
     }

@@ -15,6 +15,3 @@ pub use laws::route_laws;
 pub use payer::PayerNo;
 pub use row::RouteRow;
 pub use table::Routes;
-
-#[cfg(test)]
-mod tests;

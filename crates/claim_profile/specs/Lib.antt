@@ -5,7 +5,6 @@ pub mod Text
 pub mod Authorization
 pub mod Money
 pub mod Reject
-pub mod Comparing
 pub mod Order
 pub mod Readable
 pub mod OrderSeen

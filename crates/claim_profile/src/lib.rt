@@ -38,22 +38,3 @@ pub use readable::{LONGEST_REQUEST, RequestFault, check_readable, read_readable}
 pub use reject::{Code, Rejects};
 pub use ruling::{HeaderStatus, Ruling};
 pub use texts::Text;
-
-#[cfg(test)]
-mod answer_law_tests;
-#[cfg(test)]
-mod answer_table_tests;
-#[cfg(test)]
-mod answer_writing_tests;
-#[cfg(test)]
-mod building_tests;
-#[cfg(test)]
-mod order_table_tests;
-#[cfg(test)]
-mod reversal_table_tests;
-#[cfg(test)]
-mod showing_tests;
-#[cfg(test)]
-mod tables;
-#[cfg(test)]
-mod tests;

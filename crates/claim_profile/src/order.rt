@@ -1,7 +1,5 @@
 //! What a transaction asks for.
 
-ghost use Rattle.std.specs.Prelude.{◌≡◌, ◌↔◌, IsTrue};
-
 use crate::texts::Text;
 
 /// One dispensing of a prescription, as the transmission names it: the header's BIN (101-A1),
@@ -15,15 +13,6 @@ pub struct Fill {
     pub provider: [u8; 15],
     pub fill: u8,
     pub prescription: u64,
-}
-
-impl Fill {
-    /// Whether all six parts are equal.
-    pub fn is(&self, other: &Fill) -> bool
-        ensures { IsTrue result ↔ (self.now ≡ other.now) }
-    {
-        self == other
-    }
 }
 
 /// A billing: what was dispensed to whom on which day, and what is asked for it.
@@ -44,23 +33,6 @@ pub struct Claim {
     pub fee: u32,
 }
 
-impl Claim {
-    ghost use Rattle.claim_profile.specs.Comparing.{SameClaim};
-
-    /// Whether date, cardholder, product, quantity, cost and fee are all equal: a second billing of
-    /// one fill is then the first again. The fill itself is not compared.
-    pub fn same_claim(&self, other: &Claim) -> bool
-        ensures { IsTrue result ↔ SameClaim self.now other.now }
-    {
-        self.date == other.date
-            && self.cardholder.is(&other.cardholder)
-            && self.product.is(&other.product)
-            && self.quantity == other.quantity
-            && self.cost == other.cost
-            && self.fee == other.fee
-    }
-}
-
 /// A reversal: takes back the payment of a fill. Without a fill number it names every fill of its
 /// prescription on its day.
 #[derive(Clone, Copy, Debug, PartialEq, Eq)]
@@ -73,35 +45,6 @@ pub struct Reversal {
     pub fill: Option<u8>,
     /// Date of service (401-D1), a day of the calendar as `CCYYMMDD`.
     pub date: [u8; 8],
-}
-
-impl Reversal {
-    ghost use Rattle.claim_profile.specs.Comparing.{Matches, NamesFill};
-
-    /// Whether this reversal takes back a payment of this fill on this date: BIN, processor control
-    /// number, qualifier, provider, prescription number and date are equal, and the fill number
-    /// where the reversal has one.
-    pub fn matches(&self, fill: &Fill, date: &[u8; 8]) -> bool
-        ensures { IsTrue result ↔ Matches self.now fill.now date.now }
-    {
-        self.bin == fill.bin
-            && self.pcn == fill.pcn
-            && self.qualifier == fill.qualifier
-            && self.provider == fill.provider
-            && self.prescription == fill.prescription
-            && self.date == *date
-            && self.names_fill(fill.fill)
-    }
-
-    // Whether the fill number is this one, or left out.
-    fn names_fill(&self, fill: u8) -> bool
-        ensures { IsTrue result ↔ NamesFill self.now.fill fill }
-    {
-        match self.fill {
-            Some(number) => number == fill,
-            None => true,
-        }
-    }
 }
 
 /// What one transaction asks for.

@@ -1,6 +1,6 @@
 //! Texts of a bounded length that lie in the value itself.
 
-ghost use Rattle.std.specs.Prelude.{◌≡◌, ◌≤◌, ◌↔◌, length, IsTrue, IsSome, IfSome};
+ghost use Rattle.std.specs.Prelude.{◌≡◌, ◌≤◌, ◌↔◌, length, IsSome, IfSome};
 
 use std::marker::Model;
 
@@ -54,12 +54,5 @@ impl<const N: usize> Text<N> {
         ensures fits { length result.now ≤ N }
     {
         &self.bytes[..self.len]
-    }
-
-    /// Whether both texts have the same bytes.
-    pub fn is(&self, other: &Text<N>) -> bool
-        ensures { IsTrue result ↔ (self.now ≡ other.now) }
-    {
-        self.as_slice() == other.as_slice()
     }
 }

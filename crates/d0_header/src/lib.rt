@@ -15,6 +15,3 @@ pub use fault::HeaderFault;
 pub use laws::{request_text_laws, response_text_laws};
 pub use request::RequestHeader;
 pub use response::ResponseHeader;
-
-#[cfg(test)]
-mod tests;

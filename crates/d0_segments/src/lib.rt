@@ -31,6 +31,3 @@ pub use segment::Segment;
 pub use separator::{FIELD_SEPARATOR, GROUP_SEPARATOR, SEGMENT_SEPARATOR};
 pub use transmission::Transmission;
 pub use writing::write;
-
-#[cfg(test)]
-mod tests;

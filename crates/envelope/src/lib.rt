@@ -13,6 +13,3 @@ pub use laws::{envelope_is_its_text, envelope_reads_back};
 pub use opening::{Envelope, EnvelopeFault, Kind, LARGEST_PAYLOAD};
 pub use txn::TxnId;
 pub use writing::{WriteFault, write};
-
-#[cfg(test)]
-mod tests;

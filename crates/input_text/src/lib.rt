@@ -16,6 +16,3 @@ pub use line::{Line, Lines, is_skipped};
 pub use printing::put_printed;
 pub use unprinting::{PrintedFault, unprint};
 pub use words::split_word;
-
-#[cfg(test)]
-mod tests;

@@ -25,12 +25,3 @@ pub use fault::RecordFault;
 pub use journal_laws::{journal_is_its_text, journal_reads_back, journals_share_no_text};
 pub use journal_reading::read_journal;
 pub use journal_writing::{save_journal, write_journal};
-
-#[cfg(test)]
-mod book_tests;
-#[cfg(test)]
-mod book_vectors;
-#[cfg(test)]
-mod journal_tests;
-#[cfg(test)]
-mod journal_vectors;

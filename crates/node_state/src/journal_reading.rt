@@ -10,7 +10,7 @@ ghost use Rattle.claim_model.specs.Numbered.{numbered};
 ghost use Rattle.pharmacy_journal.specs.Listing.{listed};
 
 use pharmacy_journal::{CountedPayment, EntryView, JournalAtRest, KeptEntry, Pharmacy};
-use std::alloc::{AllocError, Global};
+use std::alloc::AllocError;
 use std::marker::Model;
 
 /// Whose journal is read: a pharmacy's that is up, or one that was read from its record.
@@ -106,33 +106,33 @@ impl<'a> JournalReading<'a> {
     }
 
     /// The payments that the pharmacy counts.
-    pub fn paid(&self, alloc: Global) -> Result<Vec<CountedPayment>, AllocError>
+    pub fn paid(&self) -> Result<Vec<CountedPayment>, AllocError>
         ensures { (routes : RouteMaps) → IfOk result (λ paid. paid.items ≡ counted (bytes_with routes) self.now) }
     {
         match &self.source {
-            JournalSource::Running(pharmacy) => pharmacy.paid(alloc),
-            JournalSource::Resting(journal) => journal.paid(alloc),
+            JournalSource::Running(pharmacy) => pharmacy.paid(),
+            JournalSource::Resting(journal) => journal.paid(),
         }
     }
 
     /// All entries, in order of their numbers.
-    pub fn list(&self, alloc: Global) -> Result<Vec<EntryView>, AllocError>
+    pub fn list(&self) -> Result<Vec<EntryView>, AllocError>
         ensures { IfOk result (λ views. views.items ≡ listed self.now) }
     {
         match &self.source {
-            JournalSource::Running(pharmacy) => pharmacy.list(alloc),
-            JournalSource::Resting(journal) => journal.list(alloc),
+            JournalSource::Running(pharmacy) => pharmacy.list(),
+            JournalSource::Resting(journal) => journal.list(),
         }
     }
 
     /// All entries, in order of their numbers, and the payments that the pharmacy counts, with each answer read once.
-    pub fn told(&self, alloc: Global) -> Result<(Vec<EntryView>, Vec<CountedPayment>), AllocError>
+    pub fn told(&self) -> Result<(Vec<EntryView>, Vec<CountedPayment>), AllocError>
         ensures entries { IfOk result (λ told. told.0.items ≡ listed self.now) }
         ensures paid { (routes : RouteMaps) → IfOk result (λ told. told.1.items ≡ counted (bytes_with routes) self.now) }
     {
         match &self.source {
-            JournalSource::Running(pharmacy) => pharmacy.told(alloc),
-            JournalSource::Resting(journal) => journal.told(alloc),
+            JournalSource::Running(pharmacy) => pharmacy.told(),
+            JournalSource::Resting(journal) => journal.told(),
         }
     }
 }

@@ -25,6 +25,3 @@ pub use payer::PayerNode;
 pub use pharmacy::PharmacyNode;
 pub use state::NodeState;
 pub use switch::SwitchNode;
-
-#[cfg(test)]
-mod tests;

@@ -162,7 +162,7 @@ impl SwitchNode {
         ensures { IfOk result (λ list. list.items ≡ in_flight_at self.now) }
     {
         match &self.state {
-            SwitchState::Up(switch) => switch.list(alloc),
+            SwitchState::Up(switch) => switch.list(),
             SwitchState::AtRest(_) => Ok(Vec::new(alloc)),
         }
     }

@@ -33,6 +33,3 @@ pub use status::{Status, StatusFault};
 pub use system::System;
 pub use till::{Receipt, Till};
 pub use workers::{Gate, Workers};
-
-#[cfg(test)]
-mod tests;

@@ -26,8 +26,9 @@ pub struct Till {
 }
 
 impl Till {
-    /// A till of this pharmacy, with no receipt and nothing heard.
-    pub(crate) fn new(alloc: Global, pharmacy: u16) -> Till
+    /// A till of this pharmacy, with no receipt and nothing heard. The tills of a running system come from `System::till`;
+    /// this one is for who judges logs that were recorded elsewhere.
+    pub fn new(alloc: Global, pharmacy: u16) -> Till
         ensures { till_seen result ≡ record { pharmacy = pharmacy; receipts = []; heard = [] } }
     {
         Till {
@@ -38,7 +39,7 @@ impl Till {
     }
 
     /// Makes room for one receipt, so that adding it cannot fail after a step. Of what the till has nothing changes.
-    pub(crate) fn reserve(&mut self) -> Result<(), AllocError>
+    pub fn reserve(&mut self) -> Result<(), AllocError>
         ensures same { till_seen self.new ≡ till_seen self.old }
         ensures room { OnOk result (HasRoom self.new) }
     {
@@ -46,7 +47,7 @@ impl Till {
     }
 
     /// Adds a receipt, in room that was made before.
-    pub(crate) fn add(&mut self, number: u64, request: Octets)
+    pub fn add(&mut self, number: u64, request: Octets)
         requires { HasRoom self.old }
         ensures { till_seen self.new ≡ with_receipt number request (till_seen self.old) }
     {
@@ -114,7 +115,7 @@ impl Till {
     ///
     /// # Errors
     /// Memory was refused. The till is then as it was.
-    pub(crate) fn hear(&mut self, number: u64, answer: Octets) -> Result<(), AllocError>
+    pub fn hear(&mut self, number: u64, answer: Octets) -> Result<(), AllocError>
         ensures heard { OnOk result (till_seen self.new ≡ with_answer number answer (till_seen self.old)) }
         ensures refused { OnErr result (till_seen self.new ≡ till_seen self.old) }
     {

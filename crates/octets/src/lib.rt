@@ -6,6 +6,3 @@
 mod owned;
 
 pub use owned::Octets;
-
-#[cfg(test)]
-mod tests;

@@ -14,6 +14,3 @@ pub use laws::{
     number_shortest,
 };
 pub use number::{NumberFault, read_number, write_number};
-
-#[cfg(test)]
-mod tests;

@@ -44,6 +44,11 @@ impl HashKeys {
         HashKeys::from_start(self.start)
     }
 
+    /// A hasher that has read these keys, and nothing else.
+    pub fn hasher(&self) -> FoldHasher {
+        self.start.hasher
+    }
+
     /// The keys of a map.
     pub(crate) fn from_start(start: HashStart) -> HashKeys {
         HashKeys { start }

@@ -36,14 +36,3 @@ pub use plan_rules::{Plan, PlanFault};
 pub use rest::BookAtRest;
 pub use row::Row;
 pub use settings::BookSettings;
-
-#[cfg(test)]
-mod adding_tests;
-#[cfg(test)]
-mod keys_tests;
-#[cfg(test)]
-mod many_tests;
-#[cfg(test)]
-mod tests;
-#[cfg(test)]
-mod vectors;

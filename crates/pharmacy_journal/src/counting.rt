@@ -72,19 +72,19 @@ impl Pharmacy {
     /// The payments that the pharmacy counts: those that a Paid or Duplicate answer to one of its claims
     /// names, unless a Reversed answer names them. Fill and amounts are those of the first such answer; the
     /// order is that of numbers and then of places.
-    pub fn paid(&self, alloc: Global) -> Result<Vec<CountedPayment>, AllocError>
+    pub fn paid(&self) -> Result<Vec<CountedPayment>, AllocError>
         ensures { (routes : RouteMaps) → IfOk result (λ paid. paid.items ≡ counted (bytes_with routes) (stopped self.now)) }
     {
-        paid_in(alloc, self.slots.as_slice())
+        paid_in(self.allocator(), self.slots.as_slice())
     }
 }
 
 impl JournalAtRest {
     /// The payments that the pharmacy counts, as for one that is up.
-    pub fn paid(&self, alloc: Global) -> Result<Vec<CountedPayment>, AllocError>
+    pub fn paid(&self) -> Result<Vec<CountedPayment>, AllocError>
         ensures { (routes : RouteMaps) → IfOk result (λ paid. paid.items ≡ counted (bytes_with routes) self.now) }
     {
-        paid_in(alloc, self.slots.as_slice())
+        paid_in(self.allocator(), self.slots.as_slice())
     }
 }
 

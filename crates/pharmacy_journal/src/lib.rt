@@ -28,6 +28,3 @@ pub use pharmacy::Pharmacy;
 pub use sent::Sent;
 pub use settings::PharmacySettings;
 pub use transaction::{OpenTxn, SettledTxn};
-
-#[cfg(test)]
-mod tests;

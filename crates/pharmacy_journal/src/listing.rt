@@ -65,19 +65,19 @@ impl EntryView {
 
 impl Pharmacy {
     /// All entries, in order of their numbers.
-    pub fn list(&self, alloc: Global) -> Result<Vec<EntryView>, AllocError>
+    pub fn list(&self) -> Result<Vec<EntryView>, AllocError>
         ensures { IfOk result (λ views. views.items ≡ listed (stopped self.now)) }
     {
-        list_of(alloc, self.slots.as_slice())
+        list_of(self.allocator(), self.slots.as_slice())
     }
 }
 
 impl JournalAtRest {
     /// All entries, in order of their numbers.
-    pub fn list(&self, alloc: Global) -> Result<Vec<EntryView>, AllocError>
+    pub fn list(&self) -> Result<Vec<EntryView>, AllocError>
         ensures { IfOk result (λ views. views.items ≡ listed self.now) }
     {
-        list_of(alloc, self.slots.as_slice())
+        list_of(self.allocator(), self.slots.as_slice())
     }
 }
 

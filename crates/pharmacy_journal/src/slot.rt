@@ -2,7 +2,7 @@
 
 ghost use Rattle.std.specs.Prelude.{◌≡◌, IsSome};
 ghost use Rattle.claim_profile.specs.Readable.{readable_header};
-ghost use Rattle.pharmacy_journal.specs.Entries.{kept_of, is_waiting};
+ghost use Rattle.pharmacy_journal.specs.Entries.{kept_of};
 
 use crate::transaction::{OpenTxn, SettledTxn};
 
@@ -14,16 +14,6 @@ pub(crate) enum Slot {
 }
 
 impl Slot {
-    /// Whether it waits for its answer.
-    pub(crate) fn is_waiting(&self) -> bool
-        ensures { result ≡ is_waiting self.now }
-    {
-        match self {
-            Slot::Waiting(_) => true,
-            Slot::Settled(_) => false,
-        }
-    }
-
     /// The request's bytes.
     pub(crate) fn request(&self) -> &[u8]
         ensures value { result.now ≡ (kept_of self.now).request }

@@ -21,21 +21,21 @@ use std::alloc::{AllocError, Global};
 impl Pharmacy {
     /// All entries, in order of their numbers, and the payments that the pharmacy counts, with each answer read once:
     /// what `list` and `paid` give.
-    pub fn told(&self, alloc: Global) -> Result<(Vec<EntryView>, Vec<CountedPayment>), AllocError>
+    pub fn told(&self) -> Result<(Vec<EntryView>, Vec<CountedPayment>), AllocError>
         ensures entries { IfOk result (λ told. told.0.items ≡ listed (stopped self.now)) }
         ensures paid { (routes : RouteMaps) → IfOk result (λ told. told.1.items ≡ counted (bytes_with routes) (stopped self.now)) }
     {
-        told_by(alloc, self.slots.as_slice())
+        told_by(self.allocator(), self.slots.as_slice())
     }
 }
 
 impl JournalAtRest {
     /// All entries and the payments that the pharmacy counts, as for one that is up.
-    pub fn told(&self, alloc: Global) -> Result<(Vec<EntryView>, Vec<CountedPayment>), AllocError>
+    pub fn told(&self) -> Result<(Vec<EntryView>, Vec<CountedPayment>), AllocError>
         ensures entries { IfOk result (λ told. told.0.items ≡ listed self.now) }
         ensures paid { (routes : RouteMaps) → IfOk result (λ told. told.1.items ≡ counted (bytes_with routes) self.now) }
     {
-        told_by(alloc, self.slots.as_slice())
+        told_by(self.allocator(), self.slots.as_slice())
     }
 }
 

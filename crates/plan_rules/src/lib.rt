@@ -11,6 +11,3 @@ mod product;
 pub use fault::PlanFault;
 pub use laws::{cleared_price_is_gone, same_bytes_are_one_product, set_price_is_found};
 pub use plan::Plan;
-
-#[cfg(test)]
-mod tests;

@@ -2,4 +2,14 @@
 #![tactic(auto)]
 
 #[cfg(test)]
+mod adding;
+#[cfg(test)]
+mod answers;
+#[cfg(test)]
 mod book;
+#[cfg(test)]
+mod keys;
+#[cfg(test)]
+mod many;
+#[cfg(test)]
+mod texts;

@@ -9,3 +9,5 @@ mod history;
 mod receiver;
 #[cfg(test)]
 mod reports;
+#[cfg(test)]
+mod states;

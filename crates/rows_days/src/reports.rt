@@ -13,7 +13,7 @@ fn goes_as_told<R: Abort + AllocGlobal>(rt: &R, day: Day) -> Result<(), Fail> {
     let told = read_day(alloc, day)?.ok_or("a day")?;
     let mut world = World::new(alloc, told.settings)?;
     let mut report = Vec::new(alloc);
-    put_report(&mut report, alloc, &mut world, told.events.as_slice())?;
+    put_report(&mut report, alloc, &mut world, told.events)?;
     let mut want = told.answers;
     want.extend_from_slice(told.nodes.as_bytes())?;
     let report = std::str::from_utf8(&report)?;

@@ -248,7 +248,7 @@ pub(crate) fn counts<R: Abort + AllocGlobal>(
     day: &Day,
     serials: &[u64],
 ) -> Result<(), Fail> {
-    let paid = day.pharmacy.paid(rt.alloc())?;
+    let paid = day.pharmacy.paid()?;
     assert_eq!(rt; paid.len(), serials.len(), "payments");
     for (payment, serial) in paid.iter().zip(serials) {
         assert_eq!(rt; payment.auth(), auth(*serial)?, "serial {serial}");

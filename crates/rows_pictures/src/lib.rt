@@ -3,3 +3,5 @@
 
 #[cfg(test)]
 mod pictures;
+#[cfg(test)]
+mod words;

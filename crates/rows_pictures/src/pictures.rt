@@ -21,6 +21,25 @@ fn input(alloc: Global) -> Result<Vec<u8>, Fail> {
     Ok(input)
 }
 
+/// Two thousand and one changes of price. Those on both sides of what a picture of the ends leaves out have prices of
+/// their own: the last before it, its first, its middle, its last, and the first behind it.
+fn long_input(alloc: Global) -> Result<Vec<u8>, Fail> {
+    let mut input = Vec::new(alloc);
+    input.extend_from_slice(one_pharmacy().as_bytes())?;
+    input.extend_from_slice(b"---\n")?;
+    for event in 1..=2001u32 {
+        input.extend_from_slice(match event {
+            500 => b"plan pr1 00093721410 10500\n",
+            501 => b"plan pr1 00093721410 10501\n",
+            1001 => b"plan pr1 00093721410 11001\n",
+            1501 => b"plan pr1 00093721410 11501\n",
+            1502 => b"plan pr1 00093721410 11502\n",
+            _ => b"plan pr1 00093721410 20000\n",
+        })?;
+    }
+    Ok(input)
+}
+
 /// What these bytes begin a replay with.
 fn begun(alloc: Global, input: &[u8]) -> Result<Scheduled, ProgramFault> {
     let mut reader = input;
@@ -183,5 +202,25 @@ fn draws_every_arrow_and_says_what_it_carries(rt: HostRuntime) -> Result<(), Fai
     }
     let whole = written(alloc, input.as_slice(), Extent::All)?;
     assert_eq!(rt; whole.as_slice(), file.as_slice());
+    Ok(())
+}
+
+#[test]
+fn draws_all_of_a_long_run_where_that_is_asked_for(rt: HostRuntime) -> Result<(), Fail> {
+    let alloc = rt.alloc();
+    let input = long_input(alloc)?;
+    let ends = written(alloc, input.as_slice(), Extent::Ends)?;
+    let whole = written(alloc, input.as_slice(), Extent::All)?;
+    let prices: [(&[u8], usize); 5] = [
+        (b"costs $1.0500 a unit", 1),
+        (b"costs $1.0501 a unit", 0),
+        (b"costs $1.1001 a unit", 0),
+        (b"costs $1.1501 a unit", 0),
+        (b"costs $1.1502 a unit", 1),
+    ];
+    for (price, count) in prices {
+        assert_eq!(rt; count_of(ends.as_slice(), price), count);
+    }
+    assert_eq!(rt; count_of(whole.as_slice(), b"costs $1.1001 a unit"), 1);
     Ok(())
 }

@@ -9,3 +9,5 @@ mod explained;
 mod inputs;
 #[cfg(test)]
 mod program;
+#[cfg(test)]
+mod words;

@@ -114,7 +114,7 @@ impl Walks {
 
 /// Whether a payment has the fill and the amounts that were counted.
 fn is_kept(counted: &CountedPayment, payment: &PaymentView) -> bool {
-    counted.fill().is(&payment.fill) && counted.amounts() == payment.amounts
+    counted.fill() == payment.fill && counted.amounts() == payment.amounts
 }
 
 /// Whether a number is of this pharmacy, which submitted a reversal under it and holds no answer to it.
@@ -150,7 +150,7 @@ fn put_standing(
     if let Ruling::Paid { auth, .. } = ruling {
         let payment = world.payment(payer, *auth)?.ok_or("a payment of a row")?;
         if payment.reversed_by.is_none() {
-            let twice = fills.iter().any(|fill| fill.is(&payment.fill));
+            let twice = fills.iter().any(|fill| *fill == payment.fill);
             holds(!twice, "two payments of one fill stand")?;
             fills.push(payment.fill)?;
         }

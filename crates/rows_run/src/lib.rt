@@ -7,3 +7,5 @@ mod edges;
 mod inputs;
 #[cfg(test)]
 mod runs;
+#[cfg(test)]
+mod stops;

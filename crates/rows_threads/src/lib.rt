@@ -8,6 +8,8 @@ mod inboxes;
 #[cfg(test)]
 mod inputs;
 #[cfg(test)]
+mod judging;
+#[cfg(test)]
 mod links;
 #[cfg(test)]
 mod logs;

@@ -28,6 +28,3 @@ pub use extent::{Extent, extent_of};
 pub use sheet::picture;
 pub use stop::PictureStop;
 pub use whole::draw_replay;
-
-#[cfg(test)]
-mod tests;

@@ -21,8 +21,3 @@ pub use fault::ScheduleFault;
 pub use reading::read_schedule;
 pub use runs::{Run, read_run};
 pub use why::{LineFault, command_fault, event_fault};
-
-#[cfg(test)]
-mod run_tests;
-#[cfg(test)]
-mod tests;

@@ -16,15 +16,21 @@ use input_text::{put_decimal, put_printed};
 use payer_book::{Book, BookFault, HashKeys, Reply};
 use std::alloc::Global;
 
-/// The whole output for an input.
+/// The whole output for an input, which is given back once its entries are read.
 ///
 /// # Errors
 /// `Line` of the first line that spells no entry; `OutOfMemory`.
-pub(crate) fn answers(alloc: Global, keys: &HashKeys, input: &[u8]) -> Result<Vec<u8>, ProgramFault>
-    ensures all { IfOk result (λ output. output_of input.now ≡ Ok output.items) }
-    ensures fault { IfErr result (λ fault. StopsFor fault (output_of input.now)) }
+pub(crate) fn answers(
+    alloc: Global,
+    keys: &HashKeys,
+    input: Vec<u8>,
+) -> Result<Vec<u8>, ProgramFault>
+    ensures all { IfOk result (λ output. output_of input.items ≡ Ok output.items) }
+    ensures fault { IfErr result (λ fault. StopsFor fault (output_of input.items)) }
 {
-    match entries(alloc, input) {
+    let read = entries(alloc, input.as_slice());
+    drop(input);
+    match read {
         Ok(entries) => all_lines(alloc, keys, entries.as_slice()),
         Err(fault) => Err(fault),
     }

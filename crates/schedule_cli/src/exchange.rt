@@ -24,15 +24,19 @@ pub struct Scheduled {
     pub events: Vec<Event>,
 }
 
-/// What a replay of an input begins with. The maps of its books hash with these keys.
+/// What a replay of an input begins with, which keeps nothing of the input. The maps of its books hash with these keys.
 ///
 /// # Errors
 /// `Settings` where the settings are none; then `Line` of the first line that spells no event; `OutOfMemory`.
-pub(crate) fn begin(alloc: Global, keys: &HashKeys, input: &[u8]) -> Result<Scheduled, ProgramFault>
-    ensures begins { IfOk result (λ s. Begins input.now s.world s.events.items) }
-    ensures fault { IfErr result (λ fault. HasNone fault (replay_of input.now)) }
+pub(crate) fn begin(
+    alloc: Global,
+    keys: &HashKeys,
+    input: Vec<u8>,
+) -> Result<Scheduled, ProgramFault>
+    ensures begins { IfOk result (λ s. Begins input.items s.world s.events.items) }
+    ensures fault { IfErr result (λ fault. HasNone fault (replay_of input.items)) }
 {
-    let parts = divide(alloc, input)?;
+    let parts = divide(alloc, input.as_slice())?;
     let world = opened(alloc, keys, parts.settings.as_slice())?;
     match read_schedule(alloc, parts.schedule) {
         Ok(events) => Ok(Scheduled { world, events }),
@@ -60,7 +64,7 @@ pub fn read_scheduled<S: Source>(alloc: Global, source: &mut S) -> Result<Schedu
     ensures calls { S.calls source.new ≤ S.calls source.old + MOST_CALLS }
 {
     let input = read_all(alloc, source)?;
-    begin(alloc, &HashKeys::fixed(), input.as_slice())
+    begin(alloc, &HashKeys::fixed(), input)
 }
 
 /// Writes a finished output, and flushes it.

@@ -32,6 +32,3 @@ pub use standard::{read_claims, read_claims_keyed, replay, replay_keyed};
 pub use whole::replay_over;
 pub use why::{EntryFault, entry_fault, why_refused};
 pub use words::{Stop, Word, word_of};
-
-#[cfg(test)]
-mod tests;

@@ -45,6 +45,6 @@ pub fn read_claims_over<S: Source, K: Sink>(
     ensures calls { S.calls source.new ≤ S.calls source.old + MOST_CALLS }
 {
     let input = read_all(alloc, source)?;
-    let output = answers(alloc, keys, input.as_slice())?;
+    let output = answers(alloc, keys, input)?;
     write_all(sink, output.as_slice())
 }

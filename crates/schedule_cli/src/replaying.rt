@@ -24,10 +24,10 @@ use world_setup::WorldSettings;
 pub(crate) fn report_on(
     alloc: Global,
     keys: &HashKeys,
-    input: &[u8],
+    input: Vec<u8>,
 ) -> Result<Vec<u8>, ProgramFault>
-    ensures all { IfOk result (λ report. replay_of input.now ≡ Ok report.items) }
-    ensures fault { IfErr result (λ fault. HasNone fault (replay_of input.now)) }
+    ensures all { IfOk result (λ report. replay_of input.items ≡ Ok report.items) }
+    ensures fault { IfErr result (λ fault. HasNone fault (replay_of input.items)) }
 {
     match begin(alloc, keys, input) {
         Ok(begun) => Ok(report_of(alloc, begun)?),
@@ -66,6 +66,6 @@ fn report_of(alloc: Global, begun: Scheduled) -> Result<Vec<u8>, AllocError>
 {
     let Scheduled { mut world, events } = begun;
     let mut report = Vec::new(alloc);
-    put_report(&mut report, alloc, &mut world, events.as_slice())?;
+    put_report(&mut report, alloc, &mut world, events)?;
     Ok(report)
 }

@@ -41,6 +41,6 @@ pub fn replay_over<S: Source, K: Sink>(
     ensures calls { S.calls source.new ≤ S.calls source.old + MOST_CALLS }
 {
     let input = read_all(alloc, source)?;
-    let report = report_on(alloc, keys, input.as_slice())?;
+    let report = report_on(alloc, keys, input)?;
     write_all(sink, report.as_slice())
 }

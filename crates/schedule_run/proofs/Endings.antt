@@ -17,7 +17,7 @@ use Rattle.schedule_cli.specs.declared.input.TheConstants.{MOST_INPUT}
 use Rattle.schedule_cli.specs.declared.fault.ProgramFault.TheVariants as program
 use Rattle.schedule_run.specs.declared.fault.RunFault.{RunFault}
 use Rattle.schedule_run.specs.declared.fault.RunFault.TheVariants.{Program, Finish, NoThread}
-use Rattle.schedule_run.specs.Told.{AreTold, IsEmpty, IsTold, RunTold, TillChanges, done_line}
+use Rattle.schedule_run.specs.Told.{AreTold, IsEmpty, IsTold, RunTold, Tells, TillChanges, done_line}
 use Rattle.schedule_run.specs.Output.{FitsRun, StopsRun, is_start}
 use Rattle.schedule_run.proofs.Turns.{written_more}
 
@@ -48,17 +48,17 @@ all_fits (Err (Finish why)) input within = within
 all_fits (Err NoThread) input within = within
 
 -- no command takes a till away or adds one
-change_keeps : (pharmacy : ℕ) (change : tills.Till → tills.Till) (before after : List tills.Till) → TillChanges pharmacy change before after → length after ≡ length before
-change_keeps pharmacy change before after changed = ap length changed.4 ∙ length-set before changed.0 (change changed.1)
+change_keeps : (pharmacy : ℕ) (Change : tills.Till → tills.Till → Type 0) (before after : List tills.Till) → TillChanges pharmacy Change before after → length after ≡ length before
+change_keeps pharmacy Change before after changed = ap length changed.5 ∙ length-set before changed.0 changed.2
 
 told_keeps : (command : Command) (before after : List tills.Till) (lines : List Line) → IsTold command before lines after → length after ≡ length before
 told_keeps (Submit pharmacy text) before after lines (inl refused) = ap length refused.1
-told_keeps (Submit pharmacy text) before after lines (inr taken) = change_keeps pharmacy (tills.with_receipt taken.0 text) before after taken.2
+told_keeps (Submit pharmacy text) before after lines (inr taken) = change_keeps pharmacy (λ old new. new ≡ tills.with_receipt taken.0 text old) before after taken.2
 told_keeps (Tick pharmacy) before after lines called = ap length called.1
 told_keeps (Plan payer product price) before after lines called = ap length called.1
 told_keeps (Restart node) before after lines called = ap length called.1
-told_keeps (Await pharmacy number) before after lines (inl heard) = change_keeps pharmacy (tills.with_answer number heard.0) before after heard.2
-told_keeps (Await pharmacy number) before after lines (inr nothing) = ap length nothing.1
+told_keeps (Await pharmacy number) before after lines (inl refused) = ap length refused.1
+told_keeps (Await pharmacy number) before after lines (inr told) = change_keeps pharmacy (Tells pharmacy number lines) before after told
 
 all_told_keep : (commands : List Command) (before after : List tills.Till) (lines : List Line) → AreTold commands before lines after → length after ≡ length before
 all_told_keep [] before after lines none = ap length none.1

@@ -3,4 +3,5 @@ pub mod Words
 pub mod Places
 pub mod Turns
 pub mod Tills
+pub mod Looks
 pub mod Endings

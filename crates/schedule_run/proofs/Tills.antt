@@ -1,18 +1,17 @@
 -- What tills have after a submission and after an await.
-use Rattle.std.proofs.Common.{◌≡◌, ℕ, zero, suc, List, [], ◌∷◌, ◌++◌, map, slice_get, slice_set, option_map, Option, Some, Result, Ok, Err, IfSome, IfOk, OnErr, MatchResult, refl, sym, ap, subst, ◌∙◌, inl, inr, codes}
+use Rattle.std.proofs.Common.{◌≡◌, ℕ, zero, suc, List, [], ◌∷◌, ◌++◌, map, slice_get, slice_set, option_map, Option, Some, Result, Ok, Err, IfSome, IfOk, OnErr, MatchResult, refl, sym, ap, subst, ◌∙◌, inl, inr}
 use Rattle.std.specs.List.{AllByRecursion}
 use Rattle.std.proofs.lemmas.List.{map-set}
 use Rattle.std.proofs.lemmas.Option.{slice_get-map}
-use Rattle.claim_profile.specs.Ruling.{answer_of}
 use Rattle.claim_model.proofs.Options.{same_some}
 use Rattle.world_setup.specs.declared.fault.StepFault.{StepFault}
 use Rattle.report.specs.Words.{Line, line_text, lines_text}
 use Rattle.node_threads.specs.Tills as tills
-use Rattle.node_threads.specs.Tills.{with_answer, with_receipt}
+use Rattle.node_threads.specs.Tills.{with_receipt}
 use Rattle.node_threads.specs.TillSeen.{till_seen}
 use Rattle.node_threads.specs.LedgerSeen.{tills_seen}
 use Rattle.node_threads.specs.declared.till.Till.{Till}
-use Rattle.schedule_run.specs.Told.{IsAwaited, IsEmpty, IsRefusal, IsSubmitted, TillChanges, answer_lines, number_line, open_lines, refusal_line}
+use Rattle.schedule_run.specs.Told.{IsAwaited, IsEmpty, IsRefusal, IsSubmitted, Tells, TillChanges, number_line}
 use Rattle.schedule_run.proofs.Words.{one_line_text}
 
 -- one till more
@@ -30,14 +29,16 @@ pub tills_stay : (ts : List Till) (place : ℕ) (old new : Till) → slice_get t
 tills_stay ts place old new at same = same_put till_seen ts place old new at same
 
 -- one till changes
-pub till_changes : (pharmacy : ℕ) (change : tills.Till → tills.Till) (ts : List Till) (place : ℕ) (old new : Till) → slice_get ts place ≡ Some old
-    → IfSome (slice_get ts place) (λ t. t.pharmacy ≡ pharmacy) → till_seen new ≡ change (till_seen old) → TillChanges pharmacy change (tills_seen ts) (tills_seen (slice_set ts place new))
-till_changes pharmacy change ts place old new at of changed = (
+pub till_changes : (pharmacy : ℕ) (Change : tills.Till → tills.Till → Type 0) (ts : List Till) (place : ℕ) (old new : Till) → slice_get ts place ≡ Some old
+    → IfSome (slice_get ts place) (λ t. t.pharmacy ≡ pharmacy) → Change (till_seen old) (till_seen new) → TillChanges pharmacy Change (tills_seen ts) (tills_seen (slice_set ts place new))
+till_changes pharmacy Change ts place old new at of changed = (
   place,
   till_seen old,
+  till_seen new,
   slice_get-map till_seen ts place ∙ ap (option_map till_seen) at,
   subst (λ (o : Option Till). IfSome o (λ t. t.pharmacy ≡ pharmacy)) at of,
-  map-set till_seen ts place new ∙ ap (slice_set (tills_seen ts) place) changed,
+  map-set till_seen ts place new,
+  changed,
 )
 
 -- a submission, by its outcome
@@ -49,7 +50,7 @@ pub submission_told : (pharmacy : ℕ) (request a b : List ℕ) (ts : List Till)
 submission_told pharmacy request a b ts place old new (Ok number) at of taken same told = (
   told.0 ∷ [],
   told.1 ∙ ap (λ (t : List ℕ). a ++ t) (sym (one_line_text told.0)),
-  inr (number, ap (λ (l : Line). l ∷ []) told.2, till_changes pharmacy (with_receipt number request) ts place old new at of taken),
+  inr (number, ap (λ (l : Line). l ∷ []) told.2, till_changes pharmacy (λ before after. after ≡ with_receipt number request before) ts place old new at of taken),
 )
 submission_told pharmacy request a b ts place old new (Err fault) at of taken same told = (
   told.0 ∷ [],
@@ -63,36 +64,15 @@ pub submission_refused : (pharmacy : ℕ) (request a b : List ℕ) (ts : List Ti
 submission_refused pharmacy request a b ts told =
     (told.0 ∷ [], told.1 ∙ ap (λ (t : List ℕ). a ++ t) (sym (one_line_text told.0)), inl ((told.0, refl, told.2), refl))
 
--- an answer that was waited for
-pub answer_told : (pharmacy number : ℕ) (a b : List ℕ) (ts : List Till) (place : ℕ) (old new : Till) (answer text : List ℕ) → slice_get ts place ≡ Some old
-    → IfSome (slice_get ts place) (λ t. t.pharmacy ≡ pharmacy) → till_seen new ≡ with_answer number answer (till_seen old) → text ≡ answer
-    → b ≡ a ++ lines_text (answer_lines pharmacy number (answer_of text))
+-- what a till told
+pub till_told : (pharmacy number : ℕ) (a b : List ℕ) (ts : List Till) (place : ℕ) (old new : Till) (lines : List Line) → slice_get ts place ≡ Some old
+    → IfSome (slice_get ts place) (λ t. t.pharmacy ≡ pharmacy) → b ≡ a ++ lines_text lines → Tells pharmacy number lines (till_seen old) (till_seen new)
     → (lines : List Line) × (b ≡ a ++ lines_text lines) × IsAwaited pharmacy number (tills_seen ts) lines (tills_seen (slice_set ts place new))
-answer_told pharmacy number a b ts place old new answer text at of heard same told = (
-  answer_lines pharmacy number (answer_of text),
-  told,
-  inl (answer, ap (λ (t : List ℕ). answer_lines pharmacy number (answer_of t)) same, till_changes pharmacy (with_answer number answer) ts place old new at of heard),
-)
-
--- no answer came
-pub open_told : (pharmacy number places : ℕ) (a b : List ℕ) (ts : List Till) (place : ℕ) (old new : Till) → slice_get ts place ≡ Some old → till_seen new ≡ till_seen old
-    → b ≡ a ++ lines_text (open_lines pharmacy number places)
-    → (lines : List Line) × (b ≡ a ++ lines_text lines) × IsAwaited pharmacy number (tills_seen ts) lines (tills_seen (slice_set ts place new))
-open_told pharmacy number places a b ts place old new at same told =
-    (open_lines pharmacy number places, told, inr (inl (places, refl), tills_stay ts place old new at same))
-
--- no receipt has that number
-pub no_receipt_told : (pharmacy number : ℕ) (a b : List ℕ) (ts : List Till) (place : ℕ) (old new : Till) → slice_get ts place ≡ Some old → till_seen new ≡ till_seen old
-    → b ≡ a ++ line_text (refusal_line (codes "NotThisTill"))
-    → (lines : List Line) × (b ≡ a ++ lines_text lines) × IsAwaited pharmacy number (tills_seen ts) lines (tills_seen (slice_set ts place new))
-no_receipt_told pharmacy number a b ts place old new at same told = (
-  refusal_line (codes "NotThisTill") ∷ [],
-  told ∙ ap (λ (t : List ℕ). a ++ t) (sym (one_line_text (refusal_line (codes "NotThisTill")))),
-  inr (inr (inl refl), tills_stay ts place old new at same),
-)
+till_told pharmacy number a b ts place old new lines at of told tells =
+    (lines, told, inr (till_changes pharmacy (Tells pharmacy number lines) ts place old new at of tells))
 
 -- an await at a pharmacy that is not there
 pub await_refused : (pharmacy number : ℕ) (a b : List ℕ) (ts : List Till) → (line : Line) × (b ≡ a ++ line_text line) × IsRefusal line
     → (lines : List Line) × (b ≡ a ++ lines_text lines) × IsAwaited pharmacy number (tills_seen ts) lines (tills_seen ts)
 await_refused pharmacy number a b ts told =
-    (told.0 ∷ [], told.1 ∙ ap (λ (t : List ℕ). a ++ t) (sym (one_line_text told.0)), inr (inr (inr (told.0, refl, told.2)), refl))
+    (told.0 ∷ [], told.1 ∙ ap (λ (t : List ℕ). a ++ t) (sym (one_line_text told.0)), inl ((told.0, refl, told.2), refl))

@@ -1,4 +1,5 @@
 pub mod Asked
+pub mod Places
 pub mod Told
 pub mod Hearing
 pub mod Output

@@ -1,5 +1,5 @@
 -- What the commands of a run are told, as lines of words. Which of the stated lines they are hangs on the threads.
-use Rattle.std.specs.Prelude.{◌≡◌, ◌⊎◌, ℕ, Bool, true, false, List, [], ◌∷◌, ◌++◌, length, map, replicate, set, slice_get, Some, Result, Ok, Err, codes, decimal}
+use Rattle.std.specs.Prelude.{◌≡◌, ◌⊎◌, ℕ, Bool, true, false, List, [], ◌∷◌, ◌++◌, length, map, replicate, set, slice_get, Some, None, IfSome, Result, Ok, Err, codes, decimal}
 use Rattle.std.specs.List.{AllByRecursion}
 use Rattle.claim_model.specs.Refusal.{Refusal}
 use Rattle.claim_model.specs.Words.{Ruling}
@@ -13,7 +13,8 @@ use Rattle.report.specs.Places.{place_lines}
 use Rattle.claim_profile.specs.Ruling.{AnswerParts, answer_of}
 use Rattle.claim_profile.specs.declared.answer_reading.AnswerFault.{AnswerFault}
 use Rattle.claim_profile.specs.declared.answer_reading.AnswerFault.TheVariants.{OutOfMemory, Framing, NoStatus, BadStatus, BadAmount, BadAuthorization, BadRejects, BadClaim}
-use Rattle.node_threads.specs.Tills.{Till, with_receipt, with_answer}
+use Rattle.node_threads.specs.Tills.{Till, answer_heard, has_receipt, with_receipt, with_answer}
+use Rattle.schedule_run.specs.Places.{places_asked}
 
 -- a call that was made
 abbrev pub done_line : Line
@@ -53,15 +54,16 @@ IsOutcome line = (line ≡ done_line) ⊎ IsRefusal line
 abbrev pub RefusedBy : List Line → Type 0
 RefusedBy lines = (line : Line) × (lines ≡ line ∷ []) × IsRefusal line
 
--- one till of this pharmacy changes so, and the others stay
-abbrev pub TillChanges : ℕ → (Till → Till) → List Till → List Till → Type 0
-TillChanges pharmacy change before after =
-    (place : ℕ) × (till : Till) × (slice_get before place ≡ Some till) × (till.pharmacy ≡ pharmacy) × (after ≡ set before place (change till))
+-- one till of this pharmacy becomes another as stated, and the others stay
+abbrev pub TillChanges : ℕ → (Till → Till → Type 0) → List Till → List Till → Type 0
+TillChanges pharmacy Change before after =
+    (place : ℕ) × (old : Till) × (new : Till) × (slice_get before place ≡ Some old) × (old.pharmacy ≡ pharmacy) × (after ≡ set before place new) × Change old new
 
 -- a submission: refused, or its number is told, and a till of the pharmacy has a receipt of that number and of the request
 abbrev pub IsSubmitted : ℕ → List ℕ → List Till → List Line → List Till → Type 0
 IsSubmitted pharmacy request before lines after =
-    (RefusedBy lines × (after ≡ before)) ⊎ ((number : ℕ) × (lines ≡ number_line number ∷ []) × TillChanges pharmacy (with_receipt number request) before after)
+    (RefusedBy lines × (after ≡ before))
+    ⊎ ((number : ℕ) × (lines ≡ number_line number ∷ []) × TillChanges pharmacy (λ old new. new ≡ with_receipt number request old) before after)
 
 -- the lines of an answer: its rulings; no answer that a journal has is unreadable
 abbrev pub answer_lines : ℕ → ℕ → Result AnswerParts AnswerFault → List Line
@@ -79,11 +81,29 @@ is_unreadable BadAuthorization = true
 is_unreadable BadRejects = true
 is_unreadable BadClaim = true
 
--- an await: an answer is told, which a till of the pharmacy hears; or so many places are open; or no receipt has that number; or the pharmacy is not there
+-- an answer is told for a number: the one that was heard before, where there is one; the till has heard it then
+abbrev pub TellsAnswer : ℕ → List ℕ → Till → Till → Type 0
+TellsAnswer number answer old new =
+    (has_receipt number old ≡ true) × IfSome (answer_heard number old) (λ before. answer ≡ before) × (new ≡ with_answer number answer old)
+
+-- no answer is told for a number: none was heard before
+abbrev pub TellsOpen : ℕ → Till → Till → Type 0
+TellsOpen number old new = (has_receipt number old ≡ true) × (answer_heard number old ≡ None) × (new ≡ old)
+
+-- no receipt has this number
+abbrev pub TellsNone : ℕ → Till → Till → Type 0
+TellsNone number old new = (has_receipt number old ≡ false) × (new ≡ old)
+
+-- what a till tells of a number: the rulings of an answer; or each place of the request as open; or that it has no receipt of that number
+abbrev pub Tells : ℕ → ℕ → List Line → Till → Till → Type 0
+Tells pharmacy number lines old new =
+    ((answer : List ℕ) × (lines ≡ answer_lines pharmacy number (answer_of answer)) × TellsAnswer number answer old new)
+    ⊎ (((lines ≡ open_lines pharmacy number (places_asked number old)) × TellsOpen number old new)
+    ⊎ ((lines ≡ refusal_line (codes "NotThisTill") ∷ []) × TellsNone number old new))
+
+-- an await: a till of the pharmacy tells, or a refusal, as where the pharmacy is not there
 abbrev pub IsAwaited : ℕ → ℕ → List Till → List Line → List Till → Type 0
-IsAwaited pharmacy number before lines after =
-    ((answer : List ℕ) × (lines ≡ answer_lines pharmacy number (answer_of answer)) × TillChanges pharmacy (with_answer number answer) before after)
-    ⊎ ((((places : ℕ) × (lines ≡ open_lines pharmacy number places)) ⊎ ((lines ≡ refusal_line (codes "NotThisTill") ∷ []) ⊎ RefusedBy lines)) × (after ≡ before))
+IsAwaited pharmacy number before lines after = (RefusedBy lines × (after ≡ before)) ⊎ TillChanges pharmacy (Tells pharmacy number lines) before after
 
 -- a call that gives nothing: it was made, or refused; no till changes
 abbrev pub IsCalled : List Till → List Line → List Till → Type 0

@@ -1,8 +1,8 @@
 //! Waiting for the answer of a request.
 
-ghost use Rattle.std.specs.Prelude.{◌≡◌, IfOk};
+ghost use Rattle.std.specs.Prelude.{IfOk};
 ghost use Rattle.node_threads.specs.TillSeen.{till_seen};
-ghost use Rattle.schedule_run.specs.Hearing.{after_waiting};
+ghost use Rattle.schedule_run.specs.Hearing.{ComesOf};
 
 use node_threads::{Status, StatusFault, System, Till};
 use octets::Octets;
@@ -16,7 +16,7 @@ use world_setup::StepFault;
 const TURNS: u32 = 10_000;
 /// For how many millionths of a second a turn gives way at least (own). A mere yield comes back at once where a processor is free, and
 /// ten thousand of them are over before a busy machine has woken the workers.
-const PAUSE: u64 = 20;
+const PAUSE: u64 = 100;
 /// After how many turns the pharmacy's time goes on by a tick (own).
 const TURNS_A_TICK: u32 = 100;
 
@@ -42,21 +42,36 @@ pub(crate) fn wait_for<T: Wait + Clock>(
     till: &mut Till,
     number: u64,
 ) -> Result<Awaited, AllocError>
-    ensures { IfOk result (λ awaited. till_seen till.new ≡ after_waiting number (till_seen till.old) awaited) }
+    ensures { IfOk result (λ awaited. ComesOf number (till_seen till.old) awaited (till_seen till.new)) }
 {
     for passed in 0..TURNS {
-        match system.status(rt, till, number) {
-            Ok(Status::Settled(answer)) => return Ok(Awaited::Settled(answer)),
-            Ok(Status::Open) => {}
-            Err(StatusFault::NotThisTill) => return Ok(Awaited::NotThisTill),
-            Err(StatusFault::OutOfMemory) => return Err(AllocError),
+        match look(rt, system, till, number)? {
+            Awaited::Open => {}
+            told => return Ok(told),
         }
         thread::sleep(rt, Duration::from_micros(PAUSE));
         if passed % TURNS_A_TICK == TURNS_A_TICK - 1 {
             tick(rt, system, till.pharmacy())?;
         }
     }
-    Ok(Awaited::Open)
+    look(rt, system, till, number)
+}
+
+/// What is known of the request now.
+fn look<T: Wait>(
+    rt: &T,
+    system: &System,
+    till: &mut Till,
+    number: u64,
+) -> Result<Awaited, AllocError>
+    ensures { IfOk result (λ awaited. ComesOf number (till_seen till.old) awaited (till_seen till.new)) }
+{
+    match system.status(rt, till, number) {
+        Ok(Status::Settled(answer)) => Ok(Awaited::Settled(answer)),
+        Ok(Status::Open) => Ok(Awaited::Open),
+        Err(StatusFault::NotThisTill) => Ok(Awaited::NotThisTill),
+        Err(StatusFault::OutOfMemory) => Err(AllocError),
+    }
 }
 
 /// One tick of a pharmacy; a refusal of it is nothing to the one who waits.

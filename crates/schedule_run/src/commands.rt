@@ -5,11 +5,11 @@ ghost use Rattle.std.specs.Io.KnownBytes.{Appends};
 ghost use Rattle.report.specs.Words.{Line, lines_text};
 ghost use Rattle.node_threads.specs.TillSeen.{till_seen};
 ghost use Rattle.node_threads.specs.LedgerSeen.{tills_seen};
-ghost use Rattle.schedule_run.specs.Told.{AreTold, IsAwaited, IsSubmitted, IsTold};
+ghost use Rattle.schedule_run.specs.Told.{AreTold, IsAwaited, IsSubmitted, IsTold, Tells};
 
 use crate::awaiting::{Awaited, wait_for};
 use crate::lines::{put_open, put_outcome, put_refused, put_settled, put_submitted};
-use claim_profile::check_readable;
+use crate::place_count::places_of;
 use node_threads::{System, Till};
 use schedule::Command;
 use schedule_cli::{ProgramFault, Sink, write_output};
@@ -102,14 +102,29 @@ fn await_answer<T: Wait + Clock>(
 ) -> Result<(), AllocError>
     ensures { OnOk result ((lines : List Line) × (told.new.items ≡ told.old.items ++ lines_text lines) × IsAwaited pharmacy number (tills_seen tills.old) lines (tills_seen tills.new)) }
 {
-    let Some(place) = place_of(tills, pharmacy) else {
-        return put_outcome(told, Err(StepFault::NoSuchNode));
-    };
-    match wait_for(rt, system, &mut tills[place], number)? {
+    match place_of(tills, pharmacy) {
+        Some(place) => await_at(told, rt, alloc, system, &mut tills[place], pharmacy, number),
+        None => put_outcome(told, Err(StepFault::NoSuchNode)),
+    }
+}
+
+/// Waits for the answer of a request at a till of this pharmacy.
+fn await_at<T: Wait + Clock>(
+    told: &mut Vec<u8>,
+    rt: &T,
+    alloc: Global,
+    system: &System,
+    till: &mut Till,
+    pharmacy: u16,
+    number: u64,
+) -> Result<(), AllocError>
+    ensures { OnOk result ((lines : List Line) × (told.new.items ≡ told.old.items ++ lines_text lines) × Tells pharmacy number lines (till_seen till.old) (till_seen till.new)) }
+{
+    match wait_for(rt, system, till, number)? {
         Awaited::Settled(answer) => {
             put_settled(told, alloc, pharmacy, number, answer.as_slice())
         }
-        Awaited::Open => put_open(told, pharmacy, number, places_of(&tills[place], number)),
+        Awaited::Open => put_open(told, pharmacy, number, places_of(till, number)),
         Awaited::NotThisTill => put_refused(told, b"NotThisTill"),
     }
 }
@@ -122,17 +137,4 @@ fn place_of(tills: &[Till], pharmacy: u16) -> Option<usize>
     let place = usize::from(pharmacy).checked_sub(1)?;
     let till = tills.get(place)?;
     (till.pharmacy() == pharmacy).then_some(place)
-}
-
-/// How many transactions the request of a receipt has; one where there is none.
-fn places_of(till: &Till, number: u64) -> u8 {
-    for receipt in till.receipts() {
-        if receipt.number() == number {
-            return match check_readable(receipt.request()) {
-                Some(framed) => framed.header().count(),
-                None => 1,
-            };
-        }
-    }
-    1
 }

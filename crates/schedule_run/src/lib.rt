@@ -10,10 +10,8 @@ mod awaiting;
 mod commands;
 mod fault;
 mod lines;
+mod place_count;
 mod running;
 
 pub use fault::{RunFault, Unjudged};
 pub use running::{run_schedule, run_schedule_keyed};
-
-#[cfg(test)]
-mod tests;

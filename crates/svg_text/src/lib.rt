@@ -17,6 +17,3 @@ pub use frame::Frame;
 pub use laws::words_are_no_markup;
 pub use shapes::{Point, Size};
 pub use styles::{Anchor, Face, Fill, Stroke};
-
-#[cfg(test)]
-mod tests;

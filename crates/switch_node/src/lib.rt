@@ -19,8 +19,3 @@ pub use routing::Routed;
 pub use settings::SwitchSettings;
 pub use switch::Switch;
 pub use table::InFlight;
-
-#[cfg(test)]
-mod against_list;
-#[cfg(test)]
-mod tests;

@@ -107,10 +107,10 @@ impl Switch {
     }
 
     /// The requests in the table and whether each has its answer, oldest first.
-    pub fn list(&self, alloc: Global) -> Result<Vec<InFlight>, AllocError>
+    pub fn list(&self) -> Result<Vec<InFlight>, AllocError>
         ensures { IfOk result (λ list. list.items ≡ map in_flight self.now.entries) }
     {
-        self.table.list(alloc)
+        self.table.list()
     }
 
     /// How many requests the table has: never more than its settings allow.

@@ -114,10 +114,10 @@ impl Table {
     }
 
     /// All entries, oldest first.
-    pub fn list(&self, alloc: Global) -> Result<Vec<InFlight>, AllocError>
+    pub fn list(&self) -> Result<Vec<InFlight>, AllocError>
         ensures { IfOk result (λ list. list.items ≡ map in_flight self.now.entries) }
     {
-        let mut list = Vec::with_capacity(alloc, self.map.len())?;
+        let mut list = Vec::with_capacity(self.allocator(), self.map.len())?;
         let (younger, older) = self.map.as_slice().split_at(self.head);
         push_all(&mut list, older)?;
         push_all(&mut list, younger)?;

@@ -65,7 +65,7 @@ impl World {
         ensures { IfOk result (λ paid. paid.items ≡ paid_at (context_of self.now) self.now.world pharmacy) }
     {
         match self.journal_of(pharmacy)? {
-            Some(journal) => journal.paid(self.allocator()),
+            Some(journal) => journal.paid(),
             None => Ok(Vec::new(self.allocator())),
         }
     }
@@ -85,7 +85,7 @@ impl World {
         ensures { IfOk result (λ views. views.items ≡ journal_told self.now.world pharmacy) }
     {
         match self.journal_of(pharmacy)? {
-            Some(journal) => journal.list(self.allocator()),
+            Some(journal) => journal.list(),
             None => Ok(Vec::new(self.allocator())),
         }
     }

@@ -6,7 +6,7 @@ use input_text::put_decimal;
 use schedule::{ScheduleFault, read_schedule};
 use std::alloc::{AllocError, Global};
 use world_core::World;
-use world_report::put_report;
+use world_report::put_nodes;
 use world_settings::{SettingsFault, read_settings};
 use world_setup::{Event, WorldSettings};
 
@@ -112,9 +112,9 @@ fn put_text(out: &mut Vec<u8>, text: &str) -> Result<(), AllocError> {
 }
 
 /// The report's lines of the nodes of a world.
-pub fn nodes_told(alloc: Global, world: &mut World) -> Result<Vec<u8>, AllocError> {
+pub fn nodes_told(alloc: Global, world: &World) -> Result<Vec<u8>, AllocError> {
     let mut report = Vec::new(alloc);
-    put_report(&mut report, alloc, world, &[])?;
+    put_nodes(&mut report, alloc, world)?;
     Ok(report)
 }
 

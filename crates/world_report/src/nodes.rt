@@ -42,13 +42,12 @@ fn put_pharmacy(
     ensures { (routes : RouteMaps) → OnOk result (out.new.items ≡ out.old.items ++ lines_text (pharmacy_lines (bytes_with routes) number node.now)) }
 {
     let journal = node.journal(alloc)?;
-    put_journal(out, alloc, number, node.is_up(), &journal)
+    put_journal(out, number, node.is_up(), &journal)
 }
 
 /// Appends the lines of a journal.
 fn put_journal(
     out: &mut Vec<u8>,
-    alloc: Global,
     number: u64,
     up: bool,
     journal: &JournalReading<'_>,
@@ -57,18 +56,14 @@ fn put_journal(
 {
     let count = journal.entries() as u64;
     put_head(out, b"pharmacy", number, up, b"entries", count)?;
-    put_told(out, alloc, journal)
+    put_told(out, journal)
 }
 
 /// Appends the lines of all entries and those of all counted payments.
-fn put_told(
-    out: &mut Vec<u8>,
-    alloc: Global,
-    journal: &JournalReading<'_>,
-) -> Result<(), AllocError>
+fn put_told(out: &mut Vec<u8>, journal: &JournalReading<'_>) -> Result<(), AllocError>
     ensures { (routes : RouteMaps) → OnOk result (out.new.items ≡ out.old.items ++ lines_text (flat_map entry_lines (listed journal.now) ++ map paid_line (counted (bytes_with routes) journal.now))) }
 {
-    let (entries, paid) = journal.told(alloc)?;
+    let (entries, paid) = journal.told()?;
     put_entries(out, entries.as_slice())?;
     put_payments(out, paid.as_slice())
 }

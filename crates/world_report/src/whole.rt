@@ -14,7 +14,7 @@ use world_core::World;
 use world_setup::Event;
 
 /// Makes these events in a world and appends the report: a line for each event, and then each node as it is after all
-/// of them.
+/// of them. The events are given back before the nodes are told.
 ///
 /// # Errors
 /// Where memory is refused. Some of the events may have been made then.
@@ -22,11 +22,12 @@ pub fn put_report(
     out: &mut Vec<u8>,
     alloc: Global,
     world: &mut World,
-    events: &[Event],
+    events: Vec<Event>,
 ) -> Result<(), AllocError>
-    ensures { OnOk result (out.new.items ≡ out.old.items ++ lines_text (run_lines (context_of world.old) world.old.world (map event_seen events.now))) }
+    ensures { OnOk result (out.new.items ≡ out.old.items ++ lines_text (run_lines (context_of world.old) world.old.world (map event_seen events.items))) }
 {
-    put_events(out, world, events)?;
+    put_events(out, world, events.as_slice())?;
+    drop(events);
     put_nodes(out, alloc, world)
 }
 

@@ -18,6 +18,3 @@ mod why;
 pub use fault::SettingsFault;
 pub use settings::read_settings;
 pub use why::settings_fault;
-
-#[cfg(test)]
-mod tests;

@@ -14,3 +14,6 @@ returns-in-Plan g c =
 pub returns-in-Restart : goal.returns-in-Restart
 returns-in-Restart g c =
     rw c.in-Restart.is (on_ok_weaker c.put_outcome-in-Restart.result (call_told c.args.told.now.items c.put_outcome-in-Restart.new.out.items (tills_seen c.args.tills.now) c.restart.result) c.put_outcome-in-Restart.ensures)
+
+pub returns-in-Await : goal.returns-in-Await
+returns-in-Await g c = rw c.in-Await.is c.await_answer.ensures

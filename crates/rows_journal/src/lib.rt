@@ -1,0 +1,5 @@
+//! Tests of a pharmacy's journal.
+#![tactic(auto)]
+
+#[cfg(test)]
+mod journal;
