@@ -2,6 +2,7 @@
 
 use crate::texts::{billing_of, paid_of};
 use envelope::{Envelope, Kind, TxnId, write};
+use octets::Octets;
 use pharmacy_journal::{Pharmacy, PharmacySettings};
 use std::alloc::Global;
 
@@ -40,7 +41,7 @@ pub(crate) fn answers(alloc: Global, size: u32, times: u32) -> Option<()> {
         packets.push(answer_to(alloc, place)?).ok()?;
     }
     for packet in packets.iter().take(times as usize) {
-        pharmacy.hear(&Envelope::read(packet).ok()?).ok()?;
+        hear(&mut pharmacy, packet)?;
     }
     Some(())
 }
@@ -107,11 +108,20 @@ fn filled(alloc: Global, size: u32, cap: u32) -> Option<Pharmacy> {
 /// Hears the answer to an entry, by its place from 0.
 fn settle(alloc: Global, pharmacy: &mut Pharmacy, place: u32) -> Option<()> {
     let packet = answer_to(alloc, place)?;
-    pharmacy.hear(&Envelope::read(&packet).ok()?).ok()
+    hear(pharmacy, &packet)
+}
+
+/// Hears the packet of an answer.
+fn hear(pharmacy: &mut Pharmacy, packet: &Octets) -> Option<()> {
+    match Envelope::read(packet.as_slice()) {
+        Ok(envelope) => pharmacy.hear_packet(&envelope, packet).ok(),
+        Err(_) => None,
+    }
 }
 
 /// The packet with the answer to an entry, by its place from 0.
-fn answer_to(alloc: Global, place: u32) -> Option<Vec<u8>> {
+fn answer_to(alloc: Global, place: u32) -> Option<Octets> {
     let id = TxnId::new(1, u64::from(place) + 1)?;
-    write(alloc, Kind::Answer, id, &paid_of(alloc, place)?).ok()
+    let packet = write(alloc, Kind::Answer, id, &paid_of(alloc, place)?).ok()?;
+    Some(Octets::from_vec(packet).shared())
 }

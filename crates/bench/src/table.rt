@@ -2,7 +2,9 @@
 
 use crate::book::routes;
 use crate::texts::{billing_of, paid_of};
+use bin_routes::Routes;
 use envelope::{Envelope, Kind, TxnId, write};
+use octets::Octets;
 use std::alloc::Global;
 use switch_node::{Switch, SwitchSettings};
 
@@ -30,10 +32,8 @@ pub(crate) fn exchanges(alloc: Global, size: u32, times: u32) -> Option<()> {
         packets.push((request, answer)).ok()?;
     }
     for (request, answer) in packets.iter().take(times as usize) {
-        switch
-            .request(&routes, &Envelope::read(request).ok()?)
-            .ok()?;
-        switch.response(&Envelope::read(answer).ok()?).ok()?;
+        ask(&mut switch, &routes, request)?;
+        tell(&mut switch, answer)?;
     }
     Some(())
 }
@@ -43,14 +43,37 @@ fn with_requests(alloc: Global, cap: u32, count: u32) -> Option<Switch> {
     let routes = routes(alloc)?;
     let mut switch = Switch::new(alloc, SwitchSettings::new(cap).ok()?);
     for place in 0..count {
-        let bytes = packet(alloc, Kind::Request, place, &billing_of(alloc, place)?)?;
-        switch.request(&routes, &Envelope::read(&bytes).ok()?).ok()?;
+        let request = packet(alloc, Kind::Request, place, &billing_of(alloc, place)?)?;
+        ask(&mut switch, &routes, &request)?;
     }
     Some(switch)
 }
 
+/// Takes the packet of a request.
+fn ask(switch: &mut Switch, routes: &Routes, packet: &Octets) -> Option<()> {
+    match Envelope::read(packet.as_slice()) {
+        Ok(envelope) => {
+            switch.request_packet(routes, &envelope, packet).ok()?;
+            Some(())
+        }
+        Err(_) => None,
+    }
+}
+
+/// Takes the packet of a response.
+fn tell(switch: &mut Switch, packet: &Octets) -> Option<()> {
+    match Envelope::read(packet.as_slice()) {
+        Ok(envelope) => {
+            switch.response_packet(&envelope, packet).ok()?;
+            Some(())
+        }
+        Err(_) => None,
+    }
+}
+
 /// The packet of a kind under the number of a place, from 0.
-fn packet(alloc: Global, kind: Kind, place: u32, payload: &[u8]) -> Option<Vec<u8>> {
+fn packet(alloc: Global, kind: Kind, place: u32, payload: &[u8]) -> Option<Octets> {
     let id = TxnId::new(1, u64::from(place) + 1)?;
-    write(alloc, kind, id, payload).ok()
+    let packet = write(alloc, kind, id, payload).ok()?;
+    Some(Octets::from_vec(packet).shared())
 }

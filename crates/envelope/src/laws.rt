@@ -1,6 +1,6 @@
 //! What holds of every envelope, as facts that a caller cites by a call.
 
-ghost use Rattle.std.specs.Prelude.{◌≡◌, ℕ, ◌+◌, ◌<◌, ◌≤◌, List, length, slice_index, Ok};
+ghost use Rattle.std.specs.Prelude.{◌≡◌, ℕ, ◌+◌, ◌<◌, ◌≤◌, List, length, drop, slice_index, Ok};
 ghost use Rattle.envelope.specs.declared.opening.Kind.{Kind};
 ghost use Rattle.envelope.specs.Txn.{Txn, IsTxn};
 ghost use Rattle.envelope.specs.Envelope.{Opened, IsTextOf, envelope_text};
@@ -14,4 +14,9 @@ pub fn envelope_reads_back()
 /// Bytes that open as an envelope are the text of that envelope.
 pub fn envelope_is_its_text()
     ensures { (place : ℕ × ℕ) (bytes : List ℕ) (e : Opened) → ((i : ℕ) → slice_index bytes i < 256) → envelope_of place bytes ≡ Ok e → IsTextOf place bytes e }
+{}
+
+/// The payload stands behind the [`HEAD`](crate::HEAD) bytes of an envelope's head.
+pub fn payload_is_behind_its_head()
+    ensures { (kind : Kind) (id : Txn) (payload : List ℕ) → (drop 18 (envelope_text kind id payload) ≡ payload) × (18 ≤ length (envelope_text kind id payload)) }
 {}

@@ -9,7 +9,7 @@ mod opening;
 mod txn;
 mod writing;
 
-pub use laws::{envelope_is_its_text, envelope_reads_back};
-pub use opening::{Envelope, EnvelopeFault, Kind, LARGEST_PAYLOAD};
+pub use laws::{envelope_is_its_text, envelope_reads_back, payload_is_behind_its_head};
+pub use opening::{Envelope, EnvelopeFault, HEAD, Kind, LARGEST_PAYLOAD};
 pub use txn::TxnId;
 pub use writing::{WriteFault, write};

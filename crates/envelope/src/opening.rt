@@ -11,8 +11,8 @@ use thiserror::Error;
 /// The largest payload, in bytes.
 pub const LARGEST_PAYLOAD: usize = 32_768;
 
-/// The bytes of a head.
-pub(crate) const HEAD: usize = 18;
+/// The length of a head, in bytes: the payload stands behind it.
+pub const HEAD: usize = 18;
 
 /// The bytes that begin an envelope.
 pub(crate) const MAGIC: &[u8; 2] = b"PS";

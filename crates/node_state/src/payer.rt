@@ -15,6 +15,7 @@ use crate::book_bytes::BookBytes;
 use crate::book_reading::BookReading;
 use crate::payer_calls;
 use bin_routes::{PayerNo, Routes};
+use octets::Octets;
 use payer_book::{Book, BookSettings, HashKeys, Plan};
 use std::alloc::{AllocError, Global};
 use std::marker::Model;
@@ -93,7 +94,7 @@ impl PayerNode {
         ensures err { OnErr result (self.new ≡ self.old) }
     {
         match call {
-            Call::Take { from, bytes } => self.take(alloc, routes, *from, bytes.as_slice()),
+            Call::Take { from, bytes } => self.take(alloc, routes, *from, bytes),
             Call::Plan { product, price } => self.change_plan(alloc, product.as_slice(), *price),
             Call::Stop => self.stop(alloc),
             Call::Start => self.start(alloc),
@@ -112,15 +113,15 @@ impl PayerNode {
         alloc: Global,
         routes: &Routes,
         from: Node,
-        bytes: &[u8],
+        packet: &Octets,
     ) -> Result<Vec<Sent>, StepFault>
-        ensures ok { IfOk result (λ sent. payer_step (bytes_with routes.now) self.old (Take (node_seen from) bytes.now) ≡ Done self.new (map sent_seen sent.items)) }
-        ensures fault { IfErr result (λ fault. RefusedAs (refusal_of fault) (payer_step (bytes_with routes.now) self.old (Take (node_seen from) bytes.now))) }
+        ensures ok { IfOk result (λ sent. payer_step (bytes_with routes.now) self.old (Take (node_seen from) packet.now) ≡ Done self.new (map sent_seen sent.items)) }
+        ensures fault { IfErr result (λ fault. RefusedAs (refusal_of fault) (payer_step (bytes_with routes.now) self.old (Take (node_seen from) packet.now))) }
         ensures few { IfOk result (λ sent. length sent.items ≤ 1) }
         ensures err { OnErr result (self.new ≡ self.old) }
     {
         match &mut self.state {
-            PayerState::Up(book) => payer_calls::take(alloc, book, routes, from, bytes),
+            PayerState::Up(book) => payer_calls::take(alloc, book, routes, from, packet),
             PayerState::AtRest(_) => Err(StepFault::Down),
         }
     }

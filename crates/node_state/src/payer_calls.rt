@@ -13,6 +13,7 @@ use crate::faults::{book_fault, envelope_fault, plan_fault};
 use crate::opening::{is_request, read_envelope};
 use bin_routes::Routes;
 use envelope::Envelope;
+use octets::Octets;
 use payer_book::Book;
 use std::alloc::Global;
 use world_setup::{Node, NodeFault, Sent, StepFault};
@@ -23,14 +24,14 @@ pub fn take(
     book: &mut Book,
     routes: &Routes,
     from: Node,
-    bytes: &[u8],
+    packet: &Octets,
 ) -> Result<Vec<Sent>, StepFault>
-    ensures ok { IfOk result (λ sent. payer_up (bytes_with routes.now) book.old (Take (node_seen from) bytes.now) ≡ Done (Up book.new) (map sent_seen sent.items)) }
-    ensures fault { IfErr result (λ fault. RefusedAs (refusal_of fault) (payer_up (bytes_with routes.now) book.old (Take (node_seen from) bytes.now))) }
+    ensures ok { IfOk result (λ sent. payer_up (bytes_with routes.now) book.old (Take (node_seen from) packet.now) ≡ Done (Up book.new) (map sent_seen sent.items)) }
+    ensures fault { IfErr result (λ fault. RefusedAs (refusal_of fault) (payer_up (bytes_with routes.now) book.old (Take (node_seen from) packet.now))) }
     ensures few { IfOk result (λ sent. length sent.items ≤ 1) }
     ensures err { OnErr result (book.new ≡ book.old) }
 {
-    match read_envelope(bytes) {
+    match read_envelope(packet) {
         Ok(envelope) => take_envelope(alloc, book, routes, from, &envelope),
         Err(fault) => Err(envelope_fault(fault)),
     }

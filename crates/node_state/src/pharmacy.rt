@@ -14,6 +14,7 @@ ghost use Rattle.node_state.specs.Sends.{is_up, most_due};
 use crate::journal_bytes::JournalBytes;
 use crate::journal_reading::JournalReading;
 use crate::pharmacy_calls;
+use octets::Octets;
 use pharmacy_journal::{JournalAtRest, Pharmacy, PharmacySettings};
 use std::alloc::{AllocError, Global};
 use std::marker::Model;
@@ -93,7 +94,7 @@ impl PharmacyNode {
         match call {
             Call::Submit(text) => self.submit(alloc, text.as_slice()),
             Call::Tick => self.tick(alloc),
-            Call::Take { from: _, bytes } => self.take(alloc, bytes.as_slice()),
+            Call::Take { from: _, bytes } => self.take(alloc, bytes),
             Call::Stop => self.stop(alloc),
             Call::Start => self.start(alloc),
             Call::Plan { .. } => Err(StepFault::NoSuchNode),
@@ -137,14 +138,14 @@ impl PharmacyNode {
     /// # Errors
     /// `Down`, then what is wrong with the envelope, then the refusal of [`Pharmacy::hear`]. The pharmacy is then as
     /// it was.
-    pub fn take(&mut self, alloc: Global, bytes: &[u8]) -> Result<Vec<Sent>, StepFault>
-        ensures ok { (routes : RouteMaps) (from : ModelNode) → IfOk result (λ sent. pharmacy_step (bytes_with routes) self.old (Take from bytes.now) ≡ Done self.new (map sent_seen sent.items)) }
-        ensures fault { (routes : RouteMaps) (from : ModelNode) → IfErr result (λ fault. RefusedAs (refusal_of fault) (pharmacy_step (bytes_with routes) self.old (Take from bytes.now))) }
+    pub fn take(&mut self, alloc: Global, packet: &Octets) -> Result<Vec<Sent>, StepFault>
+        ensures ok { (routes : RouteMaps) (from : ModelNode) → IfOk result (λ sent. pharmacy_step (bytes_with routes) self.old (Take from packet.now) ≡ Done self.new (map sent_seen sent.items)) }
+        ensures fault { (routes : RouteMaps) (from : ModelNode) → IfErr result (λ fault. RefusedAs (refusal_of fault) (pharmacy_step (bytes_with routes) self.old (Take from packet.now))) }
         ensures few { IfOk result (λ sent. length sent.items ≤ 1) }
         ensures err { OnErr result (self.new ≡ self.old) }
     {
         match &mut self.state {
-            PharmacyState::Up(pharmacy) => pharmacy_calls::take(alloc, pharmacy, bytes),
+            PharmacyState::Up(pharmacy) => pharmacy_calls::take(alloc, pharmacy, packet),
             PharmacyState::AtRest(_) => Err(StepFault::Down),
         }
     }

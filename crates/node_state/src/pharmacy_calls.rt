@@ -1,6 +1,7 @@
 //! The calls on a pharmacy that is up.
 
 ghost use Rattle.std.specs.Prelude.{◌≡◌, ◌≤◌, length, map, None, IfOk, IfErr, OnErr};
+ghost use Rattle.envelope.specs.Envelope.{envelope_text};
 ghost use Rattle.bin_routes.specs.Table.{RouteMaps};
 ghost use Rattle.claim_model.specs.Bytes.{bytes_with};
 ghost use Rattle.claim_model.specs.Journal.{submitted, heard};
@@ -13,6 +14,7 @@ use crate::faults::{envelope_fault, hear_fault, submit_fault};
 use crate::opening::read_envelope;
 use crate::sending::{push_all, to_switch};
 use envelope::Envelope;
+use octets::Octets;
 use pharmacy_journal::Pharmacy;
 use std::alloc::Global;
 use world_setup::{Sent, StepFault};
@@ -50,14 +52,14 @@ pub fn tick(alloc: Global, pharmacy: &mut Pharmacy) -> Result<Vec<Sent>, StepFau
 }
 
 /// Takes a packet.
-pub fn take(alloc: Global, pharmacy: &mut Pharmacy, bytes: &[u8]) -> Result<Vec<Sent>, StepFault>
-    ensures ok { (routes : RouteMaps) (from : ModelNode) → IfOk result (λ sent. pharmacy_up (bytes_with routes) pharmacy.old (Take from bytes.now) ≡ Done (Up pharmacy.new) (map sent_seen sent.items)) }
-    ensures fault { (routes : RouteMaps) (from : ModelNode) → IfErr result (λ fault. RefusedAs (refusal_of fault) (pharmacy_up (bytes_with routes) pharmacy.old (Take from bytes.now))) }
+pub fn take(alloc: Global, pharmacy: &mut Pharmacy, packet: &Octets) -> Result<Vec<Sent>, StepFault>
+    ensures ok { (routes : RouteMaps) (from : ModelNode) → IfOk result (λ sent. pharmacy_up (bytes_with routes) pharmacy.old (Take from packet.now) ≡ Done (Up pharmacy.new) (map sent_seen sent.items)) }
+    ensures fault { (routes : RouteMaps) (from : ModelNode) → IfErr result (λ fault. RefusedAs (refusal_of fault) (pharmacy_up (bytes_with routes) pharmacy.old (Take from packet.now))) }
     ensures few { IfOk result (λ sent. length sent.items ≤ 1) }
     ensures err { OnErr result (pharmacy.new ≡ pharmacy.old) }
 {
-    match read_envelope(bytes) {
-        Ok(envelope) => hear(alloc, pharmacy, &envelope),
+    match read_envelope(packet) {
+        Ok(envelope) => hear(alloc, pharmacy, &envelope, packet),
         Err(fault) => Err(envelope_fault(fault)),
     }
 }
@@ -67,13 +69,15 @@ fn hear(
     alloc: Global,
     pharmacy: &mut Pharmacy,
     envelope: &Envelope<'_>,
+    packet: &Octets,
 ) -> Result<Vec<Sent>, StepFault>
+    requires { packet.now ≡ envelope_text envelope.now.kind envelope.now.id envelope.now.payload }
     ensures ok { (routes : RouteMaps) → IfOk result (λ sent. after_hearing (heard (bytes_with routes) pharmacy.old (content envelope.now)) ≡ Done (Up pharmacy.new) (map sent_seen sent.items)) }
     ensures fault { (routes : RouteMaps) → IfErr result (λ fault. RefusedAs (refusal_of fault) (after_hearing (heard (bytes_with routes) pharmacy.old (content envelope.now)))) }
     ensures few { IfOk result (λ sent. length sent.items ≤ 1) }
     ensures err { OnErr result (pharmacy.new ≡ pharmacy.old) }
 {
-    match pharmacy.hear(envelope) {
+    match pharmacy.hear_packet(envelope, packet) {
         Ok(()) => Ok(Vec::new(alloc)),
         Err(fault) => Err(hear_fault(fault)),
     }

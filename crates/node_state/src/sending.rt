@@ -39,18 +39,18 @@ pub fn to_payer_or_back(id: TxnId, routed: Routed) -> Sent
     match routed {
         Routed::Forward(payer, bytes) => Sent {
             to: Node::Payer(payer.get()),
-            bytes: Octets::from_vec(bytes),
+            bytes,
         },
         Routed::Answer(bytes) => to_pharmacy(id, bytes),
     }
 }
 
 /// A packet for the pharmacy of an id.
-pub fn to_pharmacy(id: TxnId, bytes: Vec<u8>) -> Sent
-    ensures { sent_seen result ≡ record { to = OfPharmacy id.pharmacy; bytes = bytes.items } }
+pub fn to_pharmacy(id: TxnId, bytes: Octets) -> Sent
+    ensures { sent_seen result ≡ record { to = OfPharmacy id.pharmacy; bytes = bytes } }
 {
     Sent {
         to: Node::Pharmacy(id.pharmacy()),
-        bytes: Octets::from_vec(bytes),
+        bytes,
     }
 }

@@ -13,6 +13,7 @@ ghost use Rattle.node_state.specs.Sends.{is_up, in_flight_at};
 use crate::switch_calls;
 use bin_routes::Routes;
 use envelope::TxnId;
+use octets::Octets;
 use std::alloc::{AllocError, Global};
 use std::marker::Model;
 use switch_node::{InFlight, Switch, SwitchSettings};
@@ -79,7 +80,7 @@ impl SwitchNode {
         ensures err { OnErr result (self.new ≡ self.old) }
     {
         match call {
-            Call::Take { from: _, bytes } => self.take(alloc, routes, bytes.as_slice()),
+            Call::Take { from: _, bytes } => self.take(alloc, routes, bytes),
             Call::Stop => self.stop(alloc),
             Call::Start => self.start(alloc),
             Call::Submit(_) => Err(StepFault::NoSuchNode),
@@ -98,15 +99,15 @@ impl SwitchNode {
         &mut self,
         alloc: Global,
         routes: &Routes,
-        bytes: &[u8],
+        packet: &Octets,
     ) -> Result<Vec<Sent>, StepFault>
-        ensures ok { (from : ModelNode) → IfOk result (λ sent. switch_step (bytes_with routes.now) self.old (Take from bytes.now) ≡ Done self.new (map sent_seen sent.items)) }
-        ensures fault { (from : ModelNode) → IfErr result (λ fault. RefusedAs (refusal_of fault) (switch_step (bytes_with routes.now) self.old (Take from bytes.now))) }
+        ensures ok { (from : ModelNode) → IfOk result (λ sent. switch_step (bytes_with routes.now) self.old (Take from packet.now) ≡ Done self.new (map sent_seen sent.items)) }
+        ensures fault { (from : ModelNode) → IfErr result (λ fault. RefusedAs (refusal_of fault) (switch_step (bytes_with routes.now) self.old (Take from packet.now))) }
         ensures few { IfOk result (λ sent. length sent.items ≤ 1) }
         ensures err { OnErr result (self.new ≡ self.old) }
     {
         match &mut self.state {
-            SwitchState::Up(switch) => switch_calls::take(alloc, switch, routes, bytes),
+            SwitchState::Up(switch) => switch_calls::take(alloc, switch, routes, packet),
             SwitchState::AtRest(_) => Err(StepFault::Down),
         }
     }

@@ -1,6 +1,7 @@
 //! The calls on a switch that is up.
 
 ghost use Rattle.std.specs.Prelude.{◌≡◌, ◌≤◌, length, map, Ok, IfOk, IfErr, OnErr};
+ghost use Rattle.envelope.specs.Envelope.{envelope_text};
 ghost use Rattle.bin_routes.specs.Table.{RouteMaps};
 ghost use Rattle.claim_model.specs.Bytes.{bytes_with};
 ghost use Rattle.claim_model.specs.Table.{requested, responded};
@@ -14,6 +15,7 @@ use crate::opening::{is_request, read_envelope};
 use crate::sending::{to_payer_or_back, to_pharmacy};
 use bin_routes::Routes;
 use envelope::Envelope;
+use octets::Octets;
 use std::alloc::Global;
 use switch_node::Switch;
 use world_setup::{Sent, StepFault};
@@ -23,15 +25,15 @@ pub fn take(
     alloc: Global,
     switch: &mut Switch,
     routes: &Routes,
-    bytes: &[u8],
+    packet: &Octets,
 ) -> Result<Vec<Sent>, StepFault>
-    ensures ok { (from : ModelNode) → IfOk result (λ sent. switch_up (bytes_with routes.now) switch.old (Take from bytes.now) ≡ Done (Up switch.new) (map sent_seen sent.items)) }
-    ensures fault { (from : ModelNode) → IfErr result (λ fault. RefusedAs (refusal_of fault) (switch_up (bytes_with routes.now) switch.old (Take from bytes.now))) }
+    ensures ok { (from : ModelNode) → IfOk result (λ sent. switch_up (bytes_with routes.now) switch.old (Take from packet.now) ≡ Done (Up switch.new) (map sent_seen sent.items)) }
+    ensures fault { (from : ModelNode) → IfErr result (λ fault. RefusedAs (refusal_of fault) (switch_up (bytes_with routes.now) switch.old (Take from packet.now))) }
     ensures few { IfOk result (λ sent. length sent.items ≤ 1) }
     ensures err { OnErr result (switch.new ≡ switch.old) }
 {
-    match read_envelope(bytes) {
-        Ok(envelope) => take_envelope(alloc, switch, routes, &envelope),
+    match read_envelope(packet) {
+        Ok(envelope) => take_envelope(alloc, switch, routes, &envelope, packet),
         Err(fault) => Err(envelope_fault(fault)),
     }
 }
@@ -42,16 +44,18 @@ fn take_envelope(
     switch: &mut Switch,
     routes: &Routes,
     envelope: &Envelope<'_>,
+    packet: &Octets,
 ) -> Result<Vec<Sent>, StepFault>
+    requires { packet.now ≡ envelope_text envelope.now.kind envelope.now.id envelope.now.payload }
     ensures ok { IfOk result (λ sent. switch_takes (bytes_with routes.now) switch.old (Ok (content envelope.now)) ≡ Done (Up switch.new) (map sent_seen sent.items)) }
     ensures fault { IfErr result (λ fault. RefusedAs (refusal_of fault) (switch_takes (bytes_with routes.now) switch.old (Ok (content envelope.now)))) }
     ensures few { IfOk result (λ sent. length sent.items ≤ 1) }
     ensures err { OnErr result (switch.new ≡ switch.old) }
 {
     if is_request(envelope) {
-        request(alloc, switch, routes, envelope)
+        request(alloc, switch, routes, envelope, packet)
     } else {
-        response(alloc, switch, envelope)
+        response(alloc, switch, envelope, packet)
     }
 }
 
@@ -61,7 +65,9 @@ fn request(
     switch: &mut Switch,
     routes: &Routes,
     envelope: &Envelope<'_>,
+    packet: &Octets,
 ) -> Result<Vec<Sent>, StepFault>
+    requires { packet.now ≡ envelope_text envelope.now.kind envelope.now.id envelope.now.payload }
     ensures ok { IfOk result (λ sent. after_request envelope.now.id (requested (bytes_with routes.now) switch.old (content envelope.now)) ≡ Done (Up switch.new) (map sent_seen sent.items)) }
     ensures fault { IfErr result (λ fault. RefusedAs (refusal_of fault) (after_request envelope.now.id (requested (bytes_with routes.now) switch.old (content envelope.now)))) }
     ensures few { IfOk result (λ sent. length sent.items ≤ 1) }
@@ -69,7 +75,7 @@ fn request(
 {
     let mut sent = Vec::new(alloc);
     sent.reserve(1)?;
-    match switch.request(routes, envelope) {
+    match switch.request_packet(routes, envelope, packet) {
         Ok(routed) => {
             sent.push_reserved(to_payer_or_back(envelope.id(), routed));
             Ok(sent)
@@ -83,7 +89,9 @@ fn response(
     alloc: Global,
     switch: &mut Switch,
     envelope: &Envelope<'_>,
+    packet: &Octets,
 ) -> Result<Vec<Sent>, StepFault>
+    requires { packet.now ≡ envelope_text envelope.now.kind envelope.now.id envelope.now.payload }
     ensures ok { (routes : RouteMaps) → IfOk result (λ sent. after_response envelope.now.id (responded (bytes_with routes) switch.old (content envelope.now)) ≡ Done (Up switch.new) (map sent_seen sent.items)) }
     ensures fault { (routes : RouteMaps) → IfErr result (λ fault. RefusedAs (refusal_of fault) (after_response envelope.now.id (responded (bytes_with routes) switch.old (content envelope.now)))) }
     ensures few { IfOk result (λ sent. length sent.items ≤ 1) }
@@ -91,9 +99,9 @@ fn response(
 {
     let mut sent = Vec::new(alloc);
     sent.reserve(1)?;
-    match switch.response(envelope) {
-        Ok(packet) => {
-            sent.push_reserved(to_pharmacy(envelope.id(), packet));
+    match switch.response_packet(envelope, packet) {
+        Ok(bytes) => {
+            sent.push_reserved(to_pharmacy(envelope.id(), bytes));
             Ok(sent)
         }
         Err(fault) => Err(response_fault(fault)),

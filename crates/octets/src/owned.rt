@@ -1,29 +1,34 @@
 //! The owned byte string, its order and its copies.
 
-ghost use Rattle.std.specs.Prelude.{◌≡◌, ◌↔◌, ◌==◌, ◌<◌, ◌^◌, [], length, nat_eq, IfOk, IsTrue, Some, refl};
+ghost use Rattle.std.specs.Prelude.{◌≡◌, ◌↔◌, ◌==◌, ◌<◌, ◌≤◌, ◌+◌, ◌^◌, [], length, drop, nat_eq, IfOk, IsTrue, Some, refl};
 ghost use Rattle.std.specs.Ordering.{nat_cmp};
 ghost use Rattle.std.specs.Cmp;
 ghost use Rattle.std.specs.Cmp.Lexicographic.{pointwise, slice_cmp, nat_list_eq_equiv, nat_list_cmp_total, texts_ties, texts_po};
 
+use crate::held::Held;
 use std::alloc::{AllocError, Global};
 use std::cmp::Ordering;
 use std::marker::Model;
+use std::sync::Arc;
 
 /// An owned byte string of any length.
 ///
-/// It is made from a `Vec` and turned back into one without taking memory. Equality is
-/// equality of the bytes, and the order is the lexicographic one, so it can be a map's key.
+/// It is made from a `Vec` without taking memory. Once it is [`shared`](Octets::shared), copies of it and of its ends
+/// take no memory. Equality is equality of the bytes, and the order is the lexicographic one, so it can be a map's key.
 #[derive(Debug, Drop)]
 pub struct Octets {
-    bytes: Vec<u8>,
+    held: Held,
 }
 
 impl Model for Octets {
     ghost use Rattle.std.specs.Prelude.{List, ℕ};
+    ghost use Rattle.octets.specs.Held.{bytes_in, IsHeld};
 
     ghost Value = { List ℕ };
 
-    ghost view = { λ octets. octets.bytes.items };
+    ghost view = { λ octets. bytes_in octets.held };
+
+    ghost invariant = { λ octets. IsHeld octets.held };
 }
 
 impl Octets {
@@ -31,51 +36,92 @@ impl Octets {
     pub fn from_vec(bytes: Vec<u8>) -> Octets
         ensures { result ≡ bytes.items }
     {
-        Octets { bytes }
+        Octets {
+            held: Held::Alone(bytes),
+        }
     }
 
-    /// The bytes as a vector, which keep their place in memory.
-    pub fn into_vec(self) -> Vec<u8>
-        ensures { result.items ≡ self }
+    /// The bytes as a vector. Bytes of one owner keep their place in memory, and shared ones are copied.
+    pub fn into_vec(self) -> Result<Vec<u8>, AllocError>
+        ensures { IfOk result (λ bytes. bytes.items ≡ self) }
     {
-        let Octets { bytes } = self;
-        bytes
+        match self.held {
+            Held::Alone(bytes) => Ok(bytes),
+            Held::Shared(bytes, start) => Vec::from_slice(
+                *bytes.allocator(),
+                &bytes.as_slice()[start..],
+            ),
+        }
     }
 
     /// A copy of the bytes in memory of its own.
     pub fn copy_of(alloc: Global, bytes: &[u8]) -> Result<Octets, AllocError>
         ensures { IfOk result (λ copy. copy ≡ bytes.now) }
     {
-        let bytes = Vec::from_slice(alloc, bytes)?;
-        Ok(Octets { bytes })
+        Ok(Octets::from_vec(Vec::from_slice(alloc, bytes)?))
     }
 
-    /// A copy in memory of its own, from the allocator of the original.
+    /// The same bytes, whose copies are the same memory from now on. Where there is no memory to count the owners, they
+    /// stay as they are.
+    pub fn shared(self) -> Octets
+        ensures { result ≡ self }
+    {
+        match self.held {
+            Held::Alone(bytes) => match Arc::new(*bytes.allocator(), bytes) {
+                Ok(bytes) => Octets {
+                    held: Held::Shared(bytes, 0),
+                },
+                Err(refused) => Octets::from_vec(refused.value),
+            },
+            held => Octets { held },
+        }
+    }
+
+    /// A copy. Shared bytes take no memory for it.
     pub fn copy(&self) -> Result<Octets, AllocError>
         ensures { IfOk result (λ copy. copy ≡ self.now) }
     {
-        Octets::copy_of(*self.bytes.allocator(), self.as_slice())
+        self.tail(0)
+    }
+
+    /// A copy of the bytes from this place on. Shared bytes take no memory for it.
+    pub fn tail(&self, start: usize) -> Result<Octets, AllocError>
+        requires { start ≤ length self.now }
+        ensures { IfOk result (λ copy. copy ≡ drop start self.now) }
+    {
+        match &self.held {
+            Held::Alone(bytes) => Octets::copy_of(*bytes.allocator(), &bytes.as_slice()[start..]),
+            Held::Shared(bytes, first) => {
+                let bytes = Arc::try_clone(bytes)?;
+                Ok(Octets {
+                    held: Held::Shared(bytes, *first + start),
+                })
+            }
+        }
     }
 
     /// The bytes.
     pub fn as_slice(&self) -> &[u8]
         ensures { result.now ≡ self.now }
     {
-        self.bytes.as_slice()
+        match &self.held {
+            Held::Alone(bytes) => bytes.as_slice(),
+            Held::Shared(bytes, start) => &bytes.as_slice()[*start..],
+        }
     }
 
     /// How many bytes there are.
     pub fn len(&self) -> usize
         ensures { result ≡ length self.now }
     {
-        self.bytes.len()
+        self.as_slice().len()
     }
 
     /// Whether there is no byte.
     pub fn is_empty(&self) -> bool
         ensures { IsTrue result ↔ (self.now ≡ []) }
     {
-        self.bytes.is_empty()
+        self.as_slice().is_empty()
     }
 }
 

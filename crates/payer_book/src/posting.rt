@@ -55,7 +55,7 @@ fn packet(alloc: Global, id: TxnId, answer: &[u8]) -> Result<Octets, AllocError>
 {
     // The answer is not too long, so nothing but memory can be refused.
     match write(alloc, Kind::Answer, id, answer) {
-        Ok(packet) => Ok(Octets::from_vec(packet)),
+        Ok(packet) => Ok(Octets::from_vec(packet).shared()),
         Err(_) => Err(AllocError),
     }
 }

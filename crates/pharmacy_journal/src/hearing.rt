@@ -1,7 +1,8 @@
 //! Hearing an answer.
 
-ghost use Rattle.std.specs.Prelude.{◌≡◌, ◌<◌, ℕ, length, true, Option, Some, Ok, IfOk, IfErr, IfSome, OnOk, OnErr, bytes_eq, if◌then◌else◌};
+ghost use Rattle.std.specs.Prelude.{◌≡◌, ◌<◌, ◌≤◌, ℕ, length, true, Option, Some, Ok, IfOk, IfErr, IfSome, OnOk, OnErr, bytes_eq, if◌then◌else◌};
 ghost use Rattle.std.specs.List.{slice_get};
+ghost use Rattle.envelope.specs.Envelope.{envelope_text};
 ghost use Rattle.bin_routes.specs.Table.{RouteMaps};
 ghost use Rattle.claim_model.specs.Bytes.{bytes_with};
 ghost use Rattle.claim_model.specs.Journal.{Has, heard, settle_by};
@@ -17,8 +18,9 @@ use crate::pharmacy::Pharmacy;
 use crate::slot::Slot;
 use crate::transaction::judge;
 use core::mem::replace_with;
-use envelope::{Envelope, Kind};
+use envelope::{Envelope, HEAD, Kind, payload_is_behind_its_head};
 use octets::Octets;
+use std::alloc::{AllocError, Global};
 
 impl Pharmacy {
     /// Settles the entry of an answer's number, for good.
@@ -31,6 +33,27 @@ impl Pharmacy {
         ensures err { OnErr result (self.new ≡ self.old) }
         ensures fault { (routes : RouteMaps) → IfErr result (λ e. IsRefused (refusal_to_hear e) (heard (bytes_with routes) self.old (envelope_seen envelope.now))) }
     {
+        self.settle(envelope, None)
+    }
+
+    /// As [`hear`](Pharmacy::hear), of the packet that the envelope was read from. The answer is kept as the packet's
+    /// end, which takes no memory where the packet is shared.
+    pub fn hear_packet(&mut self, envelope: &Envelope<'_>, packet: &Octets) -> Result<(), HearFault>
+        requires { packet.now ≡ envelope_text envelope.now.kind envelope.now.id envelope.now.payload }
+        ensures ok { (routes : RouteMaps) → OnOk result (heard (bytes_with routes) self.old (envelope_seen envelope.now) ≡ Ok self.new) }
+        ensures err { OnErr result (self.new ≡ self.old) }
+        ensures fault { (routes : RouteMaps) → IfErr result (λ e. IsRefused (refusal_to_hear e) (heard (bytes_with routes) self.old (envelope_seen envelope.now))) }
+    {
+        self.settle(envelope, Some(packet))
+    }
+
+    /// Settles the entry of an answer's number.
+    fn settle(&mut self, envelope: &Envelope<'_>, packet: Option<&Octets>) -> Result<(), HearFault>
+        requires { IfSome packet (λ packet. packet.now ≡ envelope_text envelope.now.kind envelope.now.id envelope.now.payload) }
+        ensures ok { (routes : RouteMaps) → OnOk result (heard (bytes_with routes) self.old (envelope_seen envelope.now) ≡ Ok self.new) }
+        ensures err { OnErr result (self.new ≡ self.old) }
+        ensures fault { (routes : RouteMaps) → IfErr result (λ e. IsRefused (refusal_to_hear e) (heard (bytes_with routes) self.old (envelope_seen envelope.now))) }
+    {
         let id = envelope.id();
         if id.pharmacy() != self.number {
             return Err(HearFault::NotMine);
@@ -39,10 +62,28 @@ impl Pharmacy {
             return Err(HearFault::NoSuchNumber);
         };
         verdict(&self.slots[place], envelope)?;
-        let answer = Octets::copy_of(*self.slots.allocator(), envelope.payload())?;
+        let answer = answer_of(*self.slots.allocator(), envelope, packet)?;
         self.timetable.settle(place);
         settle_at(&mut self.slots, place, answer);
         Ok(())
+    }
+}
+
+/// The payload of an envelope: the end of its packet where that is at hand, and else a copy.
+fn answer_of(
+    alloc: Global,
+    envelope: &Envelope<'_>,
+    packet: Option<&Octets>,
+) -> Result<Octets, AllocError>
+    requires { IfSome packet (λ packet. packet.now ≡ envelope_text envelope.now.kind envelope.now.id envelope.now.payload) }
+    ensures value { IfOk result (λ answer. answer ≡ envelope.now.payload) }
+    ensures short { IfOk result (λ answer. length answer ≤ 32768) }
+{
+    payload_is_behind_its_head();
+    let payload = envelope.payload();
+    match packet {
+        Some(packet) => packet.tail(HEAD),
+        None => Octets::copy_of(alloc, payload),
     }
 }
 

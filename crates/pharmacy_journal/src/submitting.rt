@@ -85,8 +85,7 @@ impl Pharmacy {
         let Some(id) = TxnId::new(self.number, number) else {
             unreachable!()
         };
-        let request = Vec::from_slice(*self.slots.allocator(), text)?;
-        Ok(OpenTxn::new(id, request))
+        OpenTxn::in_packet(*self.slots.allocator(), id, text)
     }
 
     /// The packet of a new transaction, for the first switch.

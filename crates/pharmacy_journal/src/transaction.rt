@@ -15,7 +15,7 @@ ghost use Rattle.pharmacy_journal.specs.declared.fault.SettleFault.TheVariants.{
 use crate::fault::SettleFault;
 use claim_profile::check_answer;
 use d0_header::ResponseHeader;
-use envelope::{Kind, TxnId, WriteFault, write};
+use envelope::{HEAD, Kind, TxnId, WriteFault, payload_is_behind_its_head, write};
 use octets::Octets;
 use std::alloc::{AllocError, Global};
 use std::marker::Model;
@@ -25,10 +25,15 @@ use std::marker::Model;
 pub struct OpenTxn {
     id: TxnId,
     request: Octets,
+    /// The packet, where it was written once: the request is its end.
+    packet: Option<Octets>,
 }
 
 impl Model for OpenTxn {
-    ghost use Rattle.std.specs.Prelude.{IsSome};
+    ghost use Rattle.std.specs.Prelude.{◌≡◌, IsSome};
+    ghost use Rattle.std.specs.Option.{ForSome};
+    ghost use Rattle.envelope.specs.Envelope.{envelope_text};
+    ghost use Rattle.envelope.specs.declared.opening.Kind.TheVariants.{Request};
     ghost use Rattle.claim_profile.specs.Readable.{readable_header};
     ghost use Rattle.pharmacy_journal.specs.Transactions.{Submission};
 
@@ -36,7 +41,7 @@ impl Model for OpenTxn {
 
     ghost view = { λ t. record { id = t.id; request = t.request } };
 
-    ghost invariant = { λ t. IsSome (readable_header t.request) };
+    ghost invariant = { λ t. (IsSome (readable_header t.request)) × (ForSome t.packet (λ packet. packet ≡ envelope_text Request t.id t.request)) };
 }
 
 /// A transaction that has its answer. It has no packet.
@@ -70,7 +75,23 @@ impl OpenTxn {
         OpenTxn {
             id,
             request: Octets::from_vec(request),
+            packet: None,
         }
+    }
+
+    /// The transaction of this number with a readable request, which stands in its packet.
+    pub(crate) fn in_packet(alloc: Global, id: TxnId, request: &[u8]) -> Result<OpenTxn, AllocError>
+        requires { IsSome (readable_header request.now) }
+        ensures { IfOk result (λ t. t ≡ record { id = id; request = request.now }) }
+    {
+        payload_is_behind_its_head();
+        let packet = request_packet(alloc, id, request)?.shared();
+        let request = packet.tail(HEAD)?;
+        Ok(OpenTxn {
+            id,
+            request,
+            packet: Some(packet),
+        })
     }
 
     /// Its number.
@@ -88,24 +109,19 @@ impl OpenTxn {
         self.request.as_slice()
     }
 
-    /// The envelope that carries the request, of kind 1.
+    /// The envelope that carries the request, of kind 1. A packet that was written once takes no memory.
     pub fn packet(&self, alloc: Global) -> Result<Octets, AllocError>
         ensures { IfOk result (λ packet. packet ≡ envelope_text Request self.now.id self.now.request) }
     {
-        match write(alloc, Kind::Request, self.id, self.request.as_slice()) {
-            Ok(packet) => Ok(Octets::from_vec(packet)),
-            Err(WriteFault::OutOfMemory) => Err(AllocError),
-            Err(WriteFault::TooLong) => unreachable!(),
+        match &self.packet {
+            Some(packet) => packet.copy(),
+            None => request_packet(alloc, self.id, self.request.as_slice()),
         }
     }
 
     /// Settles the transaction with an answer, which it keeps. Where the answer does not fit, transaction
     /// and bytes come back.
-    pub fn settle(
-        self,
-        _alloc: Global,
-        answer: Vec<u8>,
-    ) -> Result<SettledTxn, (OpenTxn, Vec<u8>, SettleFault)>
+    pub fn settle(self, answer: Vec<u8>) -> Result<SettledTxn, (OpenTxn, Vec<u8>, SettleFault)>
         ensures kept { IfOk result (λ t. t ≡ record { id = self.id; request = self.request; answer = answer.items }) }
         ensures fits { (routes : RouteMaps) → OnOk result (settles (bytes_with routes) self.request answer.items ≡ true) }
         ensures back { IfErr result (λ e. (e.0 ≡ self) × (e.1.items ≡ answer.items)) }
@@ -122,7 +138,11 @@ impl OpenTxn {
         requires { settles_with self.request answer ≡ true }
         ensures { result ≡ record { id = self.id; request = self.request; answer = answer } }
     {
-        let OpenTxn { id, request } = self;
+        let OpenTxn {
+            id,
+            request,
+            packet: _,
+        } = self;
         SettledTxn {
             id,
             request,
@@ -153,6 +173,18 @@ impl SettledTxn {
         ensures fits { settles_with self.now.request self.now.answer ≡ true }
     {
         self.answer.as_slice()
+    }
+}
+
+/// The envelope that carries a readable request.
+fn request_packet(alloc: Global, id: TxnId, request: &[u8]) -> Result<Octets, AllocError>
+    requires { IsSome (readable_header request.now) }
+    ensures { IfOk result (λ packet. packet ≡ envelope_text Request id request.now) }
+{
+    match write(alloc, Kind::Request, id, request) {
+        Ok(packet) => Ok(Octets::from_vec(packet)),
+        Err(WriteFault::OutOfMemory) => Err(AllocError),
+        Err(WriteFault::TooLong) => unreachable!(),
     }
 }
 

@@ -3,6 +3,7 @@
 use bin_routes::{PayerNo, Routes};
 use envelope::{Kind, write};
 use node_state::{PayerNode, PharmacyNode, SwitchNode};
+use octets::Octets;
 use std::alloc::Global;
 use std::test::Fail;
 use world_setup::{Call, Node, Sent, StepFault, WorldSettings};
@@ -51,10 +52,11 @@ impl Receiver {
         from: Node,
         bytes: &[u8],
     ) -> Result<Vec<Sent>, StepFault> {
+        let packet = Octets::copy_of(alloc, bytes)?;
         match self {
-            Receiver::Pharmacy(node) => node.take(alloc, bytes),
-            Receiver::Switch(node) => node.take(alloc, routes, bytes),
-            Receiver::Payer(node) => node.take(alloc, routes, from, bytes),
+            Receiver::Pharmacy(node) => node.take(alloc, &packet),
+            Receiver::Switch(node) => node.take(alloc, routes, &packet),
+            Receiver::Payer(node) => node.take(alloc, routes, from, &packet),
         }
     }
 

@@ -362,13 +362,13 @@ fn an_open_transaction_has_a_packet(rt: HostRuntime) -> Result<(), Fail> {
 fn a_transaction_settles_once(rt: HostRuntime) -> Result<(), Fail> {
     let alloc = rt.alloc();
     let txn = billing_txn(alloc)?;
-    let Err((txn, bytes, fault)) = txn.settle(alloc, Vec::from_slice(alloc, b"x")?) else {
+    let Err((txn, bytes, fault)) = txn.settle(Vec::from_slice(alloc, b"x")?) else {
         return Err(Fail::from("settled"));
     };
     assert_eq!(rt; bytes.as_slice(), b"x".as_slice());
     assert_eq!(rt; fault, SettleFault::Unreadable);
     assert_eq!(rt; txn.request(), billing());
-    let Ok(settled) = txn.settle(alloc, Vec::from_slice(alloc, paid())?) else {
+    let Ok(settled) = txn.settle(Vec::from_slice(alloc, paid())?) else {
         return Err(Fail::from("not settled"));
     };
     assert_eq!(rt; settled.answer(), paid());

@@ -13,7 +13,36 @@ fn a_vector_comes_back_and_copies_are_equal(rt: HostRuntime) -> Result<(), Fail>
     let other = Octets::copy_of(rt.alloc(), &[7, 0])?;
     assert!(rt; other != octets);
     assert!(rt; Octets::from_vec(Vec::new(rt.alloc())).is_empty());
-    assert_eq!(rt; octets.into_vec().as_slice(), [7, 0, 255].as_slice());
+    assert_eq!(rt; octets.into_vec()?.as_slice(), [7, 0, 255].as_slice());
+    Ok(())
+}
+
+#[test]
+fn shared_bytes_are_the_same_bytes(rt: HostRuntime) -> Result<(), Fail> {
+    let octets = Octets::copy_of(rt.alloc(), &[7, 0, 255])?;
+    let shared = octets.copy()?.shared();
+    assert!(rt; shared == octets);
+    assert!(rt; shared.copy()? == octets);
+    for start in 0..4 {
+        let tail = shared.tail(start)?;
+        assert!(rt; tail == octets.tail(start)?);
+        assert_eq!(rt;
+            tail.as_slice(),
+            octets.as_slice().get(start..).unwrap_or(&[9])
+        );
+        // An end of an end is an end, and owns its bytes where the whole is gone.
+        if !tail.is_empty() {
+            let last = tail.tail(1)?;
+            drop(tail);
+            assert_eq!(rt; last.len(), 2usize.saturating_sub(start));
+        }
+    }
+    assert_eq!(rt; shared.tail(1)?.into_vec()?.as_slice(), [0, 255].as_slice());
+    // What is shared may be shared again, and given back.
+    assert_eq!(rt;
+        shared.shared().into_vec()?.as_slice(),
+        [7, 0, 255].as_slice()
+    );
     Ok(())
 }
 

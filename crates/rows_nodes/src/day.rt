@@ -26,7 +26,7 @@ pub(crate) enum Node {
 pub(crate) struct Packet {
     from: Node,
     pub(crate) to: Node,
-    bytes: Vec<u8>,
+    bytes: Octets,
 }
 
 /// What is done. Packets are numbered from 1, in the order in which they were sent.
@@ -105,7 +105,7 @@ impl Day {
         let request = unprint(alloc, text.as_bytes())?;
         match self.pharmacy.submit(request.as_slice()) {
             Ok((_, sent)) => {
-                let bytes = Vec::from_slice(alloc, sent.bytes())?;
+                let bytes = Octets::copy_of(alloc, sent.bytes())?;
                 self.send(Node::Pharmacy, Node::Switch(sent.to() as usize), bytes)
             }
             Err(fault) => Ok(Err(format!(in alloc; "{fault:?}")?)),
@@ -118,7 +118,7 @@ impl Day {
         let sent = self.pharmacy.tick()?;
         match sent.first() {
             Some(sent) => {
-                let bytes = Vec::from_slice(alloc, sent.bytes())?;
+                let bytes = Octets::copy_of(alloc, sent.bytes())?;
                 self.send(Node::Pharmacy, Node::Switch(sent.to() as usize), bytes)
             }
             None => Ok(Ok(None)),
@@ -142,7 +142,7 @@ impl Day {
     }
 
     /// Keeps a packet, and gives its number.
-    fn send(&mut self, from: Node, to: Node, bytes: Vec<u8>) -> Result<Outcome, Fail> {
+    fn send(&mut self, from: Node, to: Node, bytes: Octets) -> Result<Outcome, Fail> {
         self.packets.push(Packet { from, to, bytes })?;
         Ok(Ok(Some(self.packets.len())))
     }
@@ -198,7 +198,7 @@ impl Day {
         match self.book.answer(&self.routes, id, envelope.payload()) {
             Ok(reply) => {
                 let bytes = write(alloc, Kind::Answer, id, reply.bytes.as_slice())?;
-                self.send(Node::Payer, from, bytes)
+                self.send(Node::Payer, from, Octets::from_vec(bytes))
             }
             Err(fault) => Ok(Err(format!(in alloc; "{fault:?}")?)),
         }

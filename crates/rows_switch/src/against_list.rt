@@ -1,4 +1,4 @@
-//! A switch beside a plain list, over many random calls.
+//! A switch beside a plain list, over many random calls, half of them with the packet at hand.
 
 use bin_routes::RouteRow;
 use envelope::{Kind, write};
@@ -43,6 +43,21 @@ fn answer_of(which: u64) -> &'static [u8] {
         0 => b"D0B11A011234567893     20240115\x1d\x1e\x1cAM21\x1cANR\x1cFA1\x1cFB70",
         1 => b"D0B11A011234567893     20240115\x1d\x1e\x1cAM21\x1cANR\x1cFA1\x1cFB83",
         _ => b"x",
+    }
+}
+
+/// What becomes of a request, with its packet at hand or not.
+fn ask(
+    switch: &mut Switch,
+    routes: &Routes,
+    packet: &Octets,
+    at_hand: bool,
+) -> Result<Result<Routed, RequestFault>, Fail> {
+    let envelope = Envelope::read(packet.as_slice())?;
+    if at_hand {
+        Ok(switch.request_packet(routes, &envelope, packet))
+    } else {
+        Ok(switch.request(routes, &envelope))
     }
 }
 
@@ -131,26 +146,27 @@ impl Pair {
         let which = self.dice.roll(4);
         let is_routed = self.dice.roll(8) > 0;
         let payload = request_of(which);
-        let packet = write(self.alloc, Kind::Request, id, payload)?;
+        let packet = Octets::from_vec(write(self.alloc, Kind::Request, id, payload)?);
         let want = self.plain_request(number, which, is_routed)?;
-        let envelope = Envelope::read(&packet)?;
+        let at_hand = self.dice.roll(2) > 0;
         let routed = if is_routed {
-            self.switch.request(&self.routes, &envelope)
+            ask(&mut self.switch, &self.routes, &packet, at_hand)?
         } else {
-            self.switch.request(&self.nowhere, &envelope)
+            ask(&mut self.switch, &self.nowhere, &packet, at_hand)?
         };
         let want = match want {
             Want::Forward => Ok(Routed::Forward(PayerNo::new(1).ok_or("payer")?, packet)),
-            Want::Answer(answer) => Ok(Routed::Answer(self.answer(id, answer)?)),
-            Want::Reject => Ok(Routed::Answer(write(self.alloc, Kind::Answer, id, rejection())?)),
+            Want::Answer(answer) => Ok(Routed::Answer(self.answer(id, answer_of(answer))?)),
+            Want::Reject => Ok(Routed::Answer(self.answer(id, rejection())?)),
             Want::Refuse(fault) => Err(fault),
         };
         assert_eq!(rt; routed, want);
         Ok(())
     }
 
-    fn answer(&self, id: TxnId, answer: u64) -> Result<Vec<u8>, Fail> {
-        Ok(write(self.alloc, Kind::Answer, id, answer_of(answer))?)
+    fn answer(&self, id: TxnId, answer: &[u8]) -> Result<Octets, Fail> {
+        let packet = write(self.alloc, Kind::Answer, id, answer)?;
+        Ok(Octets::from_vec(packet))
     }
 
     fn plain_request(&mut self, number: u64, request: u64, is_routed: bool) -> Result<Want, Fail> {
@@ -190,8 +206,13 @@ impl Pair {
     fn response<R: Abort + AllocGlobal>(&mut self, rt: &R, number: u64) -> Result<(), Fail> {
         let id = Pair::id(number)?;
         let which = self.dice.roll(3);
-        let packet = write(self.alloc, Kind::Answer, id, answer_of(which))?;
-        let sent = self.switch.response(&Envelope::read(&packet)?);
+        let packet = self.answer(id, answer_of(which))?;
+        let envelope = Envelope::read(packet.as_slice())?;
+        let sent = if self.dice.roll(2) > 0 {
+            self.switch.response(&envelope)
+        } else {
+            self.switch.response_packet(&envelope, &packet)
+        };
         let want = match self.plain_response(number, which) {
             None => Ok(packet),
             Some(fault) => Err(fault),

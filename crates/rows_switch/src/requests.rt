@@ -103,7 +103,7 @@ fn tell(
     switch: &mut Switch,
     number: u64,
     payload: &[u8],
-) -> Result<Result<Vec<u8>, ResponseFault>, Fail> {
+) -> Result<Result<Octets, ResponseFault>, Fail> {
     let packet = packet(alloc, Kind::Answer, number, payload)?;
     let envelope = Envelope::read(&packet)?;
     Ok(switch.response(&envelope))
@@ -138,12 +138,20 @@ fn take<R: Abort + AllocGlobal>(rt: &R, switch: &mut Switch, step: Step) -> Resu
             let payer = PayerNo::new(1).ok_or("payer")?;
             let same = packet(alloc, Kind::Request, number, payload)?;
             let routed = ask(alloc, switch, number, payload)?;
-            assert_eq!(rt; routed, Ok(Routed::Forward(payer, same)), "number {number}");
+            assert_eq!(rt;
+                routed,
+                Ok(Routed::Forward(payer, Octets::from_vec(same))),
+                "number {number}"
+            );
         }
         Step::Answers(number, payload, answer) => {
             let back = packet(alloc, Kind::Answer, number, answer)?;
             let routed = ask(alloc, switch, number, payload)?;
-            assert_eq!(rt; routed, Ok(Routed::Answer(back)), "number {number}");
+            assert_eq!(rt;
+                routed,
+                Ok(Routed::Answer(Octets::from_vec(back))),
+                "number {number}"
+            );
         }
         Step::Refuses(number, payload, fault) => {
             let routed = ask(alloc, switch, number, payload)?;
@@ -152,7 +160,7 @@ fn take<R: Abort + AllocGlobal>(rt: &R, switch: &mut Switch, step: Step) -> Resu
         Step::Sends(number, payload) => {
             let same = packet(alloc, Kind::Answer, number, payload)?;
             let sent = tell(alloc, switch, number, payload)?;
-            assert_eq!(rt; sent, Ok(same), "number {number}");
+            assert_eq!(rt; sent, Ok(Octets::from_vec(same)), "number {number}");
         }
         Step::Stops(number, payload, fault) => {
             let sent = tell(alloc, switch, number, payload)?;
@@ -298,7 +306,7 @@ fn answers_unrouted<R: Abort + AllocGlobal>(
     let request = packet(alloc, Kind::Request, 1, billing())?;
     let routed = switch.request(&nowhere, &Envelope::read(&request)?);
     let back = packet(alloc, Kind::Answer, 1, answer)?;
-    assert_eq!(rt; routed, Ok(Routed::Answer(back)));
+    assert_eq!(rt; routed, Ok(Routed::Answer(Octets::from_vec(back))));
     Ok(())
 }
 

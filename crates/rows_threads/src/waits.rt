@@ -72,7 +72,7 @@ pub(crate) fn told<R: Wait>(
     number: u64,
 ) -> Option<Vec<u8>> {
     match system.status(rt, till, number) {
-        Ok(Status::Settled(answer)) => Some(answer.into_vec()),
+        Ok(Status::Settled(answer)) => answer.into_vec().ok(),
         _ => None,
     }
 }

@@ -259,7 +259,7 @@ fn altered_sent(alloc: Global, sent: &[Sent], bit: usize) -> Result<Vec<Sent>, A
 
 /// The same bytes but for a bit.
 fn altered(bytes: &Octets, bit: usize) -> Result<Octets, AllocError> {
-    let mut bytes = bytes.copy()?.into_vec();
+    let mut bytes = bytes.copy()?.into_vec()?;
     let place = (bit / 8).checked_rem(bytes.len()).unwrap_or(0);
     if let Some(byte) = bytes.get_mut(place) {
         *byte ^= 1 << (bit % 8);

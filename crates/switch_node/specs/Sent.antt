@@ -11,5 +11,5 @@ content e = record { kind = e.kind; id = e.id; payload = e.payload }
 
 -- where a request goes, and with which bytes
 abbrev pub routed_as : Routed → ModelRouted
-routed_as (routed.Forward payer packet) = Forward payer packet.items
-routed_as (routed.Answer packet) = Back packet.items
+routed_as (routed.Forward payer packet) = Forward payer packet
+routed_as (routed.Answer packet) = Back packet

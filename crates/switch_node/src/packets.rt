@@ -8,19 +8,31 @@ ghost use Rattle.claim_model.specs.Bytes.{bytes_with};
 
 use claim_profile::{Code, HeaderStatus, Rejects, Ruling, write_answer};
 use d0_header::{RequestHeader, response_text_laws};
-use envelope::{Kind, TxnId, write};
+use envelope::{Envelope, HEAD, Kind, TxnId, payload_is_behind_its_head, write};
+use octets::Octets;
 use std::alloc::{AllocError, Global};
 
 /// The envelope of a payload that is not too long.
-pub fn packet(alloc: Global, kind: Kind, id: TxnId, payload: &[u8]) -> Result<Vec<u8>, AllocError>
+pub fn packet(alloc: Global, kind: Kind, id: TxnId, payload: &[u8]) -> Result<Octets, AllocError>
     requires { length payload.now ≤ 32768 }
-    ensures { IfOk result (λ packet. packet.items ≡ envelope_text kind id payload.now) }
+    ensures { IfOk result (λ packet. packet ≡ envelope_text kind id payload.now) }
 {
     // The payload is not too long, so nothing but memory can be refused.
     match write(alloc, kind, id, payload) {
-        Ok(packet) => Ok(packet),
+        Ok(packet) => Ok(Octets::from_vec(packet).shared()),
         Err(_) => Err(AllocError),
     }
+}
+
+/// The payload of an envelope, as the end of its packet.
+pub fn payload_in(envelope: &Envelope<'_>, packet: &Octets) -> Result<Octets, AllocError>
+    requires { packet.now ≡ envelope_text envelope.now.kind envelope.now.id envelope.now.payload }
+    ensures value { IfOk result (λ payload. payload ≡ envelope.now.payload) }
+    ensures short { IfOk result (λ payload. length payload ≤ 32768) }
+{
+    payload_is_behind_its_head();
+    let _short = envelope.payload();
+    packet.tail(HEAD)
 }
 
 /// The answer to a request that has no route: header status `R` (501-F1), and for each transaction the reject

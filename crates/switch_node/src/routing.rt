@@ -1,6 +1,7 @@
 //! Where a request goes.
 
 ghost use Rattle.std.specs.Prelude.{◌≡◌, ◌≤◌, length, None, Some, Ok, IfOk, IfErr, OnErr};
+ghost use Rattle.envelope.specs.Envelope.{envelope_text};
 ghost use Rattle.bin_routes.specs.Table.{RouteMaps};
 ghost use Rattle.claim_model.specs.Readable.{payer_for};
 ghost use Rattle.claim_model.specs.Table.{Table as ModelTable, slot_of, answer_back, routed_by, requested_by};
@@ -9,7 +10,7 @@ ghost use Rattle.switch_node.specs.Faults.{RefusesAs, request_refusal};
 ghost use Rattle.switch_node.specs.Sent.{content, routed_as};
 
 use crate::fault::RequestFault;
-use crate::packets::{packet, rejection};
+use crate::packets::{packet, payload_in, rejection};
 use crate::slot::Slot;
 use crate::table::Table;
 use bin_routes::{PayerNo, Routes};
@@ -22,9 +23,9 @@ use std::alloc::{AllocError, Global};
 #[derive(Debug, PartialEq, Eq, Drop)]
 pub enum Routed {
     /// To this payer, as the envelope in which it came.
-    Forward(PayerNo, Vec<u8>),
+    Forward(PayerNo, Octets),
     /// Back to where it came from, with the envelope of an answer.
-    Answer(Vec<u8>),
+    Answer(Octets),
 }
 
 /// What is done with a request whose number the table has, in this slot.
@@ -32,9 +33,11 @@ pub fn repeated(
     alloc: Global,
     routes: &Routes,
     envelope: &Envelope<'_>,
+    packet: &Octets,
     header: &RequestHeader,
     slot: &Slot,
 ) -> Result<Routed, RequestFault>
+    requires { packet.now ≡ envelope_text envelope.now.kind envelope.now.id envelope.now.payload }
     ensures routed { IfOk result (λ routed. (t : ModelTable) → requested_by (bytes_with routes.now) t (content envelope.now) header.now (Some slot.now) ≡ Ok (record { table = t; routed = routed_as routed })) }
     ensures fault { IfErr result (λ fault. (t : ModelTable) → RefusesAs (request_refusal fault) (requested_by (bytes_with routes.now) t (content envelope.now) header.now (Some slot.now))) }
 {
@@ -43,7 +46,7 @@ pub fn repeated(
     }
     match slot.answer() {
         Some(answer) => Ok(back(alloc, envelope.id(), answer)?),
-        None => Ok(sent(alloc, envelope, header, route_of(routes, header))?),
+        None => Ok(sent(alloc, envelope, packet, header, route_of(routes, header))?),
     }
 }
 
@@ -52,17 +55,19 @@ pub fn first(
     table: &mut Table,
     routes: &Routes,
     envelope: &Envelope<'_>,
+    packet: &Octets,
     header: &RequestHeader,
 ) -> Result<Routed, AllocError>
-    requires { slot_of envelope.now.id table.old.entries ≡ None }
+    requires packet { packet.now ≡ envelope_text envelope.now.kind envelope.now.id envelope.now.payload }
+    requires new { slot_of envelope.now.id table.old.entries ≡ None }
     ensures routed { IfOk result (λ routed. requested_by (bytes_with routes.now) table.old (content envelope.now) header.now None ≡ Ok (record { table = table.new; routed = routed_as routed })) }
     ensures unchanged { OnErr result (table.new ≡ table.old) }
 {
     let alloc = table.allocator();
     let route = route_of(routes, header);
-    let routed = sent(alloc, envelope, header, route)?;
+    let routed = sent(alloc, envelope, packet, header, route)?;
     if route.is_some() {
-        let request = Octets::copy_of(alloc, envelope.payload())?;
+        let request = payload_in(envelope, packet)?;
         table.enter(envelope.id(), Slot::waiting(request))?;
     }
     Ok(routed)
@@ -79,16 +84,15 @@ fn route_of(routes: &Routes, header: &RequestHeader) -> Option<PayerNo>
 fn sent(
     alloc: Global,
     envelope: &Envelope<'_>,
+    packet: &Octets,
     header: &RequestHeader,
     route: Option<PayerNo>,
 ) -> Result<Routed, AllocError>
+    requires { packet.now ≡ envelope_text envelope.now.kind envelope.now.id envelope.now.payload }
     ensures { IfOk result (λ routed. (routes : RouteMaps) → routed_as routed ≡ routed_by (bytes_with routes) (content envelope.now) header.now route) }
 {
     match route {
-        Some(payer) => {
-            let packet = packet(alloc, envelope.kind(), envelope.id(), envelope.payload())?;
-            Ok(Routed::Forward(payer, packet))
-        }
+        Some(payer) => Ok(Routed::Forward(payer, packet.copy()?)),
         None => {
             let answer = rejection(alloc, header)?;
             back(alloc, envelope.id(), &answer)

@@ -4,6 +4,7 @@ ghost use Rattle.std.specs.Prelude.{◌≡◌, ◌≤◌, [], length, map, Ok, I
 ghost use Rattle.std.specs.List.{IsDistinct};
 ghost use Rattle.std.specs.Map.{keys_of};
 ghost use Rattle.std.specs.Option.{option_copied};
+ghost use Rattle.envelope.specs.Envelope.{envelope_text};
 ghost use Rattle.bin_routes.specs.Table.{RouteMaps};
 ghost use Rattle.claim_model.specs.Node.{Up};
 ghost use Rattle.claim_model.specs.Held.{held_in_table};
@@ -15,7 +16,7 @@ ghost use Rattle.switch_node.specs.Faults.{RefusesAs, request_refusal, response_
 ghost use Rattle.switch_node.specs.Sent.{content, routed_as};
 
 use crate::fault::{RequestFault, ResponseFault};
-use crate::packets::packet;
+use crate::packets::{packet, payload_in};
 use crate::reading::{expect_answer, header_of};
 use crate::routing::{Routed, first, repeated};
 use crate::settings::SwitchSettings;
@@ -68,11 +69,28 @@ impl Switch {
         ensures fault { IfErr result (λ fault. RefusesAs (request_refusal fault) (requested (bytes_with routes.now) self.old (content envelope.now))) }
         ensures unchanged { OnErr result (self.new ≡ self.old) }
     {
+        let packet = self.packet_of(envelope)?;
+        self.request_packet(routes, envelope, &packet)
+    }
+
+    /// As [`request`](Switch::request), of the packet that the envelope was read from. What is kept and forwarded is that
+    /// packet, which takes no memory where it is shared.
+    pub fn request_packet(
+        &mut self,
+        routes: &Routes,
+        envelope: &Envelope<'_>,
+        packet: &Octets,
+    ) -> Result<Routed, RequestFault>
+        requires { packet.now ≡ envelope_text envelope.now.kind envelope.now.id envelope.now.payload }
+        ensures routed { IfOk result (λ routed. requested (bytes_with routes.now) self.old (content envelope.now) ≡ Ok (record { table = self.new; routed = routed_as routed })) }
+        ensures fault { IfErr result (λ fault. RefusesAs (request_refusal fault) (requested (bytes_with routes.now) self.old (content envelope.now))) }
+        ensures unchanged { OnErr result (self.new ≡ self.old) }
+    {
         let alloc = self.table.allocator();
         let header = header_of(envelope)?;
         match self.table.get(envelope.id()) {
-            Some(slot) => repeated(alloc, routes, envelope, &header, slot),
-            None => Ok(first(&mut self.table, routes, envelope, &header)?),
+            Some(slot) => repeated(alloc, routes, envelope, packet, &header, slot),
+            None => Ok(first(&mut self.table, routes, envelope, packet, &header)?),
         }
     }
 
@@ -82,21 +100,44 @@ impl Switch {
     /// # Errors
     /// The first that stands: `Unreadable`, `NotWaiting`, `Differs`. `OutOfMemory` may stand in place of any answer.
     /// The table is then as it was.
-    pub fn response(&mut self, envelope: &Envelope<'_>) -> Result<Vec<u8>, ResponseFault>
+    pub fn response(&mut self, envelope: &Envelope<'_>) -> Result<Octets, ResponseFault>
         // The whole table after it, and what is sent, are the model's, whatever the routes are.
-        ensures sent { IfOk result (λ packet. (routes : RouteMaps) → responded (bytes_with routes) self.old (content envelope.now) ≡ Ok (record { table = self.new; bytes = packet.items })) }
+        ensures sent { IfOk result (λ packet. (routes : RouteMaps) → responded (bytes_with routes) self.old (content envelope.now) ≡ Ok (record { table = self.new; bytes = packet })) }
         ensures fault { IfErr result (λ fault. (routes : RouteMaps) → RefusesAs (response_refusal fault) (responded (bytes_with routes) self.old (content envelope.now))) }
         ensures unchanged { OnErr result (self.new ≡ self.old) }
     {
-        let alloc = self.table.allocator();
+        let packet = self.packet_of(envelope)?;
+        self.response_packet(envelope, &packet)
+    }
+
+    /// As [`response`](Switch::response), of the packet that the envelope was read from. What is kept and sent on is that
+    /// packet, which takes no memory where it is shared.
+    pub fn response_packet(
+        &mut self,
+        envelope: &Envelope<'_>,
+        packet: &Octets,
+    ) -> Result<Octets, ResponseFault>
+        requires { packet.now ≡ envelope_text envelope.now.kind envelope.now.id envelope.now.payload }
+        ensures sent { IfOk result (λ packet. (routes : RouteMaps) → responded (bytes_with routes) self.old (content envelope.now) ≡ Ok (record { table = self.new; bytes = packet })) }
+        ensures fault { IfErr result (λ fault. (routes : RouteMaps) → RefusesAs (response_refusal fault) (responded (bytes_with routes) self.old (content envelope.now))) }
+        ensures unchanged { OnErr result (self.new ≡ self.old) }
+    {
         expect_answer(envelope)?;
         let is_first = waits(&self.table, envelope)?;
-        let packet = packet(alloc, envelope.kind(), envelope.id(), envelope.payload())?;
+        let sent = packet.copy()?;
         if is_first {
-            let answer = Octets::copy_of(alloc, envelope.payload())?;
+            let answer = payload_in(envelope, packet)?;
             self.table.fill(envelope.id(), answer);
         }
-        Ok(packet)
+        Ok(sent)
+    }
+
+    /// The packet of an envelope.
+    fn packet_of(&self, envelope: &Envelope<'_>) -> Result<Octets, AllocError>
+        ensures { IfOk result (λ packet. packet ≡ envelope_text envelope.now.kind envelope.now.id envelope.now.payload) }
+    {
+        let alloc = self.table.allocator();
+        packet(alloc, envelope.kind(), envelope.id(), envelope.payload())
     }
 
     /// The answer of a request, where it came.

@@ -10,6 +10,7 @@ ghost use Rattle.world_core.specs.Asked.{asked_seen};
 
 use bin_routes::Routes;
 use node_state::{PayerNode, PharmacyNode, SwitchNode};
+use octets::Octets;
 use std::alloc::Global;
 use world_setup::{Node, Sent, StepFault};
 
@@ -19,7 +20,7 @@ pub(crate) enum Asked<'a> {
     Submit(&'a [u8]),
     Take {
         from: Node,
-        bytes: &'a [u8],
+        bytes: &'a Octets,
     },
     Stop,
     Start,

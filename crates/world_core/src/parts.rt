@@ -134,7 +134,7 @@ impl Parts {
         let to = packet.to;
         let call = Asked::Take {
             from: packet.from,
-            bytes: packet.bytes.as_slice(),
+            bytes: &packet.bytes,
         };
         let sent = self.nodes.call(alloc, routes, to, call)?;
         post(&mut self.packets, to, sent);

@@ -9,9 +9,9 @@ use Rattle.switch_node.proofs.routing.sent.Goals as goal
 pub returns-in_ok-answer-in-None : goal.returns-in_ok-answer-in-None
 returns-in_ok-answer-in-None c =
     IfOk-map c.back.result
-    (λ r. (routes : RouteMaps) → routed_as r ≡ answer_back (bytes_with routes) c.id-in-None.result c.deref.result.now)
+    (λ r. (routes : RouteMaps) → routed_as r ≡ answer_back (bytes_with routes) c.id.result c.deref.result.now)
     (λ r. (routes : RouteMaps) → routed_as r ≡ routed_by (bytes_with routes) (content c.args.envelope.now) c.args.header.now c.args.route)
     (λ r is routes. is routes
-    ∙ (λ j. answer_back (bytes_with routes) (c.id-in-None.ensures j) ((c.deref.ensures.value ∙ c.in_ok-answer-in-None.ensures.text routes) j))
+    ∙ (λ j. answer_back (bytes_with routes) (c.id.ensures j) ((c.deref.ensures.value ∙ c.in_ok-answer-in-None.ensures.text routes) j))
     ∙ ap (routed_by (bytes_with routes) (content c.args.envelope.now) c.args.header.now) (sym c.in-None.is))
     c.back.ensures

@@ -3,4 +3,4 @@ use Rattle.node_state.proofs.switch.SwitchNode.step.Goals as goal
 
 pub returns-in-Take-clause-fault : goal.returns-in-Take-clause-fault
 returns-in-Take-clause-fault c =
-    rw c.in-Take.is (rw c.as_slice.ensures at (c.take.ensures.fault (node_seen c.in-Take.from)))
+    rw c.in-Take.is (c.take.ensures.fault (node_seen c.in-Take.from))

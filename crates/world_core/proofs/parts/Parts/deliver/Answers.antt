@@ -1,4 +1,4 @@
-use Rattle.std.proofs.Common.{◌≡◌, ◌<◌, ◌-◌, ◌⊎◌, inl, inr, suc, List, map, length, Some, slice_get, sym, ap, ◌∙◌, subst, arith}
+use Rattle.std.proofs.Common.{◌≡◌, ◌<◌, ◌-◌, ◌⊎◌, inl, inr, suc, List, map, length, Some, slice_get, refl, sym, ap, ◌∙◌, subst, arith}
 use Rattle.std.proofs.lemmas.List.{length-map}
 use Rattle.std.proofs.lemmas.Result.{err_from_is_err_and}
 use Rattle.claim_model.specs.Bytes.{bytes_with}
@@ -33,7 +33,7 @@ returns-in_err-sent-clause-fault c =
     let there : slice_get c.reserve.new.self.items (c.args.number - 1) ≡ Some p = node_at c.reserve.new.self.items (c.args.number - 1) p p within c.index-packet.ensures in
     let before : slice_get c.self.inside.packets.items (c.args.number - 1) ≡ Some p = subst (λ (ps : List Packet). slice_get ps (c.args.number - 1) ≡ Some p) c.in_ok-reserve.ensures.items there in
     let at : numbered packets c.args.number ≡ Some (packet_seen p) = numbered_map packet_seen c.self.inside.packets.items c.args.number (c.args.number - 1) p k before in
-    let is = delivered_is (bytes_with c.args.routes.now) (world_of c.self.inside.nodes packets) c.args.number (packet_seen p) c.as_slice.result.now at c.as_slice.ensures in
+    let is = delivered_is (bytes_with c.args.routes.now) (world_of c.self.inside.nodes packets) c.args.number (packet_seen p) p.bytes at refl in
     rw (e.1, e.2, ← c.self.view_is) (rw is (c.in_err-sent.ensures.fault packets))
 
 pub returns-clause-ok : goal.returns-clause-ok
@@ -46,7 +46,7 @@ returns-clause-ok c =
     let there : slice_get c.reserve.new.self.items (c.args.number - 1) ≡ Some p = node_at c.reserve.new.self.items (c.args.number - 1) p p within c.index-packet.ensures in
     let before : slice_get c.self.inside.packets.items (c.args.number - 1) ≡ Some p = subst (λ (ps : List Packet). slice_get ps (c.args.number - 1) ≡ Some p) c.in_ok-reserve.ensures.items there in
     let at : numbered packets c.args.number ≡ Some (packet_seen p) = numbered_map packet_seen c.self.inside.packets.items c.args.number (c.args.number - 1) p k before in
-    let is = delivered_is (bytes_with c.args.routes.now) (world_of c.self.inside.nodes packets) c.args.number (packet_seen p) c.as_slice.result.now at c.as_slice.ensures in
+    let is = delivered_is (bytes_with c.args.routes.now) (world_of c.self.inside.nodes packets) c.args.number (packet_seen p) p.bytes at refl in
     let kept = ap (λ (ps : List Packet). posted (map packet_seen ps) (node_seen p.to) (map sent_seen c.in_ok-sent.sent.items)) c.in_ok-reserve.ensures.items in
     let all : map packet_seen c.post.new.packets.items ≡ posted packets (node_seen p.to) (map sent_seen c.in_ok-sent.sent.items) = c.post.ensures ∙ kept in
     rw (← c.self.view_is) (ap next_of (is ∙ c.in_ok-sent.ensures.ok packets) ∙ ap (λ (ps : List model.Packet). Some (world_of c.call.new.self ps)) (sym all))

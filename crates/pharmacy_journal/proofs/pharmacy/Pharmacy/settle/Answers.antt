@@ -8,7 +8,7 @@ use Rattle.pharmacy_journal.proofs.Entering.{length-entries_of}
 use Rattle.pharmacy_journal.proofs.Standing.{IsUp-settled}
 use Rattle.pharmacy_journal.proofs.Hearings.{not_mine, no_such_number}
 use Rattle.pharmacy_journal.proofs.Answering.{hear_refused, hear_settles}
-use Rattle.pharmacy_journal.proofs.pharmacy.Pharmacy.hear.Goals as goal
+use Rattle.pharmacy_journal.proofs.pharmacy.Pharmacy.settle.Goals as goal
 
 pub returns-then-pharmacy-self-clause-fault : goal.returns-then-pharmacy-self-clause-fault
 returns-then-pharmacy-self-clause-fault c = λ routes.
@@ -42,7 +42,7 @@ settle_at-requires-clause-fits c =
     let j = c.self.inside in
     let within : c.in-Some.place < length j.slots.items = omega (arith, c.in-Some.ensures.0.0, c.in-Some.ensures.0.1, c.in-Some.ensures.1, c.len.ensures) in
     let slot = slice_get_read j.slots.items _ c.in-Some.place c.index.result.now refl within c.index.ensures in
-    let same : c.in_ok-answer.answer ≡ c.args.envelope.now.payload = c.in_ok-answer.ensures ∙ c.payload.ensures.value in
+    let same : c.in_ok-answer.answer ≡ c.args.envelope.now.payload = c.in_ok-answer.ensures.value in
     rw slot (subst (λ (a : List ℕ). IsAnsweredBy c.index.result.now a) (sym same) c.in_ok-verdict.ensures.open)
 
 pub invariant_of-self : goal.invariant_of-self
@@ -50,9 +50,9 @@ invariant_of-self c =
     let j = c.self.inside in
     let within : c.in-Some.place < length j.slots.items = omega (arith, c.in-Some.ensures.0.0, c.in-Some.ensures.0.1, c.in-Some.ensures.1, c.len.ensures) in
     let slot = slice_get_read j.slots.items _ c.in-Some.place c.index.result.now refl within c.index.ensures in
-    let same : c.in_ok-answer.answer ≡ c.args.envelope.now.payload = c.in_ok-answer.ensures ∙ c.payload.ensures.value in
+    let same : c.in_ok-answer.answer ≡ c.args.envelope.now.payload = c.in_ok-answer.ensures.value in
     IsUp-settled j.number j.settings j.timetable c.settle.new.self j.slots.items c.settle_at.new.slots.items c.in-Some.place c.index.result.now c.in_ok-answer.answer c.self.invariant c.settle.ensures c.settle_at.ensures slot
-    (subst (λ (a : List ℕ). IsAnsweredBy c.index.result.now a) (sym same) c.in_ok-verdict.ensures.open) (rw c.in_ok-answer.ensures c.payload.ensures.short)
+    (subst (λ (a : List ℕ). IsAnsweredBy c.index.result.now a) (sym same) c.in_ok-verdict.ensures.open) c.in_ok-answer.ensures.short
 
 pub returns-clause-ok : goal.returns-clause-ok
 returns-clause-ok c = λ routes.
@@ -61,7 +61,7 @@ returns-clause-ok c = λ routes.
     let own : c.id-id.result.number ≡ c.args.envelope.now.id.number = ap (λ (i : TxnId). i.number) c.id-id.ensures in
     let within : c.in-Some.place < length j.slots.items = omega (arith, c.in-Some.ensures.0.0, c.in-Some.ensures.0.1, c.in-Some.ensures.1, c.len.ensures) in
     let slot = slice_get_read j.slots.items _ c.in-Some.place c.index.result.now refl within c.index.ensures in
-    let same : c.in_ok-answer.answer ≡ c.args.envelope.now.payload = c.in_ok-answer.ensures ∙ c.payload.ensures.value in
+    let same : c.in_ok-answer.answer ≡ c.args.envelope.now.payload = c.in_ok-answer.ensures.value in
     rw (← c.self.view_is)
     (hear_settles routes j.number j.settings j.timetable c.settle.new.self j.slots.items c.settle_at.new.slots.items (envelope_seen c.args.envelope.now) c.in-Some.place c.index.result.now c.in_ok-answer.answer c.self.invariant
     (omega (arith, id, c.pharmacy.ensures.value, c.if-pharmacy-self.false)) (omega (arith, own, c.number.ensures.value, c.in-Some.ensures.0.0)) (omega (arith, own, c.number.ensures.value, c.in-Some.ensures.1)) slot
