@@ -41,19 +41,6 @@ impl Octets {
         }
     }
 
-    /// The bytes as a vector. Bytes of one owner keep their place in memory, and shared ones are copied.
-    pub fn into_vec(self) -> Result<Vec<u8>, AllocError>
-        ensures { IfOk result (λ bytes. bytes.items ≡ self) }
-    {
-        match self.held {
-            Held::Alone(bytes) => Ok(bytes),
-            Held::Shared(bytes, start) => Vec::from_slice(
-                *bytes.allocator(),
-                &bytes.as_slice()[start..],
-            ),
-        }
-    }
-
     /// A copy of the bytes in memory of its own.
     pub fn copy_of(alloc: Global, bytes: &[u8]) -> Result<Octets, AllocError>
         ensures { IfOk result (λ copy. copy ≡ bytes.now) }

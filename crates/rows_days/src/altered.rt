@@ -91,7 +91,7 @@ fn alter_bytes(
 }
 
 /// Writes a byte over the one at a place.
-fn set(bytes: &mut [u8], place: usize, byte: u8) {
+pub(crate) fn set(bytes: &mut [u8], place: usize, byte: u8) {
     if let Some(old) = bytes.get_mut(place) {
         *old = byte;
     }

@@ -29,8 +29,8 @@ pub(crate) struct Delivery {
 /// A day as a list of calls.
 #[derive(Drop)]
 pub(crate) struct History {
-    alloc: Global,
-    settings: WorldSettings,
+    pub(crate) alloc: Global,
+    pub(crate) settings: WorldSettings,
     pub(crate) routes: Routes,
     calls: Vec<Made>,
     pub(crate) deliveries: Vec<Delivery>,
@@ -119,9 +119,19 @@ impl History {
 
     /// The node to which a packet came, as it stood before.
     pub(crate) fn receiver(&self, delivery: &Delivery) -> Result<Receiver, Fail> {
-        let mut receiver = Receiver::opening(self.alloc, &self.settings, delivery.to)?;
-        for made in self.calls.iter().take(delivery.calls_before) {
-            if made.node == delivery.to {
+        self.replayed(delivery.to, delivery.calls_before)
+    }
+
+    /// A node as the day left it.
+    pub(crate) fn left(&self, node: Node) -> Result<Receiver, Fail> {
+        self.replayed(node, self.calls.len())
+    }
+
+    /// A node after so many calls of all nodes.
+    fn replayed(&self, node: Node, calls: usize) -> Result<Receiver, Fail> {
+        let mut receiver = Receiver::opening(self.alloc, &self.settings, node)?;
+        for made in self.calls.iter().take(calls) {
+            if made.node == node {
                 receiver.step(self.alloc, &self.routes, &made.call)?;
             }
         }

@@ -1,4 +1,4 @@
-//! Tests of worlds: days with their reports, and packets that were altered on their way.
+//! Tests of worlds: days with their reports, and packets and records that were altered.
 #![tactic(auto)]
 
 #[cfg(test)]
@@ -7,6 +7,8 @@ mod altered;
 mod history;
 #[cfg(test)]
 mod receiver;
+#[cfg(test)]
+mod records;
 #[cfg(test)]
 mod reports;
 #[cfg(test)]

@@ -119,3 +119,8 @@ fn only_a_payment_that_stands_is_taken_back(rt: HostRuntime) -> Result<(), Fail>
 fn nodes_start_from_their_records(rt: HostRuntime) -> Result<(), Fail> {
     goes_as_told(&rt, long_days::restarts())
 }
+
+#[test]
+fn a_reversal_is_answered_after_both_machines_come_back(rt: HostRuntime) -> Result<(), Fail> {
+    goes_as_told(&rt, long_days::lost_answer_and_restarts())
+}

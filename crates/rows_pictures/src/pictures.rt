@@ -102,74 +102,46 @@ fn tells_what_is_no_settings_or_no_event(rt: HostRuntime) -> Result<(), Fail> {
     Ok(())
 }
 
+/// A packet that an event sent.
+fn sent(event: u64, packet: u64, from: Node, to: Node) -> Mark {
+    Mark::Sent {
+        event,
+        packet,
+        from,
+        to,
+    }
+}
+
+/// A packet that an event delivered.
+fn arrived(event: u64, packet: u64) -> Mark {
+    Mark::Arrived { event, packet }
+}
+
 #[test]
 fn marks_what_each_event_did(rt: HostRuntime) -> Result<(), Fail> {
     let alloc = rt.alloc();
     let input = input(alloc)?;
     let Scheduled { mut world, events } = begun(alloc, input.as_slice())?;
     let marks = mark_run(alloc, &mut world, events.as_slice())?;
-    let (pharmacy, switch, payer) = (Node::Pharmacy(1), Node::Switch(1), Node::Payer(1));
+    let (node, fault) = (Node::Switch(1), StepFault::Down);
+    let (event, pharmacy, payer) = (1, 1, 1);
     let want = [
-        Mark::Submitted {
-            event: 1,
-            pharmacy: 1,
-        },
-        Mark::Sent {
-            event: 1,
-            packet: 1,
-            from: pharmacy,
-            to: switch,
-        },
-        Mark::Stopped {
-            event: 2,
-            node: switch,
-        },
-        Mark::Refused {
-            event: 3,
-            fault: StepFault::Down,
-        },
-        Mark::Started {
-            event: 4,
-            node: switch,
-        },
-        Mark::Arrived {
-            event: 5,
-            packet: 1,
-        },
-        Mark::Sent {
-            event: 5,
-            packet: 2,
-            from: switch,
-            to: payer,
-        },
-        Mark::Priced { event: 6, payer: 1 },
-        Mark::Arrived {
-            event: 7,
-            packet: 2,
-        },
-        Mark::Sent {
-            event: 7,
-            packet: 3,
-            from: payer,
-            to: switch,
-        },
-        Mark::Arrived {
-            event: 8,
-            packet: 3,
-        },
-        Mark::Sent {
-            event: 8,
-            packet: 4,
-            from: switch,
-            to: pharmacy,
-        },
-        Mark::Arrived {
-            event: 9,
-            packet: 4,
-        },
+        Mark::Submitted { event, pharmacy },
+        sent(1, 1, Node::Pharmacy(1), node),
+        Mark::Stopped { event: 2, node },
+        Mark::Refused { event: 3, fault },
+        Mark::Started { event: 4, node },
+        arrived(5, 1),
+        sent(5, 2, node, Node::Payer(1)),
+        Mark::Priced { event: 6, payer },
+        arrived(7, 2),
+        sent(7, 3, Node::Payer(1), node),
+        arrived(8, 3),
+        sent(8, 4, node, Node::Pharmacy(1)),
+        arrived(9, 4),
         Mark::Ticked {
             event: 10,
-            pharmacy: 1,
+            pharmacy,
         },
     ];
     assert_eq!(rt; marks.as_slice(), want.as_slice());

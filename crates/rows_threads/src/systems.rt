@@ -47,7 +47,7 @@ fn asked_past<R: Wait + Clock + Copy>(
     till: &mut Till,
     request: &[u8],
     gate: &Holding<R>,
-) -> Option<Vec<u8>> {
+) -> Option<Octets> {
     let number = system.submit(rt, till, request).ok()?;
     if number != 1 || !gate.holds() {
         return None;
@@ -74,7 +74,7 @@ where
 /// The answer is the paid one, and the run that was found has paid once.
 pub(crate) fn paid_once(
     alloc: Global,
-    answer: Option<Vec<u8>>,
+    answer: Option<Octets>,
     finished: Option<Finished>,
 ) -> Result<(), Fail> {
     let answer = answer.ok_or("an answer")?;

@@ -1,6 +1,7 @@
 //! Waiting by turns, each of which lets other threads go on.
 
 use node_threads::{Status, System, Till};
+use octets::Octets;
 use std::sync::Wait;
 use std::thread;
 use std::time::{Clock, Duration};
@@ -35,7 +36,7 @@ pub(crate) fn settled<R: Wait + Clock>(
     system: &System,
     till: &mut Till,
     number: u64,
-) -> Option<Vec<u8>> {
+) -> Option<Octets> {
     for turn in 0..TURNS {
         if let Some(answer) = told(rt, system, till, number) {
             return Some(answer);
@@ -54,7 +55,7 @@ pub(crate) fn settled_by_itself<R: Wait + Clock>(
     system: &System,
     till: &mut Till,
     number: u64,
-) -> Option<Vec<u8>> {
+) -> Option<Octets> {
     for turn in 0..TURNS {
         if let Some(answer) = told(rt, system, till, number) {
             return Some(answer);
@@ -70,9 +71,9 @@ pub(crate) fn told<R: Wait>(
     system: &System,
     till: &mut Till,
     number: u64,
-) -> Option<Vec<u8>> {
+) -> Option<Octets> {
     match system.status(rt, till, number) {
-        Ok(Status::Settled(answer)) => answer.into_vec().ok(),
+        Ok(Status::Settled(answer)) => Some(answer),
         _ => None,
     }
 }
@@ -83,7 +84,7 @@ pub(crate) fn asked<R: Wait + Clock>(
     system: &System,
     till: &mut Till,
     request: &[u8],
-) -> Option<Vec<u8>> {
+) -> Option<Octets> {
     let number = system.submit(rt, till, request).ok()?;
     settled(rt, system, till, number)
 }

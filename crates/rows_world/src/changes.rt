@@ -117,7 +117,7 @@ fn taken_changed(
         Call::Take { from, bytes } => {
             let call = Call::Take {
                 from: *from,
-                bytes: altered(bytes, bit)?,
+                bytes: altered(alloc, bytes, bit)?,
             };
             let sent = copy_sent(alloc, record.sent())?;
             Ok(Some(with_record(alloc, log, place, call, sent)?))
@@ -252,14 +252,14 @@ fn copy_sent(alloc: Global, sent: &[Sent]) -> Result<Vec<Sent>, AllocError> {
 fn altered_sent(alloc: Global, sent: &[Sent], bit: usize) -> Result<Vec<Sent>, AllocError> {
     let mut all = copy_sent(alloc, sent)?;
     if let Some(first) = all.first_mut() {
-        first.bytes = altered(&first.bytes, bit)?;
+        first.bytes = altered(alloc, &first.bytes, bit)?;
     }
     Ok(all)
 }
 
 /// The same bytes but for a bit.
-fn altered(bytes: &Octets, bit: usize) -> Result<Octets, AllocError> {
-    let mut bytes = bytes.copy()?.into_vec()?;
+fn altered(alloc: Global, bytes: &Octets, bit: usize) -> Result<Octets, AllocError> {
+    let mut bytes = bytes.as_slice().to_vec(alloc)?;
     let place = (bit / 8).checked_rem(bytes.len()).unwrap_or(0);
     if let Some(byte) = bytes.get_mut(place) {
         *byte ^= 1 << (bit % 8);

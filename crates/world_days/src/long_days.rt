@@ -273,3 +273,50 @@ payer 1 up rows 1
 ",
     }
 }
+
+/// Behind the day of a lost answer the price changes, and pharmacy and payer stop and start. The open reversal is sent again, the
+/// book still has its answer and all its rows, and the first payment no longer counts.
+pub fn lost_answer_and_restarts() -> Day {
+    Day {
+        settings: settings::one_pharmacy(),
+        events: "submit ph1 billing -> ok 1
+deliver 1 -> ok 2
+deliver 2 -> ok 3
+deliver 3 -> ok 4
+deliver 4 -> ok
+submit ph1 reversal -> ok 5
+deliver 5 -> ok 6
+deliver 6 -> ok 7
+submit ph1 billing -> ok 8
+deliver 8 -> ok 9
+deliver 9 -> ok 10
+deliver 10 -> ok 11
+deliver 11 -> ok
+plan pr1 00093721410 20000 -> ok
+stop ph1 -> ok
+stop pr1 -> ok
+start ph1 -> ok
+start pr1 -> ok
+tick ph1 -> ok 12
+deliver 12 -> ok 13
+deliver 13 -> ok 14
+deliver 14 -> ok 15
+deliver 15 -> ok
+",
+        nodes: "pharmacy 1 up entries 3
+1 B1 P 0001000000000001 5570 150 1000 4720
+2 B2 A 0001000000000001
+3 B1 P 0001000000000002 5570 150 1000 4720
+paid 0001000000000002 5570 150 1000 4720
+switch 1 up entries 3
+1.1 answered
+1.2 answered
+1.3 answered
+switch 2 up entries 0
+payer 1 up rows 3
+1.1 B1 P 0001000000000001 5570 150 1000 4720 reversed
+1.2 B2 A 0001000000000001
+1.3 B1 P 0001000000000002 5570 150 1000 4720 standing
+",
+    }
+}

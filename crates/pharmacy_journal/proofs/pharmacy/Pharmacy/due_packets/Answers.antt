@@ -10,10 +10,10 @@ pub loop-place-init : goal.loop-place-init
 unfolding due_packets
 loop-place-init c =
     let p = c.self.inside in
-    let keys = c.into_iter-place-iterator.ensures.into_iter_gives.0 ∙ c.due_next-place-items.ensures in
+    let keys = c.into_iter-place-iterator.ensures.into_iter_gives.0 ∙ c.due_next-due.ensures in
     let due = keys ∙ due_next-places p.number p.settings p.timetable p.slots.items c.self.invariant ∙ ap (λ (j : Journal). due_places (ticked j)) c.self.view_is in
     let entries : length p.slots.items ≡ length c.args.self.now.entries = sym (length-entries_of p.slots.items p.timetable.phases) ∙ ap (λ (j : Journal). length j.entries) c.self.view_is in
     record {
-      sent = ap (λ (xs : List Sending). xs ++ flat_map (packet_at (ticked c.args.self.now)) c.into_iter-place-iterator.result) c.new-sent.ensures.items ∙ ap (flat_map (packet_at (ticked c.args.self.now))) due;
+      sent = ap (λ (xs : List Sending). xs ++ flat_map (packet_at (ticked c.args.self.now)) c.into_iter-place-iterator.result) c.in_ok-sent.ensures.items ∙ ap (flat_map (packet_at (ticked c.args.self.now))) due;
       places = rw (keys, ← entries) (due_next-within p.number p.settings p.timetable p.slots.items c.self.invariant);
     }
