@@ -33,7 +33,7 @@ judged_on standing (Ok (Reverses v)) = reversal_on v (only (filter (takes_back v
 
 abbrev pub verdict : Verdict → Judged
 verdict (IsSettled ruling) = Settled ruling
-verdict (IsToPrice c) = ToPrice c
+verdict (IsToPrice c) = ToPrice c.now
 
 -- where prices come from: a plan, or the rulings of a kept answer
 pub data Pricing : Type 0 where

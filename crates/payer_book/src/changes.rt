@@ -1,6 +1,7 @@
 //! What rulings change among the payments, before any of it is entered.
 
 ghost use Rattle.std.specs.Prelude.{◌≡◌, count_by, filter, if◌then◌else◌};
+ghost use Rattle.std.specs.Option.{option_copied};
 ghost use Rattle.claim_model.specs.Bytes.{order_in};
 ghost use Rattle.claim_model.specs.Payments.{same_auth};
 ghost use Rattle.claim_model.specs.Judgement.{same_fill};
@@ -51,15 +52,15 @@ impl Change {
     }
 
     /// The payment that it makes, where none of the later changes undoes it.
-    fn left(&self, later: &[Change]) -> Option<Standing>
-        ensures { result ≡ left self.now later.now }
+    fn left(&self, later: &[Change]) -> Option<&Standing>
+        ensures { option_copied result ≡ left self.now later.now }
     {
         match self {
             Change::Pays(payment) => {
                 if is_undone(payment.auth(), later) {
                     None
                 } else {
-                    Some(payment.copy())
+                    Some(payment)
                 }
             }
             Change::Undoes(_) => None,
@@ -120,7 +121,7 @@ pub(crate) fn left_for(fill: &Fill, changes: &[Change]) -> Option<Standing>
         Some((first, later)) => match first.left(later) {
             Some(payment) => {
                 if same_fill(fill, &payment.claim().fill) {
-                    Some(payment)
+                    Some(payment.copy())
                 } else {
                     left_for(fill, later)
                 }
@@ -147,11 +148,11 @@ pub(crate) fn left_matching(reversal: &Reversal, changes: &[Change]) -> Matches
 }
 
 /// The matches, and this payment where the reversal is for it.
-fn add_match(matches: Matches, reversal: &Reversal, payment: Standing) -> Matches
-    ensures { result ≡ (if takes_back reversal.now payment then added matches payment else matches) }
+fn add_match(matches: Matches, reversal: &Reversal, payment: &Standing) -> Matches
+    ensures { result ≡ (if takes_back reversal.now payment.now then added matches payment.now else matches) }
 {
     if takes_back(reversal, payment.claim()) {
-        matches.with(payment)
+        matches.with(payment.copy())
     } else {
         matches
     }

@@ -89,7 +89,7 @@ fn ruling_on(
 {
     match judge(payments, changes, order) {
         Verdict::Settled(ruling) => Some(ruling),
-        Verdict::ToPrice(claim) => priced(payments, prices, changes, &claim),
+        Verdict::ToPrice(claim) => priced(payments, prices, changes, claim),
     }
 }
 

@@ -14,17 +14,17 @@ use crate::payments::Payments;
 use claim_profile::{Claim, Code, Fill, Order, OrderFault, Rejects, Reversal, Ruling};
 
 /// A ruling that needs no price, or a claim that is to be priced.
-pub(crate) enum Verdict {
+pub(crate) enum Verdict<'a> {
     Settled(Ruling),
-    ToPrice(Claim),
+    ToPrice(&'a Claim),
 }
 
 /// The verdict on an order over the payments of a book and what the places before change among them.
-pub(crate) fn judge(
+pub(crate) fn judge<'a>(
     payments: &Payments,
     changes: &[Change],
-    order: &Result<Order, OrderFault>,
-) -> Verdict
+    order: &'a Result<Order, OrderFault>,
+) -> Verdict<'a>
     ensures { verdict result ≡ judged_on (standing_after (standing_in payments.now.payments) changes.now) (order_in order.now) }
 {
     match order {
@@ -33,7 +33,7 @@ pub(crate) fn judge(
     }
 }
 
-fn judge_order(payments: &Payments, changes: &[Change], order: &Order) -> Verdict
+fn judge_order<'a>(payments: &Payments, changes: &[Change], order: &'a Order) -> Verdict<'a>
     ensures { verdict result ≡ judged_on (standing_after (standing_in payments.now.payments) changes.now) (Ok order.now) }
 {
     match order {
@@ -45,11 +45,11 @@ fn judge_order(payments: &Payments, changes: &[Change], order: &Order) -> Verdic
 }
 
 /// The verdict on a claim, where its fill has this standing payment.
-fn judge_claim(claim: &Claim, standing: Option<Standing>) -> Verdict
+fn judge_claim(claim: &Claim, standing: Option<Standing>) -> Verdict<'_>
     ensures { verdict result ≡ claim_on claim.now standing }
 {
     match standing {
-        None => Verdict::ToPrice(*claim),
+        None => Verdict::ToPrice(claim),
         Some(payment) => Verdict::Settled(billed_again(&payment, claim)),
     }
 }

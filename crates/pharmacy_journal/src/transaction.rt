@@ -110,6 +110,7 @@ impl OpenTxn {
     }
 
     /// The envelope that carries the request, of kind 1. A packet that was written once takes no memory.
+    #[inline(always)]
     pub fn packet(&self, alloc: Global) -> Result<Octets, AllocError>
         ensures { IfOk result (λ packet. packet ≡ envelope_text Request self.now.id self.now.request) }
     {
@@ -176,7 +177,9 @@ impl SettledTxn {
     }
 }
 
-/// The envelope that carries a readable request.
+/// The envelope that carries a readable request. It is written once for a transaction, and its code stays out of the calls that send it
+/// again.
+#[inline(never)]
 fn request_packet(alloc: Global, id: TxnId, request: &[u8]) -> Result<Octets, AllocError>
     requires { IsSome (readable_header request.now) }
     ensures { IfOk result (λ packet. packet ≡ envelope_text Request id request.now) }

@@ -12,4 +12,4 @@ returns-then-is_undone c =
 pub returns-else-is_undone : goal.returns-else-is_undone
 returns-else-is_undone c =
     let is = ap (λ (a : Auth). is_undone a c.args.later.now) (sym c.auth.ensures) ∙ (sym c.is_undone.ensures ∙ c.if-is_undone.false) in
-    rw (c.copy.ensures, c.in-Pays.is) (sym (cond-false (is_undone c.in-Pays.payment.auth c.args.later.now) None (Some c.in-Pays.payment) is))
+    rw (c.in-Pays.is) (sym (cond-false (is_undone c.in-Pays.payment.auth c.args.later.now) None (Some c.in-Pays.payment) is))
