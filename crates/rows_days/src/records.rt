@@ -61,8 +61,8 @@ fn alter(history: &History, node: Node, record: &[u8], place: usize) -> Result<(
     Ok(())
 }
 
-/// A record is refused.
-fn is_refused(history: &History, node: Node, record: &[u8]) -> Result<(), Fail> {
+/// Expects that a record is refused.
+fn expect_refused(history: &History, node: Node, record: &[u8]) -> Result<(), Fail> {
     holds(again(history, node, record)?.is_none(), "another length")?;
     Ok(())
 }
@@ -74,10 +74,10 @@ fn alter_record(history: &History, node: Node) -> Result<(), Fail> {
     holds(again == record, "read back")?;
     for place in 0..record.len() {
         alter(history, node, &record, place)?;
-        is_refused(history, node, record.get(..place).unwrap_or(&[]))?;
+        expect_refused(history, node, record.get(..place).unwrap_or(&[]))?;
     }
     record.push(0)?;
-    is_refused(history, node, &record)
+    expect_refused(history, node, &record)
 }
 
 /// Alters the records with which pharmacy 1 and payer 1 end a day.
