@@ -2,6 +2,7 @@
 use Rattle.std.proofs.Common.{◌≡◌, Bool, true, false, not, ◌&&◌, ◌||◌, cond, List, [], ◌∷◌, ◌++◌, Option, Some, None, refl, sym, ap, ◌∙◌, subst, append_assoc}
 use Rattle.std.specs.Prelude.{find, filter}
 use Rattle.std.specs.List.{AllByRecursion, cons_option}
+use Rattle.std.specs.Option.{option_map}
 use Rattle.std.proofs.lemmas.Bool.{cond-true, cond-false, false_from_ne_true, both_ways}
 use Rattle.std.proofs.lemmas.List.{append-nil}
 use Rattle.std.proofs.lemmas.List.Elements.{filter-append}
@@ -116,7 +117,7 @@ tally_together [] ts = refl
 tally_together (s ∷ []) ts = tally_first s ts
 tally_together (s ∷ t ∷ ss) ts = refl
 
-pub only_tallied : (ss : List Standing) → only ss ≡ only_of (tally ss)
+pub only_tallied : (ss : List Standing) → option_map (λ s. s.auth) (only ss) ≡ only_of (tally ss)
 only_tallied [] = refl
 only_tallied (s ∷ []) = refl
 only_tallied (s ∷ t ∷ ss) = refl
@@ -128,19 +129,19 @@ and_swap false true = refl
 and_swap false false = refl
 
 pub only_after : (v : Reversal) (standing : List Standing) (changes : List Change)
-    → only (filter (takes_back v) (standing_after standing changes)) ≡ only_of (together (tally (filter (is_match v changes) standing)) (tally (filter (takes_back v) (left_by changes))))
+    → option_map (λ s. s.auth) (only (filter (takes_back v) (standing_after standing changes))) ≡ only_of (together (tally (filter (is_match v changes) standing)) (tally (filter (takes_back v) (left_by changes))))
 only_after v standing changes =
-    ap (λ (ss : List Standing). only (filter (takes_back v) ss)) (after_split standing changes)
-    ∙ (ap only (filter-append (takes_back v) (filter (is_kept changes) standing) (left_by changes))
+    ap (λ (ss : List Standing). option_map (λ s. s.auth) (only (filter (takes_back v) ss))) (after_split standing changes)
+    ∙ (ap (λ (ss : List Standing). option_map (λ s. s.auth) (only ss)) (filter-append (takes_back v) (filter (is_kept changes) standing) (left_by changes))
     ∙ (only_tallied (filter (takes_back v) (filter (is_kept changes) standing) ++ filter (takes_back v) (left_by changes))
     ∙ (ap only_of (tally_together (filter (takes_back v) (filter (is_kept changes) standing)) (filter (takes_back v) (left_by changes)))
     ∙ ap (λ (ss : List Standing). only_of (together (tally ss) (tally (filter (takes_back v) (left_by changes)))))
     (filter_twice (takes_back v) (is_kept changes) standing ∙ filter_same _ _ standing (all_true _ (λ s. and_swap (is_kept changes s) (takes_back v s)) standing)))))
 
 pub tally_left : (v : Reversal) (change : Change) (later : List Change) (s : Standing) → left change later ≡ Some s
-    → tally (filter (takes_back v) (left_by (change ∷ later))) ≡ cond (takes_back v s) (added (tally (filter (takes_back v) (left_by later))) s) (tally (filter (takes_back v) (left_by later)))
+    → tally (filter (takes_back v) (left_by (change ∷ later))) ≡ cond (takes_back v s) (added (tally (filter (takes_back v) (left_by later))) s.auth) (tally (filter (takes_back v) (left_by later)))
 tally_left v change later s e = ap (λ (o : Option Standing). tally (filter (takes_back v) (cons_option o (left_by later)))) e ∙ by_test (takes_back v s)
   where
-    by_test : (b : Bool) → tally (cond b (s ∷ filter (takes_back v) (left_by later)) (filter (takes_back v) (left_by later))) ≡ cond b (added (tally (filter (takes_back v) (left_by later))) s) (tally (filter (takes_back v) (left_by later)))
+    by_test : (b : Bool) → tally (cond b (s ∷ filter (takes_back v) (left_by later)) (filter (takes_back v) (left_by later))) ≡ cond b (added (tally (filter (takes_back v) (left_by later))) s.auth) (tally (filter (takes_back v) (left_by later)))
     by_test true = tally_first s (filter (takes_back v) (left_by later))
     by_test false = refl

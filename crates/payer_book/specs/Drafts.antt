@@ -25,6 +25,11 @@ abbrev pub reversal_on : Reversal → Option Standing → Judged
 reversal_on v None = Settled (Rejected (ReversalNotProcessed ∷ []))
 reversal_on v (Some s) = Settled (Reversed s.auth v.prescription)
 
+-- the ruling of a reversal that is for the payment of this authorization alone
+abbrev pub reversal_by : Reversal → Option Auth → Ruling
+reversal_by v None = Rejected (ReversalNotProcessed ∷ [])
+reversal_by v (Some auth) = Reversed auth v.prescription
+
 -- the judgement of an order over the standing payments
 abbrev pub judged_on : List Standing → Result Order (List Code) → Judged
 judged_on standing (Err codes) = Settled (Rejected codes)

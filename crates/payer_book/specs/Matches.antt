@@ -1,6 +1,6 @@
 -- Whether a reversal is for no standing payment, for one, or for several.
 use Rattle.std.specs.Prelude.{ℕ, Bool, not, ◌&&◌, nat_le, nat_lt, cond, List, [], ◌∷◌, filter, Option, Some, None}
-use Rattle.claim_model.specs.Words.{Fill, Reversal}
+use Rattle.claim_model.specs.Words.{Auth, Fill, Reversal}
 use Rattle.payer_book.specs.declared.payment.Standing.{Standing}
 use Rattle.payer_book.specs.declared.changes.Change.{Change}
 use Rattle.payer_book.specs.declared.matches.Matches.{Matches}
@@ -8,28 +8,28 @@ use Rattle.payer_book.specs.declared.matches.Matches.TheVariants.{Nothing, One, 
 use Rattle.payer_book.specs.Ledger.{takes_back}
 use Rattle.payer_book.specs.Changes.{is_undone}
 
--- how many payments there are, as far as it matters, and which one where there is one
+-- how many payments there are, as far as it matters, and the authorization of the only one
 abbrev pub tally : List Standing → Matches
 tally [] = Nothing
-tally (s ∷ []) = One s
+tally (s ∷ []) = One s.auth
 tally (s ∷ t ∷ more) = Several
 
--- one payment more
-abbrev pub added : Matches → Standing → Matches
-added Nothing s = One s
-added (One t) s = Several
-added Several s = Several
+-- one payment more, of this authorization
+abbrev pub added : Matches → Auth → Matches
+added Nothing auth = One auth
+added (One other) auth = Several
+added Several auth = Several
 
 -- the payments of two tallies together
 abbrev pub together : Matches → Matches → Matches
 together Nothing b = b
-together (One s) b = added b s
+together (One auth) b = added b auth
 together Several b = Several
 
--- the payment, where there is exactly one
-abbrev pub only_of : Matches → Option Standing
+-- the authorization of the payment, where there is exactly one
+abbrev pub only_of : Matches → Option Auth
 only_of Nothing = None
-only_of (One s) = Some s
+only_of (One auth) = Some auth
 only_of Several = None
 
 -- the fill of a reversal with this number
@@ -43,7 +43,7 @@ is_match v changes s = takes_back v s && not (is_undone s.auth changes)
 -- the tally with this payment, where the reversal is for it
 abbrev pub matched : Reversal → List Change → Option Standing → Matches → Matches
 matched v changes None matches = matches
-matched v changes (Some s) matches = cond (is_match v changes s) (added matches s) matches
+matched v changes (Some s) matches = cond (is_match v changes s) (added matches s.auth) matches
 
 -- a fill number from one number to below another
 abbrev pub is_between : ℕ → ℕ → Standing → Bool

@@ -113,15 +113,15 @@ pub(crate) fn payments_in(changes: &[Change]) -> usize
 }
 
 /// The payment of a fill that the changes make and do not undo.
-pub(crate) fn left_for(fill: &Fill, changes: &[Change]) -> Option<Standing>
-    ensures { result ≡ standing_of fill.now (left_by changes.now) }
+pub(crate) fn left_for<'a>(fill: &Fill, changes: &'a [Change]) -> Option<&'a Standing>
+    ensures { option_copied result ≡ standing_of fill.now (left_by changes.now) }
 {
     match changes.split_first() {
         None => None,
         Some((first, later)) => match first.left(later) {
             Some(payment) => {
                 if same_fill(fill, &payment.claim().fill) {
-                    Some(payment.copy())
+                    Some(payment)
                 } else {
                     left_for(fill, later)
                 }
@@ -149,10 +149,10 @@ pub(crate) fn left_matching(reversal: &Reversal, changes: &[Change]) -> Matches
 
 /// The matches, and this payment where the reversal is for it.
 fn add_match(matches: Matches, reversal: &Reversal, payment: &Standing) -> Matches
-    ensures { result ≡ (if takes_back reversal.now payment.now then added matches payment.now else matches) }
+    ensures { result ≡ (if takes_back reversal.now payment.now then added matches payment.now.auth else matches) }
 {
     if takes_back(reversal, payment.claim()) {
-        matches.with(payment.copy())
+        matches.with(payment.auth())
     } else {
         matches
     }

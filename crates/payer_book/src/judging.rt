@@ -1,17 +1,18 @@
 //! What is known of a group before a price is asked: no plan is looked at here.
 
 ghost use Rattle.std.specs.Prelude.{◌≡◌, filter, cond, [], ◌∷◌};
+ghost use Rattle.std.specs.Option.{option_copied, option_map};
 ghost use Rattle.claim_model.specs.Words.{Duplicate, Rejected, DuplicateClaim};
 ghost use Rattle.claim_model.specs.Bytes.{order_in};
 ghost use Rattle.claim_model.specs.Judgement.{only, same_claim, Settled};
 ghost use Rattle.payer_book.specs.Ledger.{standing_in, standing_of, takes_back};
 ghost use Rattle.payer_book.specs.Changes.{standing_after};
-ghost use Rattle.payer_book.specs.Drafts.{claim_on, reversal_on, judged_on, verdict};
+ghost use Rattle.payer_book.specs.Drafts.{claim_on, reversal_by, judged_on, verdict};
 
 use crate::changes::{Change, is_undone, left_for, left_matching};
 use crate::payment::Standing;
 use crate::payments::Payments;
-use claim_profile::{Claim, Code, Fill, Order, OrderFault, Rejects, Reversal, Ruling};
+use claim_profile::{Auth, Claim, Code, Fill, Order, OrderFault, Rejects, Reversal, Ruling};
 
 /// A ruling that needs no price, or a claim that is to be priced.
 pub(crate) enum Verdict<'a> {
@@ -45,12 +46,12 @@ fn judge_order<'a>(payments: &Payments, changes: &[Change], order: &'a Order) ->
 }
 
 /// The verdict on a claim, where its fill has this standing payment.
-fn judge_claim(claim: &Claim, standing: Option<Standing>) -> Verdict<'_>
-    ensures { verdict result ≡ claim_on claim.now standing }
+fn judge_claim<'a>(claim: &'a Claim, standing: Option<&Standing>) -> Verdict<'a>
+    ensures { verdict result ≡ claim_on claim.now (option_copied standing.entry) }
 {
     match standing {
         None => Verdict::ToPrice(claim),
-        Some(payment) => Verdict::Settled(billed_again(&payment, claim)),
+        Some(payment) => Verdict::Settled(billed_again(payment, claim)),
     }
 }
 
@@ -69,14 +70,14 @@ fn billed_again(payment: &Standing, claim: &Claim) -> Ruling
     }
 }
 
-/// The ruling of a reversal that is for this payment alone.
-fn judge_reversal(reversal: &Reversal, payment: Option<Standing>) -> Ruling
-    ensures { reversal_on reversal.now payment ≡ Settled result }
+/// The ruling of a reversal that is for the payment of this authorization alone.
+fn judge_reversal(reversal: &Reversal, auth: Option<Auth>) -> Ruling
+    ensures { result ≡ reversal_by reversal.now auth }
 {
-    match payment {
+    match auth {
         None => rejected(Code::ReversalNotProcessed),
-        Some(payment) => Ruling::Reversed {
-            auth: payment.auth(),
+        Some(auth) => Ruling::Reversed {
+            auth,
             prescription: reversal.prescription,
         },
     }
@@ -93,8 +94,12 @@ fn same_claim(a: &Claim, b: &Claim) -> bool
 }
 
 /// The standing payment of a fill, in the book or made by a place before.
-fn standing_for(payments: &Payments, changes: &[Change], fill: &Fill) -> Option<Standing>
-    ensures { result ≡ standing_of fill.now (standing_after (standing_in payments.now.payments) changes.now) }
+fn standing_for<'a>(
+    payments: &'a Payments,
+    changes: &'a [Change],
+    fill: &Fill,
+) -> Option<&'a Standing>
+    ensures { option_copied result ≡ standing_of fill.now (standing_after (standing_in payments.now.payments) changes.now) }
 {
     match payments.standing_of(fill) {
         Some(payment) => {
@@ -108,9 +113,9 @@ fn standing_for(payments: &Payments, changes: &[Change], fill: &Fill) -> Option<
     }
 }
 
-/// The only standing payment that a reversal is for, in the book or made by a place before.
-fn undone_by(payments: &Payments, changes: &[Change], reversal: &Reversal) -> Option<Standing>
-    ensures { result ≡ only (filter (takes_back reversal.now) (standing_after (standing_in payments.now.payments) changes.now)) }
+/// The authorization of the only standing payment that a reversal is for, in the book or made by a place before.
+fn undone_by(payments: &Payments, changes: &[Change], reversal: &Reversal) -> Option<Auth>
+    ensures { result ≡ option_map (λ s. s.auth) (only (filter (takes_back reversal.now) (standing_after (standing_in payments.now.payments) changes.now))) }
 {
     let kept = payments.matching(reversal, changes);
     let made = left_matching(reversal, changes);

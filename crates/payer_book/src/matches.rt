@@ -6,23 +6,23 @@ ghost use Rattle.payer_book.specs.Matches.{added, together, only_of, is_match};
 
 use crate::changes::{Change, is_undone};
 use crate::payment::Standing;
-use claim_profile::{Claim, Reversal};
+use claim_profile::{Auth, Claim, Reversal};
 
-/// No payment, one, or several.
-#[derive(Drop)]
+/// No payment, one of this authorization, or several.
+#[derive(Clone, Copy)]
 pub(crate) enum Matches {
     Nothing,
-    One(Standing),
+    One(Auth),
     Several,
 }
 
 impl Matches {
-    /// One payment more.
-    pub(crate) fn with(self, payment: Standing) -> Matches
-        ensures { result ≡ added self payment }
+    /// One payment more, of this authorization.
+    pub(crate) fn with(self, auth: Auth) -> Matches
+        ensures { result ≡ added self auth }
     {
         match self {
-            Matches::Nothing => Matches::One(payment),
+            Matches::Nothing => Matches::One(auth),
             Matches::One(_) => Matches::Several,
             Matches::Several => Matches::Several,
         }
@@ -34,18 +34,18 @@ impl Matches {
     {
         match self {
             Matches::Nothing => other,
-            Matches::One(payment) => other.with(payment),
+            Matches::One(auth) => other.with(auth),
             Matches::Several => Matches::Several,
         }
     }
 
-    /// The payment, where there is exactly one.
-    pub(crate) fn only(self) -> Option<Standing>
+    /// The authorization of the payment, where there is exactly one.
+    pub(crate) fn only(self) -> Option<Auth>
         ensures { result ≡ only_of self }
     {
         match self {
             Matches::Nothing => None,
-            Matches::One(payment) => Some(payment),
+            Matches::One(auth) => Some(auth),
             Matches::Several => None,
         }
     }

@@ -108,8 +108,8 @@ impl Payments {
     }
 
     /// The fill's standing payment.
-    pub(crate) fn standing_of(&self, fill: &Fill) -> Option<Standing>
-        ensures value { result ≡ standing_of fill.now (standing_in self.now.payments) }
+    pub(crate) fn standing_of(&self, fill: &Fill) -> Option<&Standing>
+        ensures value { option_copied result ≡ standing_of fill.now (standing_in self.now.payments) }
         ensures ledger { IsLedger self.now }
     {
         match self.standing.get(fill) {
@@ -165,8 +165,8 @@ impl Payments {
     {
         match self.standing_of(&fill_for(reversal, number)) {
             Some(payment) => {
-                if is_match(reversal, changes, &payment) {
-                    matches.with(payment)
+                if is_match(reversal, changes, payment) {
+                    matches.with(payment.auth())
                 } else {
                     matches
                 }
@@ -211,14 +211,14 @@ impl Payments {
         };
         if let Some(payment) = standing_at(&self.list, place) {
             let _ = self.standing.remove(&payment.claim().fill);
-            self.list[place] = Payment::Reversed(payment.reverse(by));
+            self.list[place] = Payment::Reversed(payment.copy().reverse(by));
         }
     }
 }
 
 /// The standing payment at a place.
-fn standing_at(payments: &[Payment], place: usize) -> Option<Standing>
-    ensures { result ≡ option_and_then still (slice_get payments.now place) }
+fn standing_at(payments: &[Payment], place: usize) -> Option<&Standing>
+    ensures { option_copied result ≡ option_and_then still (slice_get payments.now place) }
 {
     match payments.get(place) {
         Some(payment) => still(payment),
@@ -227,11 +227,11 @@ fn standing_at(payments: &[Payment], place: usize) -> Option<Standing>
 }
 
 /// The payment, where it stands.
-fn still(payment: &Payment) -> Option<Standing>
-    ensures { result ≡ still payment.now }
+fn still(payment: &Payment) -> Option<&Standing>
+    ensures { option_copied result ≡ still payment.now }
 {
     match payment {
-        Payment::Standing(payment) => Some(payment.copy()),
+        Payment::Standing(payment) => Some(payment),
         Payment::Reversed(_) => None,
     }
 }

@@ -11,5 +11,5 @@ pub returns-in-Some-left : goal.returns-in-Some-left
 returns-in-Some-left t c =
     let v = c.args.reversal.now in
     let s = c.in-Some-left.payment.now in
-    c.add_match.ensures ∙ (ap (λ (m : Matches). cond (takes_back v s) (added m s) m) c.left_matching-matches.ensures
+    c.add_match.ensures ∙ (ap (λ (m : Matches). cond (takes_back v s) (added m s.auth) m) c.left_matching-matches.ensures
     ∙ (sym (tally_left v c.in-Some.first.now c.in-Some.later.now s (sym c.in-Some-left.ensures)) ∙ ap (λ (cs : List Change). tally (filter (takes_back v) (left_by cs))) (sym c.in-Some.ensures.cases.0)))

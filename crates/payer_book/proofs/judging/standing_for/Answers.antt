@@ -10,14 +10,14 @@ returns-then-is_undone c =
     let ss = standing_in c.args.payments.now.payments in
     let changes = c.args.changes.now in
     let k = ap (λ (a : Auth). is_undone a changes) (sym c.auth.ensures) ∙ (sym c.is_undone.ensures ∙ c.if-is_undone.true) in
-    c.left_for.ensures ∙ sym (undone_after c.args.fill.now ss changes c.in-Some.payment c.in-Some.ensures.ledger.fills (sym c.in-Some.ensures.value) k)
+    c.left_for.ensures ∙ sym (undone_after c.args.fill.now ss changes c.in-Some.payment.now c.in-Some.ensures.ledger.fills (sym c.in-Some.ensures.value) k)
 
 pub returns-else-is_undone : goal.returns-else-is_undone
 returns-else-is_undone c =
     let ss = standing_in c.args.payments.now.payments in
     let changes = c.args.changes.now in
     let k = ap (λ (a : Auth). is_undone a changes) (sym c.auth.ensures) ∙ (sym c.is_undone.ensures ∙ c.if-is_undone.false) in
-    sym (stands_after c.args.fill.now ss changes c.in-Some.payment (sym c.in-Some.ensures.value) k)
+    sym (stands_after c.args.fill.now ss changes c.in-Some.payment.now (sym c.in-Some.ensures.value) k)
 
 pub returns-in-None : goal.returns-in-None
 returns-in-None c = c.left_for-in-None.ensures ∙ sym (none_after c.args.fill.now (standing_in c.args.payments.now.payments) c.args.changes.now (sym c.in-None.ensures.value))

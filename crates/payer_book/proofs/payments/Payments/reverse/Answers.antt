@@ -11,10 +11,10 @@ use Rattle.payer_book.proofs.PaymentIndex.{less_by, indexed_less, reversed_list,
 use Rattle.payer_book.proofs.payments.Payments.reverse.Goals as goal
 use Rattle.payer_book.proofs.payments.Payments.reverse.Goals.{After-self-1}
 
-there : (c : After-self-1) → slice_get c.self.inside.list.items c.in-Some.place ≡ Some (Stands c.in-Some-standing_at.payment)
+there : (c : After-self-1) → slice_get c.self.inside.list.items c.in-Some.place ≡ Some (Stands c.in-Some-standing_at.payment.now)
 there c = still_at _ _ (sym (c.in-Some-standing_at.ensures ∙ ap (λ (ps : List Payment). option_and_then still (slice_get ps c.in-Some.place)) c.deref.ensures.value))
 
-paid : (c : After-self-1) → payment_with c.args.auth c.self.inside.list.items ≡ Some (Stands c.in-Some-standing_at.payment)
+paid : (c : After-self-1) → payment_with c.args.auth c.self.inside.list.items ≡ Some (Stands c.in-Some-standing_at.payment.now)
 paid c = sym (subst (λ (l : Ledger). slice_get l.payments c.in-Some.place ≡ payment_with c.args.auth l.payments) (sym c.self.view_is) c.in-Some.ensures.1) ∙ there c
 
 pub returns-in_default-clause-payments : goal.returns-in_default-clause-payments
@@ -22,16 +22,16 @@ returns-in_default-clause-payments c = absurd (none_some _ (none_stands c.args.a
 
 pub invariant_of-self : goal.invariant_of-self
 invariant_of-self c =
-    let s : Standing = c.in-Some-standing_at.payment in
-    rw c.reverse.ensures
+    let s : Standing = c.in-Some-standing_at.payment.now in
+    rw (c.reverse.ensures, c.copy.ensures)
     (indexed_less c.self.inside.payer c.self.inside.first c.self.inside.list.items _ _ c.args.auth c.args.by s c.in-Some.place c.self.invariant (there c) (auth_at c.args.auth c.self.inside.list.items s (paid c))
     (less_by s c.claim.result.now.fill _ _ (ap (λ x. x.fill) c.claim.ensures) c.remove.ensures.updates.0))
 
 pub returns-in-Some-standing_at-clause-payments : goal.returns-in-Some-standing_at-clause-payments
 returns-in-Some-standing_at-clause-payments c =
-    let s : Standing = c.in-Some-standing_at.payment in
+    let s : Standing = c.in-Some-standing_at.payment.now in
     let less = less_by s c.claim.result.now.fill _ _ (ap (λ x. x.fill) c.claim.ensures) c.remove.ensures.updates.0 in
-    rw c.reverse.ensures
+    rw (c.reverse.ensures, c.copy.ensures)
     (reversed_list c.self.inside.payer c.self.inside.first c.self.inside.list.items _ _ c.args.auth c.args.by s c.in-Some.place c.self.invariant (there c) (auth_at c.args.auth c.self.inside.list.items s (paid c)) less
     ∙ ap (λ (l : Ledger). map (taken_back c.args.auth c.args.by) l.payments) c.self.view_is)
 
