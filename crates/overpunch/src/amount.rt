@@ -1,6 +1,6 @@
 //! Signed amounts in cents.
 
-ghost use Rattle.std.specs.Prelude.{◌≡◌, ◌+◌, ◌*◌, ◌^◌, ◌<◌, ◌≤◌, ◌==◌, position, slice_index, IfSome, length, take, drop, SomeIff};
+ghost use Rattle.std.specs.Prelude.{◌≡◌, ◌+◌, ◌*◌, ◌^◌, ◌<◌, ◌≤◌, slice_index, IfSome, length, take, drop, SomeIff};
 ghost use Rattle.std.specs.Int.RustNames.{unsigned_abs};
 ghost use Rattle.overpunch.specs.Amount.{IsAmount, signed, signed_digits, sign_of, last_digit_of, amount_of, amount_text};
 
@@ -129,24 +129,14 @@ fn last_digit(byte: u8) -> Option<(Sign, u8)>
     ensures value { result ≡ last_digit_of byte }
     ensures digit { IfSome result (λ last. last.1 < 10) }
 {
-    if byte.is_ascii_digit() {
-        return Some((Sign::Positive, byte - b'0'));
+    match byte {
+        b'0'..=b'9' => Some((Sign::Positive, byte - b'0')),
+        b'{' => Some((Sign::Positive, 0)),
+        b'A'..=b'I' => Some((Sign::Positive, byte - b'A' + 1)),
+        b'}' => Some((Sign::Negative, 0)),
+        b'J'..=b'R' => Some((Sign::Negative, byte - b'J' + 1)),
+        _ => None,
     }
-    if let Some(digit) = digit_among(&POSITIVE, byte) {
-        return Some((Sign::Positive, digit as u8));
-    }
-    if let Some(digit) = digit_among(&NEGATIVE, byte) {
-        return Some((Sign::Negative, digit as u8));
-    }
-    None
-}
-
-/// The digit that a byte stands for among ten signed digits.
-fn digit_among(signed_digits: &[u8; 10], byte: u8) -> Option<usize>
-    ensures value { result ≡ position (λ signed. signed == byte) signed_digits.now }
-    ensures digit { IfSome result (λ digit. digit < 10) }
-{
-    signed_digits.iter().position(|signed| *signed == byte)
 }
 
 /// The last byte of an amount with this digit.

@@ -85,7 +85,13 @@ pub(crate) fn write_digits(number: u64, text: &mut [u8]) -> usize
     if number == 0 {
         return 0;
     }
-    let places = write_digits(number / 10, text);
-    text[places] = b'0' + (number % 10) as u8;
-    places + 1
+    if number < 10 {
+        text[0] = b'0' + number as u8;
+        return 1;
+    }
+    let places = write_digits(number / 100, text);
+    let pair = (number % 100) as u8;
+    text[places] = b'0' + pair / 10;
+    text[places + 1] = b'0' + pair % 10;
+    places + 2
 }
