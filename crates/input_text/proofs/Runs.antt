@@ -4,7 +4,7 @@ use Rattle.std.specs.Prelude.{position, ◌==◌}
 use Rattle.std.specs.List.{list_all, position_or_len}
 use Rattle.std.proofs.lemmas.Bool.{false≢true}
 use Rattle.std.proofs.lemmas.Bool.Decides.{nat_tests}
-use Rattle.std.proofs.lemmas.List.{append-nil, drop-drop, take-append-drop, take_more, length-take-le}
+use Rattle.std.proofs.lemmas.List.{append-nil, drop-drop, take-append-drop, take_more, length-take-le, drop_more}
 use Rattle.std.proofs.lemmas.List.Sums.{position_or_len_is}
 use Rattle.std.proofs.lemmas.Grind.{flat_map-append}
 use Rattle.std.proofs.Math.Seq.{take-add}
@@ -19,6 +19,12 @@ place_at n len lt = grind (arith, nat_tests)
 
 place_none : (n len : ℕ) → len ≤ n → cond (nat_lt n len) (Some n) None ≡ None
 place_none n len le = grind (arith, nat_tests)
+
+-- the next two bytes and what follows them
+pub drop_two : (text : List ℕ) (place : ℕ) → place + 2 ≤ length text → drop place text ≡ slice_index text place ∷ slice_index text (place + 1) ∷ drop (place + 2) text
+drop_two text place fits =
+    let after : place + 1 + 1 ≡ place + 2 = omega arith in
+    drop_more text place 0 (omega arith) ∙ ap (λ (bs : List ℕ). slice_index text place ∷ bs) (drop_more text (place + 1) 0 (omega arith) ∙ ap (λ n. slice_index text (place + 1) ∷ drop n text) after)
 
 -- what memchr finds is the first place
 pub found_is_position : (byte : ℕ) (bytes : List ℕ) (r : Option ℕ) → IsFirstByte (is_byte byte) bytes r → r ≡ position (λ b. b == byte) bytes
@@ -40,7 +46,7 @@ found_is_position byte bytes None nowhere =
 -- runs
 
 -- a byte that is written as itself
-plain_printed : (b : ℕ) → stands_for_itself b ≡ true → printed_byte b ≡ b ∷ []
+pub plain_printed : (b : ℕ) → stands_for_itself b ≡ true → printed_byte b ≡ b ∷ []
 unfolding printed_byte
 plain_printed b is = grind (arith, nat_tests)
 
@@ -118,3 +124,9 @@ prints_byte out text place lt =
     let more : printed (take (place + 1) text) ≡ printed (take place text) ++ printed_byte b =
     ap printed (take_more text place 0 lt) ∙ (flat_map-append printed_byte (take place text) (b ∷ []) ∙ ap (λ (bs : List ℕ). printed (take place text) ++ bs) (append-nil (printed_byte b))) in
     append_assoc out (printed (take place text)) (printed_byte b) ∙ ap (λ (bs : List ℕ). out ++ bs) (sym more)
+
+-- and over all that is left
+pub prints_all : (out text : List ℕ) (place : ℕ) → (out ++ printed (take place text)) ++ printed (drop place text) ≡ out ++ printed text
+prints_all out text place =
+    append_assoc out (printed (take place text)) (printed (drop place text))
+    ∙ ap (λ (bs : List ℕ). out ++ bs) (sym (flat_map-append printed_byte (take place text) (drop place text)) ∙ ap printed (take-append-drop place text))

@@ -1,7 +1,7 @@
-ghost use Rattle.std.specs.Prelude.{◌≡◌, ◌∷◌, [], ◌++◌, ◌+◌, ◌*◌, ◌<◌, ◌≤◌, length, take, OnOk, OnErr};
+ghost use Rattle.std.specs.Prelude.{◌≡◌, ◌∷◌, [], ◌++◌, ◌+◌, ◌*◌, ◌<◌, ◌≤◌, length, take, nat_le, ◌&&◌, IsTrue, IsFalse, OnOk, OnErr};
 ghost use Rattle.input_text.specs.Printing.{hex_digit, printed, printed_byte};
 
-use crate::copying::{copy_run, put};
+use crate::copying::{LANES, copy_run, stands_for_itself};
 use std::alloc::AllocError;
 
 /// The most bytes that one byte is printed as.
@@ -44,32 +44,61 @@ fn print(out: &mut [u8], from: usize, bytes: &[u8]) -> usize
 {
     let mut place = 0;
     let mut end = from;
-    while place < bytes.len() {
+    while place + LANES <= bytes.len() {
         let run = copy_run(out, end, &bytes[place..]);
         place += run;
         end += run;
-        if place == bytes.len() {
+        if run == LANES {
             continue;
         }
         end += put_byte(out, end, bytes[place]);
         place += 1;
     }
+    print_rest(out, end, &bytes[place..])
+}
+
+/// The same one byte after another.
+fn print_rest(out: &mut [u8], from: usize, bytes: &[u8]) -> usize
+    requires { from + 4 * length bytes.now ≤ length out.old }
+    ensures { take result out.new ≡ take from out.old ++ printed bytes.now }
+{
+    let mut end = from;
+    for byte in bytes {
+        if stands_for_itself(*byte) {
+            out[end] = *byte;
+            end += 1;
+            continue;
+        }
+        end += put_byte(out, end, *byte);
+    }
     end
 }
 
 /// Writes a byte as it is printed to a place of `out`, and gives how many bytes that takes.
-#[tactic(auto, unfolding(crate::specs::Printing::printed_byte))]
+#[inline(always)]
 fn put_byte(out: &mut [u8], at: usize, byte: u8) -> usize
     requires { at + 4 ≤ length out.old }
     ensures text { take (at + result) out.new ≡ take at out.old ++ printed_byte byte }
     ensures most { result ≤ 4 }
     ensures len { length out.new ≡ length out.old }
 {
+    if is_separator(byte) {
+        return put_escaped(out, at, separator_letter(byte));
+    }
+    put_other(out, at, byte)
+}
+
+/// The same for a byte that is no separator.
+#[tactic(auto, unfolding(crate::specs::Printing::printed_byte))]
+fn put_other(out: &mut [u8], at: usize, byte: u8) -> usize
+    requires room { at + 4 ≤ length out.old }
+    requires other { IsFalse (nat_le 28 byte && nat_le byte 30) }
+    ensures text { take (at + result) out.new ≡ take at out.old ++ printed_byte byte }
+    ensures most { result ≤ 4 }
+    ensures len { length out.new ≡ length out.old }
+{
     match byte {
         b'\\' => put_escaped(out, at, b'\\'),
-        0x1C => put_escaped(out, at, b'F'),
-        0x1D => put_escaped(out, at, b'G'),
-        0x1E => put_escaped(out, at, b'S'),
         0x20..=0x7E => put(out, at, &[byte]),
         _ => put(
             out,
@@ -77,6 +106,35 @@ fn put_byte(out: &mut [u8], at: usize, byte: u8) -> usize
             &[b'\\', b'x', hex_digit(byte / 16), hex_digit(byte % 16)],
         ),
     }
+}
+
+/// Whether a byte is a separator.
+fn is_separator(byte: u8) -> bool
+    ensures { result ≡ nat_le 28 byte && nat_le byte 30 }
+{
+    matches!(byte, 0x1C..=0x1E)
+}
+
+/// The letter that a separator is printed as, behind a backslash.
+#[tactic(auto, unfolding(crate::specs::Printing::printed_byte))]
+fn separator_letter(byte: u8) -> u8
+    requires { IsTrue (nat_le 28 byte && nat_le byte 30) }
+    ensures { 92 ∷ result ∷ [] ≡ printed_byte byte }
+{
+    let letters = *b"FGS";
+    letters[usize::from(byte) - 0x1C]
+}
+
+/// Writes a text to a place of `out`, and gives how many bytes it has.
+#[inline(always)]
+fn put(out: &mut [u8], at: usize, text: &[u8]) -> usize
+    requires { at + length text.now ≤ length out.old }
+    ensures copied { take (at + result) out.new ≡ take at out.old ++ text.now }
+    ensures count { result ≡ length text.now }
+    ensures len { length out.new ≡ length out.old }
+{
+    out[at..at + text.len()].copy_from_slice(text);
+    text.len()
 }
 
 /// Writes a backslash and a letter to a place of `out`, and gives how many bytes they are.

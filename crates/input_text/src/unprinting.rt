@@ -1,9 +1,9 @@
-ghost use Rattle.std.specs.Prelude.{◌≡◌, ◌<◌, ◌≤◌, ◌+◌, ◌^◌, ℕ, All, IfSome, List, MatchResult, Ok, Err, length, take};
+ghost use Rattle.std.specs.Prelude.{◌≡◌, ◌<◌, ◌≤◌, ◌+◌, ◌^◌, ℕ, All, IfSome, List, MatchResult, Some, Ok, Err, ◌∷◌, length, take};
 ghost use Rattle.input_text.specs.declared.unprinting.PrintedFault.TheVariants.{OutOfMemory};
 ghost use Rattle.input_text.specs.Printing.{escaped, first_spelling, hex_value, printed, spelling_behind_x, unprinted};
 ghost use Rattle.input_text.specs.Unprinting.{FailsFor};
 
-use crate::copying::copy_run;
+use crate::copying::{LANES, copy_run};
 use std::alloc::{AllocError, AllocFailed, Global};
 use thiserror::Error;
 
@@ -59,13 +59,29 @@ fn unprint_over(out: &mut [u8], text: &[u8]) -> Result<usize, usize>
 {
     let mut place = 0;
     let mut end = 0;
-    while place < text.len() {
+    while place + LANES < text.len() {
         let run = copy_run(out, end, &text[place..]);
         place += run;
         end += run;
-        if place == text.len() {
+        if run == LANES {
             continue;
         }
+        if let Some(separator) = frequent_separator(text[place], text[place + 1]) {
+            out[end] = separator;
+            end += 1;
+            place += 2;
+            continue;
+        }
+        match first_spelling(&text[place..]) {
+            Some((byte, size)) => {
+                out[end] = byte;
+                end += 1;
+                place += size;
+            }
+            None => return Err(place),
+        }
+    }
+    while place < text.len() {
         match first_spelling(&text[place..]) {
             Some((byte, size)) => {
                 out[end] = byte;
@@ -78,7 +94,21 @@ fn unprint_over(out: &mut [u8], text: &[u8]) -> Result<usize, usize>
     Ok(end)
 }
 
+/// The separator of fields or of groups, where two bytes spell one of these, the two that stand most often.
+#[inline(always)]
+#[tactic(auto, unfolding(crate::specs::Printing::first_spelling, crate::specs::Printing::escaped))]
+fn frequent_separator(byte: u8, letter: u8) -> Option<u8>
+    ensures { IfSome result (λ separator. (rest : List ℕ) → first_spelling (byte ∷ letter ∷ rest) ≡ Some (separator, 2)) }
+{
+    if byte == b'\\' && matches!(letter, b'F'..=b'G') {
+        Some(letter - b'F' + 0x1C)
+    } else {
+        None
+    }
+}
+
 /// The byte that the spelling at the front of a text stands for, and the length of that spelling.
+#[inline(always)]
 #[tactic(auto, unfolding(crate::specs::Printing::first_spelling))]
 fn first_spelling(text: &[u8]) -> Option<(u8, usize)>
     ensures value { result ≡ first_spelling text.now }
@@ -92,6 +122,7 @@ fn first_spelling(text: &[u8]) -> Option<(u8, usize)>
 }
 
 /// The same for a text behind a backslash.
+#[inline(always)]
 #[tactic(auto, unfolding(crate::specs::Printing::escaped))]
 fn escaped(text: &[u8]) -> Option<(u8, usize)>
     ensures value { result ≡ escaped text.now }
@@ -108,6 +139,7 @@ fn escaped(text: &[u8]) -> Option<(u8, usize)>
 }
 
 /// The same for a text behind `\x`.
+#[inline(never)]
 fn spelling_behind_x(text: &[u8]) -> Option<(u8, usize)>
     ensures value { result ≡ spelling_behind_x text.now }
     ensures size { IfSome result (λ spelling. (0 < spelling.1) × (spelling.1 ≤ length text.now + 2)) }

@@ -1,22 +1,15 @@
 use Rattle.std.proofs.Common.{◌≡◌, ◌+◌, ◌≤◌, ◌++◌, List, ℕ, length, take, ap, ◌∙◌, arith}
-use Rattle.std.specs.List.{prefix_len}
 use Rattle.std.proofs.lemmas.List.{length-take-le, take-take}
 use Rattle.std.proofs.lemmas.Simd.{take_more_put_chunk}
 use Rattle.input_text.specs.Printing.{stands_for_itself}
-use Rattle.input_text.proofs.Lanes.{run_passes, run_few, run_plain, copied_run}
+use Rattle.input_text.proofs.Lanes.{run_few, run_plain, copied_run}
 use Rattle.input_text.proofs.copying.copy_run.Goals as goal
-
-pub returns-then-text-lt-LANES-clause-plain : goal.returns-then-text-lt-LANES-clause-plain
-returns-then-text-lt-LANES-clause-plain c =
-    let text = c.args.text.now in
-    let same : c.put.result ≡ prefix_len stands_for_itself text = c.put.ensures.count ∙ (length-take-le c.short_run-run.result text c.short_run-run.ensures.within ∙ c.short_run-run.ensures.run) in
-    rw same (run_passes stands_for_itself text)
 
 pub returns-clause-plain : goal.returns-clause-plain
 returns-clause-plain c = run_plain stands_for_itself c.args.text.now 16 c.plain_lanes.result c.plain_lanes.ensures (omega arith)
 
 pub returns-clause-within : goal.returns-clause-within
-returns-clause-within c = omega (arith, run_few stands_for_itself c.args.text.now 16 c.plain_lanes.result c.plain_lanes.ensures (omega arith))
+returns-clause-within c = run_few stands_for_itself c.args.text.now 16 c.plain_lanes.result c.plain_lanes.ensures (omega arith)
 
 pub returns-clause-copied : goal.returns-clause-copied
 returns-clause-copied c =

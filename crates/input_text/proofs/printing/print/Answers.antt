@@ -1,8 +1,7 @@
-use Rattle.std.proofs.Common.{◌≡◌, ◌+◌, ◌-◌, ◌≤◌, ◌<◌, ◌++◌, List, ℕ, length, take, drop, slice_index, ap, ◌∙◌, arith}
-use Rattle.std.proofs.lemmas.List.{length-drop}
+use Rattle.std.proofs.Common.{◌≡◌, ◌+◌, ◌-◌, ◌<◌, ◌++◌, List, ℕ, length, take, drop, slice_index, ap, ◌∙◌, arith}
 use Rattle.std.proofs.lemmas.Slice.{between_to_end}
 use Rattle.input_text.specs.Printing.{printed, printed_byte}
-use Rattle.input_text.proofs.Runs.{IsRun, prints_on, prints_byte}
+use Rattle.input_text.proofs.Runs.{IsRun, prints_on, prints_byte, prints_all}
 use Rattle.input_text.proofs.printing.print.Goals as goal
 use Rattle.input_text.proofs.printing.print.Goals.{After-copy_run-run}
 
@@ -17,20 +16,12 @@ run_put c =
     (rw rest at c.copy_run-run.ensures.copied)
     ∙ (ap (λ (front : List ℕ). front ++ take size (drop place text)) c.loop-place.invariant.put ∙ prints_on (take c.args.from c.args.out.now) text place size run)
 
-run_fits : (c : After-copy_run-run) → c.loop-place.place + c.copy_run-run.result ≤ length c.args.bytes.now
-run_fits c =
-    let text = c.args.bytes.now in
-    let place = c.loop-place.place in
-    let rest : take (length text - place) (drop place text) ≡ drop place text = between_to_end text place (length text) (omega arith) in
-    let fits : c.copy_run-run.result ≤ length (drop place text) = rw rest at c.copy_run-run.ensures.within in
-    omega (arith, length-drop place text)
-
-pub loop-place-preserved-then-place-bytes : goal.loop-place-preserved-then-place-bytes
-loop-place-preserved-then-place-bytes c =
-    let d = (goal.at.loop-place-preserved-then-place-bytes c).After-copy_run-run in record {
-      within = run_fits d;
+pub loop-place-preserved-then-run-eq-LANES : goal.loop-place-preserved-then-run-eq-LANES
+loop-place-preserved-then-run-eq-LANES c =
+    let d = (goal.at.loop-place-preserved-then-run-eq-LANES c).After-copy_run-run in record {
+      within = omega (arith, c.copy_run-run.ensures.within);
       put = run_put d;
-      room = omega arith;
+      room = omega (arith, c.copy_run-run.ensures.within);
       len = c.copy_run-run.ensures.len ∙ c.loop-place.invariant.len;
     }
 
@@ -38,7 +29,7 @@ pub loop-place-preserved : goal.loop-place-preserved
 loop-place-preserved c =
     let d = (goal.at.loop-place-preserved c).After-copy_run-run in
     let place = c.loop-place.place + c.copy_run-run.result in
-    let inside : place < length c.args.bytes.now = omega (arith, run_fits d, c.if-place-bytes.false) in record {
+    let inside : place < length c.args.bytes.now = omega (arith, c.copy_run-run.ensures.within, c.if-run-eq-LANES.false) in record {
       within = omega arith;
       put =
           c.put_byte-end.ensures.text
@@ -46,3 +37,11 @@ loop-place-preserved c =
       room = omega (arith, c.put_byte-end.ensures.most);
       len = c.put_byte-end.ensures.len ∙ (c.copy_run-run.ensures.len ∙ c.loop-place.invariant.len);
     }
+
+pub returns : goal.returns
+returns c =
+    let text = c.args.bytes.now in
+    let place = c.loop-place.place in
+    let rest : take (length text - place) (drop place text) ≡ drop place text = between_to_end text place (length text) (omega arith) in
+    (rw rest at c.print_rest.ensures)
+    ∙ (ap (λ (front : List ℕ). front ++ printed (drop place text)) c.loop-place.invariant.put ∙ prints_all (take c.args.from c.args.out.now) text place)

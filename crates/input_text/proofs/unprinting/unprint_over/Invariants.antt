@@ -14,3 +14,15 @@ invariant-loop-place l = record {
 
 abbrev pub decreases-loop-place : goal.decreases-loop-place
 decreases-loop-place l = length l.text - l.place
+
+-- the same of the last bytes
+abbrev pub invariant-loop-place-2 : goal.invariant-loop-place-2
+invariant-loop-place-2 l = record {
+  within : l.place ≤ length l.text;
+  read : onto_all (take l.end l.out) (unprinted_from l.place 0 (drop l.place l.text)) ≡ unprinted l.text;
+  behind : l.end ≤ l.place;
+  len : length l.out ≡ length l.fn.out;
+}
+
+abbrev pub decreases-loop-place-2 : goal.decreases-loop-place-2
+decreases-loop-place-2 l = length l.text - l.place
