@@ -5,7 +5,7 @@ use Rattle.bin_routes.specs.Table.{RouteMaps}
 use Rattle.claim_profile.specs.Answer.{answer_text as written_text, StandsBeside}
 use Rattle.claim_profile.specs.Ruling.{answer_of}
 use Rattle.claim_profile.specs.Readable.{readable_header, longest_request}
-use Rattle.claim_profile.specs.Answering.{IsMade, Answers, answered, IsCarried}
+use Rattle.claim_profile.specs.Answering.{IsConstructible, Answers, answered, IsCarried}
 use Rattle.claim_model.specs.Words.{Ruling, Paid, Duplicate, Reversed, Rejected, RequestHeader, Status, AcceptedStatus, RejectedStatus}
 use Rattle.claim_model.specs.Laws.{IsRuling, GoesWith, AnswersReadBack}
 use Rattle.claim_model.specs.Bytes.{answer_in, bytes_with}
@@ -21,7 +21,7 @@ abbrev pub ReadableIsCarried : Type 0
 ReadableIsCarried = (text : List ℕ) (h : RequestHeader) → readable_header text ≡ Some h → IsCarried h
 
 -- a ruling that the model writes is one that the profile's constructors make
-made : (r : Ruling) → IsRuling r → IsMade r
+made : (r : Ruling) → IsRuling r → IsConstructible r
 made (Paid auth prescription m) is =
     ((omega (arith, is.0.payer), is.0.payer_fits, omega (arith, is.0.serial), is.0.serial_fits), is.1, record { cost = is.2.cost; fee = is.2.fee; copay = is.2.copay; total = is.2.total; sum = is.2.sum })
 made (Duplicate auth prescription m) is =
@@ -29,7 +29,7 @@ made (Duplicate auth prescription m) is =
 made (Reversed auth prescription) is = ((omega (arith, is.0.payer), is.0.payer_fits, omega (arith, is.0.serial), is.0.serial_fits), is.1)
 made (Rejected rejects) is = (omega (arith, is.some), is.few)
 
-all_made : (rulings : List Ruling) → AllByRecursion IsRuling rulings → AllByRecursion IsMade rulings
+all_made : (rulings : List Ruling) → AllByRecursion IsRuling rulings → AllByRecursion IsConstructible rulings
 all_made [] all = tt
 all_made (r ∷ rulings) all = (made r all.0, all_made rulings all.1)
 

@@ -7,7 +7,7 @@ use Rattle.claim_model.specs.Words.{Auth, Reversal, Code, Ruling, Rejected}
 use Rattle.claim_model.specs.Context.{Context}
 use Rattle.claim_model.specs.Numbered.{numbered}
 use Rattle.claim_model.specs.Ruled.{Ruled}
-use Rattle.claim_model.specs.Payments.{Payment, same_auth, undone, is_auth, reverses, payments, is_standing, payment_of}
+use Rattle.claim_model.specs.Payments.{Payment, same_auth, auth_reversed, is_auth, reverses, payments, is_standing, payment_of}
 use Rattle.claim_model.specs.Rows.{Book, ruled_rows}
 use Rattle.claim_model.specs.Journal.{JournalAtRest}
 use Rattle.claim_model.specs.Counted.{Counted, told, named, firsts, is_reversed, counted}
@@ -21,7 +21,7 @@ use Rattle.claim_model.proofs.Tests.{auth_same, auth_self}
 use Rattle.claim_model.proofs.Sound.{Sound}
 use Rattle.claim_model.proofs.Held.{book_sound}
 use Rattle.claim_model.proofs.Runs.{reached_sound}
-use Rattle.claim_model.proofs.Ledger.{Given, Undoes}
+use Rattle.claim_model.proofs.Ledger.{Given, Reversing}
 use Rattle.claim_model.proofs.Books.{BookLedger, Ledgers, reached_ledgers}
 use Rattle.claim_model.proofs.Owners.{ledger_at, names_reversed}
 use Rattle.claim_model.proofs.Counting.{HeardAt, all_heard, reverses_ruling}
@@ -97,13 +97,13 @@ any_first auth (c ∷ cs) any = by_test (is_of auth c) refl (any_first auth cs) 
 -- nothing that a pharmacy was told reverses it
 not_reversed : (ctx : Context) (given : WorldSettings) (w : World) (n : ℕ) (auth : Auth) (b : Book) (p : Payment) → Sound ctx given w → Ledgers ctx w → book_at w auth.payer ≡ Some b
     → payment_of auth (ruled_rows ctx b.rows) ≡ Some p → is_standing p ≡ true → (r : Ruled) → HeardAt ctx w n r → reverses auth r ≡ false
-not_reversed ctx given w n auth b p x l there found stands r (inl rejected, here) = ap (λ (g : Ruling). is_auth auth (undone g)) rejected.1
+not_reversed ctx given w n auth b p x l there found stands r (inl rejected, here) = ap (λ (g : Ruling). is_auth auth (auth_reversed g)) rejected.1
 not_reversed ctx given w n auth b p x l there found stands r (inr k, here) =
     false_from_ne_true (reverses auth r) (λ t.
     let rs : List Ruled = ruled_rows ctx k.book.rows in
     let g = reverses_ruling auth r.ruling t in
     let v = names_reversed rs r.order r.ruling auth g.0 k.names g.1 in
-    let u : Undoes rs auth v.0 = v.2 in
+    let u : Reversing rs auth v.0 = v.2 in
     let led : BookLedger ctx k.book = ledger_at ctx w k.payer k.book l k.there in
     let of_payer : Given k.book.payer _ u.payment = find_all (Given k.book.payer _) _ (payments rs) u.payment led.serials u.found in
     let its : u.payment.auth ≡ auth = auth_same _ _ (find_passes _ (payments rs) u.payment u.found) in

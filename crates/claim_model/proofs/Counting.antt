@@ -10,7 +10,7 @@ use Rattle.claim_model.specs.Laws.{Laws, IsClaimOf, IsOrderOf, Spells}
 use Rattle.claim_model.specs.Readable.{readable, payer_for, rulings_in, reversal_code}
 use Rattle.claim_model.specs.Numbered.{numbered}
 use Rattle.claim_model.specs.Ruled.{Ruled, ruled_from, ruled_groups}
-use Rattle.claim_model.specs.Payments.{Payment, same_auth, undone, is_auth, reverses, payments, payment_of}
+use Rattle.claim_model.specs.Payments.{Payment, same_auth, auth_reversed, is_auth, reverses, payments, payment_of}
 use Rattle.claim_model.specs.Rows.{Row, Book, ruled_row, ruled_rows}
 use Rattle.claim_model.specs.Book.{row_of}
 use Rattle.claim_model.specs.Journal.{PharmacySettings, JournalAtRest, Kept}
@@ -280,7 +280,7 @@ any_told_numbered ctx test pharmacy es (suc k) e at h =
     let num : suc k ≡ 1 + k = omega arith in
     any_told ctx test pharmacy 1 es k e at (subst (λ (m : ℕ). list_any test (ruled_answer ctx (id_at pharmacy m) e.request e.answer) ≡ true) num h)
 
-pub reverses_ruling : (auth : Auth) (g : Ruling) → is_auth auth (undone g) ≡ true → (m : ℕ) × (g ≡ Reversed auth m)
+pub reverses_ruling : (auth : Auth) (g : Ruling) → is_auth auth (auth_reversed g) ≡ true → (m : ℕ) × (g ≡ Reversed auth m)
 reverses_ruling auth (Reversed a m) e = (m, ap (λ (x : Auth). Reversed x m) (auth_same a auth e))
 reverses_ruling auth (Paid a m q) e = absurd (Rattle.std.proofs.lemmas.Bool.false≢true e)
 reverses_ruling auth (Duplicate a m q) e = absurd (Rattle.std.proofs.lemmas.Bool.false≢true e)
@@ -295,14 +295,14 @@ told_row ctx w n rows row id request a laws s there same_id same_request d =
     let spells : Spells ctx s.header row.rulings a = subst (Spells ctx s.header row.rulings) text (Rattle.claim_model.proofs.Decided.row_spells ctx row.request s.header row.rulings laws s.reads s.count s.written) in
     ap₂ (λ (i : TxnId) (q : List ℕ). ruled_groups ctx i q (rulings_in (ctx.read_answer a))) (sym same_id) same_request ∙ ap (ruled_groups ctx row.id row.request) (spelled ctx s.header row.rulings a spells)
 
--- an entry whose answer undoes a payment that is counted has no answer
+-- an entry whose answer reverses a payment that is counted has no answer
 open_by : (ctx : Context) (w : World) (n m : ℕ) (b : Book) (j : JournalAtRest) (r : Ruled) (auth : Auth) (e : Kept) (o : Option (List ℕ)) → Laws ctx → (s : Source ctx w m b.rows r) → book_at w m ≡ Some b → j.number ≡ n → r.id.pharmacy ≡ n
     → numbered j.entries r.id.number ≡ Some e → e.request ≡ s.row.request → ((a : List ℕ) → o ≡ Some a → decided ctx w r.id ≡ Some a) → reverses auth r ≡ true → list_any (reverses auth) (told ctx j) ≡ false → e.answer ≡ o → o ≡ None
-open_by ctx w n m b j r auth e None laws s there number here stands request d undoes free is = refl
-open_by ctx w n m b j r auth e (Some a) laws s there number here stands request d undoes free is =
+open_by ctx w n m b j r auth e None laws s there number here stands request d reversing free is = refl
+open_by ctx w n m b j r auth e (Some a) laws s there number here stands request d reversing free is =
     let at : row_at w m s.row.id ≡ Some s.row = ap (λ (q : Option Book). option_and_then (λ (q : Book). row_of s.row.id q.rows) q) there ∙ s.sound.found in
     let same : ruled_groups ctx r.id e.request (rulings_in (ctx.read_answer a)) ≡ ruled_row ctx s.row = told_row ctx w m b.rows s.row r.id e.request a laws s.sound at (sym s.same) request (d a refl) in
-    let any : list_any (reverses auth) (ruled_row ctx s.row) ≡ true = any_numbered (reverses auth) (ruled_row ctx s.row) s.place r s.within undoes in
+    let any : list_any (reverses auth) (ruled_row ctx s.row) ≡ true = any_numbered (reverses auth) (ruled_row ctx s.row) s.place r s.within reversing in
     let any' : list_any (reverses auth) (ruled_answer ctx r.id e.request (Some a)) ≡ true = subst (λ (rs : List Ruled). list_any (reverses auth) rs ≡ true) (sym same) any in
     let any'' : list_any (reverses auth) (ruled_answer ctx (id_at j.number r.id.number) e.request e.answer) ≡ true =
     subst (λ (q : Option (List ℕ)). list_any (reverses auth) (ruled_answer ctx (id_at j.number r.id.number) e.request q) ≡ true) (sym is)
@@ -316,11 +316,11 @@ open_reverser ctx given w n j c k r reached x l there p free at reversing =
     let rs : List Ruled = ruled_rows ctx p.book.rows in
     let g = reverses_ruling c.auth r.ruling reversing in
     let o : OwnReversal ctx w c.auth.payer p.book r c.auth = own_reversal ctx given w c.auth.payer p.book k r c.auth g.0 reached.laws x l p.there at g.1 in
-    let same : o.undoes.payment ≡ p.payment = same_some _ _ (sym o.undoes.found ∙ p.found) in
+    let same : o.reversing.payment ≡ p.payment = same_some _ _ (sym o.reversing.found ∙ p.found) in
     let a : Asker ctx w r.id o.source.row.request o.source.sound.header = o.asker_is in
     let theirs : SoundJournal ctx given w r.id.pharmacy a.journal = journal_sound ctx given w r.id.pharmacy a.journal x a.there in
     let ours : SoundJournal ctx given w n j = journal_sound ctx given w n j x there in
-    let fill : o.undoes.payment.claim.fill ≡ c.fill = ap (λ (y : Payment). y.claim.fill) same ∙ p.fill in
+    let fill : o.reversing.payment.claim.fill ≡ c.fill = ap (λ (y : Payment). y.claim.fill) same ∙ p.fill in
     let qualifier : a.journal.settings.qualifier ≡ j.settings.qualifier = o.qualifier ∙ (ap (λ (y : Fill). y.qualifier) fill ∙ p.qualifier) in
     let provider : a.journal.settings.provider ≡ j.settings.provider = o.provider ∙ (ap (λ (y : Fill). y.provider) fill ∙ p.provider) in
     let here : r.id.pharmacy ≡ n = one_pharmacy given.pharmacies r.id.pharmacy n a.journal.settings j.settings (passed given reached.accepts.no_fault).providers theirs.settings ours.settings qualifier provider in
@@ -347,7 +347,7 @@ held_open ctx given w n j c id reached x l there p free e =
     let v : Reverser rs p.payment.auth id = find_all (HasReverser rs) _ (payments rs) p.payment (payments_reversers rs) p.found id e in
     let auth : p.payment.auth ≡ c.auth = auth_same _ _ (find_passes _ (payments rs) p.payment p.found) in
     subst (HeldOpen ctx n j) v.same
-    (open_reverser ctx given w n j c v.number v.ruled reached x l there p free v.stands (subst (λ (y : Auth). reverses y v.ruled ≡ true) auth v.undoes))
+    (open_reverser ctx given w n j c v.number v.ruled reached x l there p free v.stands (subst (λ (y : Auth). reverses y v.ruled ≡ true) auth v.reversing))
 
 all_counted : (ctx : Context) (given : WorldSettings) (w : World) (n : ℕ) (j : JournalAtRest) → Reached ctx given w → journal_at w n ≡ Some j → AllByRecursion (StandsOrReversed ctx w n j) (counted ctx j)
 unfolding counted

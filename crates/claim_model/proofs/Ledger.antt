@@ -11,7 +11,7 @@ use Rattle.claim_model.specs.Context.{Context}
 use Rattle.claim_model.specs.Ruled.{Ruled, ruled, ruled_from}
 use Rattle.claim_model.specs.Payments.{Payment, same_auth, payments, is_standing, standing, payment_of}
 use Rattle.claim_model.specs.Rows.{Row, Book, ruled_row, ruled_rows}
-use Rattle.claim_model.specs.Judgement.{same_fill, same_claim, is_for, standing_for, undone_by, Settled, judged_claim, judged_reversal, judged, is_paid, next_serial, next_auth, priced, ruling_of, ruling, rulings_from}
+use Rattle.claim_model.specs.Judgement.{same_fill, same_claim, is_for, standing_for, payment_to_reverse, Unpriced, judged_claim, judged_reversal, judged, is_paid, next_serial, next_auth, priced, ruling_of, ruling, rulings_from}
 use Rattle.claim_model.proofs.Lists.{all_append, all_weaker, all_map, all_filter, find_all, find_passes}
 use Rattle.claim_model.proofs.Tests.{auth_same, auth_self, fill_same, fill_self}
 use Rattle.claim_model.proofs.Written.{only_all}
@@ -38,7 +38,7 @@ pub record PaidFor (rs : List Ruled) (auth : Auth) (fill : Fill) (amounts : Amou
   pub amounts_are : payment.amounts ≡ amounts
 
 -- there is a payment with this authorization that does not stand any more, and the reversal is for its claim
-pub record Undoes (rs : List Ruled) (auth : Auth) (v : Reversal) : Type 0 where
+pub record Reversing (rs : List Ruled) (auth : Auth) (v : Reversal) : Type 0 where
   pub payment : Payment
   pub found : payment_of auth rs ≡ Some payment
   pub for_it : is_for v payment.claim ≡ true
@@ -51,7 +51,7 @@ Names rs (Ok (Bills c)) (Reversed auth n) = ⊥
 Names rs (Ok (Bills c)) (Rejected codes) = ⊤
 Names rs (Ok (Reverses v)) (Paid auth n m) = ⊥
 Names rs (Ok (Reverses v)) (Duplicate auth n m) = ⊥
-Names rs (Ok (Reverses v)) (Reversed auth n) = Undoes rs auth v
+Names rs (Ok (Reverses v)) (Reversed auth n) = Reversing rs auth v
 Names rs (Ok (Reverses v)) (Rejected codes) = ⊤
 Names rs (Err codes) (Paid auth n m) = ⊥
 Names rs (Err codes) (Duplicate auth n m) = ⊥
@@ -180,7 +180,7 @@ ledger_claim : (ctx : Context) (b : Book) (rs : List Ruled) (id : TxnId) (place 
 ledger_claim ctx b rs id place c None l is = ledger_priced b rs id place c (ctx.price b.plan c) l is
 ledger_claim ctx b rs id place c (Some p) l is = by_test (same_claim p.claim c)
   where
-    by_test : (t : Bool) → Ledger b.payer b.settings.serial (rs ++ ruled id place (Ok (Bills c)) (ruling_of ctx b rs (cond t (Settled (Duplicate p.auth c.fill.prescription p.amounts)) (Settled (Rejected (Code.DuplicateClaim ∷ []))))) ∷ [])
+    by_test : (t : Bool) → Ledger b.payer b.settings.serial (rs ++ ruled id place (Ok (Bills c)) (ruling_of ctx b rs (cond t (Unpriced (Duplicate p.auth c.fill.prescription p.amounts)) (Unpriced (Rejected (Code.DuplicateClaim ∷ []))))) ∷ [])
     by_test true =
         let x : Ruled = ruled id place (Ok (Bills c)) (Duplicate p.auth c.fill.prescription p.amounts) in
         let passes : same_fill c.fill p.claim.fill ≡ true = find_passes (λ (q : Payment). same_fill c.fill q.claim.fill) (standing rs) p is in
@@ -196,7 +196,7 @@ filter_passes test (x ∷ xs) = by_test (test x) refl (filter_passes test xs)
     by_test true is h = (is, h)
     by_test false is h = h
 
-ledger_reversal : (ctx : Context) (b : Book) (rs : List Ruled) (id : TxnId) (place : ℕ) (v : Reversal) (o : Option Payment) → Ledger b.payer b.settings.serial rs → undone_by v rs ≡ o
+ledger_reversal : (ctx : Context) (b : Book) (rs : List Ruled) (id : TxnId) (place : ℕ) (v : Reversal) (o : Option Payment) → Ledger b.payer b.settings.serial rs → payment_to_reverse v rs ≡ o
     → Ledger b.payer b.settings.serial (rs ++ ruled id place (Ok (Reverses v)) (ruling_of ctx b rs (judged_reversal v o)) ∷ [])
 ledger_reversal ctx b rs id place v None l is = ledger_unpaid b.payer b.settings.serial rs (ruled id place (Ok (Reverses v)) (Rejected (Code.ReversalNotProcessed ∷ []))) l tt refl
 ledger_reversal ctx b rs id place v (Some p) l is =
@@ -212,7 +212,7 @@ pub ledger_more : (ctx : Context) (b : Book) (rs : List Ruled) (id : TxnId) (pla
 unfolding ruling judged
 ledger_more ctx b rs id place (Err codes) l = ledger_unpaid b.payer b.settings.serial rs (ruled id place (Err codes) (Rejected codes)) l tt refl
 ledger_more ctx b rs id place (Ok (Bills c)) l = ledger_claim ctx b rs id place c (standing_for c.fill rs) l refl
-ledger_more ctx b rs id place (Ok (Reverses v)) l = ledger_reversal ctx b rs id place v (undone_by v rs) l refl
+ledger_more ctx b rs id place (Ok (Reverses v)) l = ledger_reversal ctx b rs id place v (payment_to_reverse v rs) l refl
 
 ledger_groups : (ctx : Context) (b : Book) (rs : List Ruled) (id : TxnId) (place : ℕ) (orders : List (Result Order (List Code))) → Ledger b.payer b.settings.serial rs
     → Ledger b.payer b.settings.serial (rs ++ ruled_from id place orders (rulings_from ctx b rs id place orders))

@@ -146,10 +146,10 @@ pub record Reverser (rs : List Ruled) (auth : Auth) (id : TxnId) : Type 0 where
   pub ruled : Ruled
   pub stands : numbered rs number ≡ Some ruled
   pub same : ruled.id ≡ id
-  pub undoes : reverses auth ruled ≡ true
+  pub reversing : reverses auth ruled ≡ true
 
 reverser_behind : (r : Ruled) (rs : List Ruled) (auth : Auth) (id : TxnId) → Reverser rs auth id → Reverser (r ∷ rs) auth id
-reverser_behind r rs auth id x = record { number = suc x.number; ruled = x.ruled; stands = behind rs x.number x.ruled x.stands; same = x.same; undoes = x.undoes }
+reverser_behind r rs auth id x = record { number = suc x.number; ruled = x.ruled; stands = behind rs x.number x.ruled x.stands; same = x.same; reversing = x.reversing }
   where
     behind : (rs : List Ruled) (n : ℕ) (a : Ruled) → numbered rs n ≡ Some a → numbered (r ∷ rs) (suc n) ≡ Some a
     behind rs zero a e = absurd cc
@@ -163,7 +163,7 @@ find_reverser (r ∷ rs) auth id e = by_test (reverses auth r) refl (find_revers
     same_id a b h = cc
 
     by_test : (b : Bool) → reverses auth r ≡ b → (reversed_by auth rs ≡ Some id → Reverser rs auth id) → option_map (λ (q : Ruled). q.id) (cond b (Some r) (find (reverses auth) rs)) ≡ Some id → Reverser (r ∷ rs) auth id
-    by_test true is g h = record { number = 1; ruled = r; stands = refl; same = same_id r.id id h; undoes = is }
+    by_test true is g h = record { number = 1; ruled = r; stands = refl; same = same_id r.id id h; reversing = is }
     by_test false is g h = reverser_behind r rs auth id (g h)
 
 abbrev pub HasReverser : List Ruled → Payment → Type 0

@@ -24,7 +24,7 @@ use Rattle.claim_model.proofs.Sound.{id_at, SoundEntry, SoundRow, SoundBook, Sou
 use Rattle.claim_model.proofs.Held.{journal_sound, book_sound}
 use Rattle.claim_model.proofs.Runs.{reached_sound}
 use Rattle.claim_model.proofs.Marks.{no_fill_twice_at}
-use Rattle.claim_model.proofs.Ledger.{Names, Named_in, Undoes}
+use Rattle.claim_model.proofs.Ledger.{Names, Named_in, Reversing}
 use Rattle.claim_model.proofs.Books.{BookLedger, Ledgers, reached_ledgers}
 
 -- where a ruling stands: in a sound row, at a group whose order it answers
@@ -134,14 +134,14 @@ asker ctx given w id request h x asks reads =
       provider = ap (λ (y : RequestHeader). y.provider) (sym same) ∙ bytes_same _ _ own.1;
     }
 
-pub names_reversed : (rs : List Ruled) (order : Result Order (List Code)) (given : Ruling) (auth : Auth) (m : ℕ) → Names rs order given → given ≡ Reversed auth m → (v : Reversal) × (order ≡ Ok (Reverses v)) × Undoes rs auth v
+pub names_reversed : (rs : List Ruled) (order : Result Order (List Code)) (given : Ruling) (auth : Auth) (m : ℕ) → Names rs order given → given ≡ Reversed auth m → (v : Reversal) × (order ≡ Ok (Reverses v)) × Reversing rs auth v
 names_reversed rs (Ok (Bills c)) (Paid a k q) auth m h e = absurd cc
 names_reversed rs (Ok (Bills c)) (Duplicate a k q) auth m h e = absurd cc
 names_reversed rs (Ok (Bills c)) (Reversed a k) auth m h e = absurd h
 names_reversed rs (Ok (Bills c)) (Rejected codes) auth m h e = absurd cc
 names_reversed rs (Ok (Reverses v)) (Paid a k q) auth m h e = absurd h
 names_reversed rs (Ok (Reverses v)) (Duplicate a k q) auth m h e = absurd h
-names_reversed rs (Ok (Reverses v)) (Reversed a k) auth m h e = let same : a ≡ auth = cc in (v, refl, subst (λ y. Undoes rs y v) same h)
+names_reversed rs (Ok (Reverses v)) (Reversed a k) auth m h e = let same : a ≡ auth = cc in (v, refl, subst (λ y. Reversing rs y v) same h)
 names_reversed rs (Ok (Reverses v)) (Rejected codes) auth m h e = absurd cc
 names_reversed rs (Err codes) (Paid a k q) auth m h e = absurd h
 names_reversed rs (Err codes) (Duplicate a k q) auth m h e = absurd h
@@ -153,11 +153,11 @@ pub record OwnReversal (ctx : Context) (w : World) (n : ℕ) (b : Book) (r : Rul
   pub source : Source ctx w n b.rows r
   pub reversal : Reversal
   pub of_it : IsReversalOf source.sound.header reversal
-  pub undoes : Undoes (ruled_rows ctx b.rows) auth reversal
+  pub reversing : Reversing (ruled_rows ctx b.rows) auth reversal
   pub asks : asked w r.id ≡ Some source.row.request
   pub asker_is : Asker ctx w r.id source.row.request source.sound.header
-  pub qualifier : asker_is.journal.settings.qualifier ≡ undoes.payment.claim.fill.qualifier
-  pub provider : asker_is.journal.settings.provider ≡ undoes.payment.claim.fill.provider
+  pub qualifier : asker_is.journal.settings.qualifier ≡ reversing.payment.claim.fill.qualifier
+  pub provider : asker_is.journal.settings.provider ≡ reversing.payment.claim.fill.provider
 
 pub own_reversal : (ctx : Context) (given : WorldSettings) (w : World) (n : ℕ) (b : Book) (k : ℕ) (r : Ruled) (auth : Auth) (m : ℕ) → Laws ctx → Sound ctx given w → Ledgers ctx w
     → book_at w n ≡ Some b → numbered (ruled_rows ctx b.rows) k ≡ Some r → r.ruling ≡ Reversed auth m → OwnReversal ctx w n b r auth
@@ -177,7 +177,7 @@ own_reversal ctx given w n b k r auth m laws x l at e is =
       source = s;
       reversal = v.0;
       of_it = of_it;
-      undoes = v.2;
+      reversing = v.2;
       asks = asks;
       asker_is = a;
       qualifier = sym a.qualifier ∙ (sym of_it.qualifier ∙ bytes_same _ _ p₃.0);
@@ -191,5 +191,5 @@ reversed_by_owner ctx given w r =
     record {
       reversed = λ n b k ru auth m at e is.
           let o : OwnReversal ctx w n b ru auth = own_reversal ctx given w n b k ru auth m r.laws x l at e is in
-          record { payment = o.undoes.payment; found = o.undoes.found; journal = o.asker_is.journal; there = o.asker_is.there; qualifier = o.qualifier; provider = o.provider };
+          record { payment = o.reversing.payment; found = o.reversing.found; journal = o.asker_is.journal; there = o.asker_is.there; qualifier = o.qualifier; provider = o.provider };
     }

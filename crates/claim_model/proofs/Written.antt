@@ -8,7 +8,7 @@ use Rattle.claim_model.specs.Laws.{Laws, IsClaimOf, IsOrderOf, IsAuth, IsAmounts
 use Rattle.claim_model.specs.Ruled.{Ruled, ruled, ruled_from}
 use Rattle.claim_model.specs.Payments.{Payment, payment_by, payments, is_standing, standing}
 use Rattle.claim_model.specs.Rows.{Row, Book, ruled_row, ruled_rows}
-use Rattle.claim_model.specs.Judgement.{standing_for, only, undone_by, Settled, same_claim, is_for, judged_claim, judged_reversal, judged, next_serial, next_auth, priced, ruling_of, ruling, rulings_from}
+use Rattle.claim_model.specs.Judgement.{standing_for, only, payment_to_reverse, Unpriced, same_claim, is_for, judged_claim, judged_reversal, judged, next_serial, next_auth, priced, ruling_of, ruling, rulings_from}
 use Rattle.claim_model.specs.Book.{serial_fits}
 use Rattle.claim_model.proofs.Lists.{all_append, all_filter, find_all}
 
@@ -60,7 +60,7 @@ judged_claim_written : (ctx : Context) (laws : Laws ctx) (b : Book) (before : Li
 judged_claim_written ctx laws b before c h None may of_it w s = priced_written ctx h b before c (ctx.price b.plan c) may of_it.prescription (λ m e. laws.prices b.plan h c m of_it e) s
 judged_claim_written ctx laws b before c h (Some p) may of_it w s = go (same_claim p.claim c)
   where
-    go : (t : Bool) → IsRuling (ruling_of ctx b before (cond t (Settled (Duplicate p.auth c.fill.prescription p.amounts)) (Settled (Rejected (Code.DuplicateClaim ∷ [])))))
+    go : (t : Bool) → IsRuling (ruling_of ctx b before (cond t (Unpriced (Duplicate p.auth c.fill.prescription p.amounts)) (Unpriced (Rejected (Code.DuplicateClaim ∷ [])))))
     go true = let q = w p refl in (q.0, of_it.prescription, q.1)
     go false = one_code _
 
@@ -77,7 +77,7 @@ ruling_written ctx laws b before h (Ok (Bills c)) may w o s =
     judged_claim_written ctx laws b before c h (standing_for c.fill before) may o
     (λ p e. find_all IsWritten _ (standing before) p (standing_written before w) e) s
 ruling_written ctx laws b before h (Ok (Reverses v)) may w o s =
-    judged_reversal_written ctx b before v (undone_by v before) o.prescription
+    judged_reversal_written ctx b before v (payment_to_reverse v before) o.prescription
     (λ p e. only_all IsWritten _ p (all_filter IsWritten (λ (q : Payment). is_for v q.claim) (standing before) (standing_written before w)) e)
 
 pub rulings_written : (ctx : Context) (laws : Laws ctx) (b : Book) (before : List Ruled) (h : RequestHeader) (id : TxnId) (place : ℕ) (orders : List (Result Order (List Code))) → MayPay b

@@ -37,30 +37,30 @@ only [] = None
 only (a ∷ []) = Some a
 only (a ∷ b ∷ more) = None
 
--- the payment that a reversal undoes: the only standing one that it is for
-abbrev pub undone_by : Reversal → List Ruled → Option Payment
-undone_by v before = only (filter (λ p. is_for v p.claim) (standing before))
+-- the payment that is to be reversed: the only standing one that the reversal is for
+abbrev pub payment_to_reverse : Reversal → List Ruled → Option Payment
+payment_to_reverse v before = only (filter (λ p. is_for v p.claim) (standing before))
 
 -- what is known of a ruling before a plan is asked
 pub data Judged : Type 0 where
-  Settled : Ruling → Judged
+  Unpriced : Ruling → Judged
   ToPrice : Claim → Judged
 
 -- a fill with a standing payment: the same claim again gets that payment again, another one is rejected with 83
 abbrev pub judged_claim : Claim → Option Payment → Judged
 judged_claim c None = ToPrice c
-judged_claim c (Some p) = cond (same_claim p.claim c) (Settled (Duplicate p.auth c.fill.prescription p.amounts)) (Settled (Rejected (DuplicateClaim ∷ [])))
+judged_claim c (Some p) = cond (same_claim p.claim c) (Unpriced (Duplicate p.auth c.fill.prescription p.amounts)) (Unpriced (Rejected (DuplicateClaim ∷ [])))
 
--- a reversal that undoes no payment is rejected with 87
+-- a reversal for no payment is rejected with 87
 abbrev pub judged_reversal : Reversal → Option Payment → Judged
-judged_reversal v None = Settled (Rejected (ReversalNotProcessed ∷ []))
-judged_reversal v (Some p) = Settled (Reversed p.auth v.prescription)
+judged_reversal v None = Unpriced (Rejected (ReversalNotProcessed ∷ []))
+judged_reversal v (Some p) = Unpriced (Reversed p.auth v.prescription)
 
 -- the judgement of an order over what was ruled before it
 unfoldable pub judged : List Ruled → Result Order (List Code) → Judged
-judged before (Err codes) = Settled (Rejected codes)
+judged before (Err codes) = Unpriced (Rejected codes)
 judged before (Ok (Bills c)) = judged_claim c (standing_for c.fill before)
-judged before (Ok (Reverses v)) = judged_reversal v (undone_by v before)
+judged before (Ok (Reverses v)) = judged_reversal v (payment_to_reverse v before)
 
 abbrev pub is_paid : Ruling → Bool
 is_paid (Paid auth prescription amounts) = true
@@ -81,7 +81,7 @@ priced auth c None = Rejected (NotCovered ∷ [])
 priced auth c (Some amounts) = Paid auth c.fill.prescription amounts
 
 abbrev pub ruling_of : Context → Book → List Ruled → Judged → Ruling
-ruling_of ctx b before (Settled ruling) = ruling
+ruling_of ctx b before (Unpriced ruling) = ruling
 ruling_of ctx b before (ToPrice c) = priced (next_auth b before) c (ctx.price b.plan c)
 
 -- the ruling of an order over what was ruled before it

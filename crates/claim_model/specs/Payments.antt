@@ -16,11 +16,11 @@ abbrev pub same_auth : Auth → Auth → Bool
 same_auth a b = (a.payer == b.payer) && (a.serial == b.serial)
 
 -- the authorization that a Reversed ruling names
-abbrev pub undone : Ruling → Option Auth
-undone (Reversed auth prescription) = Some auth
-undone (Paid auth prescription amounts) = None
-undone (Duplicate auth prescription amounts) = None
-undone (Rejected codes) = None
+abbrev pub auth_reversed : Ruling → Option Auth
+auth_reversed (Reversed auth prescription) = Some auth
+auth_reversed (Paid auth prescription amounts) = None
+auth_reversed (Duplicate auth prescription amounts) = None
+auth_reversed (Rejected codes) = None
 
 abbrev pub is_auth : Auth → Option Auth → Bool
 is_auth auth None = false
@@ -28,7 +28,7 @@ is_auth auth (Some named) = same_auth named auth
 
 -- this ruling reverses the payment with that authorization
 abbrev pub reverses : Auth → Ruled → Bool
-reverses auth r = is_auth auth (undone r.ruling)
+reverses auth r = is_auth auth (auth_reversed r.ruling)
 
 -- the request whose ruling, the first of these, reverses the payment with that authorization
 abbrev pub reversed_by : Auth → List Ruled → Option TxnId

@@ -3,7 +3,7 @@ use Rattle.std.proofs.Common.{◌≡◌, true, false, List, [], ◌∷◌, ◌++
 use Rattle.std.specs.Str.{bytes_eq}
 use Rattle.d0_segments.specs.Parts.{FieldParts, SegmentParts}
 use Rattle.claim_profile.specs.Fields.{untrimmed, trimmed, values, values_in, texts_in, fields_of}
-use Rattle.claim_profile.specs.Tally.{Absent, counted}
+use Rattle.claim_profile.specs.Tally.{Absent, tallied}
 use Rattle.claim_profile.specs.AnswerTally.{AnswerTally, no_answer_seen, answer_fields_counted, answer_counted}
 use Rattle.claim_profile.proofs.Counting.{counted_further, counted_nothing, fields_of-none, fields_of-append, fields_of-here, fields_of-elsewhere}
 use Rattle.claim_profile.proofs.OrderCounting.{other_id}
@@ -55,9 +55,9 @@ answer_counted-append t ss us =
 
 -- one field of a status segment more
 pub answer_status_more : (t u : AnswerTally) (f : FieldParts)
-    → u.status ≡ counted t.status (values untrimmed (codes "AN") (f ∷ []))
-    → u.authorization ≡ counted t.authorization (values untrimmed (codes "F3") (f ∷ []))
-    → u.reject_count ≡ counted t.reject_count (values untrimmed (codes "FA") (f ∷ []))
+    → u.status ≡ tallied t.status (values untrimmed (codes "AN") (f ∷ []))
+    → u.authorization ≡ tallied t.authorization (values untrimmed (codes "F3") (f ∷ []))
+    → u.reject_count ≡ tallied t.reject_count (values untrimmed (codes "FA") (f ∷ []))
     → u.prescription_qualifier ≡ t.prescription_qualifier
     → u.prescription ≡ t.prescription
     → u.copay ≡ t.copay
@@ -83,8 +83,8 @@ pub answer_claim_more : (t u : AnswerTally) (f : FieldParts)
     → u.status ≡ t.status
     → u.authorization ≡ t.authorization
     → u.reject_count ≡ t.reject_count
-    → u.prescription_qualifier ≡ counted t.prescription_qualifier (values trimmed (codes "EM") (f ∷ []))
-    → u.prescription ≡ counted t.prescription (values untrimmed (codes "D2") (f ∷ []))
+    → u.prescription_qualifier ≡ tallied t.prescription_qualifier (values trimmed (codes "EM") (f ∷ []))
+    → u.prescription ≡ tallied t.prescription (values untrimmed (codes "D2") (f ∷ []))
     → u.copay ≡ t.copay
     → u.cost ≡ t.cost
     → u.fee ≡ t.fee
@@ -110,10 +110,10 @@ pub answer_pricing_more : (t u : AnswerTally) (f : FieldParts)
     → u.reject_count ≡ t.reject_count
     → u.prescription_qualifier ≡ t.prescription_qualifier
     → u.prescription ≡ t.prescription
-    → u.copay ≡ counted t.copay (values untrimmed (codes "F5") (f ∷ []))
-    → u.cost ≡ counted t.cost (values untrimmed (codes "F6") (f ∷ []))
-    → u.fee ≡ counted t.fee (values untrimmed (codes "F7") (f ∷ []))
-    → u.total ≡ counted t.total (values untrimmed (codes "F9") (f ∷ []))
+    → u.copay ≡ tallied t.copay (values untrimmed (codes "F5") (f ∷ []))
+    → u.cost ≡ tallied t.cost (values untrimmed (codes "F6") (f ∷ []))
+    → u.fee ≡ tallied t.fee (values untrimmed (codes "F7") (f ∷ []))
+    → u.total ≡ tallied t.total (values untrimmed (codes "F9") (f ∷ []))
     → u ≡ answer_fields_counted t [] [] (f ∷ [])
 unfolding answer_fields_counted
 answer_pricing_more t u f e_status e_authorization e_reject_count e_prescription_qualifier e_prescription e_copay e_cost e_fee e_total = λ i. record {
@@ -164,15 +164,15 @@ elsewhere_counted t s e1 e2 e3 =
 -- all values of a group, counted
 abbrev pub all_answer_counted : List SegmentParts → AnswerTally
 all_answer_counted group = record {
-  status = counted Absent (values_in (codes "21") (codes "AN") group);
-  authorization = counted Absent (values_in (codes "21") (codes "F3") group);
-  reject_count = counted Absent (values_in (codes "21") (codes "FA") group);
-  prescription_qualifier = counted Absent (texts_in (codes "22") (codes "EM") group);
-  prescription = counted Absent (values_in (codes "22") (codes "D2") group);
-  copay = counted Absent (values_in (codes "23") (codes "F5") group);
-  cost = counted Absent (values_in (codes "23") (codes "F6") group);
-  fee = counted Absent (values_in (codes "23") (codes "F7") group);
-  total = counted Absent (values_in (codes "23") (codes "F9") group);
+  status = tallied Absent (values_in (codes "21") (codes "AN") group);
+  authorization = tallied Absent (values_in (codes "21") (codes "F3") group);
+  reject_count = tallied Absent (values_in (codes "21") (codes "FA") group);
+  prescription_qualifier = tallied Absent (texts_in (codes "22") (codes "EM") group);
+  prescription = tallied Absent (values_in (codes "22") (codes "D2") group);
+  copay = tallied Absent (values_in (codes "23") (codes "F5") group);
+  cost = tallied Absent (values_in (codes "23") (codes "F6") group);
+  fee = tallied Absent (values_in (codes "23") (codes "F7") group);
+  total = tallied Absent (values_in (codes "23") (codes "F9") group);
 }
 
 pub is_all_answer_counted : (group : List SegmentParts) → answer_counted no_answer_seen group ≡ all_answer_counted group

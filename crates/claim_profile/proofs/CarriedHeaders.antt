@@ -16,7 +16,7 @@ use Rattle.claim_profile.specs.declared.ruling.Ruling.TheVariants.{Rejected}
 use Rattle.claim_profile.specs.declared.ruling.HeaderStatus.TheVariants as header
 use Rattle.claim_profile.specs.Answer.{StandsBeside}
 use Rattle.claim_profile.specs.Readable.{is_carried, if_carried, framed_header, longest_request, readable_header}
-use Rattle.claim_profile.specs.Answering.{IsMade, Answers, unrouted, IsCarried}
+use Rattle.claim_profile.specs.Answering.{IsConstructible, Answers, unrouted, IsCarried}
 
 unless_none : {A : Type 0} (o : Option FramingFault) (x t : A) → unless o x ≡ Some t → (o ≡ None) × (x ≡ t)
 unless_none (Some f) x t e = absurd cc
@@ -69,7 +69,7 @@ length-unrouted : (n : ℕ) (r : Ruling) → length (replicate n r) ≡ n
 length-unrouted zero r = refl
 length-unrouted (suc n) r = ap suc (length-unrouted n r)
 
-unrouted_made : (n : ℕ) → AllByRecursion IsMade (replicate n (Rejected (Bin ∷ [])))
+unrouted_made : (n : ℕ) → AllByRecursion IsConstructible (replicate n (Rejected (Bin ∷ [])))
 unrouted_made zero = tt
 unrouted_made (suc n) = ((omega arith, omega arith), unrouted_made n)
 

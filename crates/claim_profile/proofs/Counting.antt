@@ -7,16 +7,16 @@ use Rattle.std.proofs.lemmas.List.Elements.{filter-append}
 use Rattle.std.proofs.lemmas.List.Concat.{flat_map-append}
 use Rattle.d0_segments.specs.Parts.{FieldParts, SegmentParts}
 use Rattle.claim_profile.specs.Fields.{is_filled, values, fields_of}
-use Rattle.claim_profile.specs.Tally.{Tally, one_more, counted}
+use Rattle.claim_profile.specs.Tally.{Tally, one_more, tallied}
 
-pub counted-none : (t : Tally) → counted t [] ≡ t
-unfolding counted
-counted-none t = refl
+pub tallied-none : (t : Tally) → tallied t [] ≡ t
+unfolding tallied
+tallied-none t = refl
 
-pub counted-append : (t : Tally) (vs ws : List (List ℕ)) → counted t (vs ++ ws) ≡ counted (counted t vs) ws
-unfolding counted
-counted-append t [] ws = refl
-counted-append t (v ∷ vs) ws = counted-append (one_more t v) vs ws
+pub tallied-append : (t : Tally) (vs ws : List (List ℕ)) → tallied t (vs ++ ws) ≡ tallied (tallied t vs) ws
+unfolding tallied
+tallied-append t [] ws = refl
+tallied-append t (v ∷ vs) ws = tallied-append (one_more t v) vs ws
 
 pub values-none : (reading : List ℕ → List ℕ) (name : List ℕ) → values reading name [] ≡ []
 unfolding values
@@ -41,12 +41,12 @@ fields_of-append id ss us =
 
 -- counting the values of fields that come behind others
 pub counted_further : (t : Tally) (reading : List ℕ → List ℕ) (name : List ℕ) (fs gs : List FieldParts)
-    → counted t (values reading name (fs ++ gs)) ≡ counted (counted t (values reading name fs)) (values reading name gs)
-counted_further t reading name fs gs = ap (counted t) (values-append reading name fs gs) ∙ counted-append t (values reading name fs) (values reading name gs)
+    → tallied t (values reading name (fs ++ gs)) ≡ tallied (tallied t (values reading name fs)) (values reading name gs)
+counted_further t reading name fs gs = ap (tallied t) (values-append reading name fs gs) ∙ tallied-append t (values reading name fs) (values reading name gs)
 
 -- counting no fields
-pub counted_nothing : (t : Tally) (reading : List ℕ → List ℕ) (name : List ℕ) → counted t (values reading name []) ≡ t
-counted_nothing t reading name = ap (counted t) (values-none reading name) ∙ counted-none t
+pub counted_nothing : (t : Tally) (reading : List ℕ → List ℕ) (name : List ℕ) → tallied t (values reading name []) ≡ t
+counted_nothing t reading name = ap (tallied t) (values-none reading name) ∙ tallied-none t
 
 -- the elements up to a place and the one there, each seen in a way
 pub map-take_more : {A B : Type 0} (view : A → B) (xs : List A) (i : ℕ) (x : A) → i < length xs → x ≡ get_or xs i x → map view (take (i + 1) xs) ≡ map view (take i xs) ++ view x ∷ []

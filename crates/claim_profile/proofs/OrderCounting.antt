@@ -6,7 +6,7 @@ use Rattle.d0_segments.specs.Parts.{FieldParts, SegmentParts}
 use Rattle.claim_profile.specs.declared.order_values.Level.{Level}
 use Rattle.claim_profile.specs.declared.order_values.Level.TheVariants.{Shared, Group}
 use Rattle.claim_profile.specs.Fields.{untrimmed, trimmed, values, fields_of}
-use Rattle.claim_profile.specs.Tally.{counted}
+use Rattle.claim_profile.specs.Tally.{tallied}
 use Rattle.claim_profile.specs.OrderTally.{OrderTally, fields_counted, segments_counted}
 use Rattle.claim_profile.proofs.Counting.{counted_further, counted_nothing, fields_of-none, fields_of-append, fields_of-here, fields_of-elsewhere}
 
@@ -57,7 +57,7 @@ segments_counted-append Group t ss us =
     ∙ fields_counted-append t [] [] (fields_of (codes "07") ss) (fields_of (codes "07") us) (fields_of (codes "11") ss) (fields_of (codes "11") us)
 
 -- one field of an insurance segment more
-pub insurance_more : (t u : OrderTally) (f : FieldParts) → u.cardholder ≡ counted t.cardholder (values trimmed (codes "C2") (f ∷ []))
+pub insurance_more : (t u : OrderTally) (f : FieldParts) → u.cardholder ≡ tallied t.cardholder (values trimmed (codes "C2") (f ∷ []))
     → u.prescription_qualifier ≡ t.prescription_qualifier → u.prescription ≡ t.prescription → u.fill ≡ t.fill → u.product_qualifier ≡ t.product_qualifier
     → u.product ≡ t.product → u.quantity ≡ t.quantity → u.cost ≡ t.cost → u.fee ≡ t.fee → u ≡ fields_counted t (f ∷ []) [] []
 unfolding fields_counted
@@ -75,12 +75,12 @@ insurance_more t u f cardholder em prescription fill e1 product quantity cost fe
 
 -- one field of a claim segment more
 pub claim_more : (t u : OrderTally) (f : FieldParts) → u.cardholder ≡ t.cardholder
-    → u.prescription_qualifier ≡ counted t.prescription_qualifier (values trimmed (codes "EM") (f ∷ []))
-    → u.prescription ≡ counted t.prescription (values untrimmed (codes "D2") (f ∷ []))
-    → u.fill ≡ counted t.fill (values untrimmed (codes "D3") (f ∷ []))
-    → u.product_qualifier ≡ counted t.product_qualifier (values trimmed (codes "E1") (f ∷ []))
-    → u.product ≡ counted t.product (values trimmed (codes "D7") (f ∷ []))
-    → u.quantity ≡ counted t.quantity (values untrimmed (codes "E7") (f ∷ []))
+    → u.prescription_qualifier ≡ tallied t.prescription_qualifier (values trimmed (codes "EM") (f ∷ []))
+    → u.prescription ≡ tallied t.prescription (values untrimmed (codes "D2") (f ∷ []))
+    → u.fill ≡ tallied t.fill (values untrimmed (codes "D3") (f ∷ []))
+    → u.product_qualifier ≡ tallied t.product_qualifier (values trimmed (codes "E1") (f ∷ []))
+    → u.product ≡ tallied t.product (values trimmed (codes "D7") (f ∷ []))
+    → u.quantity ≡ tallied t.quantity (values untrimmed (codes "E7") (f ∷ []))
     → u.cost ≡ t.cost → u.fee ≡ t.fee → u ≡ fields_counted t [] (f ∷ []) []
 unfolding fields_counted
 claim_more t u f cardholder em prescription fill e1 product quantity cost fee = λ i. record {
@@ -99,7 +99,7 @@ claim_more t u f cardholder em prescription fill e1 product quantity cost fee = 
 pub pricing_more : (t u : OrderTally) (f : FieldParts) → u.cardholder ≡ t.cardholder
     → u.prescription_qualifier ≡ t.prescription_qualifier → u.prescription ≡ t.prescription → u.fill ≡ t.fill → u.product_qualifier ≡ t.product_qualifier
     → u.product ≡ t.product → u.quantity ≡ t.quantity
-    → u.cost ≡ counted t.cost (values untrimmed (codes "D9") (f ∷ [])) → u.fee ≡ counted t.fee (values untrimmed (codes "DC") (f ∷ [])) → u ≡ fields_counted t [] [] (f ∷ [])
+    → u.cost ≡ tallied t.cost (values untrimmed (codes "D9") (f ∷ [])) → u.fee ≡ tallied t.fee (values untrimmed (codes "DC") (f ∷ [])) → u ≡ fields_counted t [] [] (f ∷ [])
 unfolding fields_counted
 pricing_more t u f cardholder em prescription fill e1 product quantity cost fee = λ i. record {
   cardholder = (cardholder ∙ sym (counted_nothing t.cardholder trimmed (codes "C2"))) i;

@@ -9,51 +9,51 @@ use Rattle.claim_profile.specs.declared.order_fields.ClaimFields.{ClaimFields}
 use Rattle.claim_profile.specs.declared.order_fields.ReversalFields.{ReversalFields}
 use Rattle.claim_profile.specs.declared.order_values.Level.TheVariants.{Shared, Group}
 use Rattle.claim_profile.specs.Fields.{untrimmed, trimmed, values, values_in, texts_in, required, optional}
-use Rattle.claim_profile.specs.Tally.{Absent, Many, counted}
+use Rattle.claim_profile.specs.Tally.{Absent, Many, tallied}
 use Rattle.claim_profile.specs.OrderTally.{OrderTally, nothing_seen, fields_counted, segments_counted}
 use Rattle.claim_profile.specs.Order.{text_up_to, number_up_to, amount_in_cents, the_text, qualified, claim_fields, reversal_fields, claim_of, claim_codes, reversal_of, reversal_codes, or_rejected, claim_order, reversal_order, day_of_service}
 use Rattle.claim_profile.specs.OrderSeen.{required_seen, optional_seen, qualified_seen, claim_seen, reversal_seen}
 use Rattle.claim_profile.proofs.Counting.{counted_nothing}
 
-pub counted-many : (vs : List (List ℕ)) → counted Many vs ≡ Many
-unfolding counted
-counted-many [] = refl
-counted-many (v ∷ vs) = counted-many vs
+pub tallied-many : (vs : List (List ℕ)) → tallied Many vs ≡ Many
+unfolding tallied
+tallied-many [] = refl
+tallied-many (v ∷ vs) = tallied-many vs
 
-pub required_counted : {A : Type 0} (test : List ℕ → Option A) (vs : List (List ℕ)) → required_seen test (counted Absent vs) ≡ required test vs
-unfolding counted
+pub required_counted : {A : Type 0} (test : List ℕ → Option A) (vs : List (List ℕ)) → required_seen test (tallied Absent vs) ≡ required test vs
+unfolding tallied
 required_counted test [] = refl
 required_counted test (v ∷ []) = refl
-required_counted test (v ∷ w ∷ vs) = ap (required_seen test) (counted-many vs)
+required_counted test (v ∷ w ∷ vs) = ap (required_seen test) (tallied-many vs)
 
-pub optional_counted : {A : Type 0} (absent : A) (test : List ℕ → Option A) (vs : List (List ℕ)) → optional_seen absent test (counted Absent vs) ≡ optional absent test vs
-unfolding counted
+pub optional_counted : {A : Type 0} (absent : A) (test : List ℕ → Option A) (vs : List (List ℕ)) → optional_seen absent test (tallied Absent vs) ≡ optional absent test vs
+unfolding tallied
 optional_counted absent test [] = refl
 optional_counted absent test (v ∷ []) = refl
-optional_counted absent test (v ∷ w ∷ vs) = ap (optional_seen absent test) (counted-many vs)
+optional_counted absent test (v ∷ w ∷ vs) = ap (optional_seen absent test) (tallied-many vs)
 
 -- all values of the fields of an order, counted
 abbrev all_counted : (shared group : List SegmentParts) → OrderTally
 all_counted shared group = record {
-  cardholder = counted Absent (texts_in (codes "04") (codes "C2") shared);
-  prescription_qualifier = counted Absent (texts_in (codes "07") (codes "EM") group);
-  prescription = counted Absent (values_in (codes "07") (codes "D2") group);
-  fill = counted Absent (values_in (codes "07") (codes "D3") group);
-  product_qualifier = counted Absent (texts_in (codes "07") (codes "E1") group);
-  product = counted Absent (texts_in (codes "07") (codes "D7") group);
-  quantity = counted Absent (values_in (codes "07") (codes "E7") group);
-  cost = counted Absent (values_in (codes "11") (codes "D9") group);
-  fee = counted Absent (values_in (codes "11") (codes "DC") group);
+  cardholder = tallied Absent (texts_in (codes "04") (codes "C2") shared);
+  prescription_qualifier = tallied Absent (texts_in (codes "07") (codes "EM") group);
+  prescription = tallied Absent (values_in (codes "07") (codes "D2") group);
+  fill = tallied Absent (values_in (codes "07") (codes "D3") group);
+  product_qualifier = tallied Absent (texts_in (codes "07") (codes "E1") group);
+  product = tallied Absent (texts_in (codes "07") (codes "D7") group);
+  quantity = tallied Absent (values_in (codes "07") (codes "E7") group);
+  cost = tallied Absent (values_in (codes "11") (codes "D9") group);
+  fee = tallied Absent (values_in (codes "11") (codes "DC") group);
 }
 
 -- first counting nothing of a field changes nothing
-after_nothing : (first second : List ℕ → List ℕ) (name : List ℕ) (vs : List (List ℕ)) → counted (counted Absent (values first name [])) vs ≡ counted Absent vs
-after_nothing first second name vs = ap (λ t. counted t vs) (counted_nothing Absent first name)
+after_nothing : (first second : List ℕ → List ℕ) (name : List ℕ) (vs : List (List ℕ)) → tallied (tallied Absent (values first name [])) vs ≡ tallied Absent vs
+after_nothing first second name vs = ap (λ t. tallied t vs) (counted_nothing Absent first name)
 
 is_all_counted : (shared group : List SegmentParts) → segments_counted Group (segments_counted Shared nothing_seen shared) group ≡ all_counted shared group
 unfolding segments_counted fields_counted
 is_all_counted shared group = λ i. record {
-  cardholder = counted_nothing (counted Absent (texts_in (codes "04") (codes "C2") shared)) trimmed (codes "C2") i;
+  cardholder = counted_nothing (tallied Absent (texts_in (codes "04") (codes "C2") shared)) trimmed (codes "C2") i;
   prescription_qualifier = after_nothing trimmed trimmed (codes "EM") (texts_in (codes "07") (codes "EM") group) i;
   prescription = after_nothing untrimmed untrimmed (codes "D2") (values_in (codes "07") (codes "D2") group) i;
   fill = after_nothing untrimmed untrimmed (codes "D3") (values_in (codes "07") (codes "D3") group) i;
@@ -65,9 +65,9 @@ is_all_counted shared group = λ i. record {
 }
 
 pub qualified_counted : {A : Type 0} (expected : List ℕ) (qualifiers : List (List ℕ)) (test : List ℕ → Option A) (vs : List (List ℕ))
-    → qualified_seen expected (counted Absent qualifiers) (required_seen test (counted Absent vs)) ≡ qualified expected qualifiers (required test vs)
+    → qualified_seen expected (tallied Absent qualifiers) (required_seen test (tallied Absent vs)) ≡ qualified expected qualifiers (required test vs)
 qualified_counted expected qualifiers test vs =
-    ap (λ o. qualified_seen expected (counted Absent qualifiers) o) (required_counted test vs)
+    ap (λ o. qualified_seen expected (tallied Absent qualifiers) o) (required_counted test vs)
     ∙ ap (λ o. if is_some o then required test vs else None) (required_counted (the_text expected) qualifiers)
 
 fields_of_claim : (h : Request) (shared group : List SegmentParts) → claim_seen h (all_counted shared group) ≡ claim_fields h shared group

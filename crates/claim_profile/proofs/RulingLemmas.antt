@@ -14,20 +14,20 @@ use Rattle.claim_profile.specs.declared.answer_reading.AnswerFault.TheVariants.{
 use Rattle.claim_profile.specs.Authorization.{Authorization, authorization_of}
 use Rattle.claim_profile.specs.Money.{Money}
 use Rattle.claim_profile.specs.Fields.{values_in, texts_in, required}
-use Rattle.claim_profile.specs.Tally.{Absent, counted, the_one}
+use Rattle.claim_profile.specs.Tally.{Absent, tallied, the_one}
 use Rattle.claim_profile.specs.Order.{number_up_to, amount_in_cents}
 use Rattle.claim_profile.specs.OrderSeen.{required_seen}
 use Rattle.claim_profile.specs.AnswerTally.{AnswerTally, no_answer_seen, answer_counted}
 use Rattle.claim_profile.specs.Ruling.{◌>>=◌, or_fault, status_of, checked_status, status_in, authorization_in, claim_in, money_of, money_in, code_of, codes_of, counted_codes, rejection_in, ruling_under, ruling_in}
 use Rattle.claim_profile.specs.RulingSeen.{status_seen, authorization_seen, claim_number_seen, money_seen, payment_seen, code_more, codes_counted, some_codes, ruled_under, ruled_seen, rejection_with, or_rejection}
-use Rattle.claim_profile.proofs.OrderLemmas.{required_counted, qualified_counted, counted-many}
+use Rattle.claim_profile.proofs.OrderLemmas.{required_counted, qualified_counted, tallied-many}
 use Rattle.claim_profile.proofs.AnswerCounting.{all_answer_counted, is_all_answer_counted}
 
-the_one_counted : (vs : List (List ℕ)) → the_one (counted Absent vs) ≡ required (λ value. Some value) vs
-unfolding counted
+the_one_counted : (vs : List (List ℕ)) → the_one (tallied Absent vs) ≡ required (λ value. Some value) vs
+unfolding tallied
 the_one_counted [] = refl
 the_one_counted (v ∷ []) = refl
-the_one_counted (v ∷ w ∷ vs) = ap the_one (counted-many vs)
+the_one_counted (v ∷ w ∷ vs) = ap the_one (tallied-many vs)
 
 -- ---- the parts
 

@@ -20,7 +20,7 @@ use Rattle.claim_profile.specs.Authorization.{Authorization, authorization_text}
 use Rattle.claim_profile.specs.Money.{Money, IsMoney}
 use Rattle.claim_profile.specs.Answer.{status_byte_of, status_segment, claim_segment, pricing_segment, code_field, reject_segment, ruling_segments, ruling_groups, answer_parts, answer_text, IsPrescription, StandsBeside}
 use Rattle.claim_profile.specs.Ruling.{rulings_in, answer_with, answer_of}
-use Rattle.claim_profile.specs.Answering.{IsMade, Answers, answered}
+use Rattle.claim_profile.specs.Answering.{IsConstructible, Answers, answered}
 use Rattle.claim_profile.proofs.PaddedNumbers.{length-authorization_text}
 use Rattle.claim_profile.proofs.PlainTexts.{number_plain, amount_plain, authorization_plain, number_fits, amount_fits}
 use Rattle.claim_profile.proofs.WrittenGroups.{NumbersReadBack, AmountsReadBack, ruling_read}
@@ -86,7 +86,7 @@ answer_framed sound h s rulings a =
 
 -- ---- reading
 
-rulings_read : NumbersReadBack → AmountsReadBack → (h : Request) (s : HeaderStatus) (rulings : List Ruling) → AllByRecursion IsMade rulings → AllByRecursion (StandsBeside s) rulings
+rulings_read : NumbersReadBack → AmountsReadBack → (h : Request) (s : HeaderStatus) (rulings : List Ruling) → AllByRecursion IsConstructible rulings → AllByRecursion (StandsBeside s) rulings
     → rulings_in (answer_to h (status_byte_of s)) (ruling_groups rulings) ≡ Ok rulings
 unfolding rulings_in
 rulings_read numbers amounts h s [] made beside = refl
@@ -173,14 +173,14 @@ length-payment numbers amounts status auth prescription m is money =
       length-pricing amounts m money,
     )
 
-length-ruling : NumbersReadBack → AmountsReadBack → (r : Ruling) → IsMade r → length (segments_text (ruling_segments r)) ≤ 104
+length-ruling : NumbersReadBack → AmountsReadBack → (r : Ruling) → IsConstructible r → length (segments_text (ruling_segments r)) ≤ 104
 length-ruling numbers amounts (Paid auth prescription m) made = length-payment numbers amounts 80 auth prescription m made.1 made.2
 length-ruling numbers amounts (Duplicate auth prescription m) made = length-payment numbers amounts 68 auth prescription m made.1 made.2
 length-ruling numbers amounts (Reversed auth prescription) made =
     omega (arith, length-two (segment_text (status_segment (65 ∷ []) auth)) (segment_text (claim_segment prescription)), length-status (65 ∷ []) auth, length-claim numbers prescription made.1)
 length-ruling numbers amounts (Rejected rejects) made = omega (arith, length-one (segment_text (reject_segment rejects)), length-rejects numbers rejects made.1)
 
-length-rulings : NumbersReadBack → AmountsReadBack → (rulings : List Ruling) → AllByRecursion IsMade rulings → length (groups_text (ruling_groups rulings)) ≤ 105 * length rulings
+length-rulings : NumbersReadBack → AmountsReadBack → (rulings : List Ruling) → AllByRecursion IsConstructible rulings → length (groups_text (ruling_groups rulings)) ≤ 105 * length rulings
 length-rulings numbers amounts [] made = omega arith
 length-rulings numbers amounts (r ∷ rulings) made =
     omega (arith, length-append (segments_text (ruling_segments r)) (groups_text (ruling_groups rulings)), length-ruling numbers amounts r made.0, length-rulings numbers amounts rulings made.1)

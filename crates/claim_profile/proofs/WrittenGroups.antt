@@ -24,7 +24,7 @@ use Rattle.claim_profile.specs.Fields.{is_filled, values, fields_of, required, u
 use Rattle.claim_profile.specs.Order.{number_up_to, not_negative, amount_in_cents}
 use Rattle.claim_profile.specs.Answer.{status_byte_of, status_segment, claim_segment, pricing_segment, code_field, reject_segment, ruling_segments, IsPrescription, StandsBeside}
 use Rattle.claim_profile.specs.Ruling.{or_fault, status_in, authorization_in, claim_in, money_of, amount_at, money_in, code_of, codes_of, counted_codes, rejects_in, payment_in, reversal_in, ruling_in}
-use Rattle.claim_profile.specs.Answering.{IsMade}
+use Rattle.claim_profile.specs.Answering.{IsConstructible}
 use Rattle.claim_profile.proofs.PaddedNumbers.{length-authorization_text, authorization_reads}
 use Rattle.claim_profile.proofs.PlainTexts.{number_fits, amount_fits}
 
@@ -148,15 +148,15 @@ no_statuses : (rejects : List Code) → filter (λ (f : FieldParts). bytes_eq f.
 no_statuses [] = refl
 no_statuses (code ∷ rejects) = no_statuses rejects
 
-counted : (rejects : List Code) → 1 ≤ length rejects → length rejects ≤ 5 → counted_codes (Some (length rejects)) (Some rejects) ≡ Some rejects
-counted rejects some few = rw (le_yes 1 (length rejects) some, le_yes (length rejects) 5 few, eq-eqb (length rejects) (length rejects) refl) refl
+tallied : (rejects : List Code) → 1 ≤ length rejects → length rejects ≤ 5 → counted_codes (Some (length rejects)) (Some rejects) ≡ Some rejects
+tallied rejects some few = rw (le_yes 1 (length rejects) some, le_yes (length rejects) 5 few, eq-eqb (length rejects) (length rejects) refl) refl
   where
     le_yes : (m n : ℕ) → m ≤ n → nat_le m n ≡ true
     le_yes m n h = grind (arith, nat_tests)
 
 rejects_there : (count : Option ℕ) (found : Option (List Code)) (rejects : List Code) → 1 ≤ length rejects → length rejects ≤ 5 → count ≡ Some (length rejects) → found ≡ Some rejects
     → or_fault BadRejects (counted_codes count found) ≡ Ok rejects
-rejects_there count found rejects some few c f = rw (c, f, counted rejects some few) refl
+rejects_there count found rejects some few c f = rw (c, f, tallied rejects some few) refl
 
 rejects_read : NumbersReadBack → (rejects : List Code) → 1 ≤ length rejects → length rejects ≤ 5 → rejects_in (reject_segment rejects ∷ []) ≡ Ok rejects
 unfolding fields_of values reject_segment
@@ -186,7 +186,7 @@ unfolding fields_of values status_segment claim_segment
 status_of_reversal h auth prescription = refl
 
 -- each ruling is read from its own segments
-pub ruling_read : NumbersReadBack → AmountsReadBack → (h : Request) (s : HeaderStatus) (r : Ruling) → IsMade r → StandsBeside s r → ruling_in (answer_to h (status_byte_of s)) (ruling_segments r) ≡ Ok r
+pub ruling_read : NumbersReadBack → AmountsReadBack → (h : Request) (s : HeaderStatus) (r : Ruling) → IsConstructible r → StandsBeside s r → ruling_in (answer_to h (status_byte_of s)) (ruling_segments r) ≡ Ok r
 unfolding ruling_in
 ruling_read numbers amounts h header.Accepted (Paid auth prescription m) made beside =
     rw (status_of_payment h auth prescription m)

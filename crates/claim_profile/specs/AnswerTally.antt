@@ -3,7 +3,7 @@ use Rattle.std.specs.Prelude.{List, codes}
 use Rattle.d0_segments.specs.Parts.{FieldParts, SegmentParts}
 use Rattle.claim_profile.specs.declared.answer_values.AnswerValues.{AnswerValues}
 use Rattle.claim_profile.specs.Fields.{untrimmed, trimmed, values, fields_of}
-use Rattle.claim_profile.specs.Tally.{Tally, Absent, seen, counted}
+use Rattle.claim_profile.specs.Tally.{Tally, Absent, seen, tallied}
 
 -- what is known of each field of an answer
 pub record AnswerTally : Type 0 where
@@ -48,15 +48,15 @@ no_answer_seen = record {
 -- the fields of status, claim and pricing segments counted
 unfoldable pub answer_fields_counted : AnswerTally → (status claim pricing : List FieldParts) → AnswerTally
 answer_fields_counted t status claim pricing = record {
-  status = counted t.status (values untrimmed (codes "AN") status);
-  authorization = counted t.authorization (values untrimmed (codes "F3") status);
-  reject_count = counted t.reject_count (values untrimmed (codes "FA") status);
-  prescription_qualifier = counted t.prescription_qualifier (values trimmed (codes "EM") claim);
-  prescription = counted t.prescription (values untrimmed (codes "D2") claim);
-  copay = counted t.copay (values untrimmed (codes "F5") pricing);
-  cost = counted t.cost (values untrimmed (codes "F6") pricing);
-  fee = counted t.fee (values untrimmed (codes "F7") pricing);
-  total = counted t.total (values untrimmed (codes "F9") pricing);
+  status = tallied t.status (values untrimmed (codes "AN") status);
+  authorization = tallied t.authorization (values untrimmed (codes "F3") status);
+  reject_count = tallied t.reject_count (values untrimmed (codes "FA") status);
+  prescription_qualifier = tallied t.prescription_qualifier (values trimmed (codes "EM") claim);
+  prescription = tallied t.prescription (values untrimmed (codes "D2") claim);
+  copay = tallied t.copay (values untrimmed (codes "F5") pricing);
+  cost = tallied t.cost (values untrimmed (codes "F6") pricing);
+  fee = tallied t.fee (values untrimmed (codes "F7") pricing);
+  total = tallied t.total (values untrimmed (codes "F9") pricing);
 }
 
 -- the segments of a group counted, each field in its own segment

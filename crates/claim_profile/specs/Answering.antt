@@ -14,17 +14,17 @@ use Rattle.claim_profile.specs.Answer.{status_byte_of, answer_text, IsPrescripti
 use Rattle.claim_profile.specs.Ruling.{AnswerParts}
 
 -- a ruling of what the constructors take: an authorization and amounts in their ranges, a prescription number of at most twelve digits, one to five codes
-abbrev pub IsMade : Ruling → Type 0
-IsMade (ruling.Paid auth prescription amounts) = IsAuthorization auth.payer auth.serial × IsPrescription prescription × IsMoney amounts
-IsMade (ruling.Duplicate auth prescription amounts) = IsAuthorization auth.payer auth.serial × IsPrescription prescription × IsMoney amounts
-IsMade (ruling.Reversed auth prescription) = IsAuthorization auth.payer auth.serial × IsPrescription prescription
-IsMade (ruling.Rejected rejects) = (1 ≤ length rejects) × (length rejects ≤ 5)
+abbrev pub IsConstructible : Ruling → Type 0
+IsConstructible (ruling.Paid auth prescription amounts) = IsAuthorization auth.payer auth.serial × IsPrescription prescription × IsMoney amounts
+IsConstructible (ruling.Duplicate auth prescription amounts) = IsAuthorization auth.payer auth.serial × IsPrescription prescription × IsMoney amounts
+IsConstructible (ruling.Reversed auth prescription) = IsAuthorization auth.payer auth.serial × IsPrescription prescription
+IsConstructible (ruling.Rejected rejects) = (1 ≤ length rejects) × (length rejects ≤ 5)
 
 -- what can be answered to a request: a ruling of that kind for each transaction that its header counts, and beside status `R` rejections alone
 pub record Answers (h : Request) (status : HeaderStatus) (rulings : List Ruling) : Type 0 where
   pub header : IsRequest h
   pub count : length rulings ≡ h.count
-  pub made : AllByRecursion IsMade rulings
+  pub made : AllByRecursion IsConstructible rulings
   pub beside : AllByRecursion (StandsBeside status) rulings
 
 -- what an answer is read as: the header that answers the request, and the rulings

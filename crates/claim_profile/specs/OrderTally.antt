@@ -5,7 +5,7 @@ use Rattle.claim_profile.specs.declared.order_values.Level.{Level}
 use Rattle.claim_profile.specs.declared.order_values.Level.TheVariants.{Shared, Group}
 use Rattle.claim_profile.specs.declared.order_values.OrderValues.{OrderValues}
 use Rattle.claim_profile.specs.Fields.{untrimmed, trimmed, values, fields_of}
-use Rattle.claim_profile.specs.Tally.{Tally, Absent, seen, counted}
+use Rattle.claim_profile.specs.Tally.{Tally, Absent, seen, tallied}
 
 -- what is known of each field of an order
 pub record OrderTally : Type 0 where
@@ -50,15 +50,15 @@ nothing_seen = record {
 -- the fields of insurance, claim and pricing segments counted
 unfoldable pub fields_counted : OrderTally → (insurance claim pricing : List FieldParts) → OrderTally
 fields_counted t insurance claim pricing = record {
-  cardholder = counted t.cardholder (values trimmed (codes "C2") insurance);
-  prescription_qualifier = counted t.prescription_qualifier (values trimmed (codes "EM") claim);
-  prescription = counted t.prescription (values untrimmed (codes "D2") claim);
-  fill = counted t.fill (values untrimmed (codes "D3") claim);
-  product_qualifier = counted t.product_qualifier (values trimmed (codes "E1") claim);
-  product = counted t.product (values trimmed (codes "D7") claim);
-  quantity = counted t.quantity (values untrimmed (codes "E7") claim);
-  cost = counted t.cost (values untrimmed (codes "D9") pricing);
-  fee = counted t.fee (values untrimmed (codes "DC") pricing);
+  cardholder = tallied t.cardholder (values trimmed (codes "C2") insurance);
+  prescription_qualifier = tallied t.prescription_qualifier (values trimmed (codes "EM") claim);
+  prescription = tallied t.prescription (values untrimmed (codes "D2") claim);
+  fill = tallied t.fill (values untrimmed (codes "D3") claim);
+  product_qualifier = tallied t.product_qualifier (values trimmed (codes "E1") claim);
+  product = tallied t.product (values trimmed (codes "D7") claim);
+  quantity = tallied t.quantity (values untrimmed (codes "E7") claim);
+  cost = tallied t.cost (values untrimmed (codes "D9") pricing);
+  fee = tallied t.fee (values untrimmed (codes "DC") pricing);
 }
 
 -- the segments of a level counted, each field in its own segment

@@ -22,9 +22,9 @@ one_more (Single before) value = Many
 one_more Many value = Many
 
 -- these values more
-unfoldable pub counted : Tally → List (List ℕ) → Tally
-counted tally [] = tally
-counted tally (v ∷ vs) = counted (one_more tally v) vs
+unfoldable pub tallied : Tally → List (List ℕ) → Tally
+tallied tally [] = tally
+tallied tally (v ∷ vs) = tallied (one_more tally v) vs
 
 -- the value, where there is exactly one
 abbrev pub the_one : Tally → Option (List ℕ)

@@ -3,7 +3,7 @@
 ghost use Rattle.std.specs.Prelude.{◌≡◌, [], ◌∷◌, filter, option_copied};
 ghost use Rattle.d0_segments.specs.Views.{field_parts};
 ghost use Rattle.claim_profile.specs.Fields.{trimmed, untrimmed, is_filled, values};
-ghost use Rattle.claim_profile.specs.Tally.{seen, counted, the_one};
+ghost use Rattle.claim_profile.specs.Tally.{seen, tallied, the_one};
 
 use d0_segments::Field;
 
@@ -17,9 +17,9 @@ pub enum Found<'a> {
 
 impl<'a> Found<'a> {
     /// Counts the value of a field of this name.
-    #[tactic(auto, unfolding(crate::specs::Fields::values, crate::specs::Tally::counted))]
+    #[tactic(auto, unfolding(crate::specs::Fields::values, crate::specs::Tally::tallied))]
     pub fn count(&mut self, name: &[u8; 2], field: &Field<'a>)
-        ensures { seen self.new ≡ counted (seen self.old) (values untrimmed name.now (field_parts field.now ∷ [])) }
+        ensures { seen self.new ≡ tallied (seen self.old) (values untrimmed name.now (field_parts field.now ∷ [])) }
     {
         if field.id() == *name {
             self.add(field.value());
@@ -27,9 +27,9 @@ impl<'a> Found<'a> {
     }
 
     /// Counts the value of a field of this name, a text: spaces at its end don't count.
-    #[tactic(auto, unfolding(crate::specs::Fields::values, crate::specs::Tally::counted))]
+    #[tactic(auto, unfolding(crate::specs::Fields::values, crate::specs::Tally::tallied))]
     pub fn count_text(&mut self, name: &[u8; 2], field: &Field<'a>)
-        ensures { seen self.new ≡ counted (seen self.old) (values trimmed name.now (field_parts field.now ∷ [])) }
+        ensures { seen self.new ≡ tallied (seen self.old) (values trimmed name.now (field_parts field.now ∷ [])) }
     {
         if field.id() == *name {
             self.add(trimmed(field.value()));
@@ -47,9 +47,9 @@ impl<'a> Found<'a> {
     }
 
     // One value more, unless it is empty.
-    #[tactic(auto, unfolding(crate::specs::Tally::counted))]
+    #[tactic(auto, unfolding(crate::specs::Tally::tallied))]
     fn add(&mut self, value: &'a [u8])
-        ensures { seen self.new ≡ counted (seen self.old) (filter is_filled (value.now ∷ [])) }
+        ensures { seen self.new ≡ tallied (seen self.old) (filter is_filled (value.now ∷ [])) }
     {
         if value.is_empty() {
             return;

@@ -33,7 +33,7 @@ pub struct Claim {
     pub fee: u32,
 }
 
-/// A reversal: takes back the payment of a fill. Without a fill number it names every fill of its
+/// A reversal: reverses the payment of a fill. Without a fill number it names every fill of its
 /// prescription on its day.
 #[derive(Clone, Copy, Debug, PartialEq, Eq)]
 pub struct Reversal {

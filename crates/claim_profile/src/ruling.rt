@@ -19,7 +19,7 @@ pub enum Ruling {
         prescription: u64,
         amounts: Amounts,
     },
-    /// The payment with this authorization is taken back.
+    /// The payment with this authorization is reversed.
     Reversed {
         auth: Auth,
         prescription: u64,

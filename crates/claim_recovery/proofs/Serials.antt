@@ -11,7 +11,7 @@ use Rattle.claim_model.specs.Context.{Context}
 use Rattle.claim_model.specs.Ruled.{Ruled, ruled, ruled_from}
 use Rattle.claim_model.specs.Payments.{Payment, payment_by, payments, is_standing, standing}
 use Rattle.claim_model.specs.Rows.{Book}
-use Rattle.claim_model.specs.Judgement.{same_fill, same_claim, standing_for, undone_by, Settled, judged_claim, judged_reversal, judged, is_paid, next_serial, next_auth, priced, ruling_of, ruling, rulings_from}
+use Rattle.claim_model.specs.Judgement.{same_fill, same_claim, standing_for, payment_to_reverse, Unpriced, judged_claim, judged_reversal, judged, is_paid, next_serial, next_auth, priced, ruling_of, ruling, rulings_from}
 use Rattle.claim_model.specs.Book.{last_serial, serial_fits}
 use Rattle.claim_model.proofs.Lists.{all_weaker}
 use Rattle.claim_model.proofs.Tests.{fill_same, fill_self}
@@ -30,7 +30,7 @@ claim_fits : (ctx : Context) (b : Book) (before : List Ruled) (c : Claim) (o : O
 claim_fits ctx b before c None room = priced_fits b before c (ctx.price b.plan c) room
 claim_fits ctx b before c (Some p) room = go (same_claim p.claim c)
   where
-    go : (t : Bool) → serial_fits (ruling_of ctx b before (cond t (Settled (Duplicate p.auth c.fill.prescription p.amounts)) (Settled (Rejected (Code.DuplicateClaim ∷ []))))) ≡ true
+    go : (t : Bool) → serial_fits (ruling_of ctx b before (cond t (Unpriced (Duplicate p.auth c.fill.prescription p.amounts)) (Unpriced (Rejected (Code.DuplicateClaim ∷ []))))) ≡ true
     go true = refl
     go false = refl
 
@@ -43,7 +43,7 @@ ruling_fits : (ctx : Context) (b : Book) (before : List Ruled) (order : Result O
 unfolding ruling judged
 ruling_fits ctx b before (Err codes) room = refl
 ruling_fits ctx b before (Ok (Bills c)) room = claim_fits ctx b before c (standing_for c.fill before) room
-ruling_fits ctx b before (Ok (Reverses v)) room = reversal_fits ctx b before v (undone_by v before)
+ruling_fits ctx b before (Ok (Reverses v)) room = reversal_fits ctx b before v (payment_to_reverse v before)
 
 one_paid : (x : Ruled) → count_by (λ (r : Ruled). is_paid r.ruling) (x ∷ []) ≤ 1
 one_paid x = go (is_paid x.ruling)
@@ -80,7 +80,7 @@ claim_unpaid : (ctx : Context) (b : Book) (before : List Ruled) (c : Claim) (o :
 claim_unpaid ctx b before c None used fits = priced_unpaid b before c (ctx.price b.plan c) used fits
 claim_unpaid ctx b before c (Some p) used fits = go (same_claim p.claim c)
   where
-    go : (t : Bool) → is_paid (ruling_of ctx b before (cond t (Settled (Duplicate p.auth c.fill.prescription p.amounts)) (Settled (Rejected (Code.DuplicateClaim ∷ []))))) ≡ false
+    go : (t : Bool) → is_paid (ruling_of ctx b before (cond t (Unpriced (Duplicate p.auth c.fill.prescription p.amounts)) (Unpriced (Rejected (Code.DuplicateClaim ∷ []))))) ≡ false
     go true = refl
     go false = refl
 
@@ -93,7 +93,7 @@ ruling_unpaid : (ctx : Context) (b : Book) (before : List Ruled) (order : Result
 unfolding ruling judged
 ruling_unpaid ctx b before (Err codes) used fits = refl
 ruling_unpaid ctx b before (Ok (Bills c)) used fits = claim_unpaid ctx b before c (standing_for c.fill before) used fits
-ruling_unpaid ctx b before (Ok (Reverses v)) used fits = reversal_unpaid ctx b before v (undone_by v before)
+ruling_unpaid ctx b before (Ok (Reverses v)) used fits = reversal_unpaid ctx b before v (payment_to_reverse v before)
 
 -- ---- a fill without a standing payment, as rulings that pay nothing follow
 
@@ -180,7 +180,7 @@ unpriced_claim : (ctx : Context) (b : Book) (before : List Ruled) (c : Claim) (o
 unpriced_claim ctx b before c None none = ap (λ o. is_paid (priced (next_auth b before) c o)) none
 unpriced_claim ctx b before c (Some p) none = go (same_claim p.claim c)
   where
-    go : (t : Bool) → is_paid (ruling_of ctx b before (cond t (Settled (Duplicate p.auth c.fill.prescription p.amounts)) (Settled (Rejected (Code.DuplicateClaim ∷ []))))) ≡ false
+    go : (t : Bool) → is_paid (ruling_of ctx b before (cond t (Unpriced (Duplicate p.auth c.fill.prescription p.amounts)) (Unpriced (Rejected (Code.DuplicateClaim ∷ []))))) ≡ false
     go true = refl
     go false = refl
 
@@ -188,7 +188,7 @@ unpriced : (ctx : Context) (b : Book) (before : List Ruled) (order : Result Orde
 unfolding ruling judged
 unpriced ctx b before (Err codes) none = refl
 unpriced ctx b before (Ok (Bills c)) none = unpriced_claim ctx b before c (standing_for c.fill before) (none c refl)
-unpriced ctx b before (Ok (Reverses v)) none = reversal_unpaid ctx b before v (undone_by v before)
+unpriced ctx b before (Ok (Reverses v)) none = reversal_unpaid ctx b before v (payment_to_reverse v before)
 
 unpaid_fits : (given : Ruling) → is_paid given ≡ false → serial_fits given ≡ true
 unpaid_fits (Paid auth n m) e = absurd (Rattle.std.proofs.lemmas.Bool.true≢false e)

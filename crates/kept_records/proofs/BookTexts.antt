@@ -16,7 +16,7 @@ use Rattle.kept_records.specs.Products.{products_text}
 use Rattle.kept_records.specs.Plans.{products_in}
 use Rattle.kept_records.specs.Rows.{book_name, head_text, head_at, rows_text}
 use Rattle.kept_records.specs.Versions.{is_version}
-use Rattle.kept_records.specs.Books.{book_text, is_id, rows_in, is_head_of, has_terms, opened, first_plan, first_book, book_in}
+use Rattle.kept_records.specs.Books.{book_text, is_id, rows_in, is_head_of, has_terms, book_head_in, first_plan, first_book, book_in}
 use Rattle.kept_records.specs.BookLaws.{IsKeptRow, AreKeptRows, HaveOne, IsMade, FitsBook, IsKeepable, IsTextOf}
 use Rattle.kept_records.proofs.FieldsOnly.{AreBytes, IsTaken}
 use Rattle.kept_records.proofs.Chains.{some_or_then, when_or_then, when_or_ok, result_then}
@@ -63,8 +63,8 @@ same_test n = grind (arith, nat_tests)
 le_test : (m n : ℕ) → m ≤ n → nat_le m n ≡ true
 le_test m n h = grind (arith, nat_tests)
 
-opens_again : (version : ℕ) (b : Book) (rest : List ℕ) → is_version version ≡ true → IsKeepable b → opened b.payer b.settings.serial (head_text version b ++ rest) ≡ Ok (head_of version b, rest)
-unfolding opened
+opens_again : (version : ℕ) (b : Book) (rest : List ℕ) → is_version version ≡ true → IsKeepable b → book_head_in b.payer b.settings.serial (head_text version b ++ rest) ≡ Ok (head_of version b, rest)
+unfolding book_head_in
 opens_again version b rest known is =
     rw (
       head_at-put (head_of version b) rest (head_fits version b is.fits),
@@ -130,8 +130,8 @@ three false b c h = cc
 le_from : (m n : ℕ) → nat_le m n ≡ true → m ≤ n
 le_from m n t = grind (arith, nat_tests)
 
-opens_as : (payer serial : ℕ) (bytes : List ℕ) (head : BookHead) (rest : List ℕ) → AreBytes bytes → opened payer serial bytes ≡ Ok (head, rest) → IsOpened payer serial bytes head rest
-unfolding opened
+opens_as : (payer serial : ℕ) (bytes : List ℕ) (head : BookHead) (rest : List ℕ) → AreBytes bytes → book_head_in payer serial bytes ≡ Ok (head, rest) → IsOpened payer serial bytes head rest
+unfolding book_head_in
 opens_as payer serial bytes head rest are h =
     let a = some_or_then Short (head_at bytes) (λ head. when_or NotABook (is_head_of payer serial head.0) head >>= λ own. when_or Version (is_version head.0.version) own >>= λ known. when_or (BadRecord 29) (has_terms head.0) known) (head, rest) h in
     let p : BookHead × List ℕ = a.0 in
@@ -192,23 +192,23 @@ by_version version bytes b known text kept = by_tests (version == 1) (version ==
 
 -- what was read part by part is the book
 assembled : (payer : ℕ) (settings : BookSettings) (bytes : List ℕ) (b : Book) (head : BookHead) (behind : List ℕ) (plan : Terms) (rest : List ℕ) → IsOpened payer settings.serial bytes head behind
-    → AreListed (first_plan head) plan head.products behind rest → (entered : AreEntered head.version (first_book payer settings plan) b head.rows rest) → KeepsRows (first_book payer settings plan) entered.rows b → IsTextOf payer settings bytes b
+    → AreListed (first_plan head) plan head.products behind rest → (entry_in : AreEntered head.version (first_book payer settings plan) b head.rows rest) → KeepsRows (first_book payer settings plan) entry_in.rows b → IsTextOf payer settings bytes b
 unfolding book_text
-assembled payer settings bytes b head behind plan rest opens listed entered grown =
+assembled payer settings bytes b head behind plan rest opens listed entry_in grown =
     let ks : List KeptRow = map kept_row b.rows in
     let terms : b.plan ≡ priced_as (first_plan head) listed.more = grown.plan ∙ listed.is in
     let prices : listed.more ≡ b.plan.prices = ap (λ (t : Terms). t.prices) (sym terms) in
-    let rows : ks ≡ entered.rows = grown.rows in
+    let rows : ks ≡ entry_in.rows = grown.rows in
     let products_count : head.products ≡ length b.plan.prices = sym listed.counted ∙ ap (λ (ps : Prices). length ps) prices in
-    let rows_count : head.rows ≡ length b.rows = sym entered.counted ∙ ap (λ (l : List KeptRow). length l) (sym rows) ∙ length-map b.rows kept_row in
+    let rows_count : head.rows ≡ length b.rows = sym entry_in.counted ∙ ap (λ (l : List KeptRow). length l) (sym rows) ∙ length-map b.rows kept_row in
     let same : head ≡ head_of head.version b = same_head head book_name b.payer b.settings.serial b.plan.fee b.plan.copay (length b.plan.prices) (length b.rows)
     opens.name (opens.of_payer ∙ sym grown.payer) (opens.of_serial ∙ ap (λ (t : BookSettings). t.serial) (sym grown.settings)) (ap (λ (t : Terms). t.fee) (sym terms)) (ap (λ (t : Terms). t.copay) (sym terms)) products_count rows_count in
     let text : bytes ≡ book_text head.version b =
     opens.taken.all ∙ ap (λ (x : BookHead). fields_text x ++ behind) same ∙ ap (λ (t : List ℕ). head_text head.version b ++ t)
-    (listed.taken.all ∙ ap (λ (ps : Prices). products_text ps ++ rest) prices ∙ ap (λ (t : List ℕ). products_text b.plan.prices ++ t) (entered.text ∙ ap rows_text (sym rows))) in
-    let kept : AreKeptIn head.version ks = subst (λ (l : List KeptRow). AreKeptIn head.version l) (sym rows) entered.kept in
+    (listed.taken.all ∙ ap (λ (ps : Prices). products_text ps ++ rest) prices ∙ ap (λ (t : List ℕ). products_text b.plan.prices ++ t) (entry_in.text ∙ ap rows_text (sym rows))) in
+    let kept : AreKeptIn head.version ks = subst (λ (l : List KeptRow). AreKeptIn head.version l) (sym rows) entry_in.kept in
     let start : first_book payer settings plan ≡ first_book b.payer b.settings b.plan = same_book payer b.payer settings b.settings plan b.plan (sym grown.payer) (sym grown.settings) (sym grown.plan) in
-    let made : IsMade b = ap (λ (l : List KeptRow). added_all (Some (first_book b.payer b.settings b.plan)) l) rows ∙ ap (λ (x : Book). added_all (Some x) entered.rows) (sym start) ∙ entered.are_added in
+    let made : IsMade b = ap (λ (l : List KeptRow). added_all (Some (first_book b.payer b.settings b.plan)) l) rows ∙ ap (λ (x : Book). added_all (Some x) entry_in.rows) (sym start) ∙ entry_in.are_added in
     let is_plan : IsPlan (priced_as (first_plan head) listed.more) = record {
       fee = opens.fee;
       copay = opens.copay;
@@ -248,10 +248,10 @@ assembled payer settings bytes b head behind plan rest opens listed entered grow
 pub is_text : AddedAreKept → (payer : ℕ) (settings : BookSettings) (bytes : List ℕ) (b : Book) → AreBytes bytes → book_in payer settings bytes ≡ Ok b → IsTextOf payer settings bytes b
 unfolding book_in
 is_text law payer settings bytes b are h =
-    let o = result_then (opened payer settings.serial bytes) (λ head. products_in (length bytes) head.0.products (first_plan head.0) head.1 >>= λ plan. rows_in head.0.version (length bytes) head.0.rows (first_book payer settings plan.0) plan.1) b h in
+    let o = result_then (book_head_in payer settings.serial bytes) (λ head. products_in (length bytes) head.0.products (first_plan head.0) head.1 >>= λ plan. rows_in head.0.version (length bytes) head.0.rows (first_book payer settings plan.0) plan.1) b h in
     let head : BookHead = o.0.0 in
     let p = result_then (products_in (length bytes) head.products (first_plan head) o.0.1) (λ plan. rows_in head.version (length bytes) head.rows (first_book payer settings plan.0) plan.1) b o.2 in
     let opens = opens_as payer settings.serial bytes head o.0.1 are o.1 in
     let listed = products_are (length bytes) head.products (first_plan head) p.0.0 o.0.1 p.0.1 opens.taken.rest_bytes refl p.1 in
-    let entered = rows_are head.version (length bytes) head.rows (first_book payer settings p.0.0) b p.0.1 listed.taken.rest_bytes p.2 in
-    assembled payer settings bytes b head o.0.1 p.0.0 p.0.1 opens listed entered (law (first_book payer settings p.0.0) entered.rows b entered.are_added)
+    let entry_in = rows_are head.version (length bytes) head.rows (first_book payer settings p.0.0) b p.0.1 listed.taken.rest_bytes p.2 in
+    assembled payer settings bytes b head o.0.1 p.0.0 p.0.1 opens listed entry_in (law (first_book payer settings p.0.0) entry_in.rows b entry_in.are_added)

@@ -37,10 +37,10 @@ books_apart version other b d fits fits' text =
     let ls : List KeptRow = map kept_row d.rows in
     let rest : List ℕ = products_text b.plan.prices ++ rows_text ks in
     let rest' : List ℕ = products_text d.plan.prices ++ rows_text ls in
-    let opened : ◌≡◌ {A = BookHead × List ℕ} (head_of version b, rest) (head_of other d, rest') = same_Some (head_of version b, rest) (head_of other d, rest')
+    let book_head_in : ◌≡◌ {A = BookHead × List ℕ} (head_of version b, rest) (head_of other d, rest') = same_Some (head_of version b, rest) (head_of other d, rest')
     (sym (head_at-put (head_of version b) rest (head_fits version b fits)) ∙ ap head_at text ∙ head_at-put (head_of other d) rest' (head_fits other d fits')) in
-    let head : head_of version b ≡ head_of other d = ap (λ (x : BookHead × List ℕ). x.0) opened in
-    let behind : rest ≡ rest' = ap (λ (x : BookHead × List ℕ). x.1) opened in
+    let head : head_of version b ≡ head_of other d = ap (λ (x : BookHead × List ℕ). x.0) book_head_in in
+    let behind : rest ≡ rest' = ap (λ (x : BookHead × List ℕ). x.1) book_head_in in
     let listed : ◌≡◌ {A = Terms × List ℕ} (b.plan, rows_text ks) (d.plan, rows_text ls) = ok_same (b.plan, rows_text ks) (d.plan, rows_text ls)
     (sym (products_again 0 (first_plan (head_of version b)) b.plan.prices (rows_text ks) fits.plan.in_order fits.plan.priced fits.plan.few)
     ∙ ap (λ (h : BookHead). products_in 0 h.products (first_plan h) rest) head ∙ ap (λ (t : List ℕ). products_in 0 (length d.plan.prices) (first_plan (head_of other d)) t) behind

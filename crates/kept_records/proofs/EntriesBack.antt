@@ -9,7 +9,7 @@ use Rattle.claim_model.specs.Journal.{JournalAtRest, Kept}
 use Rattle.pharmacy_journal.specs.Resting.{added, added_all}
 use Rattle.kept_records.specs.Fields.{sized, u64_at, text_at}
 use Rattle.kept_records.specs.Entries.{answer_text, answer_at, entry_text, entry_at, entries_text}
-use Rattle.kept_records.specs.Journals.{entered, finished, entries_in}
+use Rattle.kept_records.specs.Journals.{entry_in, finished, entries_in}
 use Rattle.kept_records.specs.Versions.{fits_version}
 use Rattle.kept_records.proofs.FieldsBack.{u8_at-put, u64_at-put, text_at-put}
 use Rattle.kept_records.proofs.Made.{IsShort, both, added_is_longer, entries-longer, first_added}
@@ -42,10 +42,10 @@ entry_at-put number kept rest small short =
     (u64_at-put number b small) (text_at-put kept.request (answer_text kept.answer ++ rest) short.request) (answer_at-put kept.answer rest short.answer)
 
 -- an entry that can be added, under the next number
-pub entered-put : (version place : ℕ) (j longer : JournalAtRest) (kept : Kept) (rest : List ℕ) → length j.entries + 1 < 2 ^ 64 → added j kept.request kept.answer ≡ Some longer → fits_version version kept.request ≡ true
-    → entered version place j (entry_text (length j.entries + 1) kept ++ rest) ≡ Ok (longer, rest)
-unfolding entered
-entered-put version place j longer kept rest small next suited =
+pub entry_in-put : (version place : ℕ) (j longer : JournalAtRest) (kept : Kept) (rest : List ℕ) → length j.entries + 1 < 2 ^ 64 → added j kept.request kept.answer ≡ Some longer → fits_version version kept.request ≡ true
+    → entry_in version place j (entry_text (length j.entries + 1) kept ++ rest) ≡ Ok (longer, rest)
+unfolding entry_in
+entry_in-put version place j longer kept rest small next suited =
     let short = (added_is_longer j longer kept.request kept.answer next).short in
     rw (entry_at-put (length j.entries + 1) kept rest small short, next, suited, same (length j.entries + 1)) refl
   where
@@ -64,5 +64,5 @@ entries_in-put version total j all (kept ∷ entries) small h suited =
     let rest : List ℕ = entries_text (length j.entries + 1 + 1) entries in
     let count : length longer.entries ≡ length j.entries + 1 = entries-longer j longer kept (added_is_longer j longer kept.request kept.answer next.1) in
     let others = entries_in-put version total longer all entries (omega arith) next.2 tests.1 in
-    rw (entered-put version (total - length (entry_text (length j.entries + 1) kept ++ rest)) j longer kept rest (omega arith) next.1 tests.0)
+    rw (entry_in-put version (total - length (entry_text (length j.entries + 1) kept ++ rest)) j longer kept rest (omega arith) next.1 tests.0)
     (subst (λ n. entries_in version total (length entries) longer (entries_text (n + 1) entries) ≡ Ok all) count others)

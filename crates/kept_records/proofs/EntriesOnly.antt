@@ -12,7 +12,7 @@ use Rattle.kept_records.specs.Fields.{sized, u8_at, u64_at, text_at}
 use Rattle.kept_records.specs.Entries.{EntryParts, answer_text, answer_at, flagged_answer, entry_text, entry_at, entries_text}
 use Rattle.kept_records.specs.Options as options
 use Rattle.kept_records.specs.Faults.{◌>>=◌, some_or, when_or}
-use Rattle.kept_records.specs.Journals.{entered, finished, entries_in}
+use Rattle.kept_records.specs.Journals.{entry_in, finished, entries_in}
 use Rattle.kept_records.specs.Versions.{fits_version}
 use Rattle.kept_records.proofs.Chains.{option_then, result_then, when_or_ok, ok_same}
 use Rattle.kept_records.proofs.FieldsOnly.{AreBytes, IsTaken, u8_at_taken, u64_at_taken, text_at_taken}
@@ -138,8 +138,8 @@ with_entry : (version place : ℕ) (j longer : JournalAtRest) (bytes rest : List
 with_entry version place j longer bytes rest None are front h = cc
 with_entry version place j longer bytes rest (Some e) are front h = with_journal version place j longer bytes rest e (added j e.request e.answer) are front refl h
 
-pub entered_taken : (version place : ℕ) (j longer : JournalAtRest) (bytes rest : List ℕ) → AreBytes bytes → entered version place j bytes ≡ Ok (longer, rest) → IsEntered version j longer bytes rest
-unfolding entered
+pub entered_taken : (version place : ℕ) (j longer : JournalAtRest) (bytes rest : List ℕ) → AreBytes bytes → entry_in version place j bytes ≡ Ok (longer, rest) → IsEntered version j longer bytes rest
+unfolding entry_in
 entered_taken version place j longer bytes rest are h = with_entry version place j longer bytes rest (entry_at bytes) are refl h
 
 -- ---- all entries
@@ -174,7 +174,7 @@ entries_in_taken version total zero j all bytes are h =
     nothing [] t = refl
     nothing (b ∷ bs) t = absurd (grind (arith, nat_tests))
 entries_in_taken version total (suc left) j all bytes are h =
-    let next = result_then (entered version (total - length bytes) j bytes) (λ (n : JournalAtRest × List ℕ). entries_in version total left n.0 n.1) all h in
+    let next = result_then (entry_in version (total - length bytes) j bytes) (λ (n : JournalAtRest × List ℕ). entries_in version total left n.0 n.1) all h in
     let longer : JournalAtRest = next.0.0 in
     let rest : List ℕ = next.0.1 in
     let step : IsEntered version j longer bytes rest = entered_taken version (total - length bytes) j longer bytes rest are next.1 in

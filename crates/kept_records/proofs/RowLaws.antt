@@ -12,7 +12,7 @@ use Rattle.kept_records.specs.declared.fault.RecordFault.TheVariants.{BadRecord}
 use Rattle.kept_records.specs.Faults.{◌>>=◌, some_or, when_or}
 use Rattle.kept_records.specs.Rows.{row_text, rows_text, row_at}
 use Rattle.kept_records.specs.Versions.{fits_version}
-use Rattle.kept_records.specs.Books.{is_id, entered_row, rows_in}
+use Rattle.kept_records.specs.Books.{is_id, row_in, rows_in}
 use Rattle.kept_records.proofs.FieldsOnly.{AreBytes, IsTaken}
 use Rattle.kept_records.proofs.Chains.{some_or_then, when_or_then, when_or_ok, result_then, ok_same}
 use Rattle.kept_records.proofs.RowTexts.{FitsRow, row_at_taken, row_at-put}
@@ -33,8 +33,8 @@ pub record IsEntered (version : ℕ) (b new : Book) (bytes rest : List ℕ) : Ty
   pub is_added : added b row.id row.request row.answer ≡ Some new
   pub kept : IsKeptIn version row
 
-entered_is : (version place : ℕ) (b new : Book) (bytes rest : List ℕ) → AreBytes bytes → entered_row version place b bytes ≡ Ok (new, rest) → IsEntered version b new bytes rest
-unfolding entered_row
+entered_is : (version place : ℕ) (b new : Book) (bytes rest : List ℕ) → AreBytes bytes → row_in version place b bytes ≡ Ok (new, rest) → IsEntered version b new bytes rest
+unfolding row_in
 entered_is version place b new bytes rest are h =
     let a = some_or_then (BadRecord place) (row_at bytes) (λ row. when_or (BadRecord place) (is_id row.0.id) row >>= λ named. when_or (BadRecord place) (fits_version version row.0.request) named >>= λ fitting. some_or (BadRecord place) (added b fitting.0.id fitting.0.request fitting.0.answer) >>= λ changed. Ok (changed, fitting.1)) (new, rest) h in
     let p : KeptRow × List ℕ = a.0 in
@@ -63,7 +63,7 @@ rows_are version total zero b new bytes are h =
     let done = when_or_ok (BadRecord (total - length bytes)) (length bytes == 0) b new h in
     record { rows = []; text = nil_from_length bytes (eqb-true (length bytes) 0 done.0); counted = refl; are_added = ap (λ (x : Book). Some x) done.1; kept = tt }
 rows_are version total (suc left) b new bytes are h =
-    let a = result_then (entered_row version (total - length bytes) b bytes) (λ next. rows_in version total left next.0 next.1) new h in
+    let a = result_then (row_in version (total - length bytes) b bytes) (λ next. rows_in version total left next.0 next.1) new h in
     let first = entered_is version (total - length bytes) b a.0.0 bytes a.0.1 are a.1 in
     joined a.0.0 a.0.1 first (rows_are version total left a.0.0 new a.0.1 first.taken.rest_bytes a.2)
   where
@@ -76,8 +76,8 @@ rows_are version total (suc left) b new bytes are h =
       kept = (first.kept, others.kept);
     }
 
-entered_again : (version place : ℕ) (b new : Book) (k : KeptRow) (rest : List ℕ) → IsKeptIn version k → added b k.id k.request k.answer ≡ Some new → entered_row version place b (row_text k ++ rest) ≡ Ok (new, rest)
-unfolding entered_row
+entered_again : (version place : ℕ) (b new : Book) (k : KeptRow) (rest : List ℕ) → IsKeptIn version k → added b k.id k.request k.answer ≡ Some new → row_in version place b (row_text k ++ rest) ≡ Ok (new, rest)
+unfolding row_in
 entered_again version place b new k rest kept grown = rw (row_at-put k rest kept.fits, kept.named, kept.fitting, grown) refl
 
 -- what was added after the first row
@@ -91,7 +91,7 @@ rows_again version total b new [] kept grown = ap (λ (x : Book). Ok x) (same_So
 rows_again version total b new (k ∷ ks) kept grown =
     let a = first_added (added b k.id k.request k.answer) ks new grown in
     let first = entered_again version (total - length (row_text k ++ rows_text ks)) b a.0 k (rows_text ks) kept.0 a.1 in
-    stepped (entered_row version (total - length (row_text k ++ rows_text ks)) b (row_text k ++ rows_text ks)) a.0 (rows_text ks) first ∙ rows_again version total a.0 new ks kept.1 a.2
+    stepped (row_in version (total - length (row_text k ++ rows_text ks)) b (row_text k ++ rows_text ks)) a.0 (rows_text ks) first ∙ rows_again version total a.0 new ks kept.1 a.2
   where
     stepped : (r : Result (Book × List ℕ) RecordFault) (x : Book) (rest : List ℕ) → r ≡ Ok (x, rest) → (r >>= λ next. rows_in version total (length ks) next.0 next.1) ≡ rows_in version total (length ks) x rest
     stepped r x rest is = rw is refl

@@ -16,18 +16,18 @@ use Rattle.kept_records.specs.declared.fault.RecordFault.TheVariants.{OutOfMemor
 use Rattle.kept_records.specs.Fields.{sized}
 use Rattle.kept_records.specs.Faults.{when_or}
 use Rattle.kept_records.specs.Rows.{row_text, rows_text}
-use Rattle.kept_records.specs.Books.{entered_row, rows_in}
+use Rattle.kept_records.specs.Books.{row_in, rows_in}
 use Rattle.kept_records.specs.BookLaws.{IsKeptRow, AreKeptRows}
 
 module _ (version total count i : ℕ) (b : Book) (bytes : List ℕ) where
-  pub entering_goes_on : (new : Book) (rest : List ℕ) → i < count → entered_row version (total - length bytes) b bytes ≡ Ok (new, rest)
+  pub entering_goes_on : (new : Book) (rest : List ℕ) → i < count → row_in version (total - length bytes) b bytes ≡ Ok (new, rest)
       → rows_in version total (count - i) b bytes ≡ rows_in version total (count - (i + 1)) new rest
   unfolding rows_in
   entering_goes_on new rest lt is =
       let left : count - i ≡ suc (count - (i + 1)) = omega arith in
       rw (left, is) refl
 
-  pub entering_ends : (fault : RecordFault) → i < count → entered_row version (total - length bytes) b bytes ≡ Err fault → rows_in version total (count - i) b bytes ≡ Err fault
+  pub entering_ends : (fault : RecordFault) → i < count → row_in version (total - length bytes) b bytes ≡ Err fault → rows_in version total (count - i) b bytes ≡ Err fault
   unfolding rows_in
   entering_ends fault lt is =
       let left : count - i ≡ suc (count - (i + 1)) = omega arith in

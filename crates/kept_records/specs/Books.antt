@@ -22,8 +22,8 @@ abbrev pub is_id : Txn → Bool
 is_id id = not (id.pharmacy == 0) && not (id.number == 0)
 
 -- the book with the row that stands at the front of the bytes, and what follows it, or what is wrong with it
-unfoldable pub entered_row : ℕ → ℕ → Book → List ℕ → Result (Book × List ℕ) RecordFault
-entered_row version place b bytes = do
+unfoldable pub row_in : ℕ → ℕ → Book → List ℕ → Result (Book × List ℕ) RecordFault
+row_in version place b bytes = do
   row ← some_or (BadRecord place) (row_at bytes)
   named ← when_or (BadRecord place) (is_id row.0.id) row
   fitting ← when_or (BadRecord place) (fits_version version row.0.request) named
@@ -34,7 +34,7 @@ entered_row version place b bytes = do
 unfoldable pub rows_in : ℕ → ℕ → ℕ → Book → List ℕ → Result Book RecordFault
 rows_in version total zero b bytes = when_or (BadRecord (total - length bytes)) (length bytes == 0) b
 rows_in version total (suc left) b bytes = do
-  next ← entered_row version (total - length bytes) b bytes
+  next ← row_in version (total - length bytes) b bytes
   rows_in version total left next.0 next.1
 
 -- the head is that of a book of this payer, with this first serial
@@ -46,8 +46,8 @@ abbrev pub has_terms : BookHead → Bool
 has_terms head = nat_le head.fee largest && (nat_le head.copay largest && nat_le head.products most_products)
 
 -- the head that stands at the front of the bytes, and what follows it, or what is wrong with it
-unfoldable pub opened : ℕ → ℕ → List ℕ → Result (BookHead × List ℕ) RecordFault
-opened payer serial bytes = do
+unfoldable pub book_head_in : ℕ → ℕ → List ℕ → Result (BookHead × List ℕ) RecordFault
+book_head_in payer serial bytes = do
   head ← some_or Short (head_at bytes)
   own ← when_or NotABook (is_head_of payer serial head.0) head
   known ← when_or Version (is_version head.0.version) own
@@ -64,6 +64,6 @@ first_book payer settings plan = record { payer = payer; settings = settings; pl
 -- the book that these bytes are, for this payer and these settings, or the first thing that is wrong with them
 unfoldable pub book_in : ℕ → BookSettings → List ℕ → Result Book RecordFault
 book_in payer settings bytes = do
-  head ← opened payer settings.serial bytes
+  head ← book_head_in payer settings.serial bytes
   plan ← products_in (length bytes) head.0.products (first_plan head.0) head.1
   rows_in head.0.version (length bytes) head.0.rows (first_book payer settings plan.0) plan.1

@@ -55,8 +55,8 @@ head_in number bytes = do
   when_or Version (is_version head.version) own
 
 -- the journal with the entry at the front and what follows it, or what is wrong with it
-unfoldable pub entered : ℕ → ℕ → JournalAtRest → List ℕ → Result (JournalAtRest × List ℕ) RecordFault
-entered version place j bytes = do
+unfoldable pub entry_in : ℕ → ℕ → JournalAtRest → List ℕ → Result (JournalAtRest × List ℕ) RecordFault
+entry_in version place j bytes = do
   entry ← some_or (BadRecord place) (entry_at bytes)
   longer ← some_or (BadRecord place) (added j entry.request entry.answer)
   fitting ← when_or (BadRecord place) (fits_version version entry.request) longer
@@ -70,7 +70,7 @@ finished total j bytes = when_or (BadRecord (total - length bytes)) (length byte
 unfoldable pub entries_in : ℕ → ℕ → ℕ → JournalAtRest → List ℕ → Result JournalAtRest RecordFault
 entries_in version total zero j bytes = finished total j bytes
 entries_in version total (suc left) j bytes = do
-  next ← entered version (total - length bytes) j bytes
+  next ← entry_in version (total - length bytes) j bytes
   entries_in version total left next.0 next.1
 
 -- the journal of this number that bytes are, or the first fault

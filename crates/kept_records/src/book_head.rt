@@ -5,7 +5,7 @@ ghost use Rattle.std.specs.Option.{option_map};
 ghost use Rattle.plan_rules.specs.Terms.{largest};
 ghost use Rattle.kept_records.specs.Rows.{head_at};
 ghost use Rattle.kept_records.specs.Versions.{is_version};
-ghost use Rattle.kept_records.specs.Books.{is_head_of, has_terms, opened};
+ghost use Rattle.kept_records.specs.Books.{is_head_of, has_terms, book_head_in};
 
 use crate::fault::RecordFault;
 use crate::fields::{take_u8, take_u16, take_u32, take_u64};
@@ -66,14 +66,14 @@ impl BookHead {
     ///
     /// # Errors
     /// In this order: `Short`, `NotABook`, `Version`, and `BadRecord` where no plan has such terms.
-    #[tactic(auto, unfolding(crate::specs::Books::opened))]
+    #[tactic(auto, unfolding(crate::specs::Books::book_head_in))]
     pub(crate) fn open(
         bytes: &[u8],
         payer: u16,
         serial: u64,
     ) -> Result<(BookHead, &[u8]), RecordFault>
-        ensures ok { IfOk result (λ read. opened payer serial bytes.now ≡ Ok (read.0, read.1.now)) }
-        ensures fault { IfErr result (λ e. opened payer serial bytes.now ≡ Err e) }
+        ensures ok { IfOk result (λ read. book_head_in payer serial bytes.now ≡ Ok (read.0, read.1.now)) }
+        ensures fault { IfErr result (λ e. book_head_in payer serial bytes.now ≡ Err e) }
         ensures fee { IfOk result (λ read. read.0.fee ≤ largest) }
         ensures copay { IfOk result (λ read. read.0.copay ≤ largest) }
     {

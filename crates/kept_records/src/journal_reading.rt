@@ -4,7 +4,7 @@ ghost use Rattle.std.specs.Prelude.{◌≡◌, ◌≢◌, ◌<◌, length, Ok, E
 ghost use Rattle.std.specs.Option.{option_copied};
 ghost use Rattle.pharmacy_journal.specs.Resting.{added};
 ghost use Rattle.kept_records.specs.declared.fault.RecordFault.TheVariants.{OutOfMemory, BadRecord};
-ghost use Rattle.kept_records.specs.Journals.{head_in, entered, finished, entries_in, journal_in, IsKept};
+ghost use Rattle.kept_records.specs.Journals.{head_in, entry_in, finished, entries_in, journal_in, IsKept};
 
 use crate::fault::RecordFault;
 use crate::journal_laws::journal_is_its_text;
@@ -118,7 +118,7 @@ fn finish(journal: JournalAtRest, total: usize, rest: &[u8]) -> Result<JournalAt
 }
 
 /// Adds the entry at the front and gives what follows it.
-#[tactic(auto, unfolding(crate::specs::Journals::entered))]
+#[tactic(auto, unfolding(crate::specs::Journals::entry_in))]
 fn enter<'a>(
     alloc: Global,
     journal: &mut JournalAtRest,
@@ -126,8 +126,8 @@ fn enter<'a>(
     place: usize,
     bytes: &'a [u8],
 ) -> Result<&'a [u8], RecordFault>
-    ensures ok { IfOk result (λ rest. entered version place journal.old bytes.now ≡ Ok (journal.new, rest.now)) }
-    ensures fault { IfErr result (λ e. e ≢ OutOfMemory → entered version place journal.old bytes.now ≡ Err e) }
+    ensures ok { IfOk result (λ rest. entry_in version place journal.old bytes.now ≡ Ok (journal.new, rest.now)) }
+    ensures fault { IfErr result (λ e. e ≢ OutOfMemory → entry_in version place journal.old bytes.now ≡ Err e) }
 {
     let Some(entry) = take_entry(bytes) else {
         return Err(RecordFault::BadRecord(place));

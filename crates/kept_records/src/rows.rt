@@ -5,7 +5,7 @@ ghost use Rattle.std.specs.Option.{option_map};
 ghost use Rattle.payer_book.specs.Added.{kept_row, added};
 ghost use Rattle.kept_records.specs.Faults.{when_or};
 ghost use Rattle.kept_records.specs.Rows.{row_text, rows_text, row_taken, row_at};
-ghost use Rattle.kept_records.specs.Books.{entered_row, rows_in};
+ghost use Rattle.kept_records.specs.Books.{row_in, rows_in};
 ghost use Rattle.kept_records.specs.BookLaws.{IsKeptRow, AreKeptRows};
 ghost use Rattle.kept_records.specs.declared.fault.RecordFault.TheVariants.{OutOfMemory, BadRecord};
 
@@ -61,7 +61,7 @@ fn add_row(
 }
 
 /// Enters the row that stands at the front of the bytes, at a place of all bytes, and gives what follows it.
-#[tactic(auto, unfolding(crate::specs::Books::entered_row))]
+#[tactic(auto, unfolding(crate::specs::Books::row_in))]
 fn enter_next<'a>(
     alloc: Global,
     version: u8,
@@ -69,8 +69,8 @@ fn enter_next<'a>(
     book: &mut BookAtRest,
     bytes: &'a [u8],
 ) -> Result<&'a [u8], RecordFault>
-    ensures ok { IfOk result (λ rest. entered_row version place book.old bytes.now ≡ Ok (book.new, rest.now)) }
-    ensures fault { IfErr result (λ e. e ≢ OutOfMemory → entered_row version place book.old bytes.now ≡ Err e) }
+    ensures ok { IfOk result (λ rest. row_in version place book.old bytes.now ≡ Ok (book.new, rest.now)) }
+    ensures fault { IfErr result (λ e. e ≢ OutOfMemory → row_in version place book.old bytes.now ≡ Err e) }
 {
     let Some((row, rest)) = take_row(bytes) else {
         return Err(RecordFault::BadRecord(place));

@@ -12,7 +12,7 @@ use Rattle.claim_model.specs.Numbered.{numbered}
 use Rattle.claim_model.specs.Bytes.{bytes_with}
 use Rattle.claim_model.specs.Ruled.{Ruled, ruled}
 use Rattle.claim_model.specs.Rows.{Row, Book, ruled_rows}
-use Rattle.claim_model.specs.Judgement.{Judged, Settled, ToPrice, judged}
+use Rattle.claim_model.specs.Judgement.{Judged, Unpriced, ToPrice, judged}
 use Rattle.claim_model.specs.Book.{row_of, serial_fits}
 use Rattle.payer_book.specs.declared.payment.Payment.{Payment}
 use Rattle.payer_book.specs.declared.changes.Change.{Change}
@@ -34,7 +34,7 @@ unfolding kept_ruling
 ruling_alike b p before said order = by_case (judged before order)
   where
     by_case : (j : Judged) → kept_ruling_of b before said j ≡ kept_ruling_of (with_plan b p) before said j
-    by_case (Settled ruling) = refl
+    by_case (Unpriced ruling) = refl
     by_case (ToPrice c) = refl
 
 rulings_alike : (b : Book) (p : Plan) (before : List Ruled) (id : TxnId) (place : ℕ) (orders : List (Result Order (List Code))) (said : List Ruling) → kept_rulings_from b before id place orders said ≡ kept_rulings_from (with_plan b p) before id place orders said

@@ -7,14 +7,14 @@ use mathlib.Core.Path.{ap₂}
 use Rattle.claim_model.specs.Words.{TxnId, Auth, Amounts, Claim, Reversal, Order, Bills, Reverses, Code, Ruling, Paid, Duplicate, Reversed, Rejected}
 use Rattle.claim_model.specs.Ruled.{Ruled}
 use Rattle.claim_model.specs.Payments as model
-use Rattle.claim_model.specs.Payments.{same_auth, undone, reverses, reversed_by, payment_by, payment_at, is_standing, standing}
-use Rattle.claim_model.specs.Judgement.{is_for, standing_for, only, undone_by, judged_claim, judged_reversal, judged}
+use Rattle.claim_model.specs.Payments.{same_auth, auth_reversed, reverses, reversed_by, payment_by, payment_at, is_standing, standing}
+use Rattle.claim_model.specs.Judgement.{is_for, standing_for, only, payment_to_reverse, judged_claim, judged_reversal, judged}
 use Rattle.payer_book.specs.declared.payment.Standing.{Standing}
 use Rattle.payer_book.specs.declared.payment.Payment.{Payment}
-use Rattle.payer_book.specs.declared.payment.Payment.TheVariants.{Standing as Stands, Reversed as TakenBack}
+use Rattle.payer_book.specs.declared.payment.Payment.TheVariants.{Standing as Stands, Reversed as WasReversed}
 use Rattle.payer_book.specs.declared.changes.Change.{Change}
-use Rattle.payer_book.specs.declared.changes.Change.TheVariants.{Pays, Undoes, Keeps}
-use Rattle.payer_book.specs.Ledger.{still, standing_in, is_of, takes_back, taken_back, reversal_of}
+use Rattle.payer_book.specs.declared.changes.Change.TheVariants.{Pays, Reverses as ReversesPayment, Keeps}
+use Rattle.payer_book.specs.Ledger.{still, standing_in, is_of, is_for_payment, after_reversal, reversal_of}
 use Rattle.payer_book.specs.Changes.{paid_by, change_by, standing_with, standing_after, payments_with}
 use Rattle.payer_book.specs.Drafts.{claim_on, reversal_on, judged_on}
 use Rattle.payer_book.specs.Books.{kept_by, kept, payments_of}
@@ -26,17 +26,17 @@ ruled_change r = change_by r.order r.ruling
 -- what a change makes of earlier payments
 abbrev marked : TxnId → Change → List Payment → List Payment
 marked id (Pays s) ps = ps
-marked id (Undoes auth) ps = map (taken_back auth id) ps
+marked id (ReversesPayment auth) ps = map (after_reversal auth id) ps
 marked id Keeps ps = ps
 
 split_with : (id : TxnId) (change : Change) (ps qs : List Payment) → payments_with id (ps ++ qs) change ≡ marked id change ps ++ payments_with id qs change
 split_with id (Pays s) ps qs = append_assoc ps qs (Stands s ∷ [])
-split_with id (Undoes auth) ps qs = map-append (taken_back auth id) ps qs
+split_with id (ReversesPayment auth) ps qs = map-append (after_reversal auth id) ps qs
 split_with id Keeps ps qs = refl
 
 marked_none : (id : TxnId) (change : Change) → marked id change [] ≡ []
 marked_none id (Pays s) = refl
-marked_none id (Undoes auth) = refl
+marked_none id (ReversesPayment auth) = refl
 marked_none id Keeps = refl
 
 -- with one more ruling behind
@@ -69,15 +69,15 @@ marks_kept p x (Some id) order (Duplicate auth n m) is = refl
 marks_kept p x (Some id) order (Reversed auth n) is = refl
 marks_kept p x (Some id) order (Rejected codes) is = refl
 marks_kept p x None order (Paid auth n m) is =
-    ap (λ (r : Ruling). kept_by p (cond (Rattle.claim_model.specs.Payments.is_auth p.auth (undone r)) (Some x.id) None) ∷ []) is ∙ unpaid_marks auth m x.id order (kept_by p None ∷ [])
-marks_kept p x None order (Duplicate auth n m) is = ap (λ (r : Ruling). kept_by p (cond (Rattle.claim_model.specs.Payments.is_auth p.auth (undone r)) (Some x.id) None) ∷ []) is
+    ap (λ (r : Ruling). kept_by p (cond (Rattle.claim_model.specs.Payments.is_auth p.auth (auth_reversed r)) (Some x.id) None) ∷ []) is ∙ unpaid_marks auth m x.id order (kept_by p None ∷ [])
+marks_kept p x None order (Duplicate auth n m) is = ap (λ (r : Ruling). kept_by p (cond (Rattle.claim_model.specs.Payments.is_auth p.auth (auth_reversed r)) (Some x.id) None) ∷ []) is
 marks_kept p x None order (Reversed auth n) is =
-    ap (λ (r : Ruling). kept_by p (cond (Rattle.claim_model.specs.Payments.is_auth p.auth (undone r)) (Some x.id) None) ∷ []) is ∙ by_test (same_auth auth p.auth)
+    ap (λ (r : Ruling). kept_by p (cond (Rattle.claim_model.specs.Payments.is_auth p.auth (auth_reversed r)) (Some x.id) None) ∷ []) is ∙ by_test (same_auth auth p.auth)
   where
     by_test : (b : Bool) → kept_by p (cond b (Some x.id) None) ∷ [] ≡ cond b (reversal_of x.id (record { auth = p.auth; claim = p.claim; amounts = p.amounts })) (Stands (record { auth = p.auth; claim = p.claim; amounts = p.amounts })) ∷ []
     by_test true = refl
     by_test false = refl
-marks_kept p x None order (Rejected codes) is = ap (λ (r : Ruling). kept_by p (cond (Rattle.claim_model.specs.Payments.is_auth p.auth (undone r)) (Some x.id) None) ∷ []) is
+marks_kept p x None order (Rejected codes) is = ap (λ (r : Ruling). kept_by p (cond (Rattle.claim_model.specs.Payments.is_auth p.auth (auth_reversed r)) (Some x.id) None) ∷ []) is
 
 payment_by_more : (r : Ruled) (rs : List Ruled) (x : Ruled) (order : Result Order (List Code)) (given : Ruling) → map kept (payment_by r (rs ++ x ∷ []) order given) ≡ marked x.id (ruled_change x) (map kept (payment_by r rs order given))
 payment_by_more r rs x (Ok (Bills c)) (Paid auth n m) =
@@ -115,15 +115,15 @@ payments_more (r ∷ rs) x =
 -- the standing payments after a change
 pub standing_more : (id : TxnId) (ps : List Payment) (change : Change) → standing_in (payments_with id ps change) ≡ standing_with (standing_in ps) change
 standing_more id ps (Pays s) = filter_map-append still ps (Stands s ∷ [])
-standing_more id ps (Undoes auth) = undo ps
+standing_more id ps (ReversesPayment auth) = reversed ps
   where
-    undo : (qs : List Payment) → standing_in (map (taken_back auth id) qs) ≡ filter (λ (s : Standing). not (same_auth auth s.auth)) (standing_in qs)
-    undo [] = refl
-    undo (TakenBack r ∷ qs) = undo qs
-    undo (Stands s ∷ qs) = by_test (same_auth auth s.auth) (undo qs)
+    reversed : (qs : List Payment) → standing_in (map (after_reversal auth id) qs) ≡ filter (λ (s : Standing). not (same_auth auth s.auth)) (standing_in qs)
+    reversed [] = refl
+    reversed (WasReversed r ∷ qs) = reversed qs
+    reversed (Stands s ∷ qs) = by_test (same_auth auth s.auth) (reversed qs)
       where
-        by_test : (b : Bool) → standing_in (map (taken_back auth id) qs) ≡ filter (λ (t : Standing). not (same_auth auth t.auth)) (standing_in qs)
-            → standing_in (cond b (reversal_of id s) (Stands s) ∷ map (taken_back auth id) qs) ≡ cond (not b) (s ∷ filter (λ (t : Standing). not (same_auth auth t.auth)) (standing_in qs)) (filter (λ (t : Standing). not (same_auth auth t.auth)) (standing_in qs))
+        by_test : (b : Bool) → standing_in (map (after_reversal auth id) qs) ≡ filter (λ (t : Standing). not (same_auth auth t.auth)) (standing_in qs)
+            → standing_in (cond b (reversal_of id s) (Stands s) ∷ map (after_reversal auth id) qs) ≡ cond (not b) (s ∷ filter (λ (t : Standing). not (same_auth auth t.auth)) (standing_in qs)) (filter (λ (t : Standing). not (same_auth auth t.auth)) (standing_in qs))
         by_test true h = h
         by_test false h = ap (λ (ss : List Standing). s ∷ ss) h
 standing_more id ps Keeps = refl
@@ -181,6 +181,6 @@ judged_same before (Err codes) = refl
 judged_same before (Ok (Bills c)) =
     claim_same c (standing_for c.fill before) ∙ ap (claim_on c) (find_mapped to_standing (is_of c.fill) (standing before) ∙ ap (find (is_of c.fill)) (standing_kept (model.payments before)))
 judged_same before (Ok (Reverses v)) =
-    reversal_same v (undone_by v before)
+    reversal_same v (payment_to_reverse v before)
     ∙ ap (reversal_on v) (only_mapped to_standing (filter (λ (p : model.Payment). is_for v p.claim) (standing before))
-    ∙ ap only (filter_mapped to_standing (takes_back v) (standing before) ∙ ap (filter (takes_back v)) (standing_kept (model.payments before))))
+    ∙ ap only (filter_mapped to_standing (is_for_payment v) (standing before) ∙ ap (filter (is_for_payment v)) (standing_kept (model.payments before))))

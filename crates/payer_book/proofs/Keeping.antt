@@ -6,12 +6,12 @@ use Rattle.claim_model.specs.Words.{TxnId, Auth, Amounts, Claim, Order, Code, Ru
 use Rattle.claim_model.specs.Numbered.{numbered}
 use Rattle.claim_model.specs.Ruled.{Ruled, ruled}
 use Rattle.claim_model.specs.Rows.{Book, ruled_rows}
-use Rattle.claim_model.specs.Judgement.{is_paid, Judged, Settled, ToPrice, next_auth, priced}
+use Rattle.claim_model.specs.Judgement.{is_paid, Judged, Unpriced, ToPrice, next_auth, priced}
 use Rattle.payer_book.specs.declared.payment.Standing.{Standing}
 use Rattle.payer_book.specs.declared.changes.Change.{Change}
 use Rattle.payer_book.specs.Ledger.{Ledger, standing_in}
 use Rattle.payer_book.specs.Changes.{change_by, pays, standing_after}
-use Rattle.payer_book.specs.Drafts.{judged_on, Pricing, ByPlan, AsKept, amounts_in, price_at, auth_after, settled_by, ruling_on, rulings_on}
+use Rattle.payer_book.specs.Drafts.{judged_on, Pricing, ByPlan, AsKept, amounts_in, price_at, auth_after, ruling_by, ruling_on, rulings_on}
 use Rattle.payer_book.specs.Books.{reading, payments_of, count_paid, IsBook}
 use Rattle.payer_book.specs.Added.{kept_ruling_of, kept_ruling, kept_rulings_from, kept_rulings}
 use Rattle.payer_book.specs.Entries.{rulings_by}
@@ -19,8 +19,8 @@ use Rattle.payer_book.proofs.Growth.{judged_same}
 use Rattle.payer_book.proofs.Ruling.{auth_same, next_stands, count_more, ruling_pays, rulings_same}
 
 module _ (b : Book) (l : Ledger) (payer : l.payer ≡ b.payer) (said : List Ruling) where
-  settled_kept : (before : List Ruled) (auth : Auth) (k : ℕ) (j : Judged) → next_auth b before ≡ auth → kept_ruling_of b before (slice_get said k) j ≡ settled_by auth (AsKept said) k j
-  settled_kept before auth k (Settled ruling) is = refl
+  settled_kept : (before : List Ruled) (auth : Auth) (k : ℕ) (j : Judged) → next_auth b before ≡ auth → kept_ruling_of b before (slice_get said k) j ≡ ruling_by auth (AsKept said) k j
+  settled_kept before auth k (Unpriced ruling) is = refl
   settled_kept before auth k (ToPrice c) is = ap (λ (a : Auth). priced a c (amounts_in (slice_get said k))) is
 
   kept_ruling_same : (before : List Ruled) (changes : List Change) (order : Result Order (List Code)) → standing_in (payments_of before) ≡ standing_after (standing_in l.payments) changes
@@ -52,8 +52,8 @@ same_priced : (auth : Auth) (c : Claim) (o : Option Amounts) → priced auth c (
 same_priced auth c None = refl
 same_priced auth c (Some m) = refl
 
-settled_again : (auth : Auth) (prices : Pricing) (k : ℕ) (said : List Ruling) (j : Judged) → slice_get said k ≡ Some (settled_by auth prices k j) → settled_by auth (AsKept said) k j ≡ settled_by auth prices k j
-settled_again auth prices k said (Settled ruling) at = refl
+settled_again : (auth : Auth) (prices : Pricing) (k : ℕ) (said : List Ruling) (j : Judged) → slice_get said k ≡ Some (ruling_by auth prices k j) → ruling_by auth (AsKept said) k j ≡ ruling_by auth prices k j
+settled_again auth prices k said (Unpriced ruling) at = refl
 settled_again auth prices k said (ToPrice c) at = ap (λ (o : Option Ruling). priced auth c (amounts_in o)) at ∙ same_priced auth c (price_at prices k c)
 
 ruling_again : (l : Ledger) (prices : Pricing) (said : List Ruling) (changes : List Change) (order : Result Order (List Code)) → slice_get said (length changes) ≡ Some (ruling_on l prices changes order)

@@ -10,8 +10,8 @@ use Rattle.payer_book.specs.declared.payment.Standing.{Standing}
 use Rattle.payer_book.specs.declared.changes.Change.{Change}
 use Rattle.payer_book.specs.declared.matches.Matches.{Matches}
 use Rattle.payer_book.specs.declared.matches.Matches.TheVariants.{Nothing, One, Several}
-use Rattle.payer_book.specs.Ledger.{is_of, standing_of, takes_back, IsOther, NoFillTwice, IsNumbered}
-use Rattle.payer_book.specs.Changes.{is_undone}
+use Rattle.payer_book.specs.Ledger.{is_of, standing_of, is_for_payment, IsOther, NoFillTwice, IsNumbered}
+use Rattle.payer_book.specs.Changes.{is_reversed}
 use Rattle.payer_book.specs.Matches.{tally, added, fill_for, is_match, matched, is_between, matches_between}
 use Rattle.payer_book.proofs.Lists.{filter_same, filter_none, all_weaker, all_true}
 use Rattle.payer_book.proofs.Sameness.{fill_same}
@@ -48,7 +48,7 @@ six_parts false b c d e f g h = absurd cc
 common : (v : Reversal) (changes : List Change) (s : Standing) → is_match v changes s ≡ true → Common v s.claim
 common v changes s h =
     let p = six_parts (bytes_eq v.bin s.claim.fill.bin) (bytes_eq v.pcn s.claim.fill.pcn) (bytes_eq v.qualifier s.claim.fill.qualifier) (bytes_eq v.provider s.claim.fill.provider)
-    (v.prescription == s.claim.fill.prescription) (bytes_eq v.date s.claim.date) (is_fill_number s.claim.fill.fill v.fill) (and_parts (takes_back v s) (not (is_undone s.auth changes)) h).0 in
+    (v.prescription == s.claim.fill.prescription) (bytes_eq v.date s.claim.date) (is_fill_number s.claim.fill.fill v.fill) (and_parts (is_for_payment v s) (not (is_reversed s.auth changes)) h).0 in
     record { bin = p.0; pcn = p.1; qualifier = p.2; provider = p.3; prescription = p.4; number = p.5 }
 
 -- what is matched keeps the fill of the reversal

@@ -6,8 +6,8 @@ use Rattle.claim_model.specs.Words.{TxnId, Auth}
 use Rattle.claim_model.specs.Payments.{same_auth}
 use Rattle.payer_book.specs.declared.payment.Standing.{Standing}
 use Rattle.payer_book.specs.declared.payment.Payment.{Payment}
-use Rattle.payer_book.specs.declared.payment.Payment.TheVariants.{Standing as Stands, Reversed as TakenBack}
-use Rattle.payer_book.specs.Ledger.{auth_of, has_auth, payment_with, still, standing_in, taken_back, reversal_of, AreNumbered}
+use Rattle.payer_book.specs.declared.payment.Payment.TheVariants.{Standing as Stands, Reversed as WasReversed}
+use Rattle.payer_book.specs.Ledger.{auth_of, has_auth, payment_with, still, standing_in, after_reversal, reversal_of, AreNumbered}
 use Rattle.payer_book.proofs.Lists.{same_some}
 use Rattle.payer_book.proofs.Sameness.{auth_same}
 
@@ -61,51 +61,51 @@ numbered_more payer n [] p h e = let m : n + 0 ≡ n = omega arith in (e ∙ ap 
 numbered_more payer n (x ∷ ps) p h e = let m : n + suc (length ps) ≡ n + 1 + length ps = omega arith in (h.0, numbered_more payer (n + 1) ps p h.1 (e ∙ ap (numbered payer) m))
 
 -- a reversal changes no authorization
-pub auth_kept : (auth : Auth) (by : TxnId) (p : Payment) → auth_of (taken_back auth by p) ≡ auth_of p
-auth_kept auth by (TakenBack r) = refl
+pub auth_kept : (auth : Auth) (by : TxnId) (p : Payment) → auth_of (after_reversal auth by p) ≡ auth_of p
+auth_kept auth by (WasReversed r) = refl
 auth_kept auth by (Stands s) = by_test (same_auth auth s.auth)
   where
     by_test : (b : Bool) → auth_of (cond b (reversal_of by s) (Stands s)) ≡ s.auth
     by_test true = refl
     by_test false = refl
 
-pub numbered_kept : (payer n : ℕ) (auth : Auth) (by : TxnId) (ps : List Payment) → AreNumbered payer n ps → AreNumbered payer n (map (taken_back auth by) ps)
+pub numbered_kept : (payer n : ℕ) (auth : Auth) (by : TxnId) (ps : List Payment) → AreNumbered payer n ps → AreNumbered payer n (map (after_reversal auth by) ps)
 numbered_kept payer n auth by [] h = tt
 numbered_kept payer n auth by (p ∷ ps) h = (auth_kept auth by p ∙ h.0, numbered_kept payer (n + 1) auth by ps h.1)
 
 -- a reversal changes the payment of its authorization alone
 
-other_kept : (auth : Auth) (by : TxnId) (p : Payment) → (auth.serial ≡ (auth_of p).serial → ⊥) → taken_back auth by p ≡ p
-other_kept auth by (TakenBack r) d = refl
+other_kept : (auth : Auth) (by : TxnId) (p : Payment) → (auth.serial ≡ (auth_of p).serial → ⊥) → after_reversal auth by p ≡ p
+other_kept auth by (WasReversed r) d = refl
 other_kept auth by (Stands s) d = cond-false (same_auth auth s.auth) (reversal_of by s) (Stands s) (other_serial auth s.auth d)
 
-later_kept : (payer n : ℕ) (auth : Auth) (by : TxnId) (ps : List Payment) → AreNumbered payer n ps → auth.serial < n → map (taken_back auth by) ps ≡ ps
+later_kept : (payer n : ℕ) (auth : Auth) (by : TxnId) (ps : List Payment) → AreNumbered payer n ps → auth.serial < n → map (after_reversal auth by) ps ≡ ps
 later_kept payer n auth by [] h l = refl
 later_kept payer n auth by (p ∷ ps) h l =
     let r : (auth_of p).serial ≡ n = ap (λ (a : Auth). a.serial) h.0 in
     let e = other_kept auth by p (λ e. omega (arith, e, r, l)) in
     let f = later_kept payer (n + 1) auth by ps h.1 (omega arith) in
-    ap (λ (x : Payment). x ∷ map (taken_back auth by) ps) e ∙ ap (λ (xs : List Payment). p ∷ xs) f
+    ap (λ (x : Payment). x ∷ map (after_reversal auth by) ps) e ∙ ap (λ (xs : List Payment). p ∷ xs) f
 
-pub taken_back_at : (payer n : ℕ) (auth : Auth) (by : TxnId) (ps : List Payment) (k : ℕ) (s : Standing) → AreNumbered payer n ps → auth.serial ≡ n + k → s.auth ≡ auth → slice_get ps k ≡ Some (Stands s)
-    → slice_set ps k (reversal_of by s) ≡ map (taken_back auth by) ps
-taken_back_at payer n auth by [] k s h m is e = absurd cc
-taken_back_at payer n auth by (p ∷ ps) zero s h m is e =
+pub after_reversal_at : (payer n : ℕ) (auth : Auth) (by : TxnId) (ps : List Payment) (k : ℕ) (s : Standing) → AreNumbered payer n ps → auth.serial ≡ n + k → s.auth ≡ auth → slice_get ps k ≡ Some (Stands s)
+    → slice_set ps k (reversal_of by s) ≡ map (after_reversal auth by) ps
+after_reversal_at payer n auth by [] k s h m is e = absurd cc
+after_reversal_at payer n auth by (p ∷ ps) zero s h m is e =
     let same : p ≡ Stands s = same_some p (Stands s) e in
-    let it : taken_back auth by (Stands s) ≡ reversal_of by s = cond-true (same_auth auth s.auth) (reversal_of by s) (Stands s) (same_parts auth s.auth (ap (λ (a : Auth). a.payer) (sym is)) (ap (λ (a : Auth). a.serial) (sym is))) in
-    ap (λ (x : Payment). x ∷ ps) (sym (ap (taken_back auth by) same ∙ it)) ∙ ap (λ (xs : List Payment). taken_back auth by p ∷ xs) (sym (later_kept payer (n + 1) auth by ps h.1 (omega arith)))
-taken_back_at payer n auth by (p ∷ ps) (suc k) s h m is e =
+    let it : after_reversal auth by (Stands s) ≡ reversal_of by s = cond-true (same_auth auth s.auth) (reversal_of by s) (Stands s) (same_parts auth s.auth (ap (λ (a : Auth). a.payer) (sym is)) (ap (λ (a : Auth). a.serial) (sym is))) in
+    ap (λ (x : Payment). x ∷ ps) (sym (ap (after_reversal auth by) same ∙ it)) ∙ ap (λ (xs : List Payment). after_reversal auth by p ∷ xs) (sym (later_kept payer (n + 1) auth by ps h.1 (omega arith)))
+after_reversal_at payer n auth by (p ∷ ps) (suc k) s h m is e =
     let r : (auth_of p).serial ≡ n = ap (λ (a : Auth). a.serial) h.0 in
     ap (λ (x : Payment). x ∷ slice_set ps k (reversal_of by s)) (sym (other_kept auth by p (λ e. omega (arith, e, r, m))))
-    ∙ ap (λ (xs : List Payment). taken_back auth by p ∷ xs) (taken_back_at payer (n + 1) auth by ps k s h.1 (omega arith) is e)
+    ∙ ap (λ (xs : List Payment). after_reversal auth by p ∷ xs) (after_reversal_at payer (n + 1) auth by ps k s h.1 (omega arith) is e)
 
 -- what stands has its authorization
 
 pub none_stands : (auth : Auth) (ps : List Payment) → payment_with auth ps ≡ None → find (λ (s : Standing). same_auth s.auth auth) (standing_in ps) ≡ None
 none_stands auth [] e = refl
-none_stands auth (TakenBack r ∷ ps) e = by_test (same_auth r.auth auth) e (none_stands auth ps)
+none_stands auth (WasReversed r ∷ ps) e = by_test (same_auth r.auth auth) e (none_stands auth ps)
   where
-    by_test : (b : Bool) → cond b (Some (TakenBack r)) (payment_with auth ps) ≡ None → (payment_with auth ps ≡ None → find (λ (s : Standing). same_auth s.auth auth) (standing_in ps) ≡ None) → find (λ (s : Standing). same_auth s.auth auth) (standing_in ps) ≡ None
+    by_test : (b : Bool) → cond b (Some (WasReversed r)) (payment_with auth ps) ≡ None → (payment_with auth ps ≡ None → find (λ (s : Standing). same_auth s.auth auth) (standing_in ps) ≡ None) → find (λ (s : Standing). same_auth s.auth auth) (standing_in ps) ≡ None
     by_test true e g = absurd cc
     by_test false e g = g e
 none_stands auth (Stands s ∷ ps) e = by_test (same_auth s.auth auth) e (none_stands auth ps)
@@ -117,9 +117,9 @@ none_stands auth (Stands s ∷ ps) e = by_test (same_auth s.auth auth) e (none_s
 
 pub reversed_stands_not : (payer n : ℕ) (auth : Auth) (ps : List Payment) (p : Payment) → AreNumbered payer n ps → payment_with auth ps ≡ Some p → still p ≡ None → find (λ (s : Standing). same_auth s.auth auth) (standing_in ps) ≡ None
 reversed_stands_not payer n auth [] p h e not = refl
-reversed_stands_not payer n auth (TakenBack r ∷ ps) p h e not = by_test (same_auth r.auth auth) refl e (λ g. reversed_stands_not payer (n + 1) auth ps p h.1 g not)
+reversed_stands_not payer n auth (WasReversed r ∷ ps) p h e not = by_test (same_auth r.auth auth) refl e (λ g. reversed_stands_not payer (n + 1) auth ps p h.1 g not)
   where
-    by_test : (b : Bool) → same_auth r.auth auth ≡ b → cond b (Some (TakenBack r)) (payment_with auth ps) ≡ Some p → (payment_with auth ps ≡ Some p → find (λ (s : Standing). same_auth s.auth auth) (standing_in ps) ≡ None)
+    by_test : (b : Bool) → same_auth r.auth auth ≡ b → cond b (Some (WasReversed r)) (payment_with auth ps) ≡ Some p → (payment_with auth ps ≡ Some p → find (λ (s : Standing). same_auth s.auth auth) (standing_in ps) ≡ None)
         → find (λ (s : Standing). same_auth s.auth auth) (standing_in ps) ≡ None
     by_test true is e g =
         let m : auth.serial ≡ n = ap (λ (a : Auth). a.serial) (sym (auth_same r.auth auth is) ∙ h.0) in

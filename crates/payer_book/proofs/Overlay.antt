@@ -1,4 +1,4 @@
--- The standing payments after some changes: those of before that are not undone, and those that the changes leave.
+-- The standing payments after some changes: those of before that are not reversed, and those that the changes leave.
 use Rattle.std.proofs.Common.{◌≡◌, Bool, true, false, not, ◌&&◌, ◌||◌, cond, List, [], ◌∷◌, ◌++◌, Option, Some, None, refl, sym, ap, ◌∙◌, subst, append_assoc}
 use Rattle.std.specs.Prelude.{find, filter}
 use Rattle.std.specs.List.{AllByRecursion, cons_option}
@@ -11,9 +11,9 @@ use Rattle.claim_model.specs.Payments.{same_auth}
 use Rattle.claim_model.specs.Judgement.{only}
 use Rattle.payer_book.specs.declared.payment.Standing.{Standing}
 use Rattle.payer_book.specs.declared.changes.Change.{Change}
-use Rattle.payer_book.specs.declared.changes.Change.TheVariants.{Pays, Undoes, Keeps}
-use Rattle.payer_book.specs.Ledger.{is_of, standing_of, takes_back, IsOther, NoFillTwice}
-use Rattle.payer_book.specs.Changes.{is_undone, left, left_by, standing_after}
+use Rattle.payer_book.specs.declared.changes.Change.TheVariants.{Pays, Reverses as ReversesPayment, Keeps}
+use Rattle.payer_book.specs.Ledger.{is_of, standing_of, is_for_payment, IsOther, NoFillTwice}
+use Rattle.payer_book.specs.Changes.{is_reversed, left, left_by, standing_after}
 use Rattle.payer_book.specs.Matches.{tally, added, together, only_of, is_match}
 use Rattle.payer_book.proofs.Lists.{same_some, filter_same, all_true, find_append, find_beyond}
 use Rattle.payer_book.proofs.Sameness.{fill_same}
@@ -32,7 +32,7 @@ filter_twice f g (x ∷ xs) = by_test (g x) (filter_twice f g xs)
     by_test false e = e
 
 abbrev pub is_kept : List Change → Standing → Bool
-is_kept changes s = not (is_undone s.auth changes)
+is_kept changes s = not (is_reversed s.auth changes)
 
 not_or : (a b : Bool) → (not a && not b) ≡ not (a || b)
 not_or true b = refl
@@ -44,16 +44,16 @@ after_split standing (Pays s ∷ later) =
     after_split (standing ++ s ∷ []) later
     ∙ (ap (λ (ss : List Standing). ss ++ left_by later) (filter-append (is_kept later) standing (s ∷ []))
     ∙ (append_assoc (filter (is_kept later) standing) (filter (is_kept later) (s ∷ [])) (left_by later)
-    ∙ ap (λ (ss : List Standing). filter (is_kept later) standing ++ ss) (by_test (is_undone s.auth later))))
+    ∙ ap (λ (ss : List Standing). filter (is_kept later) standing ++ ss) (by_test (is_reversed s.auth later))))
   where
     by_test : (b : Bool) → cond (not b) (s ∷ []) [] ++ left_by later ≡ cons_option (cond b None (Some s)) (left_by later)
     by_test true = refl
     by_test false = refl
-after_split standing (Undoes auth ∷ later) =
+after_split standing (ReversesPayment auth ∷ later) =
     after_split (filter (λ (s : Standing). not (same_auth auth s.auth)) standing) later
     ∙ ap (λ (ss : List Standing). ss ++ left_by later)
     (filter_twice (is_kept later) (λ (s : Standing). not (same_auth auth s.auth)) standing
-    ∙ filter_same _ _ standing (all_true _ (λ s. not_or (same_auth auth s.auth) (is_undone s.auth later)) standing))
+    ∙ filter_same _ _ standing (all_true _ (λ s. not_or (same_auth auth s.auth) (is_reversed s.auth later)) standing))
 after_split standing (Keeps ∷ later) = after_split standing later
 
 -- the standing payment of a fill
@@ -95,13 +95,13 @@ gone_found fill kept (t ∷ ss) s twice e k = by_test (is_of fill t) refl (kept 
     by_test false is false has e g = g e
 
 module _ (fill : Fill) (standing : List Standing) (changes : List Change) where
-  pub stands_after : (s : Standing) → standing_of fill standing ≡ Some s → is_undone s.auth changes ≡ false → standing_of fill (standing_after standing changes) ≡ Some s
+  pub stands_after : (s : Standing) → standing_of fill standing ≡ Some s → is_reversed s.auth changes ≡ false → standing_of fill (standing_after standing changes) ≡ Some s
   stands_after s e k =
       ap (standing_of fill) (after_split standing changes)
       ∙ find_append (is_of fill) (filter (is_kept changes) standing) (left_by changes) s (kept_found (is_of fill) (is_kept changes) standing s e (ap not k))
 
-  pub undone_after : (s : Standing) → NoFillTwice standing → standing_of fill standing ≡ Some s → is_undone s.auth changes ≡ true → standing_of fill (standing_after standing changes) ≡ standing_of fill (left_by changes)
-  undone_after s twice e k =
+  pub reversed_after : (s : Standing) → NoFillTwice standing → standing_of fill standing ≡ Some s → is_reversed s.auth changes ≡ true → standing_of fill (standing_after standing changes) ≡ standing_of fill (left_by changes)
+  reversed_after s twice e k =
       ap (standing_of fill) (after_split standing changes)
       ∙ find_beyond (is_of fill) (filter (is_kept changes) standing) (left_by changes) (gone_found fill (is_kept changes) standing s twice e (ap not k))
 
@@ -129,19 +129,19 @@ and_swap false true = refl
 and_swap false false = refl
 
 pub only_after : (v : Reversal) (standing : List Standing) (changes : List Change)
-    → option_map (λ s. s.auth) (only (filter (takes_back v) (standing_after standing changes))) ≡ only_of (together (tally (filter (is_match v changes) standing)) (tally (filter (takes_back v) (left_by changes))))
+    → option_map (λ s. s.auth) (only (filter (is_for_payment v) (standing_after standing changes))) ≡ only_of (together (tally (filter (is_match v changes) standing)) (tally (filter (is_for_payment v) (left_by changes))))
 only_after v standing changes =
-    ap (λ (ss : List Standing). option_map (λ s. s.auth) (only (filter (takes_back v) ss))) (after_split standing changes)
-    ∙ (ap (λ (ss : List Standing). option_map (λ s. s.auth) (only ss)) (filter-append (takes_back v) (filter (is_kept changes) standing) (left_by changes))
-    ∙ (only_tallied (filter (takes_back v) (filter (is_kept changes) standing) ++ filter (takes_back v) (left_by changes))
-    ∙ (ap only_of (tally_together (filter (takes_back v) (filter (is_kept changes) standing)) (filter (takes_back v) (left_by changes)))
-    ∙ ap (λ (ss : List Standing). only_of (together (tally ss) (tally (filter (takes_back v) (left_by changes)))))
-    (filter_twice (takes_back v) (is_kept changes) standing ∙ filter_same _ _ standing (all_true _ (λ s. and_swap (is_kept changes s) (takes_back v s)) standing)))))
+    ap (λ (ss : List Standing). option_map (λ s. s.auth) (only (filter (is_for_payment v) ss))) (after_split standing changes)
+    ∙ (ap (λ (ss : List Standing). option_map (λ s. s.auth) (only ss)) (filter-append (is_for_payment v) (filter (is_kept changes) standing) (left_by changes))
+    ∙ (only_tallied (filter (is_for_payment v) (filter (is_kept changes) standing) ++ filter (is_for_payment v) (left_by changes))
+    ∙ (ap only_of (tally_together (filter (is_for_payment v) (filter (is_kept changes) standing)) (filter (is_for_payment v) (left_by changes)))
+    ∙ ap (λ (ss : List Standing). only_of (together (tally ss) (tally (filter (is_for_payment v) (left_by changes)))))
+    (filter_twice (is_for_payment v) (is_kept changes) standing ∙ filter_same _ _ standing (all_true _ (λ s. and_swap (is_kept changes s) (is_for_payment v s)) standing)))))
 
 pub tally_left : (v : Reversal) (change : Change) (later : List Change) (s : Standing) → left change later ≡ Some s
-    → tally (filter (takes_back v) (left_by (change ∷ later))) ≡ cond (takes_back v s) (added (tally (filter (takes_back v) (left_by later))) s.auth) (tally (filter (takes_back v) (left_by later)))
-tally_left v change later s e = ap (λ (o : Option Standing). tally (filter (takes_back v) (cons_option o (left_by later)))) e ∙ by_test (takes_back v s)
+    → tally (filter (is_for_payment v) (left_by (change ∷ later))) ≡ cond (is_for_payment v s) (added (tally (filter (is_for_payment v) (left_by later))) s.auth) (tally (filter (is_for_payment v) (left_by later)))
+tally_left v change later s e = ap (λ (o : Option Standing). tally (filter (is_for_payment v) (cons_option o (left_by later)))) e ∙ by_test (is_for_payment v s)
   where
-    by_test : (b : Bool) → tally (cond b (s ∷ filter (takes_back v) (left_by later)) (filter (takes_back v) (left_by later))) ≡ cond b (added (tally (filter (takes_back v) (left_by later))) s.auth) (tally (filter (takes_back v) (left_by later)))
-    by_test true = tally_first s (filter (takes_back v) (left_by later))
+    by_test : (b : Bool) → tally (cond b (s ∷ filter (is_for_payment v) (left_by later)) (filter (is_for_payment v) (left_by later))) ≡ cond b (added (tally (filter (is_for_payment v) (left_by later))) s.auth) (tally (filter (is_for_payment v) (left_by later)))
+    by_test true = tally_first s (filter (is_for_payment v) (left_by later))
     by_test false = refl

@@ -11,12 +11,12 @@ use Rattle.claim_model.specs.Judgement.{same_fill}
 use Rattle.claim_profile.specs.contracts.order.FillPartialEq.TheImpl as fill_eq
 use Rattle.payer_book.specs.declared.payment.Standing.{Standing}
 use Rattle.payer_book.specs.declared.payment.Payment.{Payment}
-use Rattle.payer_book.specs.declared.payment.Payment.TheVariants.{Standing as Stands, Reversed as TakenBack}
-use Rattle.payer_book.specs.Ledger.{has_auth, payment_with, is_of, still, standing_in, standing_of, taken_back, reversal_of, AreNumbered, IsOther, NoFillTwice, IsNumbered, HasFillNumber, IsLedger}
+use Rattle.payer_book.specs.declared.payment.Payment.TheVariants.{Standing as Stands, Reversed as WasReversed}
+use Rattle.payer_book.specs.Ledger.{has_auth, payment_with, is_of, still, standing_in, standing_of, after_reversal, reversal_of, AreNumbered, IsOther, NoFillTwice, IsNumbered, HasFillNumber, IsLedger}
 use Rattle.payer_book.specs.PaymentPlaces.{StandsAt, IsIndexed}
 use Rattle.payer_book.proofs.Lists.{same_some, find_passes, get_append, get_last, get_more, get_within, get_set, get_set_other, all_append}
 use Rattle.payer_book.proofs.Sameness.{fill_same, fill_self, auth_same}
-use Rattle.payer_book.proofs.Numbering.{numbered, numbered_at, numbered_more, numbered_kept, taken_back_at}
+use Rattle.payer_book.proofs.Numbering.{numbered, numbered_at, numbered_more, numbered_kept, after_reversal_at}
 
 -- the derived equality of fills is the model's, but for the order of the last two parts
 pub fill_eq_same : (a b : Fill) → fill_eq.ghosts.eq a b ≡ same_fill a b
@@ -28,7 +28,7 @@ fill_eq_same a b =
 
 pub found_stands : (fill : Fill) (ps : List Payment) (s : Standing) → standing_of fill (standing_in ps) ≡ Some s → (k : ℕ) × (slice_get ps k ≡ Some (Stands s)) × (s.claim.fill ≡ fill)
 found_stands fill [] s e = absurd cc
-found_stands fill (TakenBack r ∷ ps) s e = let f = found_stands fill ps s e in (suc f.0, f.1, f.2)
+found_stands fill (WasReversed r ∷ ps) s e = let f = found_stands fill ps s e in (suc f.0, f.1, f.2)
 found_stands fill (Stands t ∷ ps) s e = by_test (is_of fill t) refl e (found_stands fill ps s)
   where
     by_test : (b : Bool) → is_of fill t ≡ b → cond b (Some t) (standing_of fill (standing_in ps)) ≡ Some s
@@ -40,8 +40,8 @@ found_stands fill (Stands t ∷ ps) s e = by_test (is_of fill t) refl e (found_s
 
 pub stands_found : (fill : Fill) (ps : List Payment) (s : Standing) (k : ℕ) → slice_get ps k ≡ Some (Stands s) → s.claim.fill ≡ fill → (t : Standing) × (standing_of fill (standing_in ps) ≡ Some t)
 stands_found fill [] s k e is = absurd cc
-stands_found fill (TakenBack r ∷ ps) s zero e is = let same : TakenBack r ≡ Stands s = same_some (TakenBack r) (Stands s) e in absurd cc
-stands_found fill (TakenBack r ∷ ps) s (suc k) e is = stands_found fill ps s k e is
+stands_found fill (WasReversed r ∷ ps) s zero e is = let same : WasReversed r ≡ Stands s = same_some (WasReversed r) (Stands s) e in absurd cc
+stands_found fill (WasReversed r ∷ ps) s (suc k) e is = stands_found fill ps s k e is
 stands_found fill (Stands t ∷ ps) s zero e is =
     let same : Stands t ≡ Stands s = same_some (Stands t) (Stands s) e in
     let one : t ≡ s = cc in
@@ -79,13 +79,13 @@ one_on at n p ps h s k e = let m : n + suc k ≡ n + 1 + k = omega arith in h s 
 
 others : (at : Fill → Option ℕ) (n m : ℕ) (s : Standing) (ps : List Payment) → at s.claim.fill ≡ Some m → m < n → Offset at n ps → AllByRecursion (IsOther s) (standing_in ps)
 others at n m s [] is l h = tt
-others at n m s (TakenBack r ∷ ps) is l h = others at (n + 1) m s ps is (omega arith) (one_on at n (TakenBack r) ps h)
+others at n m s (WasReversed r ∷ ps) is l h = others at (n + 1) m s ps is (omega arith) (one_on at n (WasReversed r) ps h)
 others at n m s (Stands t ∷ ps) is l h =
     (λ same. let x : m ≡ n + 0 = same_some m (n + 0) (sym is ∙ (ap at same ∙ h t 0 refl)) in omega (arith, x), others at (n + 1) m s ps is (omega arith) (one_on at n (Stands t) ps h))
 
 pub no_fill_twice : (at : Fill → Option ℕ) (n : ℕ) (ps : List Payment) → Offset at n ps → NoFillTwice (standing_in ps)
 no_fill_twice at n [] h = tt
-no_fill_twice at n (TakenBack r ∷ ps) h = no_fill_twice at (n + 1) ps (one_on at n (TakenBack r) ps h)
+no_fill_twice at n (WasReversed r ∷ ps) h = no_fill_twice at (n + 1) ps (one_on at n (WasReversed r) ps h)
 no_fill_twice at n (Stands s ∷ ps) h = (others at (n + 1) (n + 0) s ps (h s 0 refl) (omega arith) (one_on at n (Stands s) ps h), no_fill_twice at (n + 1) ps (one_on at n (Stands s) ps h))
 
 pub index_ledger : (payer first room : ℕ) (ps : List Payment) (at : Fill → Option ℕ) → IsIndexed payer first ps at → IsLedger (record { payer = payer; first = first; payments = ps; room = room })
@@ -131,22 +131,22 @@ module _ (payer first : ℕ) (ps : List Payment) (at new : Fill → Option ℕ) 
   }
 
 -- fewer standing payments
-fewer_numbers : (auth : Auth) (by : TxnId) (ps : List Payment) → AllByRecursion IsNumbered (standing_in ps) → AllByRecursion IsNumbered (standing_in (map (taken_back auth by) ps))
+fewer_numbers : (auth : Auth) (by : TxnId) (ps : List Payment) → AllByRecursion IsNumbered (standing_in ps) → AllByRecursion IsNumbered (standing_in (map (after_reversal auth by) ps))
 fewer_numbers auth by [] a = tt
-fewer_numbers auth by (TakenBack r ∷ ps) a = fewer_numbers auth by ps a
+fewer_numbers auth by (WasReversed r ∷ ps) a = fewer_numbers auth by ps a
 fewer_numbers auth by (Stands s ∷ ps) a = by_test (same_auth auth s.auth) (fewer_numbers auth by ps a.1)
   where
-    by_test : (b : Bool) → AllByRecursion IsNumbered (standing_in (map (taken_back auth by) ps)) → AllByRecursion IsNumbered (standing_in (cond b (reversal_of by s) (Stands s) ∷ map (taken_back auth by) ps))
+    by_test : (b : Bool) → AllByRecursion IsNumbered (standing_in (map (after_reversal auth by) ps)) → AllByRecursion IsNumbered (standing_in (cond b (reversal_of by s) (Stands s) ∷ map (after_reversal auth by) ps))
     by_test true g = g
     by_test false g = (a.0, g)
 
 -- one standing payment is reversed
 module _ (payer first : ℕ) (ps : List Payment) (at new : Fill → Option ℕ) (auth : Auth) (by : TxnId) (s : Standing) (k : ℕ) (h : IsIndexed payer first ps at) (there : slice_get ps k ≡ Some (Stands s)) (is_auth : s.auth ≡ auth)
     (less : (fill : Fill) → new fill ≡ cond (same_fill s.claim.fill fill) None (at fill)) where
-  pub reversed_list : slice_set ps k (reversal_of by s) ≡ map (taken_back auth by) ps
+  pub reversed_list : slice_set ps k (reversal_of by s) ≡ map (after_reversal auth by) ps
   reversed_list =
       let e : auth.serial ≡ first + k = ap (λ (a : Auth). a.serial) (sym is_auth ∙ numbered_at payer first ps k (Stands s) h.numbered there) in
-      taken_back_at payer first auth by ps k s h.numbered e is_auth there
+      after_reversal_at payer first auth by ps k s h.numbered e is_auth there
 
   less_found : (fill : Fill) (place : ℕ) (b : Bool) → same_fill s.claim.fill fill ≡ b → cond b None (at fill) ≡ Some place → StandsAt (slice_set ps k (reversal_of by s)) fill place
   less_found fill place true is e = absurd cc
@@ -190,7 +190,7 @@ less_by s key at new is updates fill =
 
 pub still_at : (o : Option Payment) (s : Standing) → option_and_then still o ≡ Some s → o ≡ Some (Stands s)
 still_at None s e = absurd cc
-still_at (Some (TakenBack r)) s e = absurd cc
+still_at (Some (WasReversed r)) s e = absurd cc
 still_at (Some (Stands t)) s e = ap (λ (x : Standing). Some (Stands x)) (same_some t s e)
 
 pub auth_at : (auth : Auth) (ps : List Payment) (s : Standing) → payment_with auth ps ≡ Some (Stands s) → s.auth ≡ auth

@@ -15,7 +15,7 @@ use Rattle.claim_model.specs.Numbered.{numbered}
 use Rattle.claim_model.specs.Payments.{Payment as Paying}
 use Rattle.claim_model.specs.Ruled.{Ruled, ruled}
 use Rattle.claim_model.specs.Rows.{Row, Book, BookSettings, ruled_rows}
-use Rattle.claim_model.specs.Judgement.{same_claim, Judged, Settled, ToPrice, judged, judged_claim, judged_reversal, standing_for, undone_by, next_auth, priced}
+use Rattle.claim_model.specs.Judgement.{same_claim, Judged, Unpriced, ToPrice, judged, judged_claim, judged_reversal, standing_for, payment_to_reverse, next_auth, priced}
 use Rattle.claim_model.specs.Book.{row_of, serial_fits}
 use Rattle.payer_book.specs.Ledger.{Ledger}
 use Rattle.payer_book.specs.Changes.{changes_by, payments_after}
@@ -51,7 +51,7 @@ numbered_pays said zero m pays e = absurd cc
 numbered_pays said (suc k) m pays e = pays k m e
 
 kept_follows : (b : Book) (before : List Ruled) (said : List Ruling) (place : ℕ) (j : Judged) → PaysAmounts said → FollowsRules b before j (kept_ruling_of b before (numbered said place) j)
-kept_follows b before said place (Settled settled) pays = refl
+kept_follows b before said place (Unpriced settled) pays = refl
 kept_follows b before said place (ToPrice c) pays = by_case (amounts_in (numbered said place)) (λ m e. numbered_pays said place m pays e)
   where
     by_case : (o : Option Amounts) → ((m : Amounts) → o ≡ Some m → IsAmounts m) → FollowsRules b before (ToPrice c) (priced (next_auth b before) c o)
@@ -99,7 +99,7 @@ module _ (amounts : AmountsInRange) (b : Book) (id : TxnId) (request answer : Li
 -- rulings that follow the rules are ruled again
 
 again_one : (b : Book) (before : List Ruled) (j : Judged) (r : Ruling) → FollowsRules b before j r → kept_ruling_of b before (Some r) j ≡ r
-again_one b before (Settled settled) r f = sym f
+again_one b before (Unpriced settled) r f = sym f
 again_one b before (ToPrice c) r (inl e) = ap (λ (x : Ruling). priced (next_auth b before) c (amounts_in (Some x))) e ∙ sym e
 again_one b before (ToPrice c) r (inr p) = ap (λ (x : Ruling). priced (next_auth b before) c (amounts_in (Some x))) p.2 ∙ sym p.2
 
@@ -126,14 +126,14 @@ again_from b before id place (order ∷ orders) said front (r ∷ rulings) e at 
 -- what they pay can be written
 
 abbrev Unpaid : Judged → Type 0
-Unpaid (Settled settled) = amounts_in (Some settled) ≡ None
+Unpaid (Unpriced settled) = amounts_in (Some settled) ≡ None
 Unpaid (ToPrice c) = ⊤
 
 claim_unpaid : (c : Claim) (o : Option Paying) → Unpaid (judged_claim c o)
 claim_unpaid c None = tt
 claim_unpaid c (Some p) = by_test (same_claim p.claim c)
   where
-    by_test : (t : Bool) → Unpaid (cond t (Settled (Duplicate p.auth c.fill.prescription p.amounts)) (Settled (Rejected (DuplicateClaim ∷ []))))
+    by_test : (t : Bool) → Unpaid (cond t (Unpriced (Duplicate p.auth c.fill.prescription p.amounts)) (Unpriced (Rejected (DuplicateClaim ∷ []))))
     by_test true = refl
     by_test false = refl
 
@@ -145,10 +145,10 @@ unpaid : (before : List Ruled) (order : Result Order (List Code)) → Unpaid (ju
 unfolding judged
 unpaid before (Err codes) = refl
 unpaid before (Ok (Bills c)) = claim_unpaid c (standing_for c.fill before)
-unpaid before (Ok (Reverses v)) = reversal_unpaid v (undone_by v before)
+unpaid before (Ok (Reverses v)) = reversal_unpaid v (payment_to_reverse v before)
 
 follows_pays : (b : Book) (before : List Ruled) (j : Judged) (r : Ruling) → FollowsRules b before j r → Unpaid j → PaysSo r
-follows_pays b before (Settled settled) r f u = subst PaysSo (sym f) (λ m e. let g : None ≡ Some m = sym u ∙ e in absurd cc)
+follows_pays b before (Unpriced settled) r f u = subst PaysSo (sym f) (λ m e. let g : None ≡ Some m = sym u ∙ e in absurd cc)
 follows_pays b before (ToPrice c) r (inl e) u = subst PaysSo (sym e) (λ m h. absurd cc)
 follows_pays b before (ToPrice c) r (inr p) u = subst PaysSo (sym p.2) (λ m h. subst IsAmounts (same_some p.0 m h) p.1)
 

@@ -15,15 +15,15 @@ use Rattle.claim_model.specs.Laws.{IsOrderOf}
 use Rattle.claim_model.specs.Bytes.{bytes_with}
 use Rattle.claim_model.specs.Ruled.{Ruled, ruled, ruled_from}
 use Rattle.claim_model.specs.Rows.{Book}
-use Rattle.claim_model.specs.Judgement.{only, same_claim, is_paid, Judged, Settled, ToPrice, next_auth, priced, ruling_of, ruling, rulings_from}
+use Rattle.claim_model.specs.Judgement.{only, same_claim, is_paid, Judged, Unpriced, ToPrice, next_auth, priced, ruling_of, ruling, rulings_from}
 use Rattle.claim_model.specs.Payments.{same_auth}
 use Rattle.payer_book.specs.declared.payment.Standing.{Standing}
 use Rattle.payer_book.specs.declared.payment.Payment.{Payment}
 use Rattle.payer_book.specs.declared.changes.Change.{Change}
-use Rattle.payer_book.specs.declared.changes.Change.TheVariants.{Pays, Undoes, Keeps as KeepsAll}
-use Rattle.payer_book.specs.Ledger.{Ledger, standing_in, standing_of, takes_back, taken_back, HasFillNumber}
+use Rattle.payer_book.specs.declared.changes.Change.TheVariants.{Pays, Reverses as ReversesPayment, Keeps as KeepsAll}
+use Rattle.payer_book.specs.Ledger.{Ledger, standing_in, standing_of, is_for_payment, after_reversal, HasFillNumber}
 use Rattle.payer_book.specs.Changes.{change_by, changes_by, pays, standing_with, standing_after, payments_with, payments_after, IsPossible, ArePossible}
-use Rattle.payer_book.specs.Drafts.{claim_on, reversal_on, judged_on, Pricing, ByPlan, price_at, auth_after, settled_by, ruling_on, rulings_on}
+use Rattle.payer_book.specs.Drafts.{claim_on, reversal_on, judged_on, Pricing, ByPlan, price_at, auth_after, ruling_by, ruling_on, rulings_on}
 use Rattle.payer_book.specs.Books.{payments_of, count_paid, Keeps, OrderNumbered}
 use Rattle.payer_book.proofs.Growth.{payments_more, standing_more, after_more, judged_same}
 use Rattle.payer_book.proofs.Lists.{same_some}
@@ -35,24 +35,24 @@ priced_pays : (auth : Auth) (c : Claim) (o : Option Amounts) → is_paid (priced
 priced_pays auth c None = refl
 priced_pays auth c (Some m) = refl
 
-claim_pays : (auth : Auth) (prices : Pricing) (k : ℕ) (c : Claim) (o : Option Standing) → is_paid (settled_by auth prices k (claim_on c o)) ≡ pays (change_by (Ok (Bills c)) (settled_by auth prices k (claim_on c o)))
+claim_pays : (auth : Auth) (prices : Pricing) (k : ℕ) (c : Claim) (o : Option Standing) → is_paid (ruling_by auth prices k (claim_on c o)) ≡ pays (change_by (Ok (Bills c)) (ruling_by auth prices k (claim_on c o)))
 claim_pays auth prices k c None = priced_pays auth c (price_at prices k c)
 claim_pays auth prices k c (Some s) = by_test (same_claim s.claim c)
   where
-    by_test : (b : Bool) → is_paid (settled_by auth prices k (cond b (Settled (Duplicate s.auth c.fill.prescription s.amounts)) (Settled (Rejected (Code.DuplicateClaim ∷ [])))))
-        ≡ pays (change_by (Ok (Bills c)) (settled_by auth prices k (cond b (Settled (Duplicate s.auth c.fill.prescription s.amounts)) (Settled (Rejected (Code.DuplicateClaim ∷ []))))))
+    by_test : (b : Bool) → is_paid (ruling_by auth prices k (cond b (Unpriced (Duplicate s.auth c.fill.prescription s.amounts)) (Unpriced (Rejected (Code.DuplicateClaim ∷ [])))))
+        ≡ pays (change_by (Ok (Bills c)) (ruling_by auth prices k (cond b (Unpriced (Duplicate s.auth c.fill.prescription s.amounts)) (Unpriced (Rejected (Code.DuplicateClaim ∷ []))))))
     by_test true = refl
     by_test false = refl
 
-reversal_pays : (auth : Auth) (prices : Pricing) (k : ℕ) (v : Reversal) (o : Option Standing) → is_paid (settled_by auth prices k (reversal_on v o)) ≡ pays (change_by (Ok (Reverses v)) (settled_by auth prices k (reversal_on v o)))
+reversal_pays : (auth : Auth) (prices : Pricing) (k : ℕ) (v : Reversal) (o : Option Standing) → is_paid (ruling_by auth prices k (reversal_on v o)) ≡ pays (change_by (Ok (Reverses v)) (ruling_by auth prices k (reversal_on v o)))
 reversal_pays auth prices k v None = refl
 reversal_pays auth prices k v (Some s) = refl
 
 settled_pays : (auth : Auth) (prices : Pricing) (k : ℕ) (standing : List Standing) (order : Result Order (List Code))
-    → is_paid (settled_by auth prices k (judged_on standing order)) ≡ pays (change_by order (settled_by auth prices k (judged_on standing order)))
+    → is_paid (ruling_by auth prices k (judged_on standing order)) ≡ pays (change_by order (ruling_by auth prices k (judged_on standing order)))
 settled_pays auth prices k standing (Err codes) = refl
 settled_pays auth prices k standing (Ok (Bills c)) = claim_pays auth prices k c (standing_of c.fill standing)
-settled_pays auth prices k standing (Ok (Reverses v)) = reversal_pays auth prices k v (only (filter (takes_back v) standing))
+settled_pays auth prices k standing (Ok (Reverses v)) = reversal_pays auth prices k v (only (filter (is_for_payment v) standing))
 
 pub ruling_pays : (l : Ledger) (prices : Pricing) (changes : List Change) (order : Result Order (List Code)) → is_paid (ruling_on l prices changes order) ≡ pays (change_by order (ruling_on l prices changes order))
 unfolding ruling_on
@@ -71,8 +71,8 @@ module _ (routes : RouteMaps) (b : Book) (l : Ledger) (payer : l.payer ≡ b.pay
   abbrev ctx : Context
   ctx = bytes_with routes
 
-  settled_same : (before : List Ruled) (auth : Auth) (k : ℕ) (j : Judged) → next_auth b before ≡ auth → ruling_of ctx b before j ≡ settled_by auth (ByPlan b.plan) k j
-  settled_same before auth k (Settled r) is = refl
+  settled_same : (before : List Ruled) (auth : Auth) (k : ℕ) (j : Judged) → next_auth b before ≡ auth → ruling_of ctx b before j ≡ ruling_by auth (ByPlan b.plan) k j
+  settled_same before auth k (Unpriced r) is = refl
   settled_same before auth k (ToPrice c) is = ap (λ (a : Auth). priced a c (paid b.plan c)) is
 
   pub auth_same : (before : List Ruled) (changes : List Change) → b.settings.serial + count_paid before ≡ l.first + length l.payments + count_by pays changes → next_auth b before ≡ auth_after l changes
@@ -131,26 +131,26 @@ module _ (payer first : ℕ) (ps : List Payment) (auth : Auth) (next : auth ≡ 
   priced_possible c None number none = tt
   priced_possible c (Some m) number none = (next, number, none)
 
-  claim_possible : (c : Claim) (o : Option Standing) → HasFillNumber c → standing_of c.fill (standing_in ps) ≡ o → IsPossible payer first ps (change_by (Ok (Bills c)) (settled_by auth prices k (claim_on c o)))
+  claim_possible : (c : Claim) (o : Option Standing) → HasFillNumber c → standing_of c.fill (standing_in ps) ≡ o → IsPossible payer first ps (change_by (Ok (Bills c)) (ruling_by auth prices k (claim_on c o)))
   claim_possible c None number e = priced_possible c (price_at prices k c) number e
   claim_possible c (Some s) number e = by_test (same_claim s.claim c)
     where
-      by_test : (b : Bool) → IsPossible payer first ps (change_by (Ok (Bills c)) (settled_by auth prices k (cond b (Settled (Duplicate s.auth c.fill.prescription s.amounts)) (Settled (Rejected (Code.DuplicateClaim ∷ []))))))
+      by_test : (b : Bool) → IsPossible payer first ps (change_by (Ok (Bills c)) (ruling_by auth prices k (cond b (Unpriced (Duplicate s.auth c.fill.prescription s.amounts)) (Unpriced (Rejected (Code.DuplicateClaim ∷ []))))))
       by_test true = tt
       by_test false = tt
 
-  reversal_possible : (v : Reversal) (o : Option Standing) → only (filter (takes_back v) (standing_in ps)) ≡ o → IsPossible payer first ps (change_by (Ok (Reverses v)) (settled_by auth prices k (reversal_on v o)))
+  reversal_possible : (v : Reversal) (o : Option Standing) → only (filter (is_for_payment v) (standing_in ps)) ≡ o → IsPossible payer first ps (change_by (Ok (Reverses v)) (ruling_by auth prices k (reversal_on v o)))
   reversal_possible v None e = tt
-  reversal_possible v (Some s) e = some_in (λ (t : Standing). same_auth t.auth s.auth) (takes_back v) (standing_in ps) (only_some (filter (takes_back v) (standing_in ps)) s e)
+  reversal_possible v (Some s) e = some_in (λ (t : Standing). same_auth t.auth s.auth) (is_for_payment v) (standing_in ps) (only_some (filter (is_for_payment v) (standing_in ps)) s e)
 
-  settled_possible : (order : Result Order (List Code)) → OrderNumbered order → IsPossible payer first ps (change_by order (settled_by auth prices k (judged_on (standing_in ps) order)))
+  settled_possible : (order : Result Order (List Code)) → OrderNumbered order → IsPossible payer first ps (change_by order (ruling_by auth prices k (judged_on (standing_in ps) order)))
   settled_possible (Err codes) number = tt
   settled_possible (Ok (Bills c)) number = claim_possible c (standing_of c.fill (standing_in ps)) number refl
-  settled_possible (Ok (Reverses v)) number = reversal_possible v (only (filter (takes_back v) (standing_in ps))) refl
+  settled_possible (Ok (Reverses v)) number = reversal_possible v (only (filter (is_for_payment v) (standing_in ps))) refl
 
 length_with : (id : TxnId) (ps : List Payment) (change : Change) → length (payments_with id ps change) ≡ length ps + cond (pays change) 1 0
 length_with id ps (Pays s) = length-append ps _
-length_with id ps (Undoes auth) = omega (arith, length-map ps (taken_back auth id))
+length_with id ps (ReversesPayment auth) = omega (arith, length-map ps (after_reversal auth id))
 length_with id ps KeepsAll = omega arith
 
 pub ruling_possible : (l : Ledger) (prices : Pricing) (ps : List Payment) (changes : List Change) (order : Result Order (List Code)) → OrderNumbered order → standing_in ps ≡ standing_after (standing_in l.payments) changes
@@ -159,7 +159,7 @@ unfolding ruling_on
 ruling_possible l prices ps changes order number stands count =
     let e : l.first + length l.payments + count_by pays changes ≡ l.first + length ps = omega (arith, count) in
     let next : auth_after l changes ≡ record { payer = l.payer; serial = l.first + length ps } = λ i. record { payer = l.payer; serial = e i } in
-    subst (λ (ss : List Standing). IsPossible l.payer l.first ps (change_by order (settled_by (auth_after l changes) prices (length changes) (judged_on ss order)))) stands
+    subst (λ (ss : List Standing). IsPossible l.payer l.first ps (change_by order (ruling_by (auth_after l changes) prices (length changes) (judged_on ss order)))) stands
     (settled_possible l.payer l.first ps (auth_after l changes) next prices (length changes) order number)
 
 module _ (l : Ledger) (prices : Pricing) (id : TxnId) where
@@ -212,7 +212,7 @@ keeps_more l m prices id before orders rulings k is after =
 
 -- the rulings can be written
 
-claim_writable : (auth : Auth) (prices : Pricing) (k : ℕ) (c : Claim) (o : Option Standing) → IsPrescription c.fill.prescription → IsWritable (settled_by auth prices k (claim_on c o))
+claim_writable : (auth : Auth) (prices : Pricing) (k : ℕ) (c : Claim) (o : Option Standing) → IsPrescription c.fill.prescription → IsWritable (ruling_by auth prices k (claim_on c o))
 claim_writable auth prices k c None n = by_price (price_at prices k c)
   where
     by_price : (o : Option Amounts) → IsWritable (priced auth c o)
@@ -220,11 +220,11 @@ claim_writable auth prices k c None n = by_price (price_at prices k c)
     by_price (Some m) = n
 claim_writable auth prices k c (Some s) n = by_test (same_claim s.claim c)
   where
-    by_test : (b : Bool) → IsWritable (settled_by auth prices k (cond b (Settled (Duplicate s.auth c.fill.prescription s.amounts)) (Settled (Rejected (Code.DuplicateClaim ∷ [])))))
+    by_test : (b : Bool) → IsWritable (ruling_by auth prices k (cond b (Unpriced (Duplicate s.auth c.fill.prescription s.amounts)) (Unpriced (Rejected (Code.DuplicateClaim ∷ [])))))
     by_test true = n
     by_test false = tt
 
-reversal_writable : (auth : Auth) (prices : Pricing) (k : ℕ) (v : Reversal) (o : Option Standing) → IsPrescription v.prescription → IsWritable (settled_by auth prices k (reversal_on v o))
+reversal_writable : (auth : Auth) (prices : Pricing) (k : ℕ) (v : Reversal) (o : Option Standing) → IsPrescription v.prescription → IsWritable (ruling_by auth prices k (reversal_on v o))
 reversal_writable auth prices k v None n = tt
 reversal_writable auth prices k v (Some s) n = n
 
@@ -232,7 +232,7 @@ ruling_writable : (l : Ledger) (prices : Pricing) (changes : List Change) (h : R
 unfolding ruling_on
 ruling_writable l prices changes h (Err codes) of_it = tt
 ruling_writable l prices changes h (Ok (Bills c)) of_it = claim_writable (auth_after l changes) prices (length changes) c (standing_of c.fill (standing_after (standing_in l.payments) changes)) of_it.prescription
-ruling_writable l prices changes h (Ok (Reverses v)) of_it = reversal_writable (auth_after l changes) prices (length changes) v (only (filter (takes_back v) (standing_after (standing_in l.payments) changes))) of_it.prescription
+ruling_writable l prices changes h (Ok (Reverses v)) of_it = reversal_writable (auth_after l changes) prices (length changes) v (only (filter (is_for_payment v) (standing_after (standing_in l.payments) changes))) of_it.prescription
 
 pub rulings_writable : (l : Ledger) (prices : Pricing) (changes : List Change) (h : RequestHeader) (orders : List (Result Order (List Code))) → AllByRecursion (IsOrderOf h) orders → AreWritable Accepted (rulings_on l prices changes orders)
 rulings_writable l prices changes h [] all = tt

@@ -6,15 +6,15 @@ use Rattle.std.proofs.lemmas.Bool.{and_parts}
 use Rattle.plan_rules.specs.Pricing.{paid}
 use Rattle.claim_model.specs.Words.{TxnId, Auth, Amounts, Claim, Reversal, Order, Bills, Reverses, Code, NotCovered, DuplicateClaim, ReversalNotProcessed, Plan, Ruling, Paid, Duplicate, Reversed, Rejected, RequestHeader}
 use Rattle.claim_model.specs.Payments.{same_auth}
-use Rattle.claim_model.specs.Judgement.{only, same_claim, Settled, priced}
+use Rattle.claim_model.specs.Judgement.{only, same_claim, Unpriced, priced}
 use Rattle.claim_model.specs.Laws.{IsAmounts, IsClaimOf, IsOrderOf, IsPrescription, IsRuling}
 use Rattle.claim_model.specs.Book.{serial_fits, last_serial}
 use Rattle.payer_book.specs.declared.payment.Standing.{Standing}
 use Rattle.payer_book.specs.declared.payment.Payment.{Payment}
 use Rattle.payer_book.specs.declared.changes.Change.{Change}
-use Rattle.payer_book.specs.Ledger.{Ledger, standing_in, standing_of, is_of, takes_back}
+use Rattle.payer_book.specs.Ledger.{Ledger, standing_in, standing_of, is_of, is_for_payment}
 use Rattle.payer_book.specs.Changes.{change_by, changes_by, standing_with, standing_after, payments_with, payments_after}
-use Rattle.payer_book.specs.Drafts.{claim_on, reversal_on, judged_on, Pricing, ByPlan, AsKept, price_at, auth_after, settled_by, ruling_on, rulings_on}
+use Rattle.payer_book.specs.Drafts.{claim_on, reversal_on, judged_on, Pricing, ByPlan, AsKept, price_at, auth_after, ruling_by, ruling_on, rulings_on}
 use Rattle.payer_book.specs.Made.{IsTold, ArePrices}
 use Rattle.payer_book.proofs.Growth.{standing_more, after_more}
 use Rattle.payer_book.proofs.Lists.{same_some, all_append, all_filter}
@@ -44,22 +44,22 @@ module _ (auth : Auth) (payer : 1 ≤ auth.payer) (payer_fits : auth.payer ≤ 9
   priced_told c (Some m) of_it e fits =
       (record { payer = omega (arith, payer); payer_fits = payer_fits; serial = omega (arith, serial); serial_fits = leb-true auth.serial last_serial fits }, of_it.prescription, amounts c m of_it e)
 
-  claim_told : (c : Claim) (o : Option Standing) → IsClaimOf h c → standing_of c.fill standing ≡ o → serial_fits (settled_by auth prices k (claim_on c o)) ≡ true → IsRuling (settled_by auth prices k (claim_on c o))
+  claim_told : (c : Claim) (o : Option Standing) → IsClaimOf h c → standing_of c.fill standing ≡ o → serial_fits (ruling_by auth prices k (claim_on c o)) ≡ true → IsRuling (ruling_by auth prices k (claim_on c o))
   claim_told c None of_it e fits = priced_told c (price_at prices k c) of_it refl fits
   claim_told c (Some s) of_it e fits = by_test (same_claim s.claim c)
     where
-      by_test : (b : Bool) → IsRuling (settled_by auth prices k (cond b (Settled (Duplicate s.auth c.fill.prescription s.amounts)) (Settled (Rejected (DuplicateClaim ∷ [])))))
+      by_test : (b : Bool) → IsRuling (ruling_by auth prices k (cond b (Unpriced (Duplicate s.auth c.fill.prescription s.amounts)) (Unpriced (Rejected (DuplicateClaim ∷ [])))))
       by_test true = let t = find_all IsTold (is_of c.fill) standing s told e in (t.auth, of_it.prescription, t.amounts)
       by_test false = one_code DuplicateClaim
 
-  reversal_told : (v : Reversal) (o : Option Standing) → IsPrescription v.prescription → only (filter (takes_back v) standing) ≡ o → IsRuling (settled_by auth prices k (reversal_on v o))
+  reversal_told : (v : Reversal) (o : Option Standing) → IsPrescription v.prescription → only (filter (is_for_payment v) standing) ≡ o → IsRuling (ruling_by auth prices k (reversal_on v o))
   reversal_told v None n e = one_code ReversalNotProcessed
-  reversal_told v (Some s) n e = ((only_all IsTold (filter (takes_back v) standing) s (all_filter IsTold (takes_back v) standing told) e).auth, n)
+  reversal_told v (Some s) n e = ((only_all IsTold (filter (is_for_payment v) standing) s (all_filter IsTold (is_for_payment v) standing told) e).auth, n)
 
-  settled_told : (order : Result Order (List Code)) → IsOrderOf h order → serial_fits (settled_by auth prices k (judged_on standing order)) ≡ true → IsRuling (settled_by auth prices k (judged_on standing order))
+  settled_told : (order : Result Order (List Code)) → IsOrderOf h order → serial_fits (ruling_by auth prices k (judged_on standing order)) ≡ true → IsRuling (ruling_by auth prices k (judged_on standing order))
   settled_told (Err codes) of_it fits = of_it
   settled_told (Ok (Bills c)) of_it fits = claim_told c (standing_of c.fill standing) of_it refl fits
-  settled_told (Ok (Reverses v)) of_it fits = reversal_told v (only (filter (takes_back v) standing)) of_it.prescription refl
+  settled_told (Ok (Reverses v)) of_it fits = reversal_told v (only (filter (is_for_payment v) standing)) of_it.prescription refl
 
 -- what stands after a ruling that can be told
 change_told : (order : Result Order (List Code)) (r : Ruling) (standing : List Standing) → IsRuling r → AllByRecursion IsTold standing → AllByRecursion IsTold (standing_with standing (change_by order r))

@@ -7,7 +7,7 @@ use Rattle.claim_model.specs.Words.{TxnId, RequestHeader, AcceptedStatus, Order,
 use Rattle.claim_model.specs.Numbered.{numbered}
 use Rattle.claim_model.specs.Ruled.{Ruled, ruled}
 use Rattle.claim_model.specs.Rows.{Row, Book, ruled_rows}
-use Rattle.claim_model.specs.Judgement.{Judged, Settled, ToPrice, judged, next_auth, priced}
+use Rattle.claim_model.specs.Judgement.{Judged, Unpriced, ToPrice, judged, next_auth, priced}
 use Rattle.claim_model.specs.Book.{row_of, serial_fits}
 use Rattle.payer_book.specs.Drafts.{amounts_in}
 use Rattle.payer_book.specs.Books.{reading}
@@ -33,7 +33,7 @@ kept_row row = record { id = row.id; request = row.request; answer = kept_answer
 
 -- a judgement as the kept answer has it: what is to be priced is paid as it says, and rejected with 70 where it pays nothing
 abbrev pub kept_ruling_of : Book → List Ruled → Option Ruling → Judged → Ruling
-kept_ruling_of b before said (Settled ruling) = ruling
+kept_ruling_of b before said (Unpriced ruling) = ruling
 kept_ruling_of b before said (ToPrice c) = priced (next_auth b before) c (amounts_in said)
 
 -- the ruling of an order over what was ruled before it, where the kept answer says this of it

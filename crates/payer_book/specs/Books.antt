@@ -9,7 +9,7 @@ use Rattle.claim_model.specs.Payments as model
 use Rattle.claim_model.specs.Rows.{Row, ruled_rows}
 use Rattle.claim_model.specs.Judgement.{is_paid}
 use Rattle.payer_book.specs.declared.payment.Payment.{Payment}
-use Rattle.payer_book.specs.declared.payment.Payment.TheVariants.{Standing as Stands, Reversed as TakenBack}
+use Rattle.payer_book.specs.declared.payment.Payment.TheVariants.{Standing as Stands, Reversed as WasReversed}
 use Rattle.payer_book.specs.Ledger.{Ledger, HasFillNumber}
 
 -- how requests are read: what a book keeps does not ask for the routes
@@ -19,7 +19,7 @@ reading = bytes_with (routes_of [])
 -- a payment of the model without its place among the rulings
 abbrev pub kept_by : model.Payment → Option TxnId → Payment
 kept_by p None = Stands (record { auth = p.auth; claim = p.claim; amounts = p.amounts })
-kept_by p (Some id) = TakenBack (record { auth = p.auth; claim = p.claim; amounts = p.amounts; by = id })
+kept_by p (Some id) = WasReversed (record { auth = p.auth; claim = p.claim; amounts = p.amounts; by = id })
 
 abbrev pub kept : model.Payment → Payment
 kept p = kept_by p p.reversed_by

@@ -1,7 +1,7 @@
 -- The rulings of a request over the payments of a book, and what they change, place by place.
 use Rattle.std.specs.Prelude.{◌≡◌, ℕ, ◌+◌, true, cond, List, [], ◌∷◌, ◌++◌, length, filter, count_by, slice_get, Option, Some, None, Result, Ok, Err}
 use Rattle.claim_model.specs.Words.{Auth, Amounts, Claim, Reversal, Order, Bills, Reverses, Code, DuplicateClaim, ReversalNotProcessed, Ruling, Paid, Duplicate, Reversed, Rejected, Plan}
-use Rattle.claim_model.specs.Judgement.{same_claim, only, Judged, Settled, ToPrice, priced}
+use Rattle.claim_model.specs.Judgement.{same_claim, only, Judged, Unpriced, ToPrice, priced}
 use Rattle.plan_rules.specs.Pricing.{paid}
 use Rattle.payer_book.specs.declared.payment.Standing.{Standing}
 use Rattle.payer_book.specs.declared.changes.Change.{Change}
@@ -9,21 +9,21 @@ use Rattle.claim_model.specs.Book.{serial_fits}
 use Rattle.std.specs.List.{list_all}
 use Rattle.payer_book.specs.declared.drafting.Draft.{Draft}
 use Rattle.payer_book.specs.declared.judging.Verdict.{Verdict}
-use Rattle.payer_book.specs.declared.judging.Verdict.TheVariants.{Settled as IsSettled, ToPrice as IsToPrice}
+use Rattle.payer_book.specs.declared.judging.Verdict.TheVariants.{Unpriced as IsUnpriced, ToPrice as IsToPrice}
 use Rattle.payer_book.specs.declared.pricing.Prices.{Prices}
 use Rattle.payer_book.specs.declared.pricing.Prices.TheVariants.{Plan as OfPlan, Kept as OfAnswer}
-use Rattle.payer_book.specs.Ledger.{Ledger, standing_in, standing_of, takes_back}
+use Rattle.payer_book.specs.Ledger.{Ledger, standing_in, standing_of, is_for_payment}
 use Rattle.payer_book.specs.Changes.{change_by, changes_by, pays, standing_after}
 
 -- the judgement of a claim, where its fill has this standing payment
 abbrev pub claim_on : Claim → Option Standing → Judged
 claim_on c None = ToPrice c
-claim_on c (Some s) = cond (same_claim s.claim c) (Settled (Duplicate s.auth c.fill.prescription s.amounts)) (Settled (Rejected (DuplicateClaim ∷ [])))
+claim_on c (Some s) = cond (same_claim s.claim c) (Unpriced (Duplicate s.auth c.fill.prescription s.amounts)) (Unpriced (Rejected (DuplicateClaim ∷ [])))
 
 -- the judgement of a reversal, which is for this payment alone
 abbrev pub reversal_on : Reversal → Option Standing → Judged
-reversal_on v None = Settled (Rejected (ReversalNotProcessed ∷ []))
-reversal_on v (Some s) = Settled (Reversed s.auth v.prescription)
+reversal_on v None = Unpriced (Rejected (ReversalNotProcessed ∷ []))
+reversal_on v (Some s) = Unpriced (Reversed s.auth v.prescription)
 
 -- the ruling of a reversal that is for the payment of this authorization alone
 abbrev pub reversal_by : Reversal → Option Auth → Ruling
@@ -32,12 +32,12 @@ reversal_by v (Some auth) = Reversed auth v.prescription
 
 -- the judgement of an order over the standing payments
 abbrev pub judged_on : List Standing → Result Order (List Code) → Judged
-judged_on standing (Err codes) = Settled (Rejected codes)
+judged_on standing (Err codes) = Unpriced (Rejected codes)
 judged_on standing (Ok (Bills c)) = claim_on c (standing_of c.fill standing)
-judged_on standing (Ok (Reverses v)) = reversal_on v (only (filter (takes_back v) standing))
+judged_on standing (Ok (Reverses v)) = reversal_on v (only (filter (is_for_payment v) standing))
 
 abbrev pub verdict : Verdict → Judged
-verdict (IsSettled ruling) = Settled ruling
+verdict (IsUnpriced ruling) = Unpriced ruling
 verdict (IsToPrice c) = ToPrice c.now
 
 -- where prices come from: a plan, or the rulings of a kept answer
@@ -66,13 +66,13 @@ price_at (AsKept rulings) place c = amounts_in (slice_get rulings place)
 abbrev pub auth_after : Ledger → List Change → Auth
 auth_after l changes = record { payer = l.payer; serial = l.first + length l.payments + count_by pays changes }
 
-abbrev pub settled_by : Auth → Pricing → ℕ → Judged → Ruling
-settled_by auth prices place (Settled ruling) = ruling
-settled_by auth prices place (ToPrice c) = priced auth c (price_at prices place c)
+abbrev pub ruling_by : Auth → Pricing → ℕ → Judged → Ruling
+ruling_by auth prices place (Unpriced ruling) = ruling
+ruling_by auth prices place (ToPrice c) = priced auth c (price_at prices place c)
 
 -- the ruling of the next place, after the changes of the places before
 unfoldable pub ruling_on : Ledger → Pricing → List Change → Result Order (List Code) → Ruling
-ruling_on l prices changes order = settled_by (auth_after l changes) prices (length changes) (judged_on (standing_after (standing_in l.payments) changes) order)
+ruling_on l prices changes order = ruling_by (auth_after l changes) prices (length changes) (judged_on (standing_after (standing_in l.payments) changes) order)
 
 -- the rulings of some orders, each after the changes of the places before
 abbrev pub rulings_on : Ledger → Pricing → List Change → List (Result Order (List Code)) → List Ruling

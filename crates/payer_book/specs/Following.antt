@@ -7,7 +7,7 @@ use Rattle.claim_model.specs.Words.{TxnId, RequestHeader, AcceptedStatus, Amount
 use Rattle.claim_model.specs.Laws.{IsAmounts}
 use Rattle.claim_model.specs.Ruled.{Ruled, ruled}
 use Rattle.claim_model.specs.Rows.{Book, ruled_rows}
-use Rattle.claim_model.specs.Judgement.{Judged, Settled, ToPrice, judged, next_auth}
+use Rattle.claim_model.specs.Judgement.{Judged, Unpriced, ToPrice, judged, next_auth}
 use Rattle.claim_model.specs.Book.{row_of, serial_fits}
 use Rattle.payer_book.specs.Books.{reading}
 use Rattle.payer_book.specs.Added.{KeptRow, kept_row, with_row, added_all}
@@ -15,7 +15,7 @@ use Rattle.payer_book.specs.Added.{KeptRow, kept_row, with_row, added_all}
 -- a ruling that the rules give for some plan, where the order was judged so: what is settled; or, of a claim that is to be priced, a
 -- rejection with 70, or a payment under the next authorization in any amounts that can be written
 abbrev pub FollowsRules : Book → List Ruled → Judged → Ruling → Type 0
-FollowsRules b before (Settled settled) r = r ≡ settled
+FollowsRules b before (Unpriced ruling) r = r ≡ ruling
 FollowsRules b before (ToPrice c) r = (r ≡ Rejected (NotCovered ∷ [])) ⊎ ((m : Amounts) × IsAmounts m × (r ≡ Paid (next_auth b before) c.fill.prescription m))
 
 -- one such ruling for each order from a place on, each over all rows before and the earlier places of its own request

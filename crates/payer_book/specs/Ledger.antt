@@ -6,7 +6,7 @@ use Rattle.claim_model.specs.Payments.{same_auth}
 use Rattle.claim_model.specs.Judgement.{same_fill, is_for}
 use Rattle.payer_book.specs.declared.payment.Standing.{Standing}
 use Rattle.payer_book.specs.declared.payment.Payment.{Payment}
-use Rattle.payer_book.specs.declared.payment.Payment.TheVariants.{Standing as Stands, Reversed as TakenBack}
+use Rattle.payer_book.specs.declared.payment.Payment.TheVariants.{Standing as Stands, Reversed as WasReversed}
 
 -- the payments of a payer, whose first one has this serial, and how many more there is room for
 pub record Ledger : Type 0 where
@@ -18,12 +18,12 @@ pub record Ledger : Type 0 where
 -- the authorization of a payment
 abbrev pub auth_of : Payment → Auth
 auth_of (Stands s) = s.auth
-auth_of (TakenBack r) = r.auth
+auth_of (WasReversed r) = r.auth
 
 -- the payment, where it stands
 abbrev pub still : Payment → Option Standing
 still (Stands s) = Some s
-still (TakenBack r) = None
+still (WasReversed r) = None
 
 -- the standing payments, in order
 abbrev pub standing_in : List Payment → List Standing
@@ -46,17 +46,17 @@ abbrev pub standing_of : Fill → List Standing → Option Standing
 standing_of fill standing = find (is_of fill) standing
 
 -- the reversal is for the claim that was paid
-abbrev pub takes_back : Reversal → Standing → Bool
-takes_back v s = is_for v s.claim
+abbrev pub is_for_payment : Reversal → Standing → Bool
+is_for_payment v s = is_for v s.claim
 
 -- the payment, reversed by this request
 abbrev pub reversal_of : TxnId → Standing → Payment
-reversal_of by s = TakenBack (record { auth = s.auth; claim = s.claim; amounts = s.amounts; by = by })
+reversal_of by s = WasReversed (record { auth = s.auth; claim = s.claim; amounts = s.amounts; by = by })
 
 -- the payment, reversed by this request where it is the standing one of this authorization
-abbrev pub taken_back : Auth → TxnId → Payment → Payment
-taken_back auth by (Stands s) = cond (same_auth auth s.auth) (reversal_of by s) (Stands s)
-taken_back auth by (TakenBack r) = TakenBack r
+abbrev pub after_reversal : Auth → TxnId → Payment → Payment
+after_reversal auth by (Stands s) = cond (same_auth auth s.auth) (reversal_of by s) (Stands s)
+after_reversal auth by (WasReversed r) = WasReversed r
 
 -- the authorizations are the payer's, with serials one after another
 abbrev pub AreNumbered : ℕ → ℕ → List Payment → Type 0

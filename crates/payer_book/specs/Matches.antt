@@ -5,8 +5,8 @@ use Rattle.payer_book.specs.declared.payment.Standing.{Standing}
 use Rattle.payer_book.specs.declared.changes.Change.{Change}
 use Rattle.payer_book.specs.declared.matches.Matches.{Matches}
 use Rattle.payer_book.specs.declared.matches.Matches.TheVariants.{Nothing, One, Several}
-use Rattle.payer_book.specs.Ledger.{takes_back}
-use Rattle.payer_book.specs.Changes.{is_undone}
+use Rattle.payer_book.specs.Ledger.{is_for_payment}
+use Rattle.payer_book.specs.Changes.{is_reversed}
 
 -- how many payments there are, as far as it matters, and the authorization of the only one
 abbrev pub tally : List Standing → Matches
@@ -36,9 +36,9 @@ only_of Several = None
 abbrev pub fill_for : Reversal → ℕ → Fill
 fill_for v number = record { bin = v.bin; pcn = v.pcn; qualifier = v.qualifier; provider = v.provider; prescription = v.prescription; fill = number }
 
--- the reversal is for this payment, which none of the changes undoes
+-- the reversal is for this payment, which none of the changes reverses
 abbrev pub is_match : Reversal → List Change → Standing → Bool
-is_match v changes s = takes_back v s && not (is_undone s.auth changes)
+is_match v changes s = is_for_payment v s && not (is_reversed s.auth changes)
 
 -- the tally with this payment, where the reversal is for it
 abbrev pub matched : Reversal → List Change → Option Standing → Matches → Matches

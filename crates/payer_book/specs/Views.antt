@@ -3,7 +3,7 @@ use Rattle.std.specs.Prelude.{Some, None}
 use Rattle.claim_model.specs.Payments as model
 use Rattle.payer_book.specs.declared.book.PaymentView.{PaymentView}
 use Rattle.payer_book.specs.declared.payment.Payment.{Payment}
-use Rattle.payer_book.specs.declared.payment.Payment.TheVariants.{Standing as Stands, Reversed as TakenBack}
+use Rattle.payer_book.specs.declared.payment.Payment.TheVariants.{Standing as Stands, Reversed as WasReversed}
 
 -- a payment's fill, its amounts and the request that reversed it
 abbrev pub payment_view : model.Payment → PaymentView
@@ -12,4 +12,4 @@ payment_view p = record { fill = p.claim.fill; amounts = p.amounts; reversed_by 
 -- the same of a payment as it is kept
 abbrev pub view_of : Payment → PaymentView
 view_of (Stands s) = record { fill = s.claim.fill; amounts = s.amounts; reversed_by = None }
-view_of (TakenBack r) = record { fill = r.claim.fill; amounts = r.amounts; reversed_by = Some r.by }
+view_of (WasReversed r) = record { fill = r.claim.fill; amounts = r.amounts; reversed_by = Some r.by }

@@ -5,11 +5,11 @@ ghost use Rattle.std.specs.Option.{option_copied};
 ghost use Rattle.claim_model.specs.Bytes.{order_in};
 ghost use Rattle.claim_model.specs.Payments.{same_auth};
 ghost use Rattle.claim_model.specs.Judgement.{same_fill};
-ghost use Rattle.payer_book.specs.Ledger.{standing_of, takes_back};
-ghost use Rattle.payer_book.specs.Changes.{change_by, undoes, is_undone, pays, left, left_by};
+ghost use Rattle.payer_book.specs.Ledger.{standing_of, is_for_payment};
+ghost use Rattle.payer_book.specs.Changes.{change_by, is_reversal_of, is_reversed, pays, left, left_by};
 ghost use Rattle.payer_book.specs.Matches.{tally, added};
 
-use crate::matches::{Matches, takes_back};
+use crate::matches::{Matches, is_for};
 use crate::payment::Standing;
 use claim_profile::{Auth, Fill, Order, OrderFault, Reversal, Ruling};
 
@@ -19,7 +19,7 @@ pub(crate) enum Change {
     /// There is one payment more.
     Pays(Standing),
     /// The payment of this authorization is reversed.
-    Undoes(Auth),
+    Reverses(Auth),
     /// Nothing.
     Keeps,
 }
@@ -34,36 +34,36 @@ impl Change {
                 Ok(Order::Claim(claim)) => Change::Pays(Standing::new(*auth, *claim, *amounts)),
                 _ => Change::Keeps,
             },
-            Ruling::Reversed { auth, .. } => Change::Undoes(*auth),
+            Ruling::Reversed { auth, .. } => Change::Reverses(*auth),
             Ruling::Duplicate { .. } => Change::Keeps,
             Ruling::Rejected { .. } => Change::Keeps,
         }
     }
 
-    /// Whether it undoes the payment of this authorization.
-    pub(crate) fn undoes(&self, auth: Auth) -> bool
-        ensures { result ≡ undoes auth self.now }
+    /// Whether it reverses the payment of this authorization.
+    pub(crate) fn is_reversal_of(&self, auth: Auth) -> bool
+        ensures { result ≡ is_reversal_of auth self.now }
     {
         match self {
-            Change::Undoes(named) => same_auth(*named, auth),
+            Change::Reverses(named) => same_auth(*named, auth),
             Change::Pays(_) => false,
             Change::Keeps => false,
         }
     }
 
-    /// The payment that it makes, where none of the later changes undoes it.
+    /// The payment that it makes, where none of the later changes reverses it.
     fn left(&self, later: &[Change]) -> Option<&Standing>
         ensures { option_copied result ≡ left self.now later.now }
     {
         match self {
             Change::Pays(payment) => {
-                if is_undone(payment.auth(), later) {
+                if is_reversed(payment.auth(), later) {
                     None
                 } else {
                     Some(payment)
                 }
             }
-            Change::Undoes(_) => None,
+            Change::Reverses(_) => None,
             Change::Keeps => None,
         }
     }
@@ -74,7 +74,7 @@ impl Change {
     {
         match self {
             Change::Pays(_) => true,
-            Change::Undoes(_) => false,
+            Change::Reverses(_) => false,
             Change::Keeps => false,
         }
     }
@@ -98,11 +98,11 @@ pub(crate) fn same_fill(a: &Fill, b: &Fill) -> bool
                     && (a.prescription == b.prescription && a.fill == b.fill))))
 }
 
-/// Whether one of the changes undoes the payment of this authorization.
-pub(crate) fn is_undone(auth: Auth, changes: &[Change]) -> bool
-    ensures { result ≡ is_undone auth changes.now }
+/// Whether one of the changes reverses the payment of this authorization.
+pub(crate) fn is_reversed(auth: Auth, changes: &[Change]) -> bool
+    ensures { result ≡ is_reversed auth changes.now }
 {
-    changes.iter().any(|change| change.undoes(auth))
+    changes.iter().any(|change| change.is_reversal_of(auth))
 }
 
 /// How many of the changes are payments.
@@ -112,7 +112,7 @@ pub(crate) fn payments_in(changes: &[Change]) -> usize
     changes.iter().filter(|change| change.pays()).count()
 }
 
-/// The payment of a fill that the changes make and do not undo.
+/// The payment of a fill that the changes make and do not reverse.
 pub(crate) fn left_for<'a>(fill: &Fill, changes: &'a [Change]) -> Option<&'a Standing>
     ensures { option_copied result ≡ standing_of fill.now (left_by changes.now) }
 {
@@ -131,9 +131,9 @@ pub(crate) fn left_for<'a>(fill: &Fill, changes: &'a [Change]) -> Option<&'a Sta
     }
 }
 
-/// The payments that a reversal is for, of those that the changes make and do not undo.
+/// The payments that a reversal is for, of those that the changes make and do not reverse.
 pub(crate) fn left_matching(reversal: &Reversal, changes: &[Change]) -> Matches
-    ensures { result ≡ tally (filter (takes_back reversal.now) (left_by changes.now)) }
+    ensures { result ≡ tally (filter (is_for_payment reversal.now) (left_by changes.now)) }
 {
     match changes.split_first() {
         None => Matches::Nothing,
@@ -149,9 +149,9 @@ pub(crate) fn left_matching(reversal: &Reversal, changes: &[Change]) -> Matches
 
 /// The matches, and this payment where the reversal is for it.
 fn add_match(matches: Matches, reversal: &Reversal, payment: &Standing) -> Matches
-    ensures { result ≡ (if takes_back reversal.now payment.now then added matches payment.now.auth else matches) }
+    ensures { result ≡ (if is_for_payment reversal.now payment.now then added matches payment.now.auth else matches) }
 {
-    if takes_back(reversal, payment.claim()) {
+    if is_for(reversal, payment.claim()) {
         matches.with(payment.auth())
     } else {
         matches

@@ -88,7 +88,7 @@ fn ruling_on(
     ensures { MatchOption result (serial_fits (ruling_on payments.now (pricing prices.now) changes.now (order_in order.now)) ≡ false) (λ r. (r ≡ ruling_on payments.now (pricing prices.now) changes.now (order_in order.now)) × (serial_fits r ≡ true)) }
 {
     match judge(payments, changes, order) {
-        Verdict::Settled(ruling) => Some(ruling),
+        Verdict::Unpriced(ruling) => Some(ruling),
         Verdict::ToPrice(claim) => priced(payments, prices, changes, claim),
     }
 }

@@ -31,7 +31,7 @@ impl Payments {
     {
         match change {
             Change::Pays(payment) => self.push(payment.copy()),
-            Change::Undoes(auth) => self.reverse(*auth, id),
+            Change::Reverses(auth) => self.reverse(*auth, id),
             Change::Keeps => {}
         }
     }

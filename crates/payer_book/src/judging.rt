@@ -4,19 +4,19 @@ ghost use Rattle.std.specs.Prelude.{◌≡◌, filter, cond, [], ◌∷◌};
 ghost use Rattle.std.specs.Option.{option_copied, option_map};
 ghost use Rattle.claim_model.specs.Words.{Duplicate, Rejected, DuplicateClaim};
 ghost use Rattle.claim_model.specs.Bytes.{order_in};
-ghost use Rattle.claim_model.specs.Judgement.{only, same_claim, Settled};
-ghost use Rattle.payer_book.specs.Ledger.{standing_in, standing_of, takes_back};
+ghost use Rattle.claim_model.specs.Judgement.{only, same_claim, Unpriced};
+ghost use Rattle.payer_book.specs.Ledger.{standing_in, standing_of, is_for_payment};
 ghost use Rattle.payer_book.specs.Changes.{standing_after};
 ghost use Rattle.payer_book.specs.Drafts.{claim_on, reversal_by, judged_on, verdict};
 
-use crate::changes::{Change, is_undone, left_for, left_matching};
+use crate::changes::{Change, is_reversed, left_for, left_matching};
 use crate::payment::Standing;
 use crate::payments::Payments;
 use claim_profile::{Auth, Claim, Code, Fill, Order, OrderFault, Rejects, Reversal, Ruling};
 
 /// A ruling that needs no price, or a claim that is to be priced.
 pub(crate) enum Verdict<'a> {
-    Settled(Ruling),
+    Unpriced(Ruling),
     ToPrice(&'a Claim),
 }
 
@@ -29,7 +29,7 @@ pub(crate) fn judge<'a>(
     ensures { verdict result ≡ judged_on (standing_after (standing_in payments.now.payments) changes.now) (order_in order.now) }
 {
     match order {
-        Err(fault) => Verdict::Settled(refused(fault)),
+        Err(fault) => Verdict::Unpriced(refused(fault)),
         Ok(order) => judge_order(payments, changes, order),
     }
 }
@@ -40,7 +40,7 @@ fn judge_order<'a>(payments: &Payments, changes: &[Change], order: &'a Order) ->
     match order {
         Order::Claim(claim) => judge_claim(claim, standing_for(payments, changes, &claim.fill)),
         Order::Reversal(reversal) => {
-            Verdict::Settled(judge_reversal(reversal, undone_by(payments, changes, reversal)))
+            Verdict::Unpriced(judge_reversal(reversal, auth_to_reverse(payments, changes, reversal)))
         }
     }
 }
@@ -51,7 +51,7 @@ fn judge_claim<'a>(claim: &'a Claim, standing: Option<&Standing>) -> Verdict<'a>
 {
     match standing {
         None => Verdict::ToPrice(claim),
-        Some(payment) => Verdict::Settled(billed_again(payment, claim)),
+        Some(payment) => Verdict::Unpriced(billed_again(payment, claim)),
     }
 }
 
@@ -103,7 +103,7 @@ fn standing_for<'a>(
 {
     match payments.standing_of(fill) {
         Some(payment) => {
-            if is_undone(payment.auth(), changes) {
+            if is_reversed(payment.auth(), changes) {
                 left_for(fill, changes)
             } else {
                 Some(payment)
@@ -114,8 +114,8 @@ fn standing_for<'a>(
 }
 
 /// The authorization of the only standing payment that a reversal is for, in the book or made by a place before.
-fn undone_by(payments: &Payments, changes: &[Change], reversal: &Reversal) -> Option<Auth>
-    ensures { result ≡ option_map (λ s. s.auth) (only (filter (takes_back reversal.now) (standing_after (standing_in payments.now.payments) changes.now))) }
+fn auth_to_reverse(payments: &Payments, changes: &[Change], reversal: &Reversal) -> Option<Auth>
+    ensures { result ≡ option_map (λ s. s.auth) (only (filter (is_for_payment reversal.now) (standing_after (standing_in payments.now.payments) changes.now))) }
 {
     let kept = payments.matching(reversal, changes);
     let made = left_matching(reversal, changes);
@@ -124,7 +124,7 @@ fn undone_by(payments: &Payments, changes: &[Change], reversal: &Reversal) -> Op
 
 /// The ruling on a group whose order does not read.
 fn refused(fault: &OrderFault) -> Ruling
-    ensures { Settled result ≡ judged_on [] (order_in (Err fault.now)) }
+    ensures { Unpriced result ≡ judged_on [] (order_in (Err fault.now)) }
 {
     match fault {
         OrderFault::Rejected(rejects) => Ruling::Rejected { rejects: *rejects },

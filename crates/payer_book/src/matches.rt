@@ -4,7 +4,7 @@ ghost use Rattle.std.specs.Prelude.{◌≡◌};
 ghost use Rattle.claim_model.specs.Judgement.{is_for, is_fill_number};
 ghost use Rattle.payer_book.specs.Matches.{added, together, only_of, is_match};
 
-use crate::changes::{Change, is_undone};
+use crate::changes::{Change, is_reversed};
 use crate::payment::Standing;
 use claim_profile::{Auth, Claim, Reversal};
 
@@ -51,15 +51,15 @@ impl Matches {
     }
 }
 
-/// Whether the reversal is for this payment, which none of the changes undoes.
+/// Whether the reversal is for this payment, which none of the changes reverses.
 pub(crate) fn is_match(reversal: &Reversal, changes: &[Change], payment: &Standing) -> bool
     ensures { result ≡ is_match reversal.now changes.now payment.now }
 {
-    takes_back(reversal, payment.claim()) && !is_undone(payment.auth(), changes)
+    is_for(reversal, payment.claim()) && !is_reversed(payment.auth(), changes)
 }
 
 /// Whether the reversal is for this claim.
-pub(crate) fn takes_back(reversal: &Reversal, claim: &Claim) -> bool
+pub(crate) fn is_for(reversal: &Reversal, claim: &Claim) -> bool
     ensures { result ≡ is_for reversal.now claim.now }
 {
     reversal.bin == claim.fill.bin

@@ -4,7 +4,7 @@ ghost use Rattle.std.specs.Prelude.{◌≡◌, ◌+◌, ◌<◌, ◌≤◌, [], 
 ghost use Rattle.std.specs.Option.{option_copied};
 ghost use Rattle.claim_model.specs.Payments.{same_auth};
 ghost use Rattle.payer_book.specs.declared.payment.Payment.TheVariants.{Standing as Stands};
-ghost use Rattle.payer_book.specs.Ledger.{IsLedger, still, payment_with, standing_in, standing_of, taken_back, HasFillNumber};
+ghost use Rattle.payer_book.specs.Ledger.{IsLedger, still, payment_with, standing_in, standing_of, after_reversal, HasFillNumber};
 ghost use Rattle.claim_model.specs.Book.{last_serial};
 ghost use Rattle.payer_book.specs.Drafts.{auth_after};
 ghost use Rattle.payer_book.specs.Matches.{tally, is_match, matched, matches_between, fill_for};
@@ -118,7 +118,7 @@ impl Payments {
         }
     }
 
-    /// The standing payments that the reversal is for, those left out that the changes undo.
+    /// The standing payments that the reversal is for, those left out that the changes reverse.
     pub(crate) fn matching(&self, reversal: &Reversal, changes: &[Change]) -> Matches
         ensures { result ≡ tally (filter (is_match reversal.now changes.now) (standing_in self.now.payments)) }
     {
@@ -203,7 +203,7 @@ impl Payments {
     pub(crate) fn reverse(&mut self, auth: Auth, by: TxnId)
         requires { IsSome (find (λ s. same_auth s.auth auth) (standing_in self.old.payments)) }
         ensures same { (self.new.payer ≡ self.old.payer) × (self.new.first ≡ self.old.first) }
-        ensures payments { self.new.payments ≡ map (taken_back auth by) self.old.payments }
+        ensures payments { self.new.payments ≡ map (after_reversal auth by) self.old.payments }
         ensures room { self.old.room ≤ self.new.room }
     {
         let Some(place) = self.place_of(auth) else {

@@ -15,14 +15,14 @@ use Rattle.bin_routes.specs.Table.{RouteMaps}
 use Rattle.claim_model.specs.Words.{TxnId, Auth, Fill, Order, Bills, Reverses, Code, Ruling, Paid, Duplicate, Reversed, Rejected}
 use Rattle.claim_model.specs.Bytes.{bytes_with, orders_in}
 use Rattle.claim_model.specs.Ruled.{ruled_from}
-use Rattle.claim_model.specs.Payments.{same_auth, reverses, undone, is_auth}
+use Rattle.claim_model.specs.Payments.{same_auth, reverses, auth_reversed, is_auth}
 use Rattle.claim_model.specs.Counted.{Counted, firsts, named, named_by, ruled_answer, ruled_entries, told, is_reversed, counted}
 use Rattle.claim_model.specs.Journal.{Kept, JournalAtRest}
 use Rattle.pharmacy_journal.specs.Entries.{kept_of}
 use Rattle.pharmacy_journal.specs.Reading.{header_of}
 use Rattle.pharmacy_journal.specs.Listing.{Listed, listed_by, listed_from}
 use Rattle.pharmacy_journal.specs.declared.slot.Slot.{Slot}
-use Rattle.pharmacy_journal.specs.Counting.{Outcome, fill_billed, fills_in, rulings_told, outcomes_between, outcomes_of, outcomes, named_in, payment_of, takes_back, has_auth, without, counted_in}
+use Rattle.pharmacy_journal.specs.Counting.{Outcome, fill_billed, fills_in, rulings_told, outcomes_between, outcomes_of, outcomes, named_in, payment_of, outcome_reverses, has_auth, without, counted_in}
 
 -- ---- lists
 
@@ -106,11 +106,11 @@ named_step named named' os before after e f =
     ap (λ xs. xs ++ filter_map named_in after) e ∙ append_assoc named (filter_map named_in os) (filter_map named_in after)
     ∙ ap (λ xs. named ++ xs) (sym (filter_map-append named_in os after) ∙ ap (filter_map named_in) (sym f))
 
--- what is taken back so far, and what is left
-pub reversed_step : (a : Auth) (had has : Bool) (os before after : List Outcome) → has ≡ (had || list_any (takes_back a) os) → before ≡ os ++ after → (has || list_any (takes_back a) after) ≡ (had || list_any (takes_back a) before)
+-- what is reversed so far, and what is left
+pub reversed_step : (a : Auth) (had has : Bool) (os before after : List Outcome) → has ≡ (had || list_any (outcome_reverses a) os) → before ≡ os ++ after → (has || list_any (outcome_reverses a) after) ≡ (had || list_any (outcome_reverses a) before)
 reversed_step a had has os before after e f =
-    ap (λ b. b || list_any (takes_back a) after) e ∙ or_assoc had (list_any (takes_back a) os) (list_any (takes_back a) after)
-    ∙ ap (λ b. had || b) (sym (list_any-append (takes_back a) os after) ∙ ap (list_any (takes_back a)) (sym f))
+    ap (λ b. b || list_any (outcome_reverses a) after) e ∙ or_assoc had (list_any (outcome_reverses a) os) (list_any (outcome_reverses a) after)
+    ∙ ap (λ b. had || b) (sym (list_any-append (outcome_reverses a) os after) ∙ ap (list_any (outcome_reverses a)) (sym f))
 
 -- a text that is no request bills nothing
 no_transmission : (text : List ℕ) (fault : FramingFault) → framing_fault request_kind text ≡ Some fault → [] ≡ fills_in text
@@ -141,11 +141,11 @@ filter-same p q e [] = refl
 filter-same p q e (x ∷ xs) = rw (e x, filter-same p q e xs) refl
 
 -- what the two passes give
-pub counted_by : (os : List Outcome) (named : List Counted) (reversed : List Auth) → named ≡ filter_map named_in os → ((a : Auth) → has_auth reversed a ≡ list_any (takes_back a) os) → without reversed (firsts named) ≡ counted_in os
+pub counted_by : (os : List Outcome) (named : List Counted) (reversed : List Auth) → named ≡ filter_map named_in os → ((a : Auth) → has_auth reversed a ≡ list_any (outcome_reverses a) os) → without reversed (firsts named) ≡ counted_in os
 unfolding counted_in
 counted_by os named reversed e h =
     ap (λ (xs : List Counted). without reversed (firsts xs)) e
-    ∙ filter-same (λ c. not (has_auth reversed c.auth)) (λ c. not (list_any (takes_back c.auth) os)) (λ c. ap not (h c.auth)) (firsts (filter_map named_in os))
+    ∙ filter-same (λ c. not (has_auth reversed c.auth)) (λ c. not (list_any (outcome_reverses c.auth) os)) (λ c. ap not (h c.auth)) (firsts (filter_map named_in os))
 
 -- ---- the model's count
 
@@ -162,16 +162,16 @@ named_groups id place [] rulings = refl
 named_groups id place (order ∷ orders) [] = refl
 named_groups id place (order ∷ orders) (ruling ∷ rulings) = rw (payment_named order ruling, named_groups id (place + 1) orders rulings) refl
 
-reversed_groups : (a : Auth) (id : TxnId) (place : ℕ) (orders : List (Result Order (List Code))) (rulings : List Ruling) → list_any (reverses a) (ruled_from id place orders rulings) ≡ list_any (takes_back a) (outcomes_between (map fill_billed orders) rulings)
+reversed_groups : (a : Auth) (id : TxnId) (place : ℕ) (orders : List (Result Order (List Code))) (rulings : List Ruling) → list_any (reverses a) (ruled_from id place orders rulings) ≡ list_any (outcome_reverses a) (outcomes_between (map fill_billed orders) rulings)
 reversed_groups a id place [] rulings = refl
 reversed_groups a id place (order ∷ orders) [] = refl
-reversed_groups a id place (order ∷ orders) (ruling ∷ rulings) = ap (λ b. is_auth a (undone ruling) || b) (reversed_groups a id (place + 1) orders rulings)
+reversed_groups a id place (order ∷ orders) (ruling ∷ rulings) = ap (λ b. is_auth a (auth_reversed ruling) || b) (reversed_groups a id (place + 1) orders rulings)
 
 named_answer : (routes : RouteMaps) (id : TxnId) (request : List ℕ) (answer : Option (List ℕ)) → filter_map named (ruled_answer (bytes_with routes) id request answer) ≡ filter_map named_in (outcomes_of request answer)
 named_answer routes id request None = refl
 named_answer routes id request (Some answer) = named_groups id 1 (orders_in (transmission_of request_kind request)) (rulings_told answer)
 
-reversed_answer : (routes : RouteMaps) (a : Auth) (id : TxnId) (request : List ℕ) (answer : Option (List ℕ)) → list_any (reverses a) (ruled_answer (bytes_with routes) id request answer) ≡ list_any (takes_back a) (outcomes_of request answer)
+reversed_answer : (routes : RouteMaps) (a : Auth) (id : TxnId) (request : List ℕ) (answer : Option (List ℕ)) → list_any (reverses a) (ruled_answer (bytes_with routes) id request answer) ≡ list_any (outcome_reverses a) (outcomes_of request answer)
 reversed_answer routes a id request None = refl
 reversed_answer routes a id request (Some answer) = reversed_groups a id 1 (orders_in (transmission_of request_kind request)) (rulings_told answer)
 
@@ -183,19 +183,19 @@ named_entries routes pharmacy n (k ∷ entries) =
     ∙ ap (λ (xs : List Counted). filter_map named_in (outcomes_of k.request k.answer) ++ xs) (named_entries routes pharmacy (n + 1) entries)
     ∙ sym (filter_map-append named_in (outcomes_of k.request k.answer) (outcomes entries))
 
-reversed_entries : (routes : RouteMaps) (a : Auth) (pharmacy n : ℕ) (entries : List Kept) → list_any (reverses a) (ruled_entries (bytes_with routes) pharmacy n entries) ≡ list_any (takes_back a) (outcomes entries)
+reversed_entries : (routes : RouteMaps) (a : Auth) (pharmacy n : ℕ) (entries : List Kept) → list_any (reverses a) (ruled_entries (bytes_with routes) pharmacy n entries) ≡ list_any (outcome_reverses a) (outcomes entries)
 reversed_entries routes a pharmacy n [] = refl
 reversed_entries routes a pharmacy n (k ∷ entries) =
     list_any-append (reverses a) (ruled_answer (bytes_with routes) (record { pharmacy = pharmacy; number = n }) k.request k.answer) (ruled_entries (bytes_with routes) pharmacy (n + 1) entries)
     ∙ ap (λ b. b || list_any (reverses a) (ruled_entries (bytes_with routes) pharmacy (n + 1) entries)) (reversed_answer routes a (record { pharmacy = pharmacy; number = n }) k.request k.answer)
-    ∙ ap (λ b. list_any (takes_back a) (outcomes_of k.request k.answer) || b) (reversed_entries routes a pharmacy (n + 1) entries)
-    ∙ sym (list_any-append (takes_back a) (outcomes_of k.request k.answer) (outcomes entries))
+    ∙ ap (λ b. list_any (outcome_reverses a) (outcomes_of k.request k.answer) || b) (reversed_entries routes a pharmacy (n + 1) entries)
+    ∙ sym (list_any-append (outcome_reverses a) (outcomes_of k.request k.answer) (outcomes entries))
 
 -- numbers and places say nothing of what is counted
 pub counted_is : (routes : RouteMaps) (j : JournalAtRest) → counted_in (outcomes j.entries) ≡ counted (bytes_with routes) j
 unfolding counted counted_in
 counted_is routes j =
-    filter-same (λ c. not (list_any (takes_back c.auth) (outcomes j.entries))) (λ c. not (is_reversed (told (bytes_with routes) j) c)) (λ c. ap not (sym (reversed_entries routes c.auth j.number 1 j.entries))) (firsts (filter_map named_in (outcomes j.entries)))
+    filter-same (λ c. not (list_any (outcome_reverses c.auth) (outcomes j.entries))) (λ c. not (is_reversed (told (bytes_with routes) j) c)) (λ c. ap not (sym (reversed_entries routes c.auth j.number 1 j.entries))) (firsts (filter_map named_in (outcomes j.entries)))
     ∙ ap (λ (xs : List Counted). filter (λ c. not (is_reversed (told (bytes_with routes) j) c)) (firsts xs)) (sym (named_entries routes j.number 1 j.entries))
 
 pub or_false : (b : Bool) → (b || false) ≡ b

@@ -5,7 +5,7 @@ use Rattle.d0_segments.specs.Framing.{request_kind, transmission_of}
 use Rattle.claim_model.specs.Words.{Auth, Fill, Order, Bills, Reverses, Code, Ruling, Paid, Duplicate, Reversed, Rejected}
 use Rattle.claim_model.specs.Bytes.{orders_in}
 use Rattle.claim_model.specs.Readable.{rulings_in}
-use Rattle.claim_model.specs.Payments.{same_auth, undone, is_auth}
+use Rattle.claim_model.specs.Payments.{same_auth, auth_reversed, is_auth}
 use Rattle.claim_model.specs.Counted.{Counted, firsts}
 use Rattle.claim_model.specs.Journal.{Kept}
 use Rattle.pharmacy_journal.specs.Reading.{reading_of}
@@ -55,9 +55,9 @@ payment_of None ruling = None
 abbrev pub named_in : Outcome → Option Counted
 named_in o = payment_of o.fill o.ruling
 
--- the payment with that authorization is taken back
-abbrev pub takes_back : Auth → Outcome → Bool
-takes_back auth o = is_auth auth (undone o.ruling)
+-- the payment with that authorization is reversed
+abbrev pub outcome_reverses : Auth → Outcome → Bool
+outcome_reverses auth o = is_auth auth (auth_reversed o.ruling)
 
 -- one of these is the authorization
 abbrev pub has_auth : List Auth → Auth → Bool
@@ -67,6 +67,6 @@ has_auth auths auth = list_any (λ a. same_auth a auth) auths
 abbrev pub without : List Auth → List Counted → List Counted
 without auths payments = filter (λ c. not (has_auth auths c.auth)) payments
 
--- the payments that are named, the first of each, without those that are taken back
+-- the payments that are named, the first of each, without those that are reversed
 unfoldable pub counted_in : List Outcome → List Counted
-counted_in os = filter (λ c. not (list_any (takes_back c.auth) os)) (firsts (filter_map named_in os))
+counted_in os = filter (λ c. not (list_any (outcome_reverses c.auth) os)) (firsts (filter_map named_in os))

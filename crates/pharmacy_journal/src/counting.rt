@@ -9,12 +9,12 @@ ghost use Rattle.d0_segments.specs.FramedParts.{framed_parts};
 ghost use Rattle.claim_profile.specs.Order.{order_of};
 ghost use Rattle.claim_model.specs.Words.{Auth as AuthSeen};
 ghost use Rattle.claim_model.specs.Bytes.{bytes_with, order_in, orders_in};
-ghost use Rattle.claim_model.specs.Payments.{same_auth, undone, is_auth};
+ghost use Rattle.claim_model.specs.Payments.{same_auth, auth_reversed, is_auth};
 ghost use Rattle.claim_model.specs.Counted.{counted, firsts};
 ghost use Rattle.claim_model.specs.Journal.{stopped};
 ghost use Rattle.pharmacy_journal.specs.Entries.{kept_of};
 ghost use Rattle.pharmacy_journal.specs.Listing.{rulings_of};
-ghost use Rattle.pharmacy_journal.specs.Counting.{fill_billed, outcomes_between, fills_in, rulings_told, outcomes_of, outcomes, payment_of, named_in, takes_back, has_auth, without, counted_in};
+ghost use Rattle.pharmacy_journal.specs.Counting.{fill_billed, outcomes_between, fills_in, rulings_told, outcomes_of, outcomes, payment_of, named_in, outcome_reverses, has_auth, without, counted_in};
 ghost use Rattle.claim_profile.specs.declared.answer_reading.AnswerFault.TheVariants.{OutOfMemory as NoAnswerMemory};
 
 use crate::at_rest::JournalAtRest;
@@ -96,7 +96,7 @@ fn paid_in(alloc: Global, slots: &[Slot]) -> Result<Vec<CountedPayment>, AllocEr
     counted_of(alloc, told)
 }
 
-/// What entries tell: the payments that are named, in order, and the authorizations that are taken back.
+/// What entries tell: the payments that are named, in order, and the authorizations that are reversed.
 #[derive(Drop)]
 pub(crate) struct Told {
     pub(crate) named: Vec<CountedPayment>,
@@ -125,7 +125,7 @@ pub(crate) fn counted_of(alloc: Global, told: Told) -> Result<Vec<CountedPayment
 /// What these entries tell.
 fn read_all(alloc: Global, slots: &[Slot]) -> Result<Told, AllocError>
     ensures named { IfOk result (λ t. t.named.items ≡ filter_map named_in (outcomes (map kept_of slots.now))) }
-    ensures reversed { IfOk result (λ t. (a : AuthSeen) → has_auth t.reversed.keys a ≡ list_any (takes_back a) (outcomes (map kept_of slots.now))) }
+    ensures reversed { IfOk result (λ t. (a : AuthSeen) → has_auth t.reversed.keys a ≡ list_any (outcome_reverses a) (outcomes (map kept_of slots.now))) }
 {
     let mut told = nothing_told(alloc);
     for slot in slots {
@@ -137,7 +137,7 @@ fn read_all(alloc: Global, slots: &[Slot]) -> Result<Told, AllocError>
 /// Adds what an entry tells.
 fn read_slot(alloc: Global, slot: &Slot, told: &mut Told) -> Result<(), AllocError>
     ensures named { OnOk result (told.new.named.items ≡ told.old.named.items ++ filter_map named_in (outcomes_of (kept_of slot.now).request (kept_of slot.now).answer)) }
-    ensures reversed { OnOk result ((a : AuthSeen) → has_auth told.new.reversed.keys a ≡ (has_auth told.old.reversed.keys a || list_any (takes_back a) (outcomes_of (kept_of slot.now).request (kept_of slot.now).answer))) }
+    ensures reversed { OnOk result ((a : AuthSeen) → has_auth told.new.reversed.keys a ≡ (has_auth told.old.reversed.keys a || list_any (outcome_reverses a) (outcomes_of (kept_of slot.now).request (kept_of slot.now).answer))) }
 {
     let rulings = rulings_of(alloc, slot)?;
     take_slot(told, slot, rulings.as_slice())
@@ -157,7 +157,7 @@ pub(crate) fn rulings_of(alloc: Global, slot: &Slot) -> Result<Vec<Ruling>, Allo
 pub(crate) fn take_slot(told: &mut Told, slot: &Slot, rulings: &[Ruling]) -> Result<(), AllocError>
     requires { rulings.now ≡ rulings_of (kept_of slot.now).answer }
     ensures named { OnOk result (told.new.named.items ≡ told.old.named.items ++ filter_map named_in (outcomes_of (kept_of slot.now).request (kept_of slot.now).answer)) }
-    ensures reversed { OnOk result ((a : AuthSeen) → has_auth told.new.reversed.keys a ≡ (has_auth told.old.reversed.keys a || list_any (takes_back a) (outcomes_of (kept_of slot.now).request (kept_of slot.now).answer))) }
+    ensures reversed { OnOk result ((a : AuthSeen) → has_auth told.new.reversed.keys a ≡ (has_auth told.old.reversed.keys a || list_any (outcome_reverses a) (outcomes_of (kept_of slot.now).request (kept_of slot.now).answer))) }
 {
     match slot {
         Slot::Waiting(_) => Ok(()),
@@ -168,7 +168,7 @@ pub(crate) fn take_slot(told: &mut Told, slot: &Slot, rulings: &[Ruling]) -> Res
 /// Adds what the rulings on the groups of a request tell.
 fn take_all(told: &mut Told, request: &[u8], rulings: &[Ruling]) -> Result<(), AllocError>
     ensures named { OnOk result (told.new.named.items ≡ told.old.named.items ++ filter_map named_in (outcomes_between (fills_in request.now) rulings.now)) }
-    ensures reversed { OnOk result ((a : AuthSeen) → has_auth told.new.reversed.keys a ≡ (has_auth told.old.reversed.keys a || list_any (takes_back a) (outcomes_between (fills_in request.now) rulings.now))) }
+    ensures reversed { OnOk result ((a : AuthSeen) → has_auth told.new.reversed.keys a ≡ (has_auth told.old.reversed.keys a || list_any (outcome_reverses a) (outcomes_between (fills_in request.now) rulings.now))) }
 {
     match check_request(request) {
         Ok(framed) => take_groups(told, &framed, rulings),
@@ -183,7 +183,7 @@ fn take_groups(
     rulings: &[Ruling],
 ) -> Result<(), AllocError>
     ensures named { OnOk result (told.new.named.items ≡ told.old.named.items ++ filter_map named_in (outcomes_between (map fill_billed (orders_in (Some (framed_parts framed.now)))) rulings.now)) }
-    ensures reversed { OnOk result ((a : AuthSeen) → has_auth told.new.reversed.keys a ≡ (has_auth told.old.reversed.keys a || list_any (takes_back a) (outcomes_between (map fill_billed (orders_in (Some (framed_parts framed.now)))) rulings.now))) }
+    ensures reversed { OnOk result ((a : AuthSeen) → has_auth told.new.reversed.keys a ≡ (has_auth told.old.reversed.keys a || list_any (outcome_reverses a) (outcomes_between (map fill_billed (orders_in (Some (framed_parts framed.now)))) rulings.now))) }
 {
     let count = framed.group_count().min(rulings.len());
     for place in 0..count {
@@ -195,10 +195,10 @@ fn take_groups(
 /// Adds what the ruling on one group tells.
 fn take_one(told: &mut Told, fill: Option<Fill>, ruling: &Ruling) -> Result<(), AllocError>
     ensures named { OnOk result (told.new.named.items ≡ told.old.named.items ++ option_to_list (payment_of fill ruling.now)) }
-    ensures reversed { OnOk result ((a : AuthSeen) → has_auth told.new.reversed.keys a ≡ (has_auth told.old.reversed.keys a || is_auth a (undone ruling.now))) }
+    ensures reversed { OnOk result ((a : AuthSeen) → has_auth told.new.reversed.keys a ≡ (has_auth told.old.reversed.keys a || is_auth a (auth_reversed ruling.now))) }
 {
     let payment = payment_of(fill, ruling);
-    let auth = undone(ruling);
+    let auth = auth_reversed(ruling);
     take_payment(&mut told.named, payment)?;
     take_reversal(&mut told.reversed, auth)
 }
@@ -252,9 +252,9 @@ fn payment_of(fill: Option<Fill>, ruling: &Ruling) -> Option<CountedPayment>
     }
 }
 
-/// The authorization that a ruling takes back.
-fn undone(ruling: &Ruling) -> Option<Auth>
-    ensures { result ≡ undone ruling.now }
+/// The authorization that a ruling reverses.
+fn auth_reversed(ruling: &Ruling) -> Option<Auth>
+    ensures { result ≡ auth_reversed ruling.now }
 {
     match ruling {
         Ruling::Reversed { auth, .. } => Some(*auth),

@@ -9,7 +9,7 @@ ghost use Rattle.claim_model.specs.Counted.{counted};
 ghost use Rattle.claim_model.specs.Journal.{stopped};
 ghost use Rattle.pharmacy_journal.specs.Entries.{kept_of};
 ghost use Rattle.pharmacy_journal.specs.Listing.{listed, listed_from};
-ghost use Rattle.pharmacy_journal.specs.Counting.{outcomes, counted_in, named_in, takes_back, has_auth};
+ghost use Rattle.pharmacy_journal.specs.Counting.{outcomes, counted_in, named_in, outcome_reverses, has_auth};
 
 use crate::at_rest::JournalAtRest;
 use crate::counting::{CountedPayment, Told, counted_of, nothing_told, take_slot};
@@ -56,7 +56,7 @@ fn told_by(
 fn read_both(alloc: Global, slots: &[Slot]) -> Result<(Vec<EntryView>, Told), AllocError>
     ensures entries { IfOk result (λ told. told.0.items ≡ listed_from 1 (map kept_of slots.now)) }
     ensures named { IfOk result (λ told. told.1.named.items ≡ filter_map named_in (outcomes (map kept_of slots.now))) }
-    ensures reversed { IfOk result (λ told. (a : AuthSeen) → has_auth told.1.reversed.keys a ≡ list_any (takes_back a) (outcomes (map kept_of slots.now))) }
+    ensures reversed { IfOk result (λ told. (a : AuthSeen) → has_auth told.1.reversed.keys a ≡ list_any (outcome_reverses a) (outcomes (map kept_of slots.now))) }
 {
     let mut views = Vec::new(alloc);
     let mut told = nothing_told(alloc);

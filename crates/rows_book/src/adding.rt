@@ -73,12 +73,12 @@ fn copied<R: Abort + AllocGlobal>(rt: &R, book: &Book, rest: &mut BookAtRest) ->
 
 fn paid_and_reversed() -> &'static str {
     "1 claim new paid-1
-2 reversal new undone-1"
+2 reversal new reversed-1"
 }
 
 fn goes_on() -> &'static str {
     "1 claim kept paid-1
-2 reversal kept undone-1
+2 reversal kept reversed-1
 3 claim new paid-2"
 }
 

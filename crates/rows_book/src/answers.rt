@@ -66,7 +66,7 @@ fn a_claim_is_paid_once(rt: HostRuntime) -> Result<(), Fail> {
 pub(crate) fn paid_anew() -> &'static str {
     "1 reversal new 87
 2 claim new paid-1
-3 reversal new undone-1
+3 reversal new reversed-1
 4 reversal new 87
 5 claim new paid-2"
 }

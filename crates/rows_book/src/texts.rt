@@ -39,7 +39,7 @@ pub(crate) fn long_number() -> &'static [u8] {
 }
 
 /// The reversal of that fill.
-pub(crate) fn undo_0() -> &'static [u8] {
+pub(crate) fn reversal_0() -> &'static [u8] {
     b"\x1d\x1e\x1cAM07\x1cEM1\x1cD2123456\x1cD30\x1cE103\x1cD700093721410"
 }
 
@@ -49,7 +49,7 @@ pub(crate) fn answer_head() -> &'static [u8] {
 }
 
 /// The header of an answer to a reversal.
-pub(crate) fn undone_head() -> &'static [u8] {
+pub(crate) fn reversed_head() -> &'static [u8] {
     b"D0B21A011234567893     20240115"
 }
 
@@ -74,7 +74,7 @@ pub(crate) fn again_1() -> &'static [u8] {
 }
 
 /// The payment of serial 1 reversed.
-pub(crate) fn undone_1() -> &'static [u8] {
+pub(crate) fn reversed_1() -> &'static [u8] {
     b"\x1d\x1e\x1cAM21\x1cANA\x1cF30001000000000001\x1e\x1cAM22\x1cEM1\x1cD2123456"
 }
 
@@ -214,7 +214,7 @@ pub(crate) fn request_named(alloc: Global, name: &str) -> Result<Vec<u8>, Fail> 
             alloc,
             &[billing_head_of_two(), holder(), fill_0(), fill_1()],
         ),
-        "reversal" => reversal(alloc, undo_0()),
+        "reversal" => reversal(alloc, reversal_0()),
         _ => joined(alloc, &[b"no request"]),
     }
 }
@@ -232,8 +232,8 @@ pub(crate) fn answer_named(alloc: Global, name: &str) -> Result<Vec<u8>, Fail> {
         "one-of-two" => one_of_two(alloc),
         "83" => joined(alloc, &[answer_head(), refused_83()]),
         "70" => joined(alloc, &[answer_head(), refused_70()]),
-        "undone-1" => joined(alloc, &[undone_head(), undone_1()]),
-        "87" => joined(alloc, &[undone_head(), refused_87()]),
+        "reversed-1" => joined(alloc, &[reversed_head(), reversed_1()]),
+        "87" => joined(alloc, &[reversed_head(), refused_87()]),
         _ => joined(alloc, &[b"no answer"]),
     }
 }

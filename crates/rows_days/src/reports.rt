@@ -96,7 +96,7 @@ fn four_transactions_are_answered_at_once(rt: HostRuntime) -> Result<(), Fail> {
 }
 
 #[test]
-fn one_transaction_of_four_is_taken_back(rt: HostRuntime) -> Result<(), Fail> {
+fn one_transaction_of_four_is_reversed(rt: HostRuntime) -> Result<(), Fail> {
     goes_as_told(&rt, long_days::one_of_four_reversed())
 }
 
@@ -111,7 +111,7 @@ fn each_claim_gets_its_ruling(rt: HostRuntime) -> Result<(), Fail> {
 }
 
 #[test]
-fn only_a_payment_that_stands_is_taken_back(rt: HostRuntime) -> Result<(), Fail> {
+fn only_a_payment_that_stands_is_reversed(rt: HostRuntime) -> Result<(), Fail> {
     goes_as_told(&rt, long_days::turns())
 }
 

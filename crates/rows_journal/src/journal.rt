@@ -34,7 +34,7 @@ fn reversal() -> &'static [u8] {
     b"610455D0B2A1        1011234567893     20240115SW00000001\x1d\x1e\x1cAM07\x1cEM1\x1cD2123456\x1cD30\x1cE103\x1cD700093721410"
 }
 
-/// The answer that takes serial 1 back.
+/// The answer that reverses serial 1.
 fn reversed() -> &'static [u8] {
     b"D0B21A011234567893     20240115\x1d\x1e\x1cAM21\x1cANA\x1cF30001000000000001\x1e\x1cAM22\x1cEM1\x1cD2123456"
 }

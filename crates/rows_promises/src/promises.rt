@@ -1,5 +1,5 @@
 //! The promises of a world, walked over what it tells: one answer for each number over all nodes and all times, one
-//! payment of each fill that stands, and every counted payment kept or taken back by its own pharmacy.
+//! payment of each fill that stands, and every counted payment kept or reversed by its own pharmacy.
 
 use claim_profile::{Fill, Ruling};
 use envelope::TxnId;
@@ -23,7 +23,7 @@ pub(crate) struct Met {
     /// Counted payments that stand.
     pub(crate) counted: u64,
     /// Counted payments that were reversed by a request that is still open.
-    pub(crate) taken_back: u64,
+    pub(crate) reversed: u64,
 }
 
 impl Met {
@@ -32,7 +32,7 @@ impl Met {
         self.answers = self.answers.saturating_add(other.answers);
         self.standing = self.standing.saturating_add(other.standing);
         self.counted = self.counted.saturating_add(other.counted);
-        self.taken_back = self.taken_back.saturating_add(other.taken_back);
+        self.reversed = self.reversed.saturating_add(other.reversed);
     }
 }
 
@@ -94,7 +94,7 @@ impl Walks {
         }
     }
 
-    /// Each payment that this pharmacy counts is kept, or was taken back by an open reversal of its own.
+    /// Each payment that this pharmacy counts is kept, or was reversed by an open reversal of its own.
     fn counted(&mut self, world: &World, pharmacy: u16) -> Result<(), Fail> {
         for counted in &world.paid(pharmacy)? {
             let auth = counted.auth();
@@ -104,7 +104,7 @@ impl Walks {
                 None => self.met.counted = self.met.counted.saturating_add(1),
                 Some(id) => {
                     holds(is_open_reversal(world, pharmacy, id)?, "uncounted")?;
-                    self.met.taken_back = self.met.taken_back.saturating_add(1);
+                    self.met.reversed = self.met.reversed.saturating_add(1);
                 }
             }
         }

@@ -39,7 +39,7 @@ fn promises_stand_after_each_of_5000_random_events(rt: HostRuntime) -> Result<()
     assert!(rt; met.standing > 0, "payments that stand");
     assert!(rt; met.counted > 0, "counted payments that stand");
     assert!(rt;
-        met.taken_back > 0,
+        met.reversed > 0,
         "counted payments whose reversal is open"
     );
     Ok(())

@@ -7,7 +7,7 @@ use Rattle.claim_logs.specs.Nodes.{same_node}
 use Rattle.claim_logs.specs.Logs.{Logged, NodeLog}
 use Rattle.run_merge.specs.Naming.{has_log, all_distinct, calls_of}
 use Rattle.run_merge.specs.Order.{advanced, Asks, Leads, Stuck, InOrder, NoOrder, none_left, calls_left}
-use Rattle.run_merge.specs.Line.{AllWait, OrderParts, IsPlaced, IsMade, AllPlaced}
+use Rattle.run_merge.specs.Line.{AllWait, OrderParts, IsPlaced, IsMadeByEvents, AllPlaced}
 use Rattle.claim_logs.proofs.Names.{same_self}
 use Rattle.run_merge.proofs.Names.{name_cases}
 use Rattle.run_merge.proofs.Ordering.{advanced_same, advanced_other, leads_more, finished}
@@ -116,7 +116,7 @@ all_stuck packets lines w node r calls h e asks =
     w f.place f.log f.at r calls f.calls_are e (subst (λ (x : Node). Asks packets e x r) (sym f.node_is) asks)
 
 -- an order goes on by one event
-pub made_more : (given : Node → List Logged) (old new : OrderParts) → IsMade given old → IsPlaced old new → IsMade given new
+pub made_more : (given : Node → List Logged) (old new : OrderParts) → IsMadeByEvents given old → IsPlaced old new → IsMadeByEvents given new
 made_more given old new m p =
     let d : all_distinct new.lines ≡ true = ap all_distinct p.lines ∙ (distinct_set old.lines p.place p.log p.calls p.at ∙ m.distinct) in
     let head : calls_of old.lines p.log.node ≡ p.first ∷ p.calls = calls_at old.lines p.place p.log m.distinct p.at ∙ p.is in
@@ -136,14 +136,14 @@ none_of lines f m = by (calls_of lines m) refl
     by (r ∷ calls) e = let g = calls_found lines m r calls e in let c : r ∷ calls ≡ [] = sym g.calls_are ∙ f g.place g.log g.at in absurd cc
 
 -- an order that has nothing left makes all calls
-pub all_made : (given : Node → List Logged) (order : OrderParts) → IsMade given order → AllPlaced order.lines → InOrder given order.events
+pub all_made : (given : Node → List Logged) (order : OrderParts) → IsMadeByEvents given order → AllPlaced order.lines → InOrder given order.events
 all_made given order m f =
     let n = none_of order.lines f in
     let e : calls_of order.lines ≡ none_left = λ i. λ x. n x i in
     record { sent = order.packets; leads = subst (λ (left : Node → List Logged). Leads [] given order.events order.packets left) e m.leads }
 
 -- an order that is stuck with calls left shows that there is none
-pub none_made : (given : Node → List Logged) (order : OrderParts) → IsMade given order → AllWait order.packets order.lines → (AllPlaced order.lines → ⊥) → NoOrder given
+pub none_made : (given : Node → List Logged) (order : OrderParts) → IsMadeByEvents given order → AllWait order.packets order.lines → (AllPlaced order.lines → ⊥) → NoOrder given
 none_made given order m w n events o =
     let left = finished given events order.events o.sent order.packets (calls_of order.lines) o.leads m.leads (all_stuck order.packets order.lines w) in
     n (λ k log e. sym (calls_at order.lines k log m.distinct e) ∙ left log.node)

@@ -7,7 +7,7 @@ use Rattle.world_setup.specs.Seen.{node_seen, event_seen}
 use Rattle.world_setup.specs.declared.event.Event.{Event}
 use Rattle.claim_logs.specs.Logs.{Logged, NodeLog}
 use Rattle.run_merge.specs.Order.{InOrder, NoOrder}
-use Rattle.run_merge.specs.Line.{GoesAt, OrderParts, IsPlaced, IsStill, IsMade, AllPlaced, AllWait}
+use Rattle.run_merge.specs.Line.{GoesAt, OrderParts, IsPlaced, IsStill, IsMadeByEvents, AllPlaced, AllWait}
 use Rattle.run_merge.specs.LineSeen.{line_seen, lines_seen}
 use Rattle.run_merge.specs.declared.line.Line.{Line}
 use Rattle.run_merge.proofs.Places.{found_at, same_some, map_more, placed_all, placed_not}
@@ -56,15 +56,15 @@ still_after old new e w = record {
   wait = subst (λ (o : OrderParts). AllWait o.packets o.lines) e w;
 }
 
-made_still : (given : Node → List Logged) (old new : OrderParts) → IsMade given old → IsStill old new → IsMade given new
+made_still : (given : Node → List Logged) (old new : OrderParts) → IsMadeByEvents given old → IsStill old new → IsMadeByEvents given new
 made_still given old new m s =
     let e : old ≡ new = λ i. record { lines = sym s.lines i; packets = sym s.packets i; events = sym s.events i } in
-    subst (IsMade given) e m
+    subst (IsMadeByEvents given) e m
 
-pub still_done : (given : Node → List Logged) (old new : OrderParts) (lines : List Line) → IsMade given old → IsStill old new → new.lines ≡ lines_seen lines → list_all (λ line. length line.left.now == 0) lines ≡ true → InOrder given new.events
+pub still_done : (given : Node → List Logged) (old new : OrderParts) (lines : List Line) → IsMadeByEvents given old → IsStill old new → new.lines ≡ lines_seen lines → list_all (λ line. length line.left.now == 0) lines ≡ true → InOrder given new.events
 still_done given old new lines m s e h = all_made given new (made_still given old new m s) (subst AllPlaced (sym e) (placed_all lines h))
 
-pub still_none : (given : Node → List Logged) (old new : OrderParts) (lines : List Line) → IsMade given old → IsStill old new → new.lines ≡ lines_seen lines → list_all (λ line. length line.left.now == 0) lines ≡ false → NoOrder given
+pub still_none : (given : Node → List Logged) (old new : OrderParts) (lines : List Line) → IsMadeByEvents given old → IsStill old new → new.lines ≡ lines_seen lines → list_all (λ line. length line.left.now == 0) lines ≡ false → NoOrder given
 still_none given old new lines m s e h =
     let a : AllWait new.packets old.lines = subst (λ (ps : List Packet). AllWait ps old.lines) (sym s.packets) s.wait in
     let w : AllWait new.packets new.lines = subst (λ (ls : List NodeLog). AllWait new.packets ls) (sym s.lines) a in

@@ -61,7 +61,7 @@ pub record IsPlaced (old new : OrderParts) : Type 0 where
   pub events : new.events ≡ old.events ++ event ∷ []
 
 -- an order that its events made, from these calls of each node
-pub record IsMade (given : Node → List Logged) (order : OrderParts) : Type 0 where
+pub record IsMadeByEvents (given : Node → List Logged) (order : OrderParts) : Type 0 where
   pub distinct : all_distinct order.lines ≡ true
   pub leads : Leads [] given order.events order.packets (calls_of order.lines)
 

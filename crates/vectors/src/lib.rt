@@ -65,7 +65,7 @@ pub fn reversal_of_any_fill() -> &'static str {
 pub fn not_reversed() -> &'static str {
     "D0B21A011234567893     20240115\\G\\S\\FAM21\\FANR\\FFA1\\FFB87"
 }
-/// The answer that takes back serial 1.
+/// The answer that reverses serial 1.
 pub fn reversed() -> &'static str {
     "D0B21A011234567893     20240115\\G\\S\\FAM21\\FANA\\FF30001000000000001\\S\\FAM22\\FEM1\\FD2123456"
 }

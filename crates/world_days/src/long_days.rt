@@ -3,7 +3,7 @@
 use crate::days::Day;
 use crate::settings;
 
-/// A billing is paid, and then another pharmacy asks to take it back.
+/// A billing is paid, and then another pharmacy asks to reverse it.
 pub fn foreign_reversal() -> Day {
     Day {
         settings: settings::two_pharmacies(),
@@ -64,7 +64,7 @@ payer 1 up rows 1
     }
 }
 
-/// Four billings in one transmission, and then one of them is taken back, which is asked for twice at once.
+/// Four billings in one transmission, and then one of them is reversed, which is asked for twice at once.
 pub fn one_of_four_reversed() -> Day {
     Day {
         settings: settings::one_pharmacy(),
@@ -202,7 +202,7 @@ payer 1 up rows 6
     }
 }
 
-/// Reversals and billings of one fill in turn: only a payment that stands is taken back.
+/// Reversals and billings of one fill in turn: only a payment that stands is reversed.
 pub fn turns() -> Day {
     Day {
         settings: settings::one_pharmacy(),

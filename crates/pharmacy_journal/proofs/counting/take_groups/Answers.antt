@@ -5,7 +5,7 @@ use Rattle.d0_segments.specs.Parts.{SegmentParts}
 use Rattle.d0_segments.specs.Pieces.{shared_of, groups_of}
 use Rattle.claim_profile.specs.Order.{order_of}
 use Rattle.claim_model.specs.Bytes.{order_in}
-use Rattle.pharmacy_journal.specs.Counting.{Outcome, fill_billed, outcomes_between, named_in, takes_back, has_auth}
+use Rattle.pharmacy_journal.specs.Counting.{Outcome, fill_billed, outcomes_between, named_in, outcome_reverses, has_auth}
 use Rattle.pharmacy_journal.proofs.Payable.{group_step, groups-end, one_named, named_step, reversed_step, or_false}
 use Rattle.pharmacy_journal.proofs.counting.take_groups.Goals as goal
 
@@ -24,7 +24,7 @@ loop-place-preserved c =
     let parts = group_step order groups [] c.args.rulings.now i fill ruling (omega (arith, c.group_count.ensures, c.min-count.ensures, c.loop-place-test.true)) (omega (arith, c.min-count.ensures, c.loop-place-test.true)) c.fill_at.ensures c.index-rulings-place.is in
     record {
       named = named_step c.loop-place.told.named.items c.take_one.new.told.named.items (one ∷ []) before after (c.in_ok-take_one.ensures.named ∙ ap (λ xs. c.loop-place.told.named.items ++ xs) (one_named fill ruling)) parts ∙ c.loop-place.invariant.named;
-      reversed = λ a. reversed_step a (has_auth c.loop-place.told.reversed.keys a) (has_auth c.take_one.new.told.reversed.keys a) (one ∷ []) before after (c.in_ok-take_one.ensures.reversed a ∙ ap (λ b. has_auth c.loop-place.told.reversed.keys a || b) (sym (or_false (takes_back a one)))) parts ∙ c.loop-place.invariant.reversed a;
+      reversed = λ a. reversed_step a (has_auth c.loop-place.told.reversed.keys a) (has_auth c.take_one.new.told.reversed.keys a) (one ∷ []) before after (c.in_ok-take_one.ensures.reversed a ∙ ap (λ b. has_auth c.loop-place.told.reversed.keys a || b) (sym (or_false (outcome_reverses a one)))) parts ∙ c.loop-place.invariant.reversed a;
     }
 
 pub returns-clause-named : goal.returns-clause-named
@@ -39,4 +39,4 @@ returns-clause-reversed c = λ a.
     let f = c.args.framed.now in
     let order = λ (group : List SegmentParts). order_in (order_of f.header (shared_of f.body.bytes.now) group) in
     let end = groups-end order (groups_of f.body.bytes.now) c.args.rulings.now c.loop-place.place (omega (arith, c.group_count.ensures, c.min-count.ensures, c.loop-place-test.false)) in
-    sym (or_false (has_auth c.loop-place.told.reversed.keys a)) ∙ ap (λ (os : List Outcome). has_auth c.loop-place.told.reversed.keys a || list_any (takes_back a) os) (sym end) ∙ c.loop-place.invariant.reversed a
+    sym (or_false (has_auth c.loop-place.told.reversed.keys a)) ∙ ap (λ (os : List Outcome). has_auth c.loop-place.told.reversed.keys a || list_any (outcome_reverses a) os) (sym end) ∙ c.loop-place.invariant.reversed a

@@ -4,7 +4,7 @@ use Rattle.claim_model.specs.Payments.{same_auth}
 use Rattle.payer_book.specs.declared.payment.Standing.{Standing}
 use Rattle.payer_book.specs.declared.payment.Payment.{Payment}
 use Rattle.payer_book.specs.declared.payment.Payment.TheVariants.{Standing as Stands}
-use Rattle.payer_book.specs.Ledger.{Ledger, still, standing_in, payment_with, taken_back}
+use Rattle.payer_book.specs.Ledger.{Ledger, still, standing_in, payment_with, after_reversal}
 use Rattle.payer_book.proofs.Lists.{none_some, get_exists}
 use Rattle.payer_book.proofs.Numbering.{none_stands, reversed_stands_not}
 use Rattle.payer_book.proofs.PaymentIndex.{less_by, indexed_less, reversed_list, still_at, auth_at}
@@ -33,7 +33,7 @@ returns-in-Some-standing_at-clause-payments c =
     let less = less_by s c.claim.result.now.fill _ _ (ap (λ x. x.fill) c.claim.ensures) c.remove.ensures.updates.0 in
     rw (c.reverse.ensures, c.copy.ensures)
     (reversed_list c.self.inside.payer c.self.inside.first c.self.inside.list.items _ _ c.args.auth c.args.by s c.in-Some.place c.self.invariant (there c) (auth_at c.args.auth c.self.inside.list.items s (paid c)) less
-    ∙ ap (λ (l : Ledger). map (taken_back c.args.auth c.args.by) l.payments) c.self.view_is)
+    ∙ ap (λ (l : Ledger). map (after_reversal c.args.auth c.args.by) l.payments) c.self.view_is)
 
 pub returns-in_default-standing_at-clause-payments : goal.returns-in_default-standing_at-clause-payments
 returns-in_default-standing_at-clause-payments c =

@@ -3,7 +3,7 @@ use Rattle.payer_book.specs.Ledger.{standing_in}
 use Rattle.payer_book.specs.declared.matches.Matches.{Matches}
 use Rattle.payer_book.specs.Matches.{together, only_of}
 use Rattle.payer_book.proofs.Overlay.{only_after}
-use Rattle.payer_book.proofs.judging.undone_by.Goals as goal
+use Rattle.payer_book.proofs.judging.auth_to_reverse.Goals as goal
 
 pub returns : goal.returns
 returns c =
