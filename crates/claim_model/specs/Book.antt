@@ -1,6 +1,7 @@
 -- One request at a payer.
 use Rattle.std.specs.Prelude.{ℕ, Bool, true, cond, nat_le, nat_lt, List, [], ◌∷◌, ◌++◌, length, Option, Some, None, Result, Ok, Err, find, bytes_eq}
 use Rattle.std.specs.List.{list_all}
+use Rattle.claim_profile.specs.Authorization.{largest_serial}
 use Rattle.claim_model.specs.Words.{TxnId, RequestHeader, Ruling, Paid, Duplicate, Reversed, Rejected}
 use Rattle.claim_model.specs.Context.{Context}
 use Rattle.claim_model.specs.Readable.{readable, payer_for, is_payer, answer_text, same_id}
@@ -10,7 +11,7 @@ use Rattle.claim_model.specs.Judgement.{rulings_from}
 
 -- the greatest serial of an authorization
 abbrev pub last_serial : ℕ
-last_serial = 999999999999
+last_serial = largest_serial
 
 abbrev pub serial_fits : Ruling → Bool
 serial_fits (Paid auth prescription amounts) = nat_le auth.serial last_serial

@@ -1,6 +1,8 @@
 -- What the crates below promise of the readings in a context. Every theorem of this crate is for every context that keeps these laws.
 use Rattle.std.specs.Prelude.{◌≡◌, ℕ, ◌+◌, ◌^◌, ◌<◌, ◌≤◌, List, length, Some, Result, Ok, Err, ⊤}
 use Rattle.std.specs.List.{AllByRecursion}
+use Rattle.claim_profile.specs.Authorization.{largest_serial}
+use Rattle.claim_profile.specs.Money.{largest}
 use Rattle.claim_model.specs.Words.{Auth, Amounts, Claim, Reversal, Order, Bills, Reverses, Code, Ruling, Paid, Duplicate, Reversed, Rejected, RequestHeader, Status, AcceptedStatus, RejectedStatus, Answer, Envelope, Plan}
 use Rattle.claim_model.specs.Context.{Context}
 use Rattle.claim_model.specs.Readable.{readable, longest, billing_code, reversal_code}
@@ -25,7 +27,7 @@ pub record IsClaimOf (h : RequestHeader) (c : Claim) : Type 0 where
   pub qualifier : c.fill.qualifier ≡ h.qualifier
   pub provider : c.fill.provider ≡ h.provider
   pub prescription : IsPrescription c.fill.prescription
-  pub fee : c.fee ≤ 99999999
+  pub fee : c.fee ≤ largest
 
 -- a reversal is of its request's header, which has code B2
 pub record IsReversalOf (h : RequestHeader) (v : Reversal) : Type 0 where
@@ -51,14 +53,14 @@ pub record IsAuth (a : Auth) : Type 0 where
   pub payer : 0 < a.payer
   pub payer_fits : a.payer ≤ 9999
   pub serial : 0 < a.serial
-  pub serial_fits : a.serial ≤ 999999999999
+  pub serial_fits : a.serial ≤ largest_serial
 
 -- amounts of at most eight digits, of which plan and patient pay together what cost and fee are
 pub record IsAmounts (m : Amounts) : Type 0 where
-  pub cost : m.cost ≤ 99999999
-  pub fee : m.fee ≤ 99999999
-  pub copay : m.copay ≤ 99999999
-  pub total : m.total ≤ 99999999
+  pub cost : m.cost ≤ largest
+  pub fee : m.fee ≤ largest
+  pub copay : m.copay ≤ largest
+  pub total : m.total ≤ largest
   pub sum : m.total + m.copay ≡ m.cost + m.fee
 
 -- a ruling that can be written

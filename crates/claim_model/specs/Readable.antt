@@ -1,5 +1,6 @@
 -- Which requests a payer or a switch takes, where they are routed, and which answers fit them.
 use Rattle.std.specs.Prelude.{ℕ, Bool, true, false, cond, ◌&&◌, ◌||◌, ◌==◌, nat_le, List, [], ◌∷◌, length, replicate, Option, Some, None, bytes_eq, option_and_then}
+use Rattle.envelope.specs.Envelope.{longest_payload}
 use Rattle.claim_model.specs.Words.{TxnId, RequestHeader, Answer, Ruling, Rejected, BadBin, AcceptedStatus, RejectedStatus, Envelope, Request, Response}
 use Rattle.claim_model.specs.Context.{Context}
 
@@ -23,7 +24,7 @@ has_code h = bytes_eq h.code billing_code || bytes_eq h.code reversal_code
 
 -- no payload of an envelope is longer
 abbrev pub longest : ℕ
-longest = 32768
+longest = longest_payload
 
 abbrev pub if_carried : RequestHeader → Option RequestHeader
 if_carried h = cond (has_version h && has_code h) (Some h) None

@@ -8,13 +8,20 @@ pub record Authorization : Type 0 where
   pub payer : ℕ
   pub serial : ℕ
 
+-- the largest number of a payer and the largest serial
+abbrev pub largest_payer : ℕ
+largest_payer = 9999
+
+abbrev pub largest_serial : ℕ
+largest_serial = 999999999999
+
 -- four digits of payer and twelve of serial, neither of them zero
 abbrev pub IsAuthorization : ℕ → ℕ → Type 0
-IsAuthorization payer serial = (1 ≤ payer) × (payer ≤ 9999) × (1 ≤ serial) × (serial ≤ 999999999999)
+IsAuthorization payer serial = (1 ≤ payer) × (payer ≤ largest_payer) × (1 ≤ serial) × (serial ≤ largest_serial)
 
 -- the same, as a test
 abbrev pub is_authorization : ℕ → ℕ → Bool
-is_authorization payer serial = nat_le 1 payer && nat_le payer 9999 && nat_le 1 serial && nat_le serial 999999999999
+is_authorization payer serial = nat_le 1 payer && nat_le payer largest_payer && nat_le 1 serial && nat_le serial largest_serial
 
 -- a number in so many decimal digits, with zeros in front
 unfoldable pub padded_number : ℕ → ℕ → List ℕ

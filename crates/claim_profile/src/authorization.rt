@@ -1,10 +1,15 @@
 //! Authorization numbers.
 
 ghost use Rattle.std.specs.Prelude.{◌≡◌, ◌≤◌, ◌↔◌, length, replicate, IsSome, IfSome};
-ghost use Rattle.claim_profile.specs.Authorization.{IsAuthorization, authorization_text, authorization_of, authorization_with, padded_number};
+ghost use Rattle.claim_profile.specs.Authorization.{IsAuthorization, largest_payer, largest_serial, authorization_text, authorization_of, authorization_with, padded_number};
 
 use overpunch::read_number;
 use std::marker::Model;
+
+/// The largest number of a payer in an authorization (own).
+const LARGEST_PAYER: u16 = 9_999;
+/// The largest serial of an authorization (own).
+const LARGEST_SERIAL: u64 = 999_999_999_999;
 
 /// An authorization number (503-F3): the payer that gave it, from 1 to 9,999, and its serial there,
 /// from 1 to 999,999,999,999 (own).
@@ -32,7 +37,7 @@ impl Auth {
         ensures variant { IsSome result ↔ IsAuthorization payer serial }
         ensures given { IfSome result (λ a. (a.payer ≡ payer) × (a.serial ≡ serial)) }
     {
-        if payer == 0 || payer > 9_999 || serial == 0 || serial > 999_999_999_999 {
+        if payer == 0 || payer > LARGEST_PAYER || serial == 0 || serial > LARGEST_SERIAL {
             return None;
         }
         Some(Auth { payer, serial })
@@ -41,7 +46,7 @@ impl Auth {
     /// The number of the payer.
     pub fn payer(self) -> u16
         ensures value { result ≡ self.payer }
-        ensures range { (1 ≤ result) × (result ≤ 9999) }
+        ensures range { (1 ≤ result) × (result ≤ largest_payer) }
     {
         self.payer
     }
@@ -49,7 +54,7 @@ impl Auth {
     /// The serial at that payer.
     pub fn serial(self) -> u64
         ensures value { result ≡ self.serial }
-        ensures range { (1 ≤ result) × (result ≤ 999999999999) }
+        ensures range { (1 ≤ result) × (result ≤ largest_serial) }
     {
         self.serial
     }
@@ -82,7 +87,7 @@ impl Auth {
 fn authorization(payer: u64, serial: u64) -> Option<Auth>
     ensures { result ≡ authorization_with payer serial }
 {
-    if payer == 0 || payer > 9_999 || serial == 0 || serial > 999_999_999_999 {
+    if payer == 0 || payer > u64::from(LARGEST_PAYER) || serial == 0 || serial > LARGEST_SERIAL {
         return None;
     }
     Some(Auth {

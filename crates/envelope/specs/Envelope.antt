@@ -12,6 +12,10 @@ pub record Opened : Type 0 where
   pub payload : List ℕ
   pub place : ℕ × ℕ
 
+-- the most bytes of a payload
+abbrev pub longest_payload : ℕ
+longest_payload = 32768
+
 -- a kind's byte
 abbrev pub kind_byte : Kind → ℕ
 kind_byte Request = 1
@@ -30,5 +34,5 @@ envelope_text kind id payload = envelope_head kind id (length payload) ++ payloa
 pub record IsTextOf (place : ℕ × ℕ) (bytes : List ℕ) (e : Opened) : Type 0 where
   pub text : bytes ≡ envelope_text e.kind e.id e.payload
   pub id : IsTxn e.id
-  pub short : length e.payload ≤ 32768
+  pub short : length e.payload ≤ longest_payload
   pub stands : e.place ≡ (place.0, place.1 + 18)

@@ -6,7 +6,7 @@ use Rattle.envelope.specs.declared.opening.Kind.{Kind}
 use Rattle.envelope.specs.declared.opening.Kind.TheVariants.{Request, Answer}
 use Rattle.envelope.specs.declared.opening.EnvelopeFault.{EnvelopeFault}
 use Rattle.envelope.specs.declared.opening.EnvelopeFault.TheVariants as faults
-use Rattle.envelope.specs.Envelope.{Opened}
+use Rattle.envelope.specs.Envelope.{Opened, longest_payload}
 
 -- the numbers in a head
 abbrev pub pharmacy_in : List ℕ → ℕ
@@ -28,7 +28,7 @@ opened_of place bytes None = Err faults.Kind
 opened_of place bytes (Some kind) =
     if (pharmacy_in bytes == 0) || (number_in bytes == 0) then Err faults.ZeroNumber
     else (if not (said_in bytes == length (drop 18 bytes)) then Err (faults.Length (said_in bytes) (length (drop 18 bytes)))
-    else (if nat_lt 32768 (length (drop 18 bytes)) then Err faults.TooLong
+    else (if nat_lt longest_payload (length (drop 18 bytes)) then Err faults.TooLong
     else Ok (record {
       kind = kind;
       id = record { pharmacy = pharmacy_in bytes; number = number_in bytes };

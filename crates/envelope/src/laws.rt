@@ -3,12 +3,12 @@
 ghost use Rattle.std.specs.Prelude.{◌≡◌, ℕ, ◌+◌, ◌<◌, ◌≤◌, List, length, drop, slice_index, Ok};
 ghost use Rattle.envelope.specs.declared.opening.Kind.{Kind};
 ghost use Rattle.envelope.specs.Txn.{Txn, IsTxn};
-ghost use Rattle.envelope.specs.Envelope.{Opened, IsTextOf, envelope_text};
+ghost use Rattle.envelope.specs.Envelope.{Opened, IsTextOf, envelope_text, longest_payload};
 ghost use Rattle.envelope.specs.Opening.{envelope_of};
 
 /// The text of an envelope with a payload of at most 32,768 bytes opens as that envelope.
 pub fn envelope_reads_back()
-    ensures { (place : ℕ × ℕ) (kind : Kind) (id : Txn) (payload : List ℕ) → IsTxn id → length payload ≤ 32768 → envelope_of place (envelope_text kind id payload) ≡ Ok (record { kind = kind; id = id; payload = payload; place = (place.0, place.1 + 18) }) }
+    ensures { (place : ℕ × ℕ) (kind : Kind) (id : Txn) (payload : List ℕ) → IsTxn id → length payload ≤ longest_payload → envelope_of place (envelope_text kind id payload) ≡ Ok (record { kind = kind; id = id; payload = payload; place = (place.0, place.1 + 18) }) }
 {}
 
 /// Bytes that open as an envelope are the text of that envelope.

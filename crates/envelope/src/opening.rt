@@ -2,6 +2,7 @@
 
 ghost use Rattle.std.specs.Prelude.{◌≡◌, ◌≤◌, length};
 ghost use Rattle.std.specs.Int.{w16, w32, w64, from_be_bytes};
+ghost use Rattle.envelope.specs.Envelope.{longest_payload};
 ghost use Rattle.envelope.specs.Opening.{kind_of, envelope_of};
 
 use crate::txn::TxnId;
@@ -76,7 +77,7 @@ impl<'a> Model for Envelope<'a> {
 
     ghost view = { λ e. record { kind = e.kind; id = e.id; payload = e.payload.now; place = e.payload.ref_ptr } };
 
-    ghost invariant = { λ e. length e.payload.now ≤ 32768 };
+    ghost invariant = { λ e. length e.payload.now ≤ longest_payload };
 }
 
 impl<'a> Envelope<'a> {
@@ -98,7 +99,7 @@ impl<'a> Envelope<'a> {
         ensures found { IfOk result (λ e. IsTextOf bytes.entry.ref_ptr bytes.now e) }
 
         // Each such text is read.
-        ensures only { (kind : Kind) (id : Txn) (payload : List ℕ) → IsTxn id → length payload ≤ 32768 → bytes.now ≡ envelope_text kind id payload → result ≡ Ok (record { kind = kind; id = id; payload = payload; place = (bytes.entry.ref_ptr.0, bytes.entry.ref_ptr.1 + 18) }) }
+        ensures only { (kind : Kind) (id : Txn) (payload : List ℕ) → IsTxn id → length payload ≤ longest_payload → bytes.now ≡ envelope_text kind id payload → result ≡ Ok (record { kind = kind; id = id; payload = payload; place = (bytes.entry.ref_ptr.0, bytes.entry.ref_ptr.1 + 18) }) }
     {
         Envelope::open(bytes)
     }
@@ -152,7 +153,7 @@ impl<'a> Envelope<'a> {
     pub fn payload(&self) -> &'a [u8]
         ensures value { result.now ≡ self.now.payload }
         ensures place { result.ref_ptr ≡ self.now.place }
-        ensures short { length result.now ≤ 32768 }
+        ensures short { length result.now ≤ longest_payload }
     {
         self.payload
     }

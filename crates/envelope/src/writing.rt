@@ -2,7 +2,7 @@
 
 ghost use Rattle.std.specs.Prelude.{◌≡◌, ◌<◌, ◌≤◌, ◌^◌, ◌++◌, ◌↔◌, length, IfOk, OnOk, IsErrOf};
 ghost use Rattle.envelope.specs.declared.writing.WriteFault.TheVariants.{OutOfMemory};
-ghost use Rattle.envelope.specs.Envelope.{kind_byte, envelope_head, envelope_text};
+ghost use Rattle.envelope.specs.Envelope.{kind_byte, envelope_head, envelope_text, longest_payload};
 
 use crate::opening::{HEAD, Kind, LARGEST_PAYLOAD, MAGIC, VERSION};
 use crate::txn::TxnId;
@@ -40,7 +40,7 @@ impl<T: Drop> From<AllocFailed<T>> for WriteFault {
 #[tactic(auto, unfolding(crate::specs::Envelope::envelope_text))]
 pub fn write(alloc: Global, kind: Kind, id: TxnId, payload: &[u8]) -> Result<Vec<u8>, WriteFault>
     ensures text { IfOk result (λ text. text.items ≡ envelope_text kind id payload.now) }
-    ensures too_long { IsErrOf result WriteFault.TooLong ↔ (32768 < length payload.now) }
+    ensures too_long { IsErrOf result WriteFault.TooLong ↔ (longest_payload < length payload.now) }
 {
     if payload.len() > LARGEST_PAYLOAD {
         return Err(WriteFault::TooLong);

@@ -6,14 +6,15 @@ use Rattle.claim_profile.specs.Readable.{readable_header}
 use Rattle.plan_rules.specs.Terms.{IsPlan}
 use Rattle.claim_model.specs.Rows.{Book, BookSettings}
 use Rattle.payer_book.specs.Added.{KeptRow, kept_row, added_all}
+use Rattle.envelope.specs.Envelope.{longest_payload}
 use Rattle.kept_records.specs.Versions.{has_one}
 use Rattle.kept_records.specs.Books.{book_text, first_book}
 
 -- a row of which each part fits its field
 pub record IsKeptRow (k : KeptRow) : Type 0 where
   pub id : IsTxn k.id
-  pub request : length k.request ≤ 32768
-  pub answer : length k.answer ≤ 32768
+  pub request : length k.request ≤ longest_payload
+  pub answer : length k.answer ≤ longest_payload
 
 abbrev pub AreKeptRows : List KeptRow → Type 0
 AreKeptRows rows = AllByRecursion IsKeptRow rows

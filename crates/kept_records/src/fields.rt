@@ -4,8 +4,7 @@ ghost use Rattle.std.specs.Prelude.{◌≡◌};
 ghost use Rattle.std.specs.Option.{option_map};
 ghost use Rattle.kept_records.specs.Fields.{u8_at, u16_at, u32_at, u64_at, text_at};
 
-/// The longest request or answer of a record, in bytes.
-pub(crate) const LONGEST_TEXT: usize = 32_768;
+use envelope::LARGEST_PAYLOAD;
 
 /// A number of one byte and what follows it; none where there is no byte.
 #[tactic(auto, unfolding(crate::specs::Fields::u8_at))]
@@ -64,7 +63,7 @@ pub(crate) fn take_text(bytes: &[u8]) -> Option<(&[u8], &[u8])>
 {
     let (length, rest) = take_u32(bytes)?;
     let length = length as usize;
-    if length > LONGEST_TEXT || length > rest.len() {
+    if length > LARGEST_PAYLOAD || length > rest.len() {
         return None;
     }
     Some((&rest[..length], &rest[length..]))

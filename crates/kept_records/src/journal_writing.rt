@@ -3,6 +3,7 @@
 ghost use Rattle.std.specs.Prelude.{◌≡◌, ◌≤◌, ◌++◌, length, Ok, IfOk, OnOk};
 ghost use Rattle.std.specs.Option.{option_copied, ForSome};
 ghost use Rattle.claim_model.specs.Journal.{stopped};
+ghost use Rattle.envelope.specs.Envelope.{longest_payload};
 ghost use Rattle.kept_records.specs.Entries.{answer_text, entry_text, entries_text};
 ghost use Rattle.kept_records.specs.Journals.{journal_head, journal_text, journal_in};
 
@@ -74,8 +75,8 @@ fn put_running(text: &mut Vec<u8>, pharmacy: &Pharmacy) -> Result<(), AllocError
 /// Puts an entry and its number.
 #[tactic(auto, unfolding(crate::specs::Entries::entry_text))]
 fn put_entry(text: &mut Vec<u8>, number: u64, kept: KeptEntry<'_>) -> Result<(), AllocError>
-    requires request { length kept.request.now ≤ 32768 }
-    requires answer { ForSome (option_copied kept.answer) (λ answer. length answer ≤ 32768) }
+    requires request { length kept.request.now ≤ longest_payload }
+    requires answer { ForSome (option_copied kept.answer) (λ answer. length answer ≤ longest_payload) }
     ensures { OnOk result (text.new.items ≡ text.old.items ++ entry_text number (record { request = kept.entry.request.now; answer = option_copied kept.entry.answer })) }
 {
     put_u64(text, number)?;
@@ -85,7 +86,7 @@ fn put_entry(text: &mut Vec<u8>, number: u64, kept: KeptEntry<'_>) -> Result<(),
 
 /// Puts an answer behind its flag.
 fn put_answer(text: &mut Vec<u8>, answer: Option<&[u8]>) -> Result<(), AllocError>
-    requires { ForSome (option_copied answer) (λ answer. length answer ≤ 32768) }
+    requires { ForSome (option_copied answer) (λ answer. length answer ≤ longest_payload) }
     ensures { OnOk result (text.new.items ≡ text.old.items ++ answer_text (option_copied answer.entry)) }
 {
     match answer {

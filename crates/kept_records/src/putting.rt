@@ -2,6 +2,7 @@
 
 ghost use Rattle.std.specs.Prelude.{◌≡◌, ◌≤◌, ◌++◌, ◌∷◌, [], length, OnOk};
 ghost use Rattle.std.specs.Int.{w16, w32, w64, to_be_bytes};
+ghost use Rattle.envelope.specs.Envelope.{longest_payload};
 ghost use Rattle.kept_records.specs.Fields.{sized};
 
 use std::alloc::AllocError;
@@ -37,7 +38,7 @@ pub(crate) fn put_u64(out: &mut Vec<u8>, number: u64) -> Result<(), AllocError>
 
 /// Puts a text of at most 32,768 bytes behind its length.
 pub(crate) fn put_text(out: &mut Vec<u8>, text: &[u8]) -> Result<(), AllocError>
-    requires { length text.now ≤ 32768 }
+    requires { length text.now ≤ longest_payload }
     ensures { OnOk result (out.new.items ≡ out.old.items ++ sized text.now) }
 {
     put_u32(out, text.len() as u32)?;

@@ -12,19 +12,19 @@ use Rattle.payer_book.specs.declared.matches.Matches.{Matches}
 use Rattle.payer_book.specs.declared.matches.Matches.TheVariants.{Nothing, One, Several}
 use Rattle.payer_book.specs.Ledger.{is_of, standing_of, is_for_payment, IsOther, NoFillTwice, IsNumbered}
 use Rattle.payer_book.specs.Changes.{is_reversed}
-use Rattle.payer_book.specs.Matches.{tally, added, fill_for, is_match, matched, is_between, matches_between}
+use Rattle.payer_book.specs.Matches.{tally, with_one, fill_for, is_match, matched, is_between, matches_between}
 use Rattle.payer_book.proofs.Lists.{filter_same, filter_none, all_weaker, all_true}
 use Rattle.payer_book.proofs.Sameness.{fill_same}
 
-pub tally_first : (s : Standing) (ss : List Standing) → tally (s ∷ ss) ≡ added (tally ss) s.auth
+pub tally_first : (s : Standing) (ss : List Standing) → tally (s ∷ ss) ≡ with_one (tally ss) s.auth
 tally_first s [] = refl
 tally_first s (t ∷ []) = refl
 tally_first s (t ∷ u ∷ more) = refl
 
-added_swap : (m : Matches) (s t : Auth) → added (added m s) t ≡ added (added m t) s
-added_swap Nothing s t = refl
-added_swap (One u) s t = refl
-added_swap Several s t = refl
+with_one_swap : (m : Matches) (s t : Auth) → with_one (with_one m s) t ≡ with_one (with_one m t) s
+with_one_swap Nothing s t = refl
+with_one_swap (One u) s t = refl
+with_one_swap Several s t = refl
 
 -- what a reversal for a claim has in common with it
 record Common (v : Reversal) (c : Claim) : Type 0 where
@@ -101,32 +101,32 @@ module _ (v : Reversal) (changes : List Change) (first : ℕ) where
           ∙ ap (λ (xs : List Standing). cond (is_match v changes s) (s ∷ xs) xs) (later_same n s ss is twice.0)) in
           let before : matches_between v changes first n (s ∷ ss) ≡ matches_between v changes first n ss =
           cond-false (is_match v changes s && is_between first n s) (s ∷ matches_between v changes first n ss) (matches_between v changes first n ss) (and_right (is_match v changes s) (is_between first n s) outside) in
-          ap tally now ∙ (counted (is_match v changes s) (matches_between v changes first n ss) ∙ ap (λ (xs : List Standing). cond (is_match v changes s) (added (tally xs) s.auth) (tally xs)) (sym before))
+          ap tally now ∙ (counted (is_match v changes s) (matches_between v changes first n ss) ∙ ap (λ (xs : List Standing). cond (is_match v changes s) (with_one (tally xs) s.auth) (tally xs)) (sym before))
         where
           and_one : (b : Bool) → (b && true) ≡ b
           and_one true = refl
           and_one false = refl
 
-          counted : (b : Bool) (xs : List Standing) → tally (cond b (s ∷ xs) xs) ≡ cond b (added (tally xs) s.auth) (tally xs)
+          counted : (b : Bool) (xs : List Standing) → tally (cond b (s ∷ xs) xs) ≡ cond b (with_one (tally xs) s.auth) (tally xs)
           counted true xs = tally_first s xs
           counted false xs = refl
       by_test false is g =
           ap (λ b. tally (cond b (s ∷ matches_between v changes first (n + 1) ss) (matches_between v changes first (n + 1) ss))) (test_other n s is)
           ∙ both (is_match v changes s && is_between first n s) (standing_of (fill_for v n) ss) g
         where
-          swapped : (o : Option Standing) (m : Matches) → added (matched v changes o m) s.auth ≡ matched v changes o (added m s.auth)
+          swapped : (o : Option Standing) (m : Matches) → with_one (matched v changes o m) s.auth ≡ matched v changes o (with_one m s.auth)
           swapped None m = refl
           swapped (Some t) m = inner (is_match v changes t)
             where
-              inner : (b : Bool) → added (cond b (added m t.auth) m) s.auth ≡ cond b (added (added m s.auth) t.auth) (added m s.auth)
-              inner true = added_swap m t.auth s.auth
+              inner : (b : Bool) → with_one (cond b (with_one m t.auth) m) s.auth ≡ cond b (with_one (with_one m s.auth) t.auth) (with_one m s.auth)
+              inner true = with_one_swap m t.auth s.auth
               inner false = refl
 
           both : (b : Bool) (o : Option Standing) → tally (matches_between v changes first (n + 1) ss) ≡ matched v changes o (tally (matches_between v changes first n ss))
               → tally (cond b (s ∷ matches_between v changes first (n + 1) ss) (matches_between v changes first (n + 1) ss)) ≡ matched v changes o (tally (cond b (s ∷ matches_between v changes first n ss) (matches_between v changes first n ss)))
           both true o g =
               tally_first s (matches_between v changes first (n + 1) ss)
-              ∙ (ap (λ (m : Matches). added m s.auth) g ∙ (swapped o (tally (matches_between v changes first n ss)) ∙ ap (matched v changes o) (sym (tally_first s (matches_between v changes first n ss)))))
+              ∙ (ap (λ (m : Matches). with_one m s.auth) g ∙ (swapped o (tally (matches_between v changes first n ss)) ∙ ap (matched v changes o) (sym (tally_first s (matches_between v changes first n ss)))))
           both false o g = g
 
   -- the matches below one more number

@@ -14,7 +14,7 @@ use Rattle.payer_book.specs.declared.changes.Change.{Change}
 use Rattle.payer_book.specs.declared.changes.Change.TheVariants.{Pays, Reverses as ReversesPayment, Keeps}
 use Rattle.payer_book.specs.Ledger.{is_of, standing_of, is_for_payment, IsOther, NoFillTwice}
 use Rattle.payer_book.specs.Changes.{is_reversed, left, left_by, standing_after}
-use Rattle.payer_book.specs.Matches.{tally, added, together, only_of, is_match}
+use Rattle.payer_book.specs.Matches.{tally, with_one, together, only_of, is_match}
 use Rattle.payer_book.proofs.Lists.{same_some, filter_same, all_true, find_append, find_beyond}
 use Rattle.payer_book.proofs.Sameness.{fill_same}
 use Rattle.payer_book.proofs.Matching.{tally_first}
@@ -139,9 +139,9 @@ only_after v standing changes =
     (filter_twice (is_for_payment v) (is_kept changes) standing ∙ filter_same _ _ standing (all_true _ (λ s. and_swap (is_kept changes s) (is_for_payment v s)) standing)))))
 
 pub tally_left : (v : Reversal) (change : Change) (later : List Change) (s : Standing) → left change later ≡ Some s
-    → tally (filter (is_for_payment v) (left_by (change ∷ later))) ≡ cond (is_for_payment v s) (added (tally (filter (is_for_payment v) (left_by later))) s.auth) (tally (filter (is_for_payment v) (left_by later)))
+    → tally (filter (is_for_payment v) (left_by (change ∷ later))) ≡ cond (is_for_payment v s) (with_one (tally (filter (is_for_payment v) (left_by later))) s.auth) (tally (filter (is_for_payment v) (left_by later)))
 tally_left v change later s e = ap (λ (o : Option Standing). tally (filter (is_for_payment v) (cons_option o (left_by later)))) e ∙ by_test (is_for_payment v s)
   where
-    by_test : (b : Bool) → tally (cond b (s ∷ filter (is_for_payment v) (left_by later)) (filter (is_for_payment v) (left_by later))) ≡ cond b (added (tally (filter (is_for_payment v) (left_by later))) s.auth) (tally (filter (is_for_payment v) (left_by later)))
+    by_test : (b : Bool) → tally (cond b (s ∷ filter (is_for_payment v) (left_by later)) (filter (is_for_payment v) (left_by later))) ≡ cond b (with_one (tally (filter (is_for_payment v) (left_by later))) s.auth) (tally (filter (is_for_payment v) (left_by later)))
     by_test true = tally_first s (filter (is_for_payment v) (left_by later))
     by_test false = refl

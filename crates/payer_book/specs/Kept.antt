@@ -3,10 +3,11 @@ use Rattle.std.specs.Prelude.{◌≡◌, ℕ, ◌≤◌, List, length, Some}
 use Rattle.claim_model.specs.Words.{RequestHeader, Ruling, AcceptedStatus}
 use Rattle.claim_profile.specs.Readable.{readable_header}
 use Rattle.claim_profile.specs.Answer.{answer_text}
+use Rattle.envelope.specs.Envelope.{longest_payload}
 
 -- the answer to a readable request with these rulings: header status A, and one group for each ruling; it fits an envelope
 pub record IsAnswered (request : List ℕ) (rulings : List Ruling) (answer : List ℕ) : Type 0 where
   pub header : RequestHeader
   pub reads : readable_header request ≡ Some header
   pub text : answer ≡ answer_text header AcceptedStatus rulings
-  pub short : length answer ≤ 32768
+  pub short : length answer ≤ longest_payload

@@ -15,15 +15,15 @@ tally (s ∷ []) = One s.auth
 tally (s ∷ t ∷ more) = Several
 
 -- one payment more, of this authorization
-abbrev pub added : Matches → Auth → Matches
-added Nothing auth = One auth
-added (One other) auth = Several
-added Several auth = Several
+abbrev pub with_one : Matches → Auth → Matches
+with_one Nothing auth = One auth
+with_one (One other) auth = Several
+with_one Several auth = Several
 
 -- the payments of two tallies together
 abbrev pub together : Matches → Matches → Matches
 together Nothing b = b
-together (One auth) b = added b auth
+together (One auth) b = with_one b auth
 together Several b = Several
 
 -- the authorization of the payment, where there is exactly one
@@ -43,7 +43,7 @@ is_match v changes s = is_for_payment v s && not (is_reversed s.auth changes)
 -- the tally with this payment, where the reversal is for it
 abbrev pub matched : Reversal → List Change → Option Standing → Matches → Matches
 matched v changes None matches = matches
-matched v changes (Some s) matches = cond (is_match v changes s) (added matches s.auth) matches
+matched v changes (Some s) matches = cond (is_match v changes s) (with_one matches s.auth) matches
 
 -- a fill number from one number to below another
 abbrev pub is_between : ℕ → ℕ → Standing → Bool

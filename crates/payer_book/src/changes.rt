@@ -7,7 +7,7 @@ ghost use Rattle.claim_model.specs.Payments.{same_auth};
 ghost use Rattle.claim_model.specs.Judgement.{same_fill};
 ghost use Rattle.payer_book.specs.Ledger.{standing_of, is_for_payment};
 ghost use Rattle.payer_book.specs.Changes.{change_by, is_reversal_of, is_reversed, pays, left, left_by};
-ghost use Rattle.payer_book.specs.Matches.{tally, added};
+ghost use Rattle.payer_book.specs.Matches.{tally, with_one};
 
 use crate::matches::{Matches, is_for};
 use crate::payment::Standing;
@@ -149,7 +149,7 @@ pub(crate) fn left_matching(reversal: &Reversal, changes: &[Change]) -> Matches
 
 /// The matches, and this payment where the reversal is for it.
 fn add_match(matches: Matches, reversal: &Reversal, payment: &Standing) -> Matches
-    ensures { result ≡ (if is_for_payment reversal.now payment.now then added matches payment.now.auth else matches) }
+    ensures { result ≡ (if is_for_payment reversal.now payment.now then with_one matches payment.now.auth else matches) }
 {
     if is_for(reversal, payment.claim()) {
         matches.with(payment.auth())

@@ -8,6 +8,7 @@ ghost use Rattle.claim_profile.specs.Readable.{readable_header};
 ghost use Rattle.claim_profile.specs.Answer.{answer_text};
 ghost use Rattle.claim_model.specs.Words.{AcceptedStatus};
 ghost use Rattle.claim_model.specs.Book.{serial_fits, row_of};
+ghost use Rattle.envelope.specs.Envelope.{longest_payload};
 ghost use Rattle.payer_book.specs.declared.fault.BookFault.TheVariants.{OutOfMemory, SerialsUsedUp};
 ghost use Rattle.payer_book.specs.Drafts.{pricing};
 ghost use Rattle.payer_book.specs.Added.{kept_answer, with_row};
@@ -48,7 +49,7 @@ impl Entry {
     /// The answer's bytes, as the row keeps them.
     pub(crate) fn answer(&self) -> &[u8]
         ensures text { result.now ≡ kept_answer self.now.row }
-        ensures short { length result.now ≤ 32768 }
+        ensures short { length result.now ≤ longest_payload }
     {
         self.row.answer()
     }

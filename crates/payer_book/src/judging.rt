@@ -40,7 +40,10 @@ fn judge_order<'a>(payments: &Payments, changes: &[Change], order: &'a Order) ->
     match order {
         Order::Claim(claim) => judge_claim(claim, standing_for(payments, changes, &claim.fill)),
         Order::Reversal(reversal) => {
-            Verdict::Unpriced(judge_reversal(reversal, auth_to_reverse(payments, changes, reversal)))
+            Verdict::Unpriced(judge_reversal(
+                reversal,
+                auth_to_reverse(payments, changes, reversal),
+            ))
         }
     }
 }

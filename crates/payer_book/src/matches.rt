@@ -2,7 +2,7 @@
 
 ghost use Rattle.std.specs.Prelude.{◌≡◌};
 ghost use Rattle.claim_model.specs.Judgement.{is_for, is_fill_number};
-ghost use Rattle.payer_book.specs.Matches.{added, together, only_of, is_match};
+ghost use Rattle.payer_book.specs.Matches.{with_one, together, only_of, is_match};
 
 use crate::changes::{Change, is_reversed};
 use crate::payment::Standing;
@@ -19,7 +19,7 @@ pub(crate) enum Matches {
 impl Matches {
     /// One payment more, of this authorization.
     pub(crate) fn with(self, auth: Auth) -> Matches
-        ensures { result ≡ added self auth }
+        ensures { result ≡ with_one self auth }
     {
         match self {
             Matches::Nothing => Matches::One(auth),

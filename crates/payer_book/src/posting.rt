@@ -1,7 +1,7 @@
 //! Answering a request with a packet.
 
 ghost use Rattle.std.specs.Prelude.{◌≡◌, ◌≤◌, [], ◌∷◌, length, OnErr, IfOk, IfErr};
-ghost use Rattle.envelope.specs.Envelope.{envelope_text};
+ghost use Rattle.envelope.specs.Envelope.{envelope_text, longest_payload};
 ghost use Rattle.claim_model.specs.Words.{Response};
 ghost use Rattle.claim_model.specs.Bytes.{bytes_with};
 ghost use Rattle.claim_model.specs.Book.{answered};
@@ -50,7 +50,7 @@ impl Book {
 
 /// The envelope of an answer that is not too long.
 fn packet(alloc: Global, id: TxnId, answer: &[u8]) -> Result<Octets, AllocError>
-    requires { length answer.now ≤ 32768 }
+    requires { length answer.now ≤ longest_payload }
     ensures { IfOk result (λ packet. packet ≡ envelope_text Response id answer.now) }
 {
     // The answer is not too long, so nothing but memory can be refused.

@@ -6,6 +6,7 @@ ghost use Rattle.d0_header.specs.Request.{request_of};
 ghost use Rattle.claim_profile.specs.Readable.{readable_header};
 ghost use Rattle.claim_model.specs.Bytes.{bytes_with};
 ghost use Rattle.claim_model.specs.Held.{row_answer};
+ghost use Rattle.envelope.specs.Envelope.{longest_payload};
 ghost use Rattle.payer_book.specs.Kept.{IsAnswered};
 ghost use Rattle.payer_book.specs.Added.{kept_answer};
 
@@ -83,7 +84,7 @@ impl Row {
     /// The answer's bytes: header status `A` (501-F1) and one group for each ruling.
     pub fn answer(&self) -> &[u8]
         ensures kept { IsAnswered self.now.request self.now.rulings result.now }
-        ensures short { length result.now ≤ 32768 }
+        ensures short { length result.now ≤ longest_payload }
         ensures value { (routes : RouteMaps) → Some result.now ≡ row_answer (bytes_with routes) self.now }
         ensures text { result.now ≡ kept_answer self.now }
     {

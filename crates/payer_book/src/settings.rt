@@ -1,6 +1,7 @@
 //! What a book is opened with, beside its payer and its plan.
 
 ghost use Rattle.std.specs.Prelude.{◌≡◌, ◌≤◌};
+ghost use Rattle.claim_profile.specs.Authorization.{largest_serial};
 ghost use Rattle.payer_book.specs.Settings.{settings_of};
 
 use crate::fault::SettingFault;
@@ -47,7 +48,7 @@ impl BookSettings {
     pub fn serial(&self) -> u64
         ensures value { result ≡ self.now.serial }
         ensures least { 1 ≤ result }
-        ensures most { result ≤ 999999999999 }
+        ensures most { result ≤ largest_serial }
     {
         self.serial
     }

@@ -2,6 +2,7 @@
 use Rattle.std.specs.Prelude.{◌≡◌, ℕ, ◌+◌, ◌<◌, ◌≤◌, Bool, true, false, List, [], ◌∷◌, length, map, Option, Some, None, is_some}
 use Rattle.claim_model.specs.Words.{TxnId}
 use Rattle.claim_model.specs.Journal.{PharmacySettings, Waits, Has, Entry, Kept}
+use Rattle.envelope.specs.Envelope.{longest_payload}
 use Rattle.pharmacy_journal.specs.Reading.{is_own_request, settles_with}
 use Rattle.pharmacy_journal.specs.Settings.{AreSettings, rule_of}
 use Rattle.pharmacy_journal.specs.Timetable.{Rounds}
@@ -35,7 +36,7 @@ is_waiting (Settled t) = false
 -- an entry of this pharmacy and number: its request is readable and the pharmacy's own, and an answer fits it and has at most 32,768 bytes
 abbrev pub IsEntry : PharmacySettings → TxnId → Slot → Type 0
 IsEntry s id (Waiting t) = (t.id ≡ id) × (is_own_request s t.request ≡ true)
-IsEntry s id (Settled t) = (t.id ≡ id) × (is_own_request s t.request ≡ true) × (settles_with t.request t.answer ≡ true) × (length t.answer ≤ 32768)
+IsEntry s id (Settled t) = (t.id ≡ id) × (is_own_request s t.request ≡ true) × (settles_with t.request t.answer ≡ true) × (length t.answer ≤ longest_payload)
 
 -- entries numbered from n on
 abbrev pub AreEntries : PharmacySettings → ℕ → ℕ → List Slot → Type 0

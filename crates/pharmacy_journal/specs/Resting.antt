@@ -1,6 +1,7 @@
 -- Journals at rest, made record by record.
 use Rattle.std.specs.Prelude.{ℕ, ◌-◌, Bool, true, ◌&&◌, nat_le, nat_lt, List, [], ◌∷◌, ◌++◌, length, Option, Some, None, if◌then◌else◌}
 use Rattle.claim_model.specs.Journal.{JournalAtRest, Kept}
+use Rattle.envelope.specs.Envelope.{longest_payload}
 use Rattle.pharmacy_journal.specs.Retry.{Rule, phases_of}
 use Rattle.pharmacy_journal.specs.Reading.{is_own_request, settles_with}
 use Rattle.pharmacy_journal.specs.declared.slot.Slot.{Slot}
@@ -9,7 +10,7 @@ use Rattle.pharmacy_journal.specs.declared.slot.Slot.TheVariants.{Waiting, Settl
 -- an answer that a kept entry may have: at most 32,768 bytes, and one that settles the request
 abbrev pub is_kept_answer : List ℕ → Option (List ℕ) → Bool
 is_kept_answer request None = true
-is_kept_answer request (Some answer) = settles_with request answer && nat_le (length answer) 32768
+is_kept_answer request (Some answer) = settles_with request answer && nat_le (length answer) longest_payload
 
 -- there is room, the request is readable and the pharmacy's own, and the answer can stand beside it
 abbrev pub is_row : JournalAtRest → List ℕ → Option (List ℕ) → Bool

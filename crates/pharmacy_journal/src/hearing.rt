@@ -2,7 +2,7 @@
 
 ghost use Rattle.std.specs.Prelude.{◌≡◌, ◌<◌, ◌≤◌, ℕ, length, true, Option, Some, Ok, IfOk, IfErr, IfSome, OnOk, OnErr, bytes_eq, if◌then◌else◌};
 ghost use Rattle.std.specs.List.{slice_get};
-ghost use Rattle.envelope.specs.Envelope.{envelope_text};
+ghost use Rattle.envelope.specs.Envelope.{envelope_text, longest_payload};
 ghost use Rattle.bin_routes.specs.Table.{RouteMaps};
 ghost use Rattle.claim_model.specs.Bytes.{bytes_with};
 ghost use Rattle.claim_model.specs.Journal.{Has, heard, settle_by};
@@ -77,7 +77,7 @@ fn answer_of(
 ) -> Result<Octets, AllocError>
     requires { IfSome packet (λ packet. packet.now ≡ envelope_text envelope.now.kind envelope.now.id envelope.now.payload) }
     ensures value { IfOk result (λ answer. answer ≡ envelope.now.payload) }
-    ensures short { IfOk result (λ answer. length answer ≤ 32768) }
+    ensures short { IfOk result (λ answer. length answer ≤ longest_payload) }
 {
     payload_is_behind_its_head();
     let payload = envelope.payload();

@@ -1,5 +1,6 @@
 -- The terms of a plan and how they change.
 use Rattle.std.specs.Prelude.{◌≡◌, ℕ, ℤ, pos, negsuc, ◌≤◌, List, [], length, ◌&&◌, nat_lt, nat_le, is_none, All, IsTrue, Result, Ok, Err, if◌then◌else◌}
+use Rattle.claim_profile.specs.Money.{largest as largest_amount}
 use Rattle.plan_rules.specs.declared.fault.PlanFault.{PlanFault}
 use Rattle.plan_rules.specs.declared.fault.PlanFault.TheVariants.{OutOfMemory, PriceTooLarge, BadProduct, PlanFull, NegativeAmount}
 use Rattle.plan_rules.specs.Prices.{Prices, IsInOrder, is_product, price_of, with_price, without_product}
@@ -12,7 +13,7 @@ pub record Terms : Type 0 where
 
 -- the largest fee, copay and price
 abbrev pub largest : ℕ
-largest = 99999999
+largest = largest_amount
 
 -- the most products that a plan has
 abbrev pub most_products : ℕ

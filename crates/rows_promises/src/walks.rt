@@ -38,9 +38,6 @@ fn promises_stand_after_each_of_5000_random_events(rt: HostRuntime) -> Result<()
     assert!(rt; met.answers > 0, "answers");
     assert!(rt; met.standing > 0, "payments that stand");
     assert!(rt; met.counted > 0, "counted payments that stand");
-    assert!(rt;
-        met.reversed > 0,
-        "counted payments whose reversal is open"
-    );
+    assert!(rt; met.reversed > 0, "counted payments whose reversal is open");
     Ok(())
 }

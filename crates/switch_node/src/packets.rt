@@ -2,7 +2,7 @@
 
 ghost use Rattle.std.specs.Prelude.{◌≡◌, ◌≤◌, length, IfOk};
 ghost use Rattle.bin_routes.specs.Table.{RouteMaps};
-ghost use Rattle.envelope.specs.Envelope.{envelope_text};
+ghost use Rattle.envelope.specs.Envelope.{envelope_text, longest_payload};
 ghost use Rattle.claim_model.specs.Readable.{rejection};
 ghost use Rattle.claim_model.specs.Bytes.{bytes_with};
 
@@ -14,7 +14,7 @@ use std::alloc::{AllocError, Global};
 
 /// The envelope of a payload that is not too long.
 pub fn packet(alloc: Global, kind: Kind, id: TxnId, payload: &[u8]) -> Result<Octets, AllocError>
-    requires { length payload.now ≤ 32768 }
+    requires { length payload.now ≤ longest_payload }
     ensures { IfOk result (λ packet. packet ≡ envelope_text kind id payload.now) }
 {
     // The payload is not too long, so nothing but memory can be refused.
@@ -28,7 +28,7 @@ pub fn packet(alloc: Global, kind: Kind, id: TxnId, payload: &[u8]) -> Result<Oc
 pub fn payload_in(envelope: &Envelope<'_>, packet: &Octets) -> Result<Octets, AllocError>
     requires { packet.now ≡ envelope_text envelope.now.kind envelope.now.id envelope.now.payload }
     ensures value { IfOk result (λ payload. payload ≡ envelope.now.payload) }
-    ensures short { IfOk result (λ payload. length payload ≤ 32768) }
+    ensures short { IfOk result (λ payload. length payload ≤ longest_payload) }
 {
     payload_is_behind_its_head();
     let _short = envelope.payload();
@@ -39,7 +39,7 @@ pub fn payload_in(envelope: &Envelope<'_>, packet: &Octets) -> Result<Octets, Al
 /// code 01 (511-FB). It is a function of the request alone.
 pub fn rejection(alloc: Global, header: &RequestHeader) -> Result<Vec<u8>, AllocError>
     ensures text { IfOk result (λ answer. (routes : RouteMaps) → answer.items ≡ rejection (bytes_with routes) header.now) }
-    ensures short { IfOk result (λ answer. length answer.items ≤ 32768) }
+    ensures short { IfOk result (λ answer. length answer.items ≤ longest_payload) }
 {
     response_text_laws();
     let rulings = [Ruling::Rejected {

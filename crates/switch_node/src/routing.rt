@@ -1,7 +1,7 @@
 //! Where a request goes.
 
 ghost use Rattle.std.specs.Prelude.{◌≡◌, ◌≤◌, length, None, Some, Ok, IfOk, IfErr, OnErr};
-ghost use Rattle.envelope.specs.Envelope.{envelope_text};
+ghost use Rattle.envelope.specs.Envelope.{envelope_text, longest_payload};
 ghost use Rattle.bin_routes.specs.Table.{RouteMaps};
 ghost use Rattle.claim_model.specs.Readable.{payer_for};
 ghost use Rattle.claim_model.specs.Table.{Table as ModelTable, slot_of, answer_back, routed_by, requested_by};
@@ -102,7 +102,7 @@ fn sent(
 
 /// Back with an answer.
 fn back(alloc: Global, id: TxnId, answer: &[u8]) -> Result<Routed, AllocError>
-    requires { length answer.now ≤ 32768 }
+    requires { length answer.now ≤ longest_payload }
     ensures { IfOk result (λ routed. (routes : RouteMaps) → routed_as routed ≡ answer_back (bytes_with routes) id answer.now) }
 {
     let packet = packet(alloc, Kind::Answer, id, answer)?;

@@ -2,6 +2,7 @@
 
 ghost use Rattle.std.specs.Prelude.{◌≡◌, ◌≤◌, length, None, Some, IfSome, is_some, bytes_eq};
 ghost use Rattle.std.specs.Option.{option_copied};
+ghost use Rattle.envelope.specs.Envelope.{longest_payload};
 
 use octets::Octets;
 use std::marker::Model;
@@ -22,7 +23,7 @@ impl Model for Slot {
 
     ghost view = { λ s. record { request = s.request; answer = s.answer } };
 
-    ghost invariant = { λ s. ForSome s.answer (λ answer. length answer ≤ 32768) };
+    ghost invariant = { λ s. ForSome s.answer (λ answer. length answer ≤ longest_payload) };
 }
 
 impl Slot {
@@ -46,7 +47,7 @@ impl Slot {
     /// The answer, once it came.
     pub fn answer(&self) -> Option<&[u8]>
         ensures value { option_copied result ≡ self.now.answer }
-        ensures short { IfSome result (λ answer. length answer.now ≤ 32768) }
+        ensures short { IfSome result (λ answer. length answer.now ≤ longest_payload) }
     {
         match &self.answer {
             Some(answer) => Some(answer.as_slice()),
@@ -63,7 +64,7 @@ impl Slot {
 
     /// Keeps the answer.
     pub fn settle(&mut self, answer: Octets)
-        requires { length answer ≤ 32768 }
+        requires { length answer ≤ longest_payload }
         ensures { self.new ≡ record { request = self.old.request; answer = Some answer } }
     {
         self.answer = Some(answer);

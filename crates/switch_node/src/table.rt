@@ -10,6 +10,7 @@ ghost use Rattle.std.specs.Option.{option_copied};
 ghost use Rattle.envelope.specs.Txn.{Txn};
 ghost use Rattle.claim_model.specs.Readable.{same_id};
 ghost use Rattle.claim_model.specs.Table.{Slot as ModelSlot, slot_of, entered, filled};
+ghost use Rattle.envelope.specs.Envelope.{longest_payload};
 ghost use Rattle.switch_node.specs.Ring.{in_flight, answered_at, next};
 
 use crate::settings::SwitchSettings;
@@ -107,7 +108,7 @@ impl Table {
 
     /// Keeps the answer of an entry, which grows no younger by it.
     pub fn fill(&mut self, id: TxnId, answer: Octets)
-        requires { length answer ≤ 32768 }
+        requires { length answer ≤ longest_payload }
         ensures { self.new ≡ filled self.old id answer }
     {
         write(&mut self.map, id, answer);
@@ -155,7 +156,7 @@ fn replace(ring: &mut IndexMap<TxnId, Slot>, head: usize)
 
 /// Keeps the answer of an entry.
 fn write(ring: &mut IndexMap<TxnId, Slot>, id: TxnId, answer: Octets)
-    requires { length answer ≤ 32768 }
+    requires { length answer ≤ longest_payload }
     ensures { ring.new.entries ≡ map (answered_at id answer) ring.old.entries }
 {
     if let Some(slot) = ring.get_mut(&id) {

@@ -4,7 +4,7 @@ use Rattle.std.specs.Result.{result_ok}
 use Rattle.outcomes.specs.Options.{◌>>=◌}
 use Rattle.toml.specs.Data.{Data, Members, no_members, member, get_member, as_table}
 use Rattle.claim_model.specs.Words.{Plan}
-use Rattle.plan_rules.specs.Terms.{repriced}
+use Rattle.plan_rules.specs.Terms.{repriced, largest}
 use Rattle.payer_book.specs.Settings.{settings_of}
 use Rattle.switch_node.specs.Settings.{settings_of as switch_settings}
 use Rattle.world_setup.specs.declared.settings.PayerSettings.{PayerSettings}
@@ -49,8 +49,8 @@ bare_plan fee copay = record { fee = fee; copay = copay; prices = [] }
 -- the settings that the values of a table spell
 unfoldable pub payer_with : Members → Option PayerSettings
 payer_with table = do
-  fee ← number_at (codes "fee") 99999999 table
-  copay ← number_at (codes "copay") 99999999 table
+  fee ← number_at (codes "fee") largest table
+  copay ← number_at (codes "copay") largest table
   cap ← number_at (codes "cap") 4294967295 table
   serial ← number_or 1 18446744073709551615 (get_member (codes "serial") table)
   book ← result_ok (settings_of serial cap)

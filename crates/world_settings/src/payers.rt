@@ -5,6 +5,7 @@ ghost use Rattle.std.specs.Result.{result_ok};
 ghost use Rattle.toml.specs.Data.{get_member};
 ghost use Rattle.toml.specs.View.{view, table_view};
 ghost use Rattle.payer_book.specs.Settings.{settings_of};
+ghost use Rattle.plan_rules.specs.Terms.{largest};
 ghost use Rattle.world_settings.specs.Payers.{bare_plan, cap_taken, payer_in, payer_of, payer_with, priced, switch_in, switch_of, with_price, with_prices};
 
 use crate::keys::has_only;
@@ -125,8 +126,8 @@ fn book_taken(serial: u64, cap: u32) -> Option<BookSettings>
 
 /// The plan without products.
 fn bare_plan(alloc: Global, fee: u64, copay: u64) -> Plan
-    requires fee { fee ≤ 99999999 }
-    requires copay { copay ≤ 99999999 }
+    requires fee { fee ≤ largest }
+    requires copay { copay ≤ largest }
     ensures { result ≡ bare_plan fee copay }
 {
     let (Some(fee), Some(copay)) = (Amount::new(fee as i64), Amount::new(copay as i64)) else {
