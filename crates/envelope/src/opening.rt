@@ -71,7 +71,7 @@ pub struct Envelope<'a> {
 
 impl<'a> Model for Envelope<'a> {
     ghost use Rattle.std.specs.Prelude.{◌≤◌, length};
-    ghost use Rattle.envelope.specs.Envelope.{Opened};
+    ghost use Rattle.envelope.specs.Envelope.{Opened, longest_payload};
 
     ghost Value = { Opened };
 

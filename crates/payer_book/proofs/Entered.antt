@@ -8,8 +8,8 @@ use Rattle.claim_model.specs.Bytes.{bytes_with}
 use Rattle.claim_model.specs.Ruled.{Ruled}
 use Rattle.claim_model.specs.Rows.{Row, Book, ruled_row, ruled_rows}
 use Rattle.claim_model.specs.Book.{new_row}
-use Rattle.payer_book.specs.declared.changes.Change.{Change}
-use Rattle.payer_book.specs.declared.payment.Payment.{Payment}
+use Rattle.payer_book.specs.declared.ruling.changes.Change.{Change}
+use Rattle.payer_book.specs.declared.book.payment.Payment.{Payment}
 use Rattle.payer_book.specs.Ledger.{Ledger, standing_in}
 use Rattle.payer_book.specs.Changes.{changes_by, payments_after, ArePossible}
 use Rattle.payer_book.specs.Drafts.{ByPlan, AsKept, rulings_on}

@@ -9,11 +9,11 @@ use Rattle.claim_model.specs.Ruled.{Ruled}
 use Rattle.claim_model.specs.Payments as model
 use Rattle.claim_model.specs.Payments.{same_auth, auth_reversed, reverses, reversed_by, payment_by, payment_at, is_standing, standing}
 use Rattle.claim_model.specs.Judgement.{is_for, standing_for, only, payment_to_reverse, judged_claim, judged_reversal, judged}
-use Rattle.payer_book.specs.declared.payment.Standing.{Standing}
-use Rattle.payer_book.specs.declared.payment.Payment.{Payment}
-use Rattle.payer_book.specs.declared.payment.Payment.TheVariants.{Standing as Stands, Reversed as WasReversed}
-use Rattle.payer_book.specs.declared.changes.Change.{Change}
-use Rattle.payer_book.specs.declared.changes.Change.TheVariants.{Pays, Reverses as ReversesPayment, Keeps}
+use Rattle.payer_book.specs.declared.book.payment.Standing.{Standing}
+use Rattle.payer_book.specs.declared.book.payment.Payment.{Payment}
+use Rattle.payer_book.specs.declared.book.payment.Payment.TheVariants.{Standing as Stands, Reversed as WasReversed}
+use Rattle.payer_book.specs.declared.ruling.changes.Change.{Change}
+use Rattle.payer_book.specs.declared.ruling.changes.Change.TheVariants.{Pays, Reverses as ReversesPayment, Keeps}
 use Rattle.payer_book.specs.Ledger.{still, standing_in, is_of, is_for_payment, after_reversal, reversal_of}
 use Rattle.payer_book.specs.Changes.{paid_by, change_by, standing_with, standing_after, payments_with}
 use Rattle.payer_book.specs.Drafts.{claim_on, reversal_on, judged_on}

@@ -7,8 +7,8 @@ use Rattle.claim_model.specs.Numbered.{numbered}
 use Rattle.claim_model.specs.Ruled.{Ruled, ruled}
 use Rattle.claim_model.specs.Rows.{Book, ruled_rows}
 use Rattle.claim_model.specs.Judgement.{is_paid, Judged, Unpriced, ToPrice, next_auth, priced}
-use Rattle.payer_book.specs.declared.payment.Standing.{Standing}
-use Rattle.payer_book.specs.declared.changes.Change.{Change}
+use Rattle.payer_book.specs.declared.book.payment.Standing.{Standing}
+use Rattle.payer_book.specs.declared.ruling.changes.Change.{Change}
 use Rattle.payer_book.specs.Ledger.{Ledger, standing_in}
 use Rattle.payer_book.specs.Changes.{change_by, pays, standing_after}
 use Rattle.payer_book.specs.Drafts.{judged_on, Pricing, ByPlan, AsKept, amounts_in, price_at, auth_after, ruling_by, ruling_on, rulings_on}

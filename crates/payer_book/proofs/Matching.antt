@@ -6,10 +6,10 @@ use Rattle.std.proofs.lemmas.Bool.{cond-true, cond-false, and_parts, and_from, a
 use Rattle.std.proofs.lemmas.Bool.Decides.{nat_tests}
 use Rattle.claim_model.specs.Words.{Auth, Fill, Claim, Reversal}
 use Rattle.claim_model.specs.Judgement.{same_fill, is_fill_number}
-use Rattle.payer_book.specs.declared.payment.Standing.{Standing}
-use Rattle.payer_book.specs.declared.changes.Change.{Change}
-use Rattle.payer_book.specs.declared.matches.Matches.{Matches}
-use Rattle.payer_book.specs.declared.matches.Matches.TheVariants.{Nothing, One, Several}
+use Rattle.payer_book.specs.declared.book.payment.Standing.{Standing}
+use Rattle.payer_book.specs.declared.ruling.changes.Change.{Change}
+use Rattle.payer_book.specs.declared.ruling.matches.Matches.{Matches}
+use Rattle.payer_book.specs.declared.ruling.matches.Matches.TheVariants.{Nothing, One, Several}
 use Rattle.payer_book.specs.Ledger.{is_of, standing_of, is_for_payment, IsOther, NoFillTwice, IsNumbered}
 use Rattle.payer_book.specs.Changes.{is_reversed}
 use Rattle.payer_book.specs.Matches.{tally, with_one, fill_for, is_match, matched, is_between, matches_between}

@@ -4,9 +4,9 @@ use Rattle.std.specs.Prelude.{find}
 use Rattle.std.proofs.lemmas.Bool.{cond-true, cond-false, and_from, and_left, and_right, ne_eqb}
 use Rattle.claim_model.specs.Words.{TxnId, Auth}
 use Rattle.claim_model.specs.Payments.{same_auth}
-use Rattle.payer_book.specs.declared.payment.Standing.{Standing}
-use Rattle.payer_book.specs.declared.payment.Payment.{Payment}
-use Rattle.payer_book.specs.declared.payment.Payment.TheVariants.{Standing as Stands, Reversed as WasReversed}
+use Rattle.payer_book.specs.declared.book.payment.Standing.{Standing}
+use Rattle.payer_book.specs.declared.book.payment.Payment.{Payment}
+use Rattle.payer_book.specs.declared.book.payment.Payment.TheVariants.{Standing as Stands, Reversed as WasReversed}
 use Rattle.payer_book.specs.Ledger.{auth_of, has_auth, payment_with, still, standing_in, after_reversal, reversal_of, AreNumbered}
 use Rattle.payer_book.proofs.Lists.{same_some}
 use Rattle.payer_book.proofs.Sameness.{auth_same}

@@ -9,9 +9,9 @@ use Rattle.claim_model.specs.Words.{TxnId, Auth, Fill}
 use Rattle.claim_model.specs.Payments.{same_auth}
 use Rattle.claim_model.specs.Judgement.{same_fill}
 use Rattle.claim_profile.specs.contracts.order.FillPartialEq.TheImpl as fill_eq
-use Rattle.payer_book.specs.declared.payment.Standing.{Standing}
-use Rattle.payer_book.specs.declared.payment.Payment.{Payment}
-use Rattle.payer_book.specs.declared.payment.Payment.TheVariants.{Standing as Stands, Reversed as WasReversed}
+use Rattle.payer_book.specs.declared.book.payment.Standing.{Standing}
+use Rattle.payer_book.specs.declared.book.payment.Payment.{Payment}
+use Rattle.payer_book.specs.declared.book.payment.Payment.TheVariants.{Standing as Stands, Reversed as WasReversed}
 use Rattle.payer_book.specs.Ledger.{has_auth, payment_with, is_of, still, standing_in, standing_of, after_reversal, reversal_of, AreNumbered, IsOther, NoFillTwice, IsNumbered, HasFillNumber, IsLedger}
 use Rattle.payer_book.specs.PaymentPlaces.{StandsAt, IsIndexed}
 use Rattle.payer_book.proofs.Lists.{same_some, find_passes, get_append, get_last, get_more, get_within, get_set, get_set_other, all_append}

@@ -9,7 +9,7 @@ use Rattle.claim_profile.specs.Order.{order_of}
 use Rattle.claim_model.specs.Words.{Order, Code, Ruling}
 use Rattle.claim_model.specs.Bytes.{order_in}
 use Rattle.claim_model.specs.Book.{serial_fits}
-use Rattle.payer_book.specs.declared.changes.Change.{Change}
+use Rattle.payer_book.specs.declared.ruling.changes.Change.{Change}
 use Rattle.payer_book.specs.Ledger.{Ledger}
 use Rattle.payer_book.specs.Changes.{change_by, changes_by}
 use Rattle.payer_book.specs.Drafts.{Pricing, ruling_on, rulings_on}

@@ -17,10 +17,10 @@ use Rattle.claim_model.specs.Ruled.{Ruled, ruled, ruled_from}
 use Rattle.claim_model.specs.Rows.{Book}
 use Rattle.claim_model.specs.Judgement.{only, same_claim, is_paid, Judged, Unpriced, ToPrice, next_auth, priced, ruling_of, ruling, rulings_from}
 use Rattle.claim_model.specs.Payments.{same_auth}
-use Rattle.payer_book.specs.declared.payment.Standing.{Standing}
-use Rattle.payer_book.specs.declared.payment.Payment.{Payment}
-use Rattle.payer_book.specs.declared.changes.Change.{Change}
-use Rattle.payer_book.specs.declared.changes.Change.TheVariants.{Pays, Reverses as ReversesPayment, Keeps as KeepsAll}
+use Rattle.payer_book.specs.declared.book.payment.Standing.{Standing}
+use Rattle.payer_book.specs.declared.book.payment.Payment.{Payment}
+use Rattle.payer_book.specs.declared.ruling.changes.Change.{Change}
+use Rattle.payer_book.specs.declared.ruling.changes.Change.TheVariants.{Pays, Reverses as ReversesPayment, Keeps as KeepsAll}
 use Rattle.payer_book.specs.Ledger.{Ledger, standing_in, standing_of, is_for_payment, after_reversal, HasFillNumber}
 use Rattle.payer_book.specs.Changes.{change_by, changes_by, pays, standing_with, standing_after, payments_with, payments_after, IsPossible, ArePossible}
 use Rattle.payer_book.specs.Drafts.{claim_on, reversal_on, judged_on, Pricing, ByPlan, price_at, auth_after, ruling_by, ruling_on, rulings_on}

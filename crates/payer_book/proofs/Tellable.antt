@@ -9,9 +9,9 @@ use Rattle.claim_model.specs.Payments.{same_auth}
 use Rattle.claim_model.specs.Judgement.{only, same_claim, Unpriced, priced}
 use Rattle.claim_model.specs.Laws.{IsAmounts, IsClaimOf, IsOrderOf, IsPrescription, IsRuling}
 use Rattle.claim_model.specs.Book.{serial_fits, last_serial}
-use Rattle.payer_book.specs.declared.payment.Standing.{Standing}
-use Rattle.payer_book.specs.declared.payment.Payment.{Payment}
-use Rattle.payer_book.specs.declared.changes.Change.{Change}
+use Rattle.payer_book.specs.declared.book.payment.Standing.{Standing}
+use Rattle.payer_book.specs.declared.book.payment.Payment.{Payment}
+use Rattle.payer_book.specs.declared.ruling.changes.Change.{Change}
 use Rattle.payer_book.specs.Ledger.{Ledger, standing_in, standing_of, is_of, is_for_payment}
 use Rattle.payer_book.specs.Changes.{change_by, changes_by, standing_with, standing_after, payments_with, payments_after}
 use Rattle.payer_book.specs.Drafts.{claim_on, reversal_on, judged_on, Pricing, ByPlan, AsKept, price_at, auth_after, ruling_by, ruling_on, rulings_on}

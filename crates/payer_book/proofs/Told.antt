@@ -5,7 +5,7 @@ use Rattle.claim_model.specs.Words.{TxnId, Auth}
 use Rattle.claim_model.specs.Payments as model
 use Rattle.claim_model.specs.Payments.{same_auth, payment_of}
 use Rattle.claim_model.specs.Ruled.{Ruled}
-use Rattle.payer_book.specs.declared.payment.Payment.{Payment}
+use Rattle.payer_book.specs.declared.book.payment.Payment.{Payment}
 use Rattle.payer_book.specs.Ledger.{Ledger, auth_of, payment_with}
 use Rattle.payer_book.specs.Books.{kept_by, kept, Keeps}
 use Rattle.payer_book.specs.Views.{payment_view, view_of}

@@ -8,8 +8,8 @@ use Rattle.claim_model.specs.Ruled.{Ruled}
 use Rattle.claim_model.specs.Payments as model
 use Rattle.claim_model.specs.Rows.{Row, ruled_rows}
 use Rattle.claim_model.specs.Judgement.{is_paid}
-use Rattle.payer_book.specs.declared.payment.Payment.{Payment}
-use Rattle.payer_book.specs.declared.payment.Payment.TheVariants.{Standing as Stands, Reversed as WasReversed}
+use Rattle.payer_book.specs.declared.book.payment.Payment.{Payment}
+use Rattle.payer_book.specs.declared.book.payment.Payment.TheVariants.{Standing as Stands, Reversed as WasReversed}
 use Rattle.payer_book.specs.Ledger.{Ledger, HasFillNumber}
 
 -- how requests are read: what a book keeps does not ask for the routes

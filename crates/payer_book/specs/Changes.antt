@@ -3,11 +3,11 @@ use Rattle.std.specs.Prelude.{◌≡◌, ℕ, ◌+◌, Bool, true, false, not, c
 use Rattle.std.specs.List.{list_any, cons_option}
 use Rattle.claim_model.specs.Words.{TxnId, Auth, Amounts, Order, Bills, Reverses, Code, Ruling, Paid, Duplicate, Reversed, Rejected}
 use Rattle.claim_model.specs.Payments.{same_auth}
-use Rattle.payer_book.specs.declared.payment.Standing.{Standing}
-use Rattle.payer_book.specs.declared.payment.Payment.{Payment}
-use Rattle.payer_book.specs.declared.payment.Payment.TheVariants.{Standing as Stands}
-use Rattle.payer_book.specs.declared.changes.Change.{Change}
-use Rattle.payer_book.specs.declared.changes.Change.TheVariants.{Pays, Reverses as ReversesPayment, Keeps}
+use Rattle.payer_book.specs.declared.book.payment.Standing.{Standing}
+use Rattle.payer_book.specs.declared.book.payment.Payment.{Payment}
+use Rattle.payer_book.specs.declared.book.payment.Payment.TheVariants.{Standing as Stands}
+use Rattle.payer_book.specs.declared.ruling.changes.Change.{Change}
+use Rattle.payer_book.specs.declared.ruling.changes.Change.TheVariants.{Pays, Reverses as ReversesPayment, Keeps}
 use Rattle.payer_book.specs.Ledger.{standing_of, standing_in, after_reversal, HasFillNumber}
 
 -- a payment with this authorization and these amounts, where the order is a claim

@@ -4,9 +4,9 @@ use Rattle.claim_model.specs.Words.{TxnId}
 use Rattle.claim_model.specs.Context.{Context}
 use Rattle.claim_model.specs.Rows.{Book}
 use Rattle.claim_model.specs.Book.{row_of, answered}
-use Rattle.payer_book.specs.declared.entry.Entry.{Entry}
-use Rattle.payer_book.specs.declared.deciding.Decided.{Decided}
-use Rattle.payer_book.specs.declared.deciding.Decided.TheVariants.{Kept, New}
+use Rattle.payer_book.specs.declared.book.entry.Entry.{Entry}
+use Rattle.payer_book.specs.declared.book.deciding.Decided.{Decided}
+use Rattle.payer_book.specs.declared.book.deciding.Decided.TheVariants.{Kept, New}
 use Rattle.payer_book.specs.Added.{kept_answer, with_row}
 use Rattle.payer_book.specs.Entries.{IsEntry}
 

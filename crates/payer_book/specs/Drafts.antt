@@ -3,15 +3,15 @@ use Rattle.std.specs.Prelude.{◌≡◌, ℕ, ◌+◌, true, cond, List, [], ◌
 use Rattle.claim_model.specs.Words.{Auth, Amounts, Claim, Reversal, Order, Bills, Reverses, Code, DuplicateClaim, ReversalNotProcessed, Ruling, Paid, Duplicate, Reversed, Rejected, Plan}
 use Rattle.claim_model.specs.Judgement.{same_claim, only, Judged, Unpriced, ToPrice, priced}
 use Rattle.plan_rules.specs.Pricing.{paid}
-use Rattle.payer_book.specs.declared.payment.Standing.{Standing}
-use Rattle.payer_book.specs.declared.changes.Change.{Change}
+use Rattle.payer_book.specs.declared.book.payment.Standing.{Standing}
+use Rattle.payer_book.specs.declared.ruling.changes.Change.{Change}
 use Rattle.claim_model.specs.Book.{serial_fits}
 use Rattle.std.specs.List.{list_all}
-use Rattle.payer_book.specs.declared.drafting.Draft.{Draft}
-use Rattle.payer_book.specs.declared.judging.Verdict.{Verdict}
-use Rattle.payer_book.specs.declared.judging.Verdict.TheVariants.{Unpriced as IsUnpriced, ToPrice as IsToPrice}
-use Rattle.payer_book.specs.declared.pricing.Prices.{Prices}
-use Rattle.payer_book.specs.declared.pricing.Prices.TheVariants.{Plan as OfPlan, Kept as OfAnswer}
+use Rattle.payer_book.specs.declared.ruling.drafting.Draft.{Draft}
+use Rattle.payer_book.specs.declared.ruling.judging.Verdict.{Verdict}
+use Rattle.payer_book.specs.declared.ruling.judging.Verdict.TheVariants.{Unpriced as IsUnpriced, ToPrice as IsToPrice}
+use Rattle.payer_book.specs.declared.ruling.pricing.Prices.{Prices}
+use Rattle.payer_book.specs.declared.ruling.pricing.Prices.TheVariants.{Plan as OfPlan, Kept as OfAnswer}
 use Rattle.payer_book.specs.Ledger.{Ledger, standing_in, standing_of, is_for_payment}
 use Rattle.payer_book.specs.Changes.{change_by, changes_by, pays, standing_after}
 

@@ -6,7 +6,7 @@ use Rattle.claim_model.specs.Laws.{IsRuling}
 use Rattle.claim_model.specs.Rows.{Book, ruled_rows}
 use Rattle.claim_model.specs.Judgement.{rulings_from}
 use Rattle.claim_model.specs.Book.{serial_fits}
-use Rattle.payer_book.specs.declared.entry.Entry.{Entry}
+use Rattle.payer_book.specs.declared.book.entry.Entry.{Entry}
 use Rattle.payer_book.specs.Changes.{changes_by}
 use Rattle.payer_book.specs.Drafts.{Pricing, ByPlan, AsKept}
 use Rattle.payer_book.specs.Books.{reading}

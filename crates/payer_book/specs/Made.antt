@@ -4,7 +4,7 @@ use Rattle.std.specs.List.{AllByRecursion}
 use Rattle.claim_model.specs.Words.{Amounts, Ruling, Plan}
 use Rattle.claim_model.specs.Laws.{IsAuth, IsAmounts}
 use Rattle.claim_model.specs.Rows.{Row, BookSettings}
-use Rattle.payer_book.specs.declared.payment.Standing.{Standing}
+use Rattle.payer_book.specs.declared.book.payment.Standing.{Standing}
 use Rattle.payer_book.specs.Ledger.{Ledger, standing_in}
 use Rattle.payer_book.specs.Drafts.{amounts_in, Pricing, ByPlan, AsKept}
 use Rattle.payer_book.specs.Added.{kept_row, added_all}

@@ -1,10 +1,10 @@
 -- Whether a reversal is for no standing payment, for one, or for several.
 use Rattle.std.specs.Prelude.{ℕ, Bool, not, ◌&&◌, nat_le, nat_lt, cond, List, [], ◌∷◌, filter, Option, Some, None}
 use Rattle.claim_model.specs.Words.{Auth, Fill, Reversal}
-use Rattle.payer_book.specs.declared.payment.Standing.{Standing}
-use Rattle.payer_book.specs.declared.changes.Change.{Change}
-use Rattle.payer_book.specs.declared.matches.Matches.{Matches}
-use Rattle.payer_book.specs.declared.matches.Matches.TheVariants.{Nothing, One, Several}
+use Rattle.payer_book.specs.declared.book.payment.Standing.{Standing}
+use Rattle.payer_book.specs.declared.ruling.changes.Change.{Change}
+use Rattle.payer_book.specs.declared.ruling.matches.Matches.{Matches}
+use Rattle.payer_book.specs.declared.ruling.matches.Matches.TheVariants.{Nothing, One, Several}
 use Rattle.payer_book.specs.Ledger.{is_for_payment}
 use Rattle.payer_book.specs.Changes.{is_reversed}
 

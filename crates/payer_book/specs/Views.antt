@@ -2,8 +2,8 @@
 use Rattle.std.specs.Prelude.{Some, None}
 use Rattle.claim_model.specs.Payments as model
 use Rattle.payer_book.specs.declared.book.PaymentView.{PaymentView}
-use Rattle.payer_book.specs.declared.payment.Payment.{Payment}
-use Rattle.payer_book.specs.declared.payment.Payment.TheVariants.{Standing as Stands, Reversed as WasReversed}
+use Rattle.payer_book.specs.declared.book.payment.Payment.{Payment}
+use Rattle.payer_book.specs.declared.book.payment.Payment.TheVariants.{Standing as Stands, Reversed as WasReversed}
 
 -- a payment's fill, its amounts and the request that reversed it
 abbrev pub payment_view : model.Payment → PaymentView

@@ -1,5 +1,17 @@
 //! The book, and what is read from it.
 
+pub(crate) mod adding;
+pub(crate) mod answering;
+pub(crate) mod deciding;
+pub(crate) mod entering;
+pub(crate) mod entry;
+pub(crate) mod payment;
+pub(crate) mod payments;
+pub(crate) mod posting;
+pub(crate) mod rest;
+pub(crate) mod row;
+pub(crate) mod rows;
+
 ghost use Rattle.std.specs.Prelude.{◌≡◌, ◌≤◌, [], map, length, slice_get, Some, Ok, OnOk, OnErr, IfErr};
 ghost use Rattle.std.specs.Option.{option_map, option_copied, option_and_then};
 ghost use Rattle.bin_routes.specs.Table.{RouteMaps};
@@ -12,11 +24,11 @@ ghost use Rattle.claim_model.specs.Held.{row_answer};
 ghost use Rattle.payer_book.specs.Views.{payment_view, view_of};
 ghost use Rattle.payer_book.specs.Added.{kept_row, added_all};
 
+use crate::book::payment::Payment;
+use crate::book::payments::Payments;
+use crate::book::row::Row;
+use crate::book::rows::Rows;
 use crate::keys::HashKeys;
-use crate::payment::Payment;
-use crate::payments::Payments;
-use crate::row::Row;
-use crate::rows::Rows;
 use crate::settings::BookSettings;
 use bin_routes::PayerNo;
 use claim_profile::{Amounts, Auth, Fill};

@@ -17,6 +17,7 @@ pub struct Slot {
 impl Model for Slot {
     ghost use Rattle.std.specs.Prelude.{◌≤◌, length};
     ghost use Rattle.std.specs.Option.{ForSome};
+    ghost use Rattle.envelope.specs.Envelope.{longest_payload};
     ghost use Rattle.claim_model.specs.Table.{Slot as ModelSlot};
 
     ghost Value = { ModelSlot };

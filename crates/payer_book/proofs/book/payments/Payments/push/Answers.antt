@@ -1,0 +1,19 @@
+use Rattle.std.proofs.Common.{◌≡◌, ◌+◌, ◌≤◌, List, None, length, sym, ap, subst, arith}
+use Rattle.payer_book.specs.declared.book.payment.Payment.{Payment}
+use Rattle.payer_book.specs.Ledger.{Ledger, standing_in, standing_of}
+use Rattle.payer_book.proofs.Lists.{ok_holds}
+use Rattle.payer_book.proofs.Numbering.{numbered}
+use Rattle.payer_book.proofs.PaymentIndex.{more_by, indexed_more}
+use Rattle.payer_book.proofs.book.payments.Payments.push.Goals as goal
+
+pub invariant_of-self : goal.invariant_of-self
+invariant_of-self c =
+    let ps : List Payment = c.self.inside.list.items in
+    let auth = subst (λ (l : Ledger). c.args.payment.auth ≡ numbered l.payer (l.first + length l.payments)) (sym c.self.view_is) c.requires.auth in
+    let none = subst (λ (l : Ledger). standing_of c.args.payment.claim.fill (standing_in l.payments) ≡ None) (sym c.self.view_is) c.requires.none in
+    let room = subst (λ (l : Ledger). 1 ≤ l.room) (sym c.self.view_is) c.requires.room in
+    let updates = ok_holds c.insert.result _ (c.insert.ensures.succeeds (omega (arith, room))) c.insert.ensures.updates in
+    let at : c.len-place.result ≡ length ps = omega (arith, c.len-place.ensures, c.self.inside.list.ok.0) in
+    rw c.push_reserved.ensures.items
+    (indexed_more c.self.inside.payer c.self.inside.first ps _ _ c.args.payment c.self.invariant auth c.requires.number none
+    (more_by ps c.args.payment c.claim.result.now.fill c.len-place.result _ _ (ap (λ x. x.fill) c.claim.ensures) at updates.0))

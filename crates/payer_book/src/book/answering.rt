@@ -1,0 +1,37 @@
+//! Answering a request: the kept answer of a known number, or a new row.
+
+ghost use Rattle.std.specs.Prelude.{◌≡◌, OnErr, IfOk, IfErr, Ok};
+ghost use Rattle.claim_model.specs.Bytes.{bytes_with};
+ghost use Rattle.claim_model.specs.Book.{answered};
+ghost use Rattle.payer_book.specs.Faults.{RefusedFor};
+
+use crate::book::deciding::Decided;
+use crate::book::{Book, Reply};
+use crate::fault::BookFault;
+use bin_routes::Routes;
+use envelope::TxnId;
+
+impl Book {
+    /// Answers the request that came under that id.
+    ///
+    /// A known id with the same request gets the bytes that were kept for it, also when the book is full. A new
+    /// one adds one row, with the ruling of each of its groups over the rows before and the groups before.
+    ///
+    /// # Errors
+    /// In this order: `Unreadable`, `NotOurs`, `NumberReused`, `BookFull`, `SerialsUsedUp`. `OutOfMemory` may
+    /// stand in place of any answer. The book is as it was after each of them.
+    pub fn answer(&mut self, routes: &Routes, id: TxnId, request: &[u8]) -> Result<Reply, BookFault>
+        ensures ok { IfOk result (λ reply. answered (bytes_with routes.now) self.old id request.now ≡ Ok (record { book = self.new; bytes = reply.bytes.items; kept = reply.kept })) }
+        ensures fault { IfErr result (λ fault. RefusedFor fault (answered (bytes_with routes.now) self.old id request.now)) }
+        ensures err { OnErr result (self.new ≡ self.old) }
+    {
+        let alloc = self.allocator();
+        match self.decide(alloc, routes, id, request)? {
+            Decided::Kept(row) => {
+                let bytes = Vec::from_slice(alloc, row.answer())?;
+                Ok(Reply { bytes, kept: true })
+            }
+            Decided::New(entry) => self.enter(entry),
+        }
+    }
+}

@@ -1,0 +1,251 @@
+//! The payments of a book in the order of their serial numbers, with the place of each fill's standing one.
+
+ghost use Rattle.std.specs.Prelude.{◌≡◌, ◌+◌, ◌<◌, ◌≤◌, [], ◌∷◌, ◌++◌, map, find, filter, length, slice_get, option_and_then, None, Some, IsSome, MatchOption, OnOk, OnErr};
+ghost use Rattle.std.specs.Option.{option_copied};
+ghost use Rattle.claim_model.specs.Payments.{same_auth};
+ghost use Rattle.payer_book.specs.declared.book.payment.Payment.TheVariants.{Standing as Stands};
+ghost use Rattle.payer_book.specs.Ledger.{IsLedger, still, payment_with, standing_in, standing_of, after_reversal, HasFillNumber};
+ghost use Rattle.claim_model.specs.Book.{last_serial};
+ghost use Rattle.payer_book.specs.Drafts.{auth_after};
+ghost use Rattle.payer_book.specs.Matches.{tally, is_match, matched, matches_between, fill_for};
+
+use crate::book::payment::{Payment, Standing};
+use crate::keys::{HashKeys, HashStart};
+use crate::ruling::changes::{Change, payments_in};
+use crate::ruling::matches::{Matches, is_match};
+use bin_routes::PayerNo;
+use claim_profile::{Auth, Fill, Reversal};
+use envelope::TxnId;
+use std::alloc::{AllocError, Global};
+use std::collections::HashMap;
+use std::marker::Model;
+
+/// How many fill numbers there are: 0 to 99 (403-D3, one or two digits).
+const FILLS: u16 = 100;
+
+/// The payments of a payer, whose first one has the serial number `first`, and where each fill's standing one is.
+#[derive(Drop)]
+pub(crate) struct Payments {
+    payer: PayerNo,
+    first: u64,
+    list: Vec<Payment>,
+    standing: HashMap<Fill, usize, HashStart>,
+}
+
+impl Model for Payments {
+    ghost use Rattle.std.specs.Prelude.{◌-◌, min, vec_len, vec_capacity};
+    ghost use Rattle.std.specs.HashMap.{get, spare};
+    ghost use Rattle.payer_book.specs.Ledger.{Ledger};
+    ghost use Rattle.payer_book.specs.PaymentPlaces.{IsIndexed};
+
+    ghost Value = { Ledger };
+
+    ghost view = { λ p. record { payer = p.payer; first = p.first; payments = p.list.items; room = min (vec_capacity p.list - vec_len p.list) (spare p.standing) } };
+
+    ghost invariant = { λ p. IsIndexed p.payer p.first p.list.items (get ⟦<Fill as PartialEq>⟧.eq p.standing) };
+}
+
+impl Payments {
+    /// No payments, with memory from `alloc`, found by these keys.
+    pub(crate) fn new(alloc: Global, payer: PayerNo, first: u64, keys: &HashKeys) -> Payments
+        requires { 1 ≤ first }
+        ensures payer { result.payer ≡ payer }
+        ensures first { result.first ≡ first }
+        ensures none { result.payments ≡ [] }
+    {
+        Payments {
+            payer,
+            first,
+            list: Vec::new(alloc),
+            standing: HashMap::with_hasher(alloc, keys.start()),
+        }
+    }
+
+    /// How many payments there are.
+    pub(crate) fn len(&self) -> usize
+        ensures value { result ≡ length self.now.payments }
+        ensures ledger { IsLedger self.now }
+    {
+        self.list.len()
+    }
+
+    /// The authorization of the next payment after some changes; None where its serial number would be over 999,999,999,999.
+    pub(crate) fn next_auth(&self, changes: &[Change]) -> Option<Auth>
+        ensures { MatchOption result (last_serial < (auth_after self.now changes.now).serial) (λ a. (a ≡ auth_after self.now changes.now) × (a.serial ≤ last_serial)) }
+    {
+        let before = self.first.saturating_add(self.list.len() as u64);
+        let serial = before.saturating_add(payments_in(changes) as u64);
+        Auth::new(self.payer.get(), serial)
+    }
+
+    /// The place of the payment of that authorization.
+    fn place_of(&self, auth: Auth) -> Option<usize>
+        ensures { MatchOption result (payment_with auth self.now.payments ≡ None) (λ place. (place < length self.now.payments) × (slice_get self.now.payments place ≡ payment_with auth self.now.payments)) }
+    {
+        if auth.payer() != self.payer.get() {
+            return None;
+        }
+        let serial = auth.serial();
+        if serial < self.first {
+            return None;
+        }
+        let place = (serial - self.first) as usize;
+        if place < self.list.len() {
+            Some(place)
+        } else {
+            None
+        }
+    }
+
+    /// The payment of that authorization.
+    pub(crate) fn find(&self, auth: Auth) -> Option<&Payment>
+        ensures { option_copied result ≡ payment_with auth self.now.payments }
+    {
+        match self.place_of(auth) {
+            Some(place) => self.list.get(place),
+            None => None,
+        }
+    }
+
+    /// The fill's standing payment.
+    pub(crate) fn standing_of(&self, fill: &Fill) -> Option<&Standing>
+        ensures value { option_copied result ≡ standing_of fill.now (standing_in self.now.payments) }
+        ensures ledger { IsLedger self.now }
+    {
+        match self.standing.get(fill) {
+            Some(place) => standing_at(&self.list, *place),
+            None => None,
+        }
+    }
+
+    /// The standing payments that the reversal is for, those left out that the changes reverse.
+    pub(crate) fn matching(&self, reversal: &Reversal, changes: &[Change]) -> Matches
+        ensures { result ≡ tally (filter (is_match reversal.now changes.now) (standing_in self.now.payments)) }
+    {
+        match reversal.fill {
+            Some(number) => {
+                let first = u16::from(number);
+                self.matching_from(reversal, changes, first, first + 1)
+            }
+            None => self.matching_from(reversal, changes, 0, FILLS),
+        }
+    }
+
+    /// Those whose fill number is `first` or more, and below `end`.
+    fn matching_from(
+        &self,
+        reversal: &Reversal,
+        changes: &[Change],
+        first: u16,
+        end: u16,
+    ) -> Matches
+        requires in_order { first ≤ end }
+        requires bytes { end ≤ 256 }
+        ensures value { result ≡ tally (matches_between reversal.now changes.now first end (standing_in self.now.payments)) }
+        ensures ledger { IsLedger self.now }
+    {
+        let _ = self.len();
+        let mut matches = Matches::Nothing;
+        for number in first..end {
+            matches = self.matching_number(reversal, changes, number as u8, matches);
+        }
+        matches
+    }
+
+    /// The matches, and the one of that fill number.
+    fn matching_number(
+        &self,
+        reversal: &Reversal,
+        changes: &[Change],
+        number: u8,
+        matches: Matches,
+    ) -> Matches
+        ensures value { result ≡ matched reversal.now changes.now (standing_of (fill_for reversal.now number) (standing_in self.now.payments)) matches }
+        ensures ledger { IsLedger self.now }
+    {
+        match self.standing_of(&fill_for(reversal, number)) {
+            Some(payment) => {
+                if is_match(reversal, changes, payment) {
+                    matches.with(payment.auth())
+                } else {
+                    matches
+                }
+            }
+            None => matches,
+        }
+    }
+
+    /// Room for so many more payments: so many calls of `push` then take no memory.
+    pub(crate) fn reserve(&mut self, more: usize) -> Result<(), AllocError>
+        ensures same { (self.new.payer ≡ self.old.payer) × (self.new.first ≡ self.old.first) × (self.new.payments ≡ self.old.payments) }
+        ensures ok { OnOk result (more ≤ self.new.room) }
+    {
+        self.list.reserve(more)?;
+        self.standing.reserve(more)
+    }
+
+    /// Adds a payment at the end. There is room for it, it has the next serial number, and its fill has no standing payment.
+    pub(crate) fn push(&mut self, payment: Standing)
+        requires room { 1 ≤ self.old.room }
+        requires auth { payment.auth ≡ record { payer = self.old.payer; serial = self.old.first + length self.old.payments } }
+        requires number { HasFillNumber payment.claim }
+        requires none { standing_of payment.claim.fill (standing_in self.old.payments) ≡ None }
+        ensures same { (self.new.payer ≡ self.old.payer) × (self.new.first ≡ self.old.first) }
+        ensures payments { self.new.payments ≡ self.old.payments ++ Stands payment ∷ [] }
+        ensures room { self.old.room ≤ self.new.room + 1 }
+    {
+        let place = self.list.len();
+        let _ = self.standing.insert(payment.claim().fill, place);
+        self.list.push_reserved(Payment::Standing(payment));
+    }
+
+    /// Reverses the standing payment of that authorization.
+    pub(crate) fn reverse(&mut self, auth: Auth, by: TxnId)
+        requires { IsSome (find (λ s. same_auth s.auth auth) (standing_in self.old.payments)) }
+        ensures same { (self.new.payer ≡ self.old.payer) × (self.new.first ≡ self.old.first) }
+        ensures payments { self.new.payments ≡ map (after_reversal auth by) self.old.payments }
+        ensures room { self.old.room ≤ self.new.room }
+    {
+        let Some(place) = self.place_of(auth) else {
+            return;
+        };
+        if let Some(payment) = standing_at(&self.list, place) {
+            let _ = self.standing.remove(&payment.claim().fill);
+            self.list[place] = Payment::Reversed(payment.copy().reverse(by));
+        }
+    }
+}
+
+/// The standing payment at a place.
+fn standing_at(payments: &[Payment], place: usize) -> Option<&Standing>
+    ensures { option_copied result ≡ option_and_then still (slice_get payments.now place) }
+{
+    match payments.get(place) {
+        Some(payment) => still(payment),
+        None => None,
+    }
+}
+
+/// The payment, where it stands.
+fn still(payment: &Payment) -> Option<&Standing>
+    ensures { option_copied result ≡ still payment.now }
+{
+    match payment {
+        Payment::Standing(payment) => Some(payment),
+        Payment::Reversed(_) => None,
+    }
+}
+
+/// The fill of a reversal with that number.
+fn fill_for(reversal: &Reversal, number: u8) -> Fill
+    ensures { result ≡ fill_for reversal.now number }
+{
+    Fill {
+        bin: reversal.bin,
+        pcn: reversal.pcn,
+        qualifier: reversal.qualifier,
+        provider: reversal.provider,
+        prescription: reversal.prescription,
+        fill: number,
+    }
+}

@@ -1,0 +1,61 @@
+//! Answering a request with a packet.
+
+ghost use Rattle.std.specs.Prelude.{◌≡◌, ◌≤◌, [], ◌∷◌, length, OnErr, IfOk, IfErr};
+ghost use Rattle.envelope.specs.Envelope.{envelope_text, longest_payload};
+ghost use Rattle.claim_model.specs.Words.{Response};
+ghost use Rattle.claim_model.specs.Bytes.{bytes_with};
+ghost use Rattle.claim_model.specs.Book.{answered};
+ghost use Rattle.claim_model.specs.Node.{Node, Up, Done, after_answer};
+ghost use Rattle.payer_book.specs.Faults.{RefusedFor};
+ghost use Rattle.payer_book.specs.Posted.{IsPosted};
+
+use crate::book::Book;
+use crate::book::deciding::Decided;
+use crate::fault::BookFault;
+use bin_routes::Routes;
+use envelope::{Kind, TxnId, write};
+use octets::Octets;
+use std::alloc::{AllocError, Global};
+
+impl Book {
+    /// Answers the request that came under that id as `answer` does, and gives the packet that takes the answer back: the
+    /// envelope of kind answer with that id and the answer's bytes. Its memory is had before the book changes.
+    ///
+    /// # Errors
+    /// In this order: `Unreadable`, `NotOurs`, `NumberReused`, `BookFull`, `SerialsUsedUp`. `OutOfMemory` may
+    /// stand in place of any answer. The book is as it was after each of them.
+    pub fn answer_packet(
+        &mut self,
+        routes: &Routes,
+        id: TxnId,
+        request: &[u8],
+    ) -> Result<Octets, BookFault>
+        ensures ok { IfOk result (λ packet. IsPosted (bytes_with routes.now) self.old id request.now self.new packet) }
+        // So a payer's step that takes this request ends with this book and sends this packet to where the request came from.
+        ensures sent { IfOk result (λ packet. (from : Node) → after_answer (bytes_with routes.now) from id (answered (bytes_with routes.now) self.old id request.now) ≡ Done (Up self.new) (record { to = from; bytes = packet } ∷ [])) }
+        ensures fault { IfErr result (λ fault. RefusedFor fault (answered (bytes_with routes.now) self.old id request.now)) }
+        ensures err { OnErr result (self.new ≡ self.old) }
+    {
+        let alloc = self.allocator();
+        match self.decide(alloc, routes, id, request)? {
+            Decided::Kept(row) => Ok(packet(alloc, id, row.answer())?),
+            Decided::New(entry) => {
+                let packet = packet(alloc, id, entry.answer())?;
+                self.enter(entry)?;
+                Ok(packet)
+            }
+        }
+    }
+}
+
+/// The envelope of an answer that is not too long.
+fn packet(alloc: Global, id: TxnId, answer: &[u8]) -> Result<Octets, AllocError>
+    requires { length answer.now ≤ longest_payload }
+    ensures { IfOk result (λ packet. packet ≡ envelope_text Response id answer.now) }
+{
+    // The answer is not too long, so nothing but memory can be refused.
+    match write(alloc, Kind::Answer, id, answer) {
+        Ok(packet) => Ok(Octets::from_vec(packet).shared()),
+        Err(_) => Err(AllocError),
+    }
+}

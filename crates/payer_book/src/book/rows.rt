@@ -1,0 +1,96 @@
+//! The rows of a book, in the order in which they were decided, found by their id.
+
+ghost use Rattle.std.specs.Prelude.{◌≡◌, [], ◌∷◌, ◌++◌, length, None, OnOk, OnErr};
+ghost use Rattle.std.specs.Option.{option_copied};
+ghost use Rattle.claim_model.specs.Book.{row_of};
+
+use crate::book::row::Row;
+use crate::keys::{HashKeys, HashStart};
+use envelope::TxnId;
+use std::alloc::{AllocError, Global};
+use std::collections::HashMap;
+use std::marker::Model;
+
+/// The list of rows, with an index from id to place.
+#[derive(Drop)]
+pub(crate) struct Rows {
+    list: Vec<Row>,
+    places: HashMap<TxnId, usize, HashStart>,
+}
+
+impl Model for Rows {
+    ghost use Rattle.std.specs.Prelude.{List};
+    ghost use Rattle.claim_model.specs.Rows.{Row as RowParts};
+
+    ghost Value = { List RowParts };
+
+    ghost use Rattle.std.specs.HashMap.{get};
+    ghost use Rattle.payer_book.specs.RowPlaces.{IsPlaced};
+
+    ghost view = { λ r. r.list.items };
+
+    ghost invariant = { λ r. IsPlaced r.list.items (get ⟦<TxnId as PartialEq>⟧.eq r.places) };
+}
+
+impl Rows {
+    /// No rows, with memory from `alloc`, found by these keys.
+    pub(crate) fn new(alloc: Global, keys: &HashKeys) -> Rows
+        ensures { result ≡ [] }
+    {
+        Rows {
+            list: Vec::new(alloc),
+            places: HashMap::with_hasher(alloc, keys.start()),
+        }
+    }
+
+    /// The allocator that the rows were opened with.
+    pub(crate) fn allocator(&self) -> Global {
+        *self.list.allocator()
+    }
+
+    /// The keys that the rows are found by.
+    pub(crate) fn keys(&self) -> HashKeys {
+        HashKeys::from_start(*self.places.hasher())
+    }
+
+    /// How many rows there are.
+    pub(crate) fn len(&self) -> usize
+        ensures { result ≡ length self.now }
+    {
+        self.list.len()
+    }
+
+    /// The rows, oldest first.
+    pub(crate) fn as_slice(&self) -> &[Row]
+        ensures { result.now ≡ self.now }
+    {
+        self.list.as_slice()
+    }
+
+    /// The row of an id.
+    pub(crate) fn find(&self, id: TxnId) -> Option<&Row>
+        ensures { option_copied result ≡ row_of id self.now }
+    {
+        match self.places.get(&id) {
+            Some(place) => self.list.get(*place),
+            None => None,
+        }
+    }
+
+    /// Adds a row at the end.
+    pub(crate) fn push(&mut self, row: Row) -> Result<(), AllocError>
+        requires { row_of row.id self.old ≡ None }
+        ensures ok { OnOk result (self.new ≡ self.old ++ row ∷ []) }
+        ensures err { OnErr result (self.new ≡ self.old) }
+    {
+        self.list.reserve(1)?;
+        let place = self.list.len();
+        match self.places.insert(row.id(), place) {
+            Ok(_) => {
+                self.list.push_reserved(row);
+                Ok(())
+            }
+            Err(_) => Err(AllocError),
+        }
+    }
+}

@@ -1,0 +1,144 @@
+//! What is known of a group before a price is asked: no plan is looked at here.
+
+ghost use Rattle.std.specs.Prelude.{◌≡◌, filter, cond, [], ◌∷◌};
+ghost use Rattle.std.specs.Option.{option_copied, option_map};
+ghost use Rattle.claim_model.specs.Words.{Duplicate, Rejected, DuplicateClaim};
+ghost use Rattle.claim_model.specs.Bytes.{order_in};
+ghost use Rattle.claim_model.specs.Judgement.{only, same_claim, Unpriced};
+ghost use Rattle.payer_book.specs.Ledger.{standing_in, standing_of, is_for_payment};
+ghost use Rattle.payer_book.specs.Changes.{standing_after};
+ghost use Rattle.payer_book.specs.Drafts.{claim_on, reversal_by, judged_on, verdict};
+
+use crate::book::payment::Standing;
+use crate::book::payments::Payments;
+use crate::ruling::changes::{Change, is_reversed, left_for, left_matching};
+use claim_profile::{Auth, Claim, Code, Fill, Order, OrderFault, Rejects, Reversal, Ruling};
+
+/// A ruling that needs no price, or a claim that is to be priced.
+pub(crate) enum Verdict<'a> {
+    Unpriced(Ruling),
+    ToPrice(&'a Claim),
+}
+
+/// The verdict on an order over the payments of a book and what the places before change among them.
+pub(crate) fn judge<'a>(
+    payments: &Payments,
+    changes: &[Change],
+    order: &'a Result<Order, OrderFault>,
+) -> Verdict<'a>
+    ensures { verdict result ≡ judged_on (standing_after (standing_in payments.now.payments) changes.now) (order_in order.now) }
+{
+    match order {
+        Err(fault) => Verdict::Unpriced(refused(fault)),
+        Ok(order) => judge_order(payments, changes, order),
+    }
+}
+
+fn judge_order<'a>(payments: &Payments, changes: &[Change], order: &'a Order) -> Verdict<'a>
+    ensures { verdict result ≡ judged_on (standing_after (standing_in payments.now.payments) changes.now) (Ok order.now) }
+{
+    match order {
+        Order::Claim(claim) => judge_claim(claim, standing_for(payments, changes, &claim.fill)),
+        Order::Reversal(reversal) => {
+            Verdict::Unpriced(judge_reversal(
+                reversal,
+                auth_to_reverse(payments, changes, reversal),
+            ))
+        }
+    }
+}
+
+/// The verdict on a claim, where its fill has this standing payment.
+fn judge_claim<'a>(claim: &'a Claim, standing: Option<&Standing>) -> Verdict<'a>
+    ensures { verdict result ≡ claim_on claim.now (option_copied standing.entry) }
+{
+    match standing {
+        None => Verdict::ToPrice(claim),
+        Some(payment) => Verdict::Unpriced(billed_again(payment, claim)),
+    }
+}
+
+/// The ruling of a claim whose fill has a standing payment: that payment once more where the claim is the same.
+fn billed_again(payment: &Standing, claim: &Claim) -> Ruling
+    ensures { result ≡ cond (same_claim payment.now.claim claim.now) (Duplicate payment.now.auth claim.now.fill.prescription payment.now.amounts) (Rejected (DuplicateClaim ∷ [])) }
+{
+    if same_claim(payment.claim(), claim) {
+        Ruling::Duplicate {
+            auth: payment.auth(),
+            prescription: claim.fill.prescription,
+            amounts: payment.amounts(),
+        }
+    } else {
+        rejected(Code::DuplicateClaim)
+    }
+}
+
+/// The ruling of a reversal that is for the payment of this authorization alone.
+fn judge_reversal(reversal: &Reversal, auth: Option<Auth>) -> Ruling
+    ensures { result ≡ reversal_by reversal.now auth }
+{
+    match auth {
+        None => rejected(Code::ReversalNotProcessed),
+        Some(auth) => Ruling::Reversed {
+            auth,
+            prescription: reversal.prescription,
+        },
+    }
+}
+
+/// Whether two claims of one fill ask for the same.
+fn same_claim(a: &Claim, b: &Claim) -> bool
+    ensures { result ≡ same_claim a.now b.now }
+{
+    a.date == b.date
+        && (a.cardholder.as_slice() == b.cardholder.as_slice()
+            && (a.product.as_slice() == b.product.as_slice()
+                && (a.quantity == b.quantity && (a.cost == b.cost && a.fee == b.fee))))
+}
+
+/// The standing payment of a fill, in the book or made by a place before.
+fn standing_for<'a>(
+    payments: &'a Payments,
+    changes: &'a [Change],
+    fill: &Fill,
+) -> Option<&'a Standing>
+    ensures { option_copied result ≡ standing_of fill.now (standing_after (standing_in payments.now.payments) changes.now) }
+{
+    match payments.standing_of(fill) {
+        Some(payment) => {
+            if is_reversed(payment.auth(), changes) {
+                left_for(fill, changes)
+            } else {
+                Some(payment)
+            }
+        }
+        None => left_for(fill, changes),
+    }
+}
+
+/// The authorization of the only standing payment that a reversal is for, in the book or made by a place before.
+fn auth_to_reverse(payments: &Payments, changes: &[Change], reversal: &Reversal) -> Option<Auth>
+    ensures { result ≡ option_map (λ s. s.auth) (only (filter (is_for_payment reversal.now) (standing_after (standing_in payments.now.payments) changes.now))) }
+{
+    let kept = payments.matching(reversal, changes);
+    let made = left_matching(reversal, changes);
+    kept.and(made).only()
+}
+
+/// The ruling on a group whose order does not read.
+fn refused(fault: &OrderFault) -> Ruling
+    ensures { Unpriced result ≡ judged_on [] (order_in (Err fault.now)) }
+{
+    match fault {
+        OrderFault::Rejected(rejects) => Ruling::Rejected { rejects: *rejects },
+    }
+}
+
+/// A rejection for one reason.
+pub(crate) fn rejected(code: Code) -> Ruling
+    ensures { result ≡ Rejected (code ∷ []) }
+{
+    Ruling::Rejected {
+        rejects: Rejects::one(code),
+    }
+}
