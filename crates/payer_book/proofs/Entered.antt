@@ -15,7 +15,7 @@ use Rattle.payer_book.specs.Changes.{changes_by, payments_after, ArePossible}
 use Rattle.payer_book.specs.Drafts.{ByPlan, AsKept, rulings_on}
 use Rattle.payer_book.specs.Added.{kept_rulings}
 use Rattle.payer_book.specs.Books.{reading, Keeps, IsBook}
-use Rattle.payer_book.proofs.Ruling.{rulings_same, all_possible, keeps_more}
+use Rattle.payer_book.proofs.RulingLemmas.{rulings_same, all_possible, keeps_more}
 use Rattle.payer_book.proofs.Keeping.{rulings_by_on}
 use Rattle.payer_book.proofs.Numbers.{NumbersInRange, orders_numbered}
 

@@ -16,7 +16,7 @@ use Rattle.payer_book.specs.Books.{reading, payments_of, count_paid, IsBook}
 use Rattle.payer_book.specs.Added.{kept_ruling_of, kept_ruling, kept_rulings_from, kept_rulings}
 use Rattle.payer_book.specs.Entries.{rulings_by}
 use Rattle.payer_book.proofs.Growth.{judged_same}
-use Rattle.payer_book.proofs.Ruling.{auth_same, next_stands, count_more, ruling_pays, rulings_same}
+use Rattle.payer_book.proofs.RulingLemmas.{auth_same, next_stands, count_more, ruling_pays, rulings_same}
 
 module _ (b : Book) (l : Ledger) (payer : l.payer ≡ b.payer) (said : List Ruling) where
   settled_kept : (before : List Ruled) (auth : Auth) (k : ℕ) (j : Judged) → next_auth b before ≡ auth → kept_ruling_of b before (slice_get said k) j ≡ ruling_by auth (AsKept said) k j

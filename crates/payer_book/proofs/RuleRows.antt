@@ -29,7 +29,7 @@ use Rattle.payer_book.proofs.Lists.{same_some}
 use Rattle.payer_book.proofs.Readings.{readable_alike}
 use Rattle.payer_book.proofs.Sameness.{bytes_same}
 use Rattle.payer_book.proofs.Keeping.{rulings_by_on}
-use Rattle.payer_book.proofs.Ruling.{length_rulings}
+use Rattle.payer_book.proofs.RulingLemmas.{length_rulings}
 use Rattle.payer_book.proofs.PaidAmounts.{AmountsInRange, PaysSo, at_place, said_pays}
 use Rattle.payer_book.proofs.Tellable.{rulings_told, prices_fit}
 use Rattle.payer_book.proofs.Entered.{book_more}

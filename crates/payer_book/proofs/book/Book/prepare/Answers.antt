@@ -19,7 +19,7 @@ use Rattle.payer_book.specs.Books.{reading}
 use Rattle.payer_book.specs.Added.{kept_answer, kept_rulings, with_row, with_kept}
 use Rattle.payer_book.specs.Entries.{with_plan, rulings_by}
 use Rattle.payer_book.proofs.Readings.{readable_alike}
-use Rattle.payer_book.proofs.Ruling.{rulings_writable, length_rulings}
+use Rattle.payer_book.proofs.RulingLemmas.{rulings_writable, length_rulings}
 use Rattle.payer_book.proofs.Keeping.{rulings_by_on, kept_again}
 use Rattle.payer_book.proofs.Tellable.{rulings_told, prices_fit}
 use Rattle.payer_book.proofs.Grown.{row_stands}
