@@ -9,7 +9,7 @@ pub mod Matching
 pub mod Overlay
 pub mod Places
 pub mod Growth
-pub mod Ruling
+pub mod RulingLemmas
 pub mod Keeping
 pub mod PaidAmounts
 pub mod Tellable
