@@ -1,0 +1,244 @@
+//! Running files of rows, and telling what differs.
+
+use crate::compared::{Place, put_place};
+use crate::folder::{CaseFile, read_folder};
+use crate::row::{Row, read_row};
+use crate::texts::Texts;
+use crate::told::Told;
+use input_text::{Lines, is_skipped};
+use std::alloc::{AllocError, Global};
+use std::io;
+use std::process::ExitCode;
+use std::rt::Files;
+
+/// What the rows of a file are about: its calls, and the state that they change from row to row.
+pub trait Subject {
+    /// Tells what the call of a row comes to, or refuses the row.
+    fn tell(&mut self, told: &mut Told, alloc: Global, word: &str, argument: &[u8]);
+}
+
+/// The files that a program knows.
+pub trait Suite {
+    /// Runs a file, or says that it is not known.
+    fn check(&mut self, runner: &mut Runner, file: &CaseFile) -> Result<(), AllocError>;
+}
+
+/// How a file's rows came out.
+#[derive(Clone, Copy)]
+struct Count {
+    rows: u64,
+    differing: u64,
+}
+
+/// Compares rows, and keeps what is printed.
+#[derive(Drop)]
+pub struct Runner {
+    alloc: Global,
+    texts: Texts,
+    told: Told,
+    out: String,
+    failed: bool,
+}
+
+impl Runner {
+    /// No text, and nothing compared.
+    pub fn new(alloc: Global) -> Runner {
+        Runner {
+            alloc,
+            texts: Texts::new(alloc),
+            told: Told::new(alloc),
+            out: String::new(alloc),
+            failed: false,
+        }
+    }
+
+    /// The allocator of all that is told.
+    pub fn alloc(&self) -> Global {
+        self.alloc
+    }
+
+    /// Whether something differed.
+    pub fn has_failed(&self) -> bool {
+        self.failed
+    }
+
+    /// All lines to print.
+    pub fn printed(&self) -> &str {
+        self.out.as_str()
+    }
+
+    /// Prints a line of a file's name and what came of it.
+    pub fn line(&mut self, file: &CaseFile, what: &str) -> Result<(), AllocError> {
+        let name = file.name();
+        writeln!(self.out, "{name} {what}")
+    }
+
+    /// Prints what is wrong in a file, which the program then fails for.
+    pub fn fail(&mut self, file: &CaseFile, line: usize, what: &str) -> Result<(), AllocError> {
+        self.failed = true;
+        let place = Place {
+            file: file.name(),
+            line,
+        };
+        put_place(&mut self.out, place, "fails", what.as_bytes())
+    }
+
+    /// Runs the rows of a file. Where its ending is `differ`, each row has to differ, which shows that rows are compared.
+    pub fn rows<S: Subject>(&mut self, file: &CaseFile, subject: &mut S) -> Result<(), AllocError> {
+        let known = self.texts.len();
+        let differ = file.ending() == "differ";
+        let mut count = Count {
+            rows: 0,
+            differing: 0,
+        };
+        for line in Lines::new(file.bytes()) {
+            let place = Place {
+                file: file.name(),
+                line: line.number,
+            };
+            count = self.take(place, line.text, subject, differ, count)?;
+        }
+        self.texts.truncate(known);
+        self.counted(file, differ, count)
+    }
+
+    /// Takes a line: nothing, a text's name, or a row.
+    fn take<S: Subject>(
+        &mut self,
+        place: Place<'_>,
+        line: &[u8],
+        subject: &mut S,
+        differ: bool,
+        count: Count,
+    ) -> Result<Count, AllocError> {
+        if is_skipped(line) {
+            return Ok(count);
+        }
+        if let Some(text) = line.strip_prefix(b"let ") {
+            self.name_text(place, text)?;
+            return Ok(count);
+        }
+        let equal = self.compare(place, line, subject, differ)?;
+        Ok(Count {
+            rows: count.rows.saturating_add(1),
+            differing: count.differing.saturating_add(u64::from(!equal)),
+        })
+    }
+
+    /// Takes a text and its name.
+    fn name_text(&mut self, place: Place<'_>, text: &[u8]) -> Result<(), AllocError> {
+        if self.texts.take(text)?.is_none() {
+            self.wrong(place, "no text of that form", text)?;
+        }
+        Ok(())
+    }
+
+    /// Whether a row comes to what it says; where it should and does not, that is printed.
+    fn compare<S: Subject>(
+        &mut self,
+        place: Place<'_>,
+        line: &[u8],
+        subject: &mut S,
+        differ: bool,
+    ) -> Result<bool, AllocError> {
+        let row = read_row(self.alloc, &self.texts, line)?;
+        let Some(row) = row else {
+            self.wrong(place, "no row", line)?;
+            return Ok(true);
+        };
+        self.told.clear();
+        subject.tell(
+            &mut self.told,
+            self.alloc,
+            row.word,
+            row.argument.as_slice(),
+        );
+        self.judge(place, &row, differ)
+    }
+
+    /// Whether what was told is the row's outcome.
+    fn judge(&mut self, place: Place<'_>, row: &Row<'_>, differ: bool) -> Result<bool, AllocError> {
+        if self.told.is_refused() {
+            self.failed = true;
+            put_place(&mut self.out, place, "not understood", row.word.as_bytes())?;
+            return Ok(true);
+        }
+        let equal = self.told.as_slice() == row.outcome.as_slice();
+        if equal == differ {
+            self.failed = true;
+            put_place(&mut self.out, place, "wanted", row.outcome.as_slice())?;
+            put_place(&mut self.out, place, "told", self.told.as_slice())?;
+        }
+        Ok(equal)
+    }
+
+    /// Prints what is wrong at a line.
+    fn wrong(&mut self, place: Place<'_>, text: &str, bytes: &[u8]) -> Result<(), AllocError> {
+        self.failed = true;
+        put_place(&mut self.out, place, text, bytes)
+    }
+
+    /// Prints how many rows a file had; one without a row fails.
+    fn counted(&mut self, file: &CaseFile, differ: bool, count: Count) -> Result<(), AllocError> {
+        if count.rows == 0 {
+            return self.fail(file, 0, "no row");
+        }
+        let name = file.name();
+        let rows = count.rows;
+        if differ {
+            let differing = count.differing;
+            return writeln!(self.out, "{name} {differing} of {rows} rows differ");
+        }
+        writeln!(self.out, "{name} {rows} rows")
+    }
+
+    /// Takes the texts of a file, a line each: `NAME = TEXT`.
+    fn texts(&mut self, file: &CaseFile) -> Result<(), AllocError> {
+        for line in Lines::new(file.bytes()) {
+            let place = Place {
+                file: file.name(),
+                line: line.number,
+            };
+            if !is_skipped(line.text) {
+                self.name_text(place, line.text)?;
+            }
+        }
+        Ok(())
+    }
+}
+
+/// Runs all files of the folder that the program runs in: first the texts, of the ending `texts`, and then the others, by
+/// name. Prints what was counted and what differs. The status is 0 where nothing differs.
+pub fn run<R: Files + Print + AllocGlobal + Clone + Drop, S: Suite>(
+    rt: &R,
+    suite: &mut S,
+) -> ExitCode {
+    let mut runner = Runner::new(rt.alloc());
+    let done = run_files(rt, &mut runner, suite);
+    let printed = rt.print(runner.printed());
+    if done.is_ok() && printed.is_ok() && !runner.has_failed() {
+        ExitCode::SUCCESS
+    } else {
+        ExitCode::FAILURE
+    }
+}
+
+/// Runs all files.
+fn run_files<R: Files + AllocGlobal + Clone + Drop, S: Suite>(
+    rt: &R,
+    runner: &mut Runner,
+    suite: &mut S,
+) -> io::Result<()> {
+    let files = read_folder(rt, ".")?;
+    for file in &files {
+        if file.ending() == "texts" {
+            runner.texts(file)?;
+        }
+    }
+    for file in &files {
+        if file.ending() != "texts" {
+            suite.check(runner, file)?;
+        }
+    }
+    Ok(())
+}

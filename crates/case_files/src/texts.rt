@@ -1,0 +1,114 @@
+//! Long texts by name.
+
+use input_text::read_decimal;
+use std::alloc::{AllocError, Global};
+
+/// The most repeats that `<TEXT*N>` may ask for.
+const MOST_REPEATS: u64 = 1_000_000;
+
+/// A text and its name.
+#[derive(Drop)]
+struct Named {
+    name: Vec<u8>,
+    text: Vec<u8>,
+}
+
+/// Long texts by name. `<NAME>` in a row stands for the text of that name, and `<TEXT*N>` for N times the text before
+/// the star.
+#[derive(Drop)]
+pub(crate) struct Texts {
+    alloc: Global,
+    named: Vec<Named>,
+}
+
+impl Texts {
+    /// No text.
+    pub(crate) fn new(alloc: Global) -> Texts {
+        Texts {
+            alloc,
+            named: Vec::new(alloc),
+        }
+    }
+
+    /// How many texts there are.
+    pub(crate) fn len(&self) -> usize {
+        self.named.len()
+    }
+
+    /// Forgets all but the first `count` texts.
+    pub(crate) fn truncate(&mut self, count: usize) {
+        self.named.truncate(count);
+    }
+
+    /// Takes the line `NAME = TEXT`, in whose text names that stand already are filled in. Some where it is one.
+    pub(crate) fn take(&mut self, line: &[u8]) -> Result<Option<()>, AllocError> {
+        let Some((name, text)) = cut(line, b" = ") else {
+            return Ok(None);
+        };
+        let Some(text) = self.filled(text)? else {
+            return Ok(None);
+        };
+        let name = Vec::from_slice(self.alloc, name)?;
+        self.named.push(Named { name, text })?;
+        Ok(Some(()))
+    }
+
+    /// A text with each name in angle brackets filled in; None where one is no name.
+    pub(crate) fn filled(&self, text: &[u8]) -> Result<Option<Vec<u8>>, AllocError> {
+        let mut out = Vec::new(self.alloc);
+        let mut rest = text;
+        for _ in 0..text.len() {
+            let Some(start) = rest.iter().position(|byte| *byte == b'<') else {
+                break;
+            };
+            let (front, inside) = rest.split_at(start.min(rest.len()));
+            out.extend_from_slice(front)?;
+            let inside = inside.get(1..).unwrap_or(b"");
+            let Some((name, behind)) = cut(inside, b">") else {
+                return Ok(None);
+            };
+            if self.fill(&mut out, name)?.is_none() {
+                return Ok(None);
+            }
+            rest = behind;
+        }
+        out.extend_from_slice(rest)?;
+        Ok(Some(out))
+    }
+
+    /// Appends the text of a name; None where there is none of it.
+    fn fill(&self, out: &mut Vec<u8>, name: &[u8]) -> Result<Option<()>, AllocError> {
+        if let Some((text, count)) = cut(name, b"*") {
+            return repeat(out, text, count);
+        }
+        let found = self.named.iter().rev().find(|n| n.name.as_slice() == name);
+        match found {
+            Some(found) => {
+                out.extend_from_slice(found.text.as_slice())?;
+                Ok(Some(()))
+            }
+            None => Ok(None),
+        }
+    }
+}
+
+/// Appends a text as often as a decimal number says.
+fn repeat(out: &mut Vec<u8>, text: &[u8], count: &[u8]) -> Result<Option<()>, AllocError> {
+    match read_decimal(count, 7) {
+        Some(count) if count <= MOST_REPEATS => {
+            for _ in 0..count {
+                out.extend_from_slice(text)?;
+            }
+            Ok(Some(()))
+        }
+        _ => Ok(None),
+    }
+}
+
+/// What stands before and behind the first place of a mark.
+pub(crate) fn cut<'a>(text: &'a [u8], mark: &[u8]) -> Option<(&'a [u8], &'a [u8])> {
+    let place = (0..text.len()).find(|at| text.get(*at..).unwrap_or(b"").starts_with(mark))?;
+    let front = text.get(..place)?;
+    let behind = text.get(place.saturating_add(mark.len())..)?;
+    Some((front, behind))
+}
