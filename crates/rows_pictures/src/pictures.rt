@@ -1,6 +1,6 @@
 //! What the picture of a run shows, from the input of a replay to the file.
 
-use run_marks::{Mark, mark_run};
+use run_picture::{Mark, mark_run};
 use run_picture::{Extent, draw_replay, picture};
 use schedule_cli::{ProgramFault, ReaderSource, Scheduled, WriterSink, read_scheduled};
 use std::alloc::Global;

@@ -1,11 +1,11 @@
 //! Arrows from the sending of a packet to each of its deliveries, and what ends in a cross.
 
+use crate::Mark;
 use crate::lanes::Side;
 use crate::measures::{BAR, on};
 use crate::page::{beside, draw_cross, other};
 use crate::plan::Plan;
 use crate::rows::{Departure, refused_packet};
-use run_marks::Mark;
 use std::alloc::AllocError;
 use svg_text::{Drawing, Point, Stroke};
 

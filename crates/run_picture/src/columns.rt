@@ -1,10 +1,10 @@
 //! Where lifelines stand from left to right: as far apart as the words between them need.
 
+use crate::Mark;
 use crate::events::{begun_by, caption_of, note_of, refusal_of};
 use crate::lanes::{Lanes, Side};
 use crate::measures::{LEAST_GAP, MARGIN, NAME_WIDTH, on, width_of};
 use crate::plan::Plan;
-use run_marks::Mark;
 use std::alloc::{AllocError, Global};
 use world_setup::Node;
 

@@ -1,10 +1,10 @@
 //! The words beside rows: what the event is, why it was refused, what it changed.
 
+use crate::Mark;
 use crate::lettering::{put_change, put_event};
 use crate::plan::Plan;
 use crate::rows::event_of;
 use input_text::put_decimal;
-use run_marks::Mark;
 use std::alloc::{AllocError, Global};
 use world_setup::{Event, StepFault};
 

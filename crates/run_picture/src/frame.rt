@@ -1,9 +1,9 @@
 //! What stands above the rows, and what a screen reader is told.
 
+use crate::Mark;
 use crate::measures::{MARGIN, on, width_of};
 use crate::plan::Plan;
 use input_text::put_decimal;
-use run_marks::Mark;
 use std::alloc::AllocError;
 use svg_text::{Anchor, Drawing, Face, Point};
 

@@ -1,11 +1,11 @@
 //! All that a picture is drawn from.
 
+use crate::Mark;
 use crate::columns::Columns;
 use crate::extent::{Extent, Hidden};
 use crate::labels::labels_of;
 use crate::lanes::{Lanes, Side};
 use crate::rows::{Rows, event_of, refused_packet};
-use run_marks::Mark;
 use std::alloc::{AllocError, Global};
 use world_core::World;
 use world_setup::{Event, Node, StepFault};

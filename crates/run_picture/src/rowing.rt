@@ -1,5 +1,6 @@
 //! What is drawn and written in the rows of events.
 
+use crate::Mark;
 use crate::events::{begun_by, caption_of, note_of, refusal_of};
 use crate::lanes::Side;
 use crate::measures::{BAND, BAR, MARGIN, ROW_TOP, back, on};
@@ -7,7 +8,6 @@ use crate::page::{draw_cross, write_beside};
 use crate::plan::Plan;
 use crate::rows::{Row, refused_packet};
 use input_text::put_decimal;
-use run_marks::Mark;
 use std::alloc::AllocError;
 use svg_text::{Anchor, Drawing, Face, Fill, Point, Size, Stroke};
 use world_setup::{Node, StepFault};

@@ -1,8 +1,8 @@
 //! Where events and sendings stand from top to bottom.
 
+use crate::Mark;
 use crate::extent::Hidden;
 use crate::measures::{BAND, FIRST_ROW, LINE, MARGIN, ROW_REST, ROW_TOP, SLIM_REST, on};
-use run_marks::Mark;
 use std::alloc::{AllocError, Global};
 use world_setup::{Event, Node, StepFault};
 

@@ -3,6 +3,7 @@
 ghost use Rattle.std.specs.Prelude.{IfOk};
 ghost use Rattle.run_picture.specs.Drawn.{IsDrawn};
 
+use crate::Mark;
 use crate::arrows::draw_arrows;
 use crate::extent::Extent;
 use crate::foot::Foot;
@@ -11,7 +12,6 @@ use crate::lifelines::{draw_lifelines, draw_names};
 use crate::measures::{MARGIN, on};
 use crate::plan::Plan;
 use crate::rowing::{draw_band, draw_doings, draw_rules, write_rows};
-use run_marks::Mark;
 use std::alloc::{AllocError, Global};
 use svg_text::{Drawing, Fill, Frame, Point, Size};
 use world_core::World;

@@ -5,8 +5,8 @@ ghost use Rattle.schedule_cli.specs.Replays.{replay_of, IsRefused};
 ghost use Rattle.run_picture.specs.Drawn.{IsDrawn, DrawnBehind, BeginningBehind};
 
 use crate::extent::Extent;
+use crate::mark_run;
 use crate::sheet::picture;
-use run_marks::mark_run;
 use schedule_cli::{
     MOST_CALLS, MOST_INPUT, ProgramFault, Scheduled, Sink, Source, read_scheduled, write_output,
 };

@@ -10,7 +10,7 @@ use Rattle.world_core.specs.Parts.{WorldParts, context_of}
 use Rattle.world_settings.specs.Document.{Document, settings_in}
 use Rattle.schedule.specs.Division.{settings_text, schedule_lines}
 use Rattle.schedule.specs.Reading.{events_of}
-use Rattle.report.specs.Words.{lines_text}
+use Rattle.world_report.specs.Words.{lines_text}
 use Rattle.world_report.specs.Events.{run_lines}
 use Rattle.schedule_cli.specs.declared.fault.ProgramFault.{ProgramFault}
 use Rattle.schedule_cli.specs.declared.fault.ProgramFault.TheVariants.{OutOfMemory, Read, Settings, Line, Write}

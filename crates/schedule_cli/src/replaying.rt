@@ -4,7 +4,7 @@ ghost use Rattle.std.specs.Prelude.{◌≡◌, Some, Ok, map, IfOk, IfErr};
 ghost use Rattle.world_setup.specs.Seen.{event_seen};
 ghost use Rattle.world_core.specs.Parts.{context_of};
 ghost use Rattle.world_settings.specs.Document.{document_seen};
-ghost use Rattle.report.specs.Words.{lines_text};
+ghost use Rattle.world_report.specs.Words.{lines_text};
 ghost use Rattle.world_report.specs.Events.{run_lines};
 ghost use Rattle.schedule_cli.specs.Replays.{world_in, opened_by, report_from, replay_of, OpensNone, HasNone};
 

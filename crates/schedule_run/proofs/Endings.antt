@@ -7,7 +7,7 @@ use Rattle.std.specs.Io.KnownBytes.{Appends}
 use Rattle.schedule.specs.declared.commands.Command.{Command}
 use Rattle.schedule.specs.declared.commands.Command.TheVariants.{Submit, Tick, Plan, Restart, Await}
 use Rattle.schedule.specs.Runs.{RunParts}
-use Rattle.report.specs.Words.{Line, lines_text}
+use Rattle.world_report.specs.Words.{Line, lines_text}
 use Rattle.node_threads.specs.Tills as tills
 use Rattle.node_threads.specs.TillSeen.{till_seen}
 use Rattle.node_threads.specs.LedgerSeen.{tills_seen}

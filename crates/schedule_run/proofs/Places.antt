@@ -2,10 +2,10 @@
 use Rattle.std.proofs.Common.{◌≡◌, ℕ, suc, ◌+◌, ◌-◌, ◌<◌, ◌≤◌, List, [], ◌∷◌, ◌++◌, length, drop, get_or, map, replicate, refl, sym, ap, ◌∙◌, append-nil, arith}
 use Rattle.std.proofs.lemmas.List.{at_drop_more, drop_all}
 use Rattle.claim_model.specs.Words.{Ruling}
-use Rattle.report.specs.Words.{Line, line_text, lines_text}
-use Rattle.report.specs.Rulings.{ruling_words}
-use Rattle.report.specs.Places.{place_line, place_lines}
-use Rattle.report.proofs.Joining.{lines_join, lines_text-nil}
+use Rattle.world_report.specs.Words.{Line, line_text, lines_text}
+use Rattle.world_report.specs.Rulings.{ruling_words}
+use Rattle.world_report.specs.Places.{place_line, place_lines}
+use Rattle.world_report.proofs.JoinedWords.{lines_join, lines_text-nil}
 
 -- the lines of the places from one on, each with this word first
 abbrev pub headed : List ℕ → List ℕ → ℕ → List ℕ → ℕ → List Line → List Line

@@ -5,7 +5,7 @@ use Rattle.std.proofs.lemmas.List.{map-set}
 use Rattle.std.proofs.lemmas.Option.{slice_get-map}
 use Rattle.claim_model.proofs.Options.{same_some}
 use Rattle.world_setup.specs.declared.fault.StepFault.{StepFault}
-use Rattle.report.specs.Words.{Line, line_text, lines_text}
+use Rattle.world_report.specs.Words.{Line, line_text, lines_text}
 use Rattle.node_threads.specs.Tills as tills
 use Rattle.node_threads.specs.Tills.{with_receipt}
 use Rattle.node_threads.specs.TillSeen.{till_seen}

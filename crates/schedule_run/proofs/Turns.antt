@@ -5,8 +5,8 @@ use Rattle.std.specs.Io.KnownBytes.{Appends}
 use Rattle.std.specs.Prelude.{Option}
 use Rattle.world_setup.specs.declared.fault.StepFault.{StepFault}
 use Rattle.schedule.specs.declared.commands.Command.{Command}
-use Rattle.report.specs.Words.{Line, line_text, lines_text}
-use Rattle.report.proofs.Joining.{lines_join, lines_text-append, lines_text-nil}
+use Rattle.world_report.specs.Words.{Line, line_text, lines_text}
+use Rattle.world_report.proofs.JoinedWords.{lines_join, lines_text-append, lines_text-nil}
 use Rattle.schedule_cli.proofs.KnownOutput.{Appends-append}
 use Rattle.node_threads.specs.Tills.{Till}
 use Rattle.schedule_run.proofs.Words.{one_line_text}

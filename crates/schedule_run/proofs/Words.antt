@@ -7,8 +7,8 @@ use Rattle.claim_profile.specs.declared.answer_reading.AnswerFault.{AnswerFault}
 use Rattle.claim_profile.specs.declared.answer_reading.AnswerFault.TheVariants as fault
 use Rattle.claim_model.specs.Refusal.{Refusal}
 use Rattle.world_setup.specs.Names.{refusal_name}
-use Rattle.report.specs.Words.{Line, behind_spaces, line_text, lines_text}
-use Rattle.report.proofs.Joining.{texts_join}
+use Rattle.world_report.specs.Words.{Line, behind_spaces, line_text, lines_text}
+use Rattle.world_report.proofs.JoinedWords.{texts_join}
 use Rattle.schedule_run.specs.Told.{IsRefusal, answer_lines, is_unreadable, refusal_line}
 
 -- a space and a word

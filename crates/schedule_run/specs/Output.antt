@@ -14,7 +14,7 @@ use Rattle.node_threads.specs.declared.starting.StartFault.{StartFault}
 use Rattle.node_threads.specs.declared.starting.StartFault.TheVariants as start
 use Rattle.node_threads.specs.declared.judging.finish_fault.FinishFault.{FinishFault}
 use Rattle.node_threads.specs.declared.judging.finish_fault.FinishFault.TheVariants as finish
-use Rattle.report.specs.Words.{Line, lines_text}
+use Rattle.world_report.specs.Words.{Line, lines_text}
 use Rattle.world_report.specs.Nodes.{world_lines}
 use Rattle.schedule_cli.specs.Replays.{NoReport, BadSettings, BadLine, world_in, opened_world}
 use Rattle.schedule_cli.specs.Stops.{FitsBehind}

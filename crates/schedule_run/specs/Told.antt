@@ -7,9 +7,9 @@ use Rattle.world_setup.specs.Names.{refusal_name}
 use Rattle.schedule.specs.declared.commands.Command.{Command}
 use Rattle.schedule.specs.declared.commands.Command.TheVariants.{Submit, Tick, Plan, Restart, Await}
 use Rattle.schedule.specs.Runs.{RunParts}
-use Rattle.report.specs.Words.{Line}
-use Rattle.report.specs.Rulings.{ruling_words}
-use Rattle.report.specs.Places.{place_lines}
+use Rattle.world_report.specs.Words.{Line}
+use Rattle.world_report.specs.Rulings.{ruling_words}
+use Rattle.world_report.specs.Places.{place_lines}
 use Rattle.claim_profile.specs.Ruling.{AnswerParts, answer_of}
 use Rattle.claim_profile.specs.declared.answer_reading.AnswerFault.{AnswerFault}
 use Rattle.claim_profile.specs.declared.answer_reading.AnswerFault.TheVariants.{OutOfMemory, Framing, NoStatus, BadStatus, BadAmount, BadAuthorization, BadRejects, BadClaim}

@@ -2,7 +2,7 @@
 
 ghost use Rattle.std.specs.Prelude.{◌≡◌, ◌++◌, ◌<◌, ◌⊎◌, List, length, slice_get, IfErr, IfSome, OnOk};
 ghost use Rattle.std.specs.Io.KnownBytes.{Appends};
-ghost use Rattle.report.specs.Words.{Line, lines_text};
+ghost use Rattle.world_report.specs.Words.{Line, lines_text};
 ghost use Rattle.node_threads.specs.TillSeen.{till_seen};
 ghost use Rattle.node_threads.specs.LedgerSeen.{tills_seen};
 ghost use Rattle.schedule_run.specs.Told.{AreTold, IsAwaited, IsSubmitted, IsTold, Tells};

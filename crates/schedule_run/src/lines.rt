@@ -4,14 +4,14 @@ ghost use Rattle.std.specs.Prelude.{◌≡◌, ◌∷◌, [], ◌++◌, true, co
 ghost use Rattle.claim_profile.specs.Ruling.{answer_of};
 ghost use Rattle.world_setup.specs.Refused.{refusal_of};
 ghost use Rattle.world_setup.specs.Names.{refusal_name};
-ghost use Rattle.report.specs.Words.{Line, behind_spaces, line_text, lines_text};
-ghost use Rattle.report.specs.Rulings.{ruling_words};
-ghost use Rattle.report.specs.Places.{place_line, place_mark};
+ghost use Rattle.world_report.specs.Words.{Line, behind_spaces, line_text, lines_text};
+ghost use Rattle.world_report.specs.Rulings.{ruling_words};
+ghost use Rattle.world_report.specs.Places.{place_line, place_mark};
 ghost use Rattle.schedule_run.specs.Told.{IsRefusal, is_unreadable, done_line, number_line, refusal_line, pharmacy_word, answer_lines, open_lines, settled_lines};
 
 use claim_profile::{AnswerFault, Ruling, read_answer};
 use input_text::put_decimal;
-use report::put_ruling;
+use world_report::put_ruling;
 use std::alloc::{AllocError, Global};
 use world_setup::StepFault;
 

@@ -4,7 +4,7 @@ ghost use Rattle.std.specs.Prelude.{◌≡◌, ◌⊎◌, ℕ, true, None, List,
 ghost use Rattle.std.specs.Io.KnownBytes.{Appends};
 ghost use Rattle.std.specs.List.{AllByRecursion};
 ghost use Rattle.world_setup.specs.Taken.{world_fault};
-ghost use Rattle.report.specs.Words.{Line, lines_text};
+ghost use Rattle.world_report.specs.Words.{Line, lines_text};
 ghost use Rattle.schedule.specs.Runs.{run_seen};
 ghost use Rattle.node_threads.specs.LedgerSeen.{tills_seen};
 ghost use Rattle.schedule_run.specs.Asked.{asked_in};

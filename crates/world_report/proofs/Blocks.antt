@@ -2,7 +2,7 @@
 use Rattle.std.proofs.Common.{◌≡◌, ℕ, List, ◌++◌}
 use Rattle.claim_model.specs.Context.{Context}
 use Rattle.claim_model.specs.World.{World, Event, run}
-use Rattle.report.specs.Words.{lines_text}
+use Rattle.world_report.specs.Words.{lines_text}
 use Rattle.world_report.specs.Nodes.{pharmacy_lines, switch_lines, payer_lines, lines_from, world_lines}
 use Rattle.world_report.specs.Events.{event_lines, run_lines}
 use Rattle.world_report.proofs.Joining.{lines_join}

@@ -1,3 +1,7 @@
+pub mod JoinedWords
+pub mod Payments
+pub mod Loops
+pub mod Headers
 pub mod Joining
 pub mod Making
 pub mod Blocks

@@ -8,8 +8,8 @@ use Rattle.world_setup.specs.declared.event.Event.{Event}
 use Rattle.world_setup.specs.Seen.{event_seen}
 use Rattle.world_setup.specs.Refused.{RefusedAs}
 use Rattle.world_core.specs.Stepping.{next_of}
-use Rattle.report.specs.Words.{Line, line_text, lines_text}
-use Rattle.report.specs.Heads.{done_line, refused_line, numbers_from}
+use Rattle.world_report.specs.Words.{Line, line_text, lines_text}
+use Rattle.world_report.specs.Heads.{done_line, refused_line, numbers_from}
 use Rattle.world_setup.specs.Names.{refusal_name}
 use Rattle.claim_model.specs.Refusal.{Refusal}
 use Rattle.world_report.specs.Events.{event_line, event_lines}

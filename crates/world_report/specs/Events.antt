@@ -5,8 +5,8 @@ use Rattle.claim_model.specs.Node.{Outcome, Done, Refused}
 use Rattle.claim_model.specs.Settings.{WorldSettings, opening}
 use Rattle.claim_model.specs.World.{World, Event, step, world_after, run}
 use Rattle.world_setup.specs.Names.{refusal_name}
-use Rattle.report.specs.Words.{Line, lines_text}
-use Rattle.report.specs.Heads.{done_line, refused_line, numbers_from}
+use Rattle.world_report.specs.Words.{Line, lines_text}
+use Rattle.world_report.specs.Heads.{done_line, refused_line, numbers_from}
 use Rattle.world_report.specs.Nodes.{world_lines}
 
 -- the line of an event, before which so many packets were sent: the numbers of the packets that it added to them, or the name of the refusal

@@ -1,3 +1,8 @@
 -- In the order in which one explains them.
+pub mod Words
+pub mod Rulings
+pub mod Places
+pub mod BookRows
+pub mod Heads
 pub mod Nodes
 pub mod Events

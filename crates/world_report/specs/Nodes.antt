@@ -12,11 +12,11 @@ use Rattle.claim_model.specs.World.{World}
 use Rattle.pharmacy_journal.specs.Listing.{listed}
 use Rattle.switch_node.specs.declared.table.InFlight.{InFlight}
 use Rattle.node_state.specs.Sends.{is_up, in_flight_at}
-use Rattle.report.specs.Words.{Line}
-use Rattle.report.specs.Rulings.{paid_line}
-use Rattle.report.specs.Places.{entry_lines, flight_line}
-use Rattle.report.specs.BookRows.{row_lines}
-use Rattle.report.specs.Heads.{head_line}
+use Rattle.world_report.specs.Words.{Line}
+use Rattle.world_report.specs.Rulings.{paid_line}
+use Rattle.world_report.specs.Places.{entry_lines, flight_line}
+use Rattle.world_report.specs.BookRows.{row_lines}
+use Rattle.world_report.specs.Heads.{head_line}
 
 -- a pharmacy: its entries in order of their numbers, and then the payments that it counts
 abbrev pub journal_lines : Context → ℕ → Bool → JournalAtRest → List Line

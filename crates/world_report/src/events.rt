@@ -6,11 +6,11 @@ ghost use Rattle.world_setup.specs.Seen.{event_seen};
 ghost use Rattle.world_setup.specs.Refused.{refusal_of};
 ghost use Rattle.world_setup.specs.Names.{refusal_name};
 ghost use Rattle.world_core.specs.Parts.{context_of};
-ghost use Rattle.report.specs.Words.{line_text, lines_text};
-ghost use Rattle.report.specs.Heads.{refused_line};
+ghost use Rattle.world_report.specs.Words.{line_text, lines_text};
+ghost use Rattle.world_report.specs.Heads.{refused_line};
 ghost use Rattle.world_report.specs.Events.{event_line, event_lines};
 
-use report::{put_done, put_refused};
+use crate::{put_done, put_refused};
 use std::alloc::AllocError;
 use world_core::World;
 use world_setup::{Event, StepFault};

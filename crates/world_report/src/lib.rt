@@ -1,9 +1,25 @@
-//! The report on a world: a line for each event, and then the lines of each node, up or at rest.
+//! The report on a world: a line for each event, and then the lines of each node, up or at rest, with what stands in its
+//! journal, table or book.
+//!
+//! Each function appends exactly the text of one line or of the lines of one entry; where memory runs out, a part of
+//! it may have been appended. A line is a list of words with one space between them.
 #![tactic(auto)]
 
+mod book_rows;
+mod entries;
 mod events;
+mod heads;
 mod lists;
 mod nodes;
+mod places;
+mod rows;
+mod rulings;
 mod whole;
+mod words;
 
+pub use book_rows::put_row;
+pub use entries::put_entry;
+pub use heads::{put_done, put_head, put_refused};
+pub use rows::put_in_flight;
+pub use rulings::{put_paid, put_ruling};
 pub use whole::{put_nodes, put_report};

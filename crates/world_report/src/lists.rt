@@ -4,15 +4,15 @@ ghost use Rattle.std.specs.Prelude.{◌≡◌, ◌++◌, map, OnOk};
 ghost use Rattle.std.specs.List.{flat_map};
 ghost use Rattle.bin_routes.specs.Table.{RouteMaps};
 ghost use Rattle.claim_model.specs.Bytes.{bytes_with};
-ghost use Rattle.report.specs.Words.{lines_text};
-ghost use Rattle.report.specs.Rulings.{paid_line};
-ghost use Rattle.report.specs.Places.{entry_lines};
-ghost use Rattle.report.specs.BookRows.{row_lines};
+ghost use Rattle.world_report.specs.Words.{lines_text};
+ghost use Rattle.world_report.specs.Rulings.{paid_line};
+ghost use Rattle.world_report.specs.Places.{entry_lines};
+ghost use Rattle.world_report.specs.BookRows.{row_lines};
 ghost use Rattle.world_report.specs.Nodes.{in_flight_line};
 
+use crate::{put_entry, put_in_flight, put_paid, put_row};
 use payer_book::Book;
 use pharmacy_journal::{CountedPayment, EntryView};
-use report::{put_entry, put_in_flight, put_paid, put_row};
 use std::alloc::AllocError;
 use switch_node::InFlight;
 

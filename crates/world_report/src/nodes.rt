@@ -6,15 +6,15 @@ ghost use Rattle.bin_routes.specs.Table.{RouteMaps};
 ghost use Rattle.claim_model.specs.Bytes.{bytes_with};
 ghost use Rattle.claim_model.specs.Counted.{counted};
 ghost use Rattle.pharmacy_journal.specs.Listing.{listed};
-ghost use Rattle.report.specs.Words.{lines_text};
-ghost use Rattle.report.specs.Rulings.{paid_line};
-ghost use Rattle.report.specs.Places.{entry_lines};
+ghost use Rattle.world_report.specs.Words.{lines_text};
+ghost use Rattle.world_report.specs.Rulings.{paid_line};
+ghost use Rattle.world_report.specs.Places.{entry_lines};
 ghost use Rattle.world_report.specs.Nodes.{journal_lines, pharmacy_lines, table_lines, switch_lines, book_lines, payer_lines, lines_from};
 
 use crate::lists::{put_entries, put_payments, put_rows, put_table};
+use crate::put_head;
 use node_state::{JournalReading, PayerNode, PharmacyNode, SwitchNode};
 use payer_book::Book;
-use report::put_head;
 use std::alloc::{AllocError, Global};
 use switch_node::InFlight;
 

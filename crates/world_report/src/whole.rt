@@ -3,7 +3,7 @@
 ghost use Rattle.std.specs.Prelude.{◌≡◌, ◌++◌, map, OnOk};
 ghost use Rattle.world_setup.specs.Seen.{event_seen};
 ghost use Rattle.world_core.specs.Parts.{context_of};
-ghost use Rattle.report.specs.Words.{lines_text};
+ghost use Rattle.world_report.specs.Words.{lines_text};
 ghost use Rattle.world_report.specs.Nodes.{world_lines};
 ghost use Rattle.world_report.specs.Events.{run_lines};
 

@@ -1,6 +1,6 @@
 use Rattle.std.proofs.Common.{◌≡◌, List, take}
 use Rattle.std.specs.Io.KnownBytes.{Appends}
-use Rattle.report.specs.Words.{Line, lines_text}
+use Rattle.world_report.specs.Words.{Line, lines_text}
 use Rattle.node_threads.specs.LedgerSeen.{tills_seen}
 use Rattle.schedule_run.specs.Told.{AreTold}
 use Rattle.schedule_run.proofs.commands.make_commands.Given as goal

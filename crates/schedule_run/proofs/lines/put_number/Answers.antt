@@ -1,7 +1,7 @@
 use Rattle.std.proofs.Common.{[], ◌∷◌}
 use Rattle.std.specs.Prelude.{codes, decimal}
 use Rattle.std.proofs.lemmas.Result.{on_ok_weaker}
-use Rattle.report.proofs.Joining.{line_joins}
+use Rattle.world_report.proofs.JoinedWords.{line_joins}
 use Rattle.schedule_run.proofs.Words.{spaced}
 use Rattle.schedule_run.proofs.lines.put_number.Goals as goal
 

@@ -1,6 +1,6 @@
 use Rattle.std.proofs.Common.{◌≡◌, ◌+◌, ◌-◌, ◌++◌, [], replicate}
 use Rattle.std.specs.Prelude.{decimal, codes}
-use Rattle.report.specs.Words.{lines_text}
+use Rattle.world_report.specs.Words.{lines_text}
 use Rattle.schedule_run.specs.Told.{open_lines, pharmacy_word}
 use Rattle.schedule_run.proofs.Places.{headed}
 use Rattle.schedule_run.proofs.lines.put_open.Given as goal

@@ -1,8 +1,8 @@
 use Rattle.std.proofs.Common.{[], ◌∷◌, ◌++◌}
 use Rattle.std.specs.Prelude.{codes, decimal}
 use Rattle.std.proofs.lemmas.Result.{on_ok_weaker}
-use Rattle.report.specs.Places.{place_mark}
-use Rattle.report.proofs.Joining.{words_join, line_joins}
+use Rattle.world_report.specs.Places.{place_mark}
+use Rattle.world_report.proofs.JoinedWords.{words_join, line_joins}
 use Rattle.schedule_run.specs.Told.{pharmacy_word}
 use Rattle.schedule_run.proofs.Words.{open_word}
 use Rattle.schedule_run.proofs.lines.put_open_place.Goals as goal

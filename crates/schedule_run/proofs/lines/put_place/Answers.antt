@@ -1,8 +1,8 @@
 use Rattle.std.proofs.Common.{◌++◌}
 use Rattle.std.specs.Prelude.{decimal}
 use Rattle.std.proofs.lemmas.Result.{on_ok_weaker}
-use Rattle.report.specs.Places.{place_mark}
-use Rattle.report.proofs.Joining.{texts_join}
+use Rattle.world_report.specs.Places.{place_mark}
+use Rattle.world_report.proofs.JoinedWords.{texts_join}
 use Rattle.schedule_run.proofs.Words.{spaced}
 use Rattle.schedule_run.proofs.lines.put_place.Goals as goal
 

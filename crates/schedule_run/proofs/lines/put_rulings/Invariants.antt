@@ -1,7 +1,7 @@
 use Rattle.std.proofs.Common.{◌≡◌, ◌+◌, ◌++◌, drop, map}
 use Rattle.std.specs.Prelude.{decimal, codes}
-use Rattle.report.specs.Words.{lines_text}
-use Rattle.report.specs.Rulings.{ruling_words}
+use Rattle.world_report.specs.Words.{lines_text}
+use Rattle.world_report.specs.Rulings.{ruling_words}
 use Rattle.schedule_run.specs.Told.{pharmacy_word}
 use Rattle.schedule_run.proofs.Places.{headed}
 use Rattle.schedule_run.proofs.lines.put_rulings.Given as goal

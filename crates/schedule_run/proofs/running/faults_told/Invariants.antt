@@ -1,5 +1,5 @@
 use Rattle.std.proofs.Common.{◌≡◌, ◌-◌, ◌++◌, length, replicate}
-use Rattle.report.specs.Words.{lines_text}
+use Rattle.world_report.specs.Words.{lines_text}
 use Rattle.schedule_run.specs.Told.{done_line}
 use Rattle.schedule_run.proofs.running.faults_told.Given as goal
 

@@ -1,5 +1,5 @@
 use Rattle.std.proofs.Common.{◌++◌, refl}
-use Rattle.report.specs.Words.{lines_text}
+use Rattle.world_report.specs.Words.{lines_text}
 use Rattle.schedule_run.specs.Output.{node_lines}
 use Rattle.schedule_run.proofs.Turns.{written_more}
 use Rattle.schedule_run.proofs.running.run_asked.Goals as goal

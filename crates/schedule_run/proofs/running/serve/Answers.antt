@@ -1,6 +1,6 @@
 use Rattle.std.proofs.Common.{length, replicate, ap, sym, ◌∙◌}
 use Rattle.std.proofs.lemmas.Result.{on_ok_weaker}
-use Rattle.report.specs.Words.{lines_text}
+use Rattle.world_report.specs.Words.{lines_text}
 use Rattle.schedule.specs.Runs.{run_seen}
 use Rattle.schedule_run.specs.Told.{done_line}
 use Rattle.schedule_run.proofs.Endings.{run_told}

@@ -2,7 +2,7 @@ use Rattle.std.proofs.Common.{◌≡◌, ◌+◌, ◌++◌, drop, map}
 use Rattle.claim_model.specs.World.{run}
 use Rattle.world_setup.specs.Seen.{event_seen}
 use Rattle.world_core.specs.Parts.{context_of}
-use Rattle.report.specs.Words.{lines_text}
+use Rattle.world_report.specs.Words.{lines_text}
 use Rattle.world_report.specs.Events.{event_lines}
 use Rattle.world_report.proofs.events.put_events.Given as goal
 

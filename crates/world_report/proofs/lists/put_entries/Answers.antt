@@ -1,4 +1,4 @@
-use Rattle.report.specs.Places.{entry_lines}
+use Rattle.world_report.specs.Places.{entry_lines}
 use Rattle.world_report.proofs.Joining.{blocks_go_on, blocks_are_done}
 use Rattle.world_report.proofs.lists.put_entries.Goals as goal
 

@@ -1,7 +1,7 @@
 use Rattle.std.proofs.Common.{◌≡◌, ◌++◌, drop, map}
 use Rattle.std.specs.List.{flat_map}
-use Rattle.report.specs.Words.{lines_text}
-use Rattle.report.specs.Places.{entry_lines}
+use Rattle.world_report.specs.Words.{lines_text}
+use Rattle.world_report.specs.Places.{entry_lines}
 use Rattle.world_report.proofs.lists.put_entries.Given as goal
 
 -- the lines so far, and then those of what is left

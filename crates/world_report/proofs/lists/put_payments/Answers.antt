@@ -1,4 +1,4 @@
-use Rattle.report.specs.Rulings.{paid_line}
+use Rattle.world_report.specs.Rulings.{paid_line}
 use Rattle.world_report.proofs.Joining.{lines_go_on, lines_are_done}
 use Rattle.world_report.proofs.lists.put_payments.Goals as goal
 

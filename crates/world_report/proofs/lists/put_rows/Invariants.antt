@@ -2,8 +2,8 @@ use Rattle.std.proofs.Common.{◌≡◌, ◌++◌, drop}
 use Rattle.std.specs.List.{flat_map}
 use Rattle.bin_routes.specs.Table.{RouteMaps}
 use Rattle.claim_model.specs.Bytes.{bytes_with}
-use Rattle.report.specs.Words.{lines_text}
-use Rattle.report.specs.BookRows.{row_lines}
+use Rattle.world_report.specs.Words.{lines_text}
+use Rattle.world_report.specs.BookRows.{row_lines}
 use Rattle.world_report.proofs.lists.put_rows.Given as goal
 
 -- the lines so far, and then those of the rows that are left

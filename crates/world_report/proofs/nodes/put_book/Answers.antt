@@ -1,7 +1,7 @@
 use Rattle.std.specs.List.{flat_map}
 use Rattle.std.proofs.lemmas.Result.{on_ok_weaker}
 use Rattle.claim_model.specs.Bytes.{bytes_with}
-use Rattle.report.specs.BookRows.{row_lines}
+use Rattle.world_report.specs.BookRows.{row_lines}
 use Rattle.world_report.proofs.Joining.{line_joins}
 use Rattle.world_report.proofs.nodes.put_book.Goals as goal
 

@@ -4,8 +4,8 @@ use Rattle.std.proofs.lemmas.Result.{on_ok_weaker}
 use Rattle.claim_model.specs.Bytes.{bytes_with}
 use Rattle.claim_model.specs.Counted.{counted}
 use Rattle.pharmacy_journal.specs.Listing.{listed}
-use Rattle.report.specs.Rulings.{paid_line}
-use Rattle.report.specs.Places.{entry_lines}
+use Rattle.world_report.specs.Rulings.{paid_line}
+use Rattle.world_report.specs.Places.{entry_lines}
 use Rattle.world_report.proofs.Joining.{line_joins}
 use Rattle.world_report.proofs.nodes.put_journal.Goals as goal
 

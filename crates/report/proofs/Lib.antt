@@ -1,4 +1,0 @@
-pub mod Joining
-pub mod Payments
-pub mod Loops
-pub mod Headers

@@ -1,6 +1,0 @@
--- In the order in which one explains them.
-pub mod Words
-pub mod Rulings
-pub mod Places
-pub mod BookRows
-pub mod Heads

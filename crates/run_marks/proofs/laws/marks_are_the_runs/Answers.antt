@@ -1,9 +1,0 @@
-use Rattle.claim_model.specs.Settings.{opening}
-use Rattle.run_marks.proofs.Counting.{each_packet, each_delivery}
-use Rattle.run_marks.proofs.laws.marks_are_the_runs.Goals as goal
-
-pub returns : goal.returns
-returns c = record {
-  packets = λ ctx settings events. each_packet ctx (opening settings) 1 events;
-  arrows = λ ctx w number events. each_delivery ctx w number events;
-}

@@ -1,4 +1,0 @@
--- In the order in which one explains them.
-pub mod Marks
-pub mod Seen
-pub mod Counts

@@ -1,0 +1,13 @@
+use Rattle.std.proofs.Common.{arith}
+use Rattle.std.proofs.lemmas.Result.{on_ok_weaker}
+use Rattle.world_report.proofs.Payments.{codes_split_join, no_codes_join}
+use Rattle.world_report.proofs.rulings.put_codes.Goals as goal
+
+pub returns-in_default : goal.returns-in_default
+returns-in_default c = on_ok_weaker c.put_word.result (λ last. no_codes_join c.args.out.now.items c.put_word.new.out.items c.args.codes.now c.in_default.len_below last) c.put_word.ensures
+
+pub returns : goal.returns
+returns c =
+    on_ok_weaker c.put_more_codes.result
+    (λ last. codes_split_join c.args.out.now.items c.put_word-2.new.out.items c.put_more_codes.new.out.items c.args.codes.now (omega arith) (rw c.text.ensures at c.in_ok-put_word.ensures) last)
+    c.put_more_codes.ensures

@@ -1,0 +1,75 @@
+//! The lines of the rows of a payer's book.
+
+ghost use Rattle.std.specs.Prelude.{◌≡◌, ◌++◌, IsSome, OnOk};
+ghost use Rattle.bin_routes.specs.Table.{RouteMaps};
+ghost use Rattle.claim_profile.specs.Readable.{readable_header};
+ghost use Rattle.claim_model.specs.Bytes.{bytes_with};
+ghost use Rattle.claim_model.specs.Payments.{payment_of};
+ghost use Rattle.claim_model.specs.Rows.{ruled_rows};
+ghost use Rattle.world_report.specs.Words.{lines_text};
+ghost use Rattle.world_report.specs.BookRows.{code_in, is_reversed, was_reversed, row_lines};
+
+use crate::places::Place;
+use crate::rows::put_row_place;
+use claim_profile::{Auth, Ruling};
+use payer_book::{Book, Row};
+use std::alloc::AllocError;
+
+/// Appends the lines of a row of this book: one for each place of its request, and behind a payment whether it stands.
+pub fn put_row(out: &mut Vec<u8>, book: &Book, row: &Row) -> Result<(), AllocError>
+    ensures { (routes : RouteMaps) → OnOk result (out.new.items ≡ out.old.items ++ lines_text (row_lines (bytes_with routes) book.now.rows row.now)) }
+{
+    let (id, code) = (row.id(), code_of(row));
+    let rulings = row.rulings();
+    let count = rulings.len() as u64;
+    for (passed, ruling) in rulings.iter().enumerate() {
+        let place = Place {
+            count,
+            number: passed as u64 + 1,
+            code,
+        };
+        put_row_place(out, id, &place, ruling, was_reversed(book, ruling))?;
+    }
+    Ok(())
+}
+
+/// The code of a row's request (103-A3).
+fn code_of(row: &Row) -> [u8; 2]
+    ensures { result ≡ code_in (readable_header row.now.request) }
+{
+    let _readable = row.answer();
+    request_code(row.request())
+}
+
+/// The code of a readable request, as it stands in its header.
+#[tactic(auto, using(crate::proofs::Headers::readable_long))]
+fn request_code(request: &[u8]) -> [u8; 2]
+    requires { IsSome (readable_header request.now) }
+    ensures { result ≡ code_in (readable_header request.now) }
+{
+    let mut code = [0; 2];
+    code.copy_from_slice(&request[8..10]);
+    code
+}
+
+/// Whether a ruling made a payment that was reversed.
+fn was_reversed(book: &Book, ruling: &Ruling) -> bool
+    ensures { (routes : RouteMaps) → result ≡ was_reversed (bytes_with routes) book.now.rows ruling.now }
+{
+    match *ruling {
+        Ruling::Paid { auth, .. } => is_reversed(book, auth),
+        Ruling::Duplicate { .. } => false,
+        Ruling::Reversed { .. } => false,
+        Ruling::Rejected { .. } => false,
+    }
+}
+
+/// Whether the payment of an authorization was reversed.
+fn is_reversed(book: &Book, auth: Auth) -> bool
+    ensures { (routes : RouteMaps) → result ≡ is_reversed (payment_of auth (ruled_rows (bytes_with routes) book.now.rows)) }
+{
+    match book.payment(auth) {
+        Some(payment) => payment.reversed_by.is_some(),
+        None => false,
+    }
+}

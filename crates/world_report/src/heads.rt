@@ -1,0 +1,72 @@
+//! The lines of events, and those that name a node.
+
+ghost use Rattle.std.specs.Prelude.{◌≡◌, ◌∷◌, [], ◌-◌, ◌++◌, decimal, map, OnOk};
+ghost use Rattle.world_report.specs.Words.{behind_spaces, line_text};
+ghost use Rattle.world_report.specs.Heads.{power_word, head_line, numbers_from, done_line, refused_line};
+
+use crate::words::{end_line, put_number, put_word};
+use input_text::put_decimal;
+use std::alloc::AllocError;
+use std::ops::Range;
+
+/// Appends the line of a node: its kind and number, `up` or `down`, and how many entries or rows it has.
+pub fn put_head(
+    out: &mut Vec<u8>,
+    kind: &[u8],
+    number: u64,
+    up: bool,
+    noun: &[u8],
+    count: u64,
+) -> Result<(), AllocError>
+    ensures { OnOk result (out.new.items ≡ out.old.items ++ line_text (head_line kind.now number up noun.now count)) }
+{
+    out.extend_from_slice(kind)?;
+    put_number(out, number)?;
+    put_state(out, up, noun, count)?;
+    end_line(out)
+}
+
+/// Appends whether a node is up, and how many entries or rows it has.
+fn put_state(out: &mut Vec<u8>, up: bool, noun: &[u8], count: u64) -> Result<(), AllocError>
+    ensures { OnOk result (out.new.items ≡ out.old.items ++ behind_spaces (power_word up ∷ noun.now ∷ decimal count ∷ [])) }
+{
+    put_word(out, power_word(up))?;
+    put_word(out, noun)?;
+    put_number(out, count)
+}
+
+fn power_word(up: bool) -> &'static [u8]
+    ensures { result.now ≡ power_word up }
+{
+    if up { b"up" } else { b"down" }
+}
+
+/// Appends the line of an event that was made: its number from 1, and the numbers of the packets that it sent.
+pub fn put_done(out: &mut Vec<u8>, event: u64, sent: Range<u64>) -> Result<(), AllocError>
+    ensures { OnOk result (out.new.items ≡ out.old.items ++ line_text (done_line event (numbers_from sent.start (sent.end - sent.start)))) }
+{
+    put_decimal(out, event)?;
+    put_word(out, b"ok")?;
+    put_numbers(out, sent.start, sent.end)?;
+    end_line(out)
+}
+
+/// Appends the numbers from `first` on, up to the one before `past`.
+fn put_numbers(out: &mut Vec<u8>, first: u64, past: u64) -> Result<(), AllocError>
+    ensures { OnOk result (out.new.items ≡ out.old.items ++ behind_spaces (map decimal (numbers_from first (past - first)))) }
+{
+    for number in first..past {
+        put_number(out, number)?;
+    }
+    Ok(())
+}
+
+/// Appends the line of an event that was refused: its number from 1, and the refusal's name.
+pub fn put_refused(out: &mut Vec<u8>, event: u64, name: &[u8]) -> Result<(), AllocError>
+    ensures { OnOk result (out.new.items ≡ out.old.items ++ line_text (refused_line event name.now)) }
+{
+    put_decimal(out, event)?;
+    put_word(out, b"refused")?;
+    put_word(out, name)?;
+    end_line(out)
+}

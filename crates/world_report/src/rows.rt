@@ -1,0 +1,83 @@
+//! The lines of a switch's table and of a payer's book.
+
+ghost use Rattle.std.specs.Prelude.{◌≡◌, ◌∷◌, [], ◌++◌, OnOk};
+ghost use Rattle.world_report.specs.Words.{behind_spaces, line_text};
+ghost use Rattle.world_report.specs.Places.{place_line, txn_name, flight_word, flight_line, standing_word, standing_words, row_words};
+
+use crate::places::{Place, put_mark};
+use crate::rulings::put_ruling;
+use crate::words::{end_line, put_word};
+use claim_profile::Ruling;
+use envelope::TxnId;
+use input_text::put_decimal;
+use std::alloc::AllocError;
+use switch_node::InFlight;
+
+/// Appends the line of a request in flight: its transaction, and `answered` or `open`.
+pub fn put_in_flight(out: &mut Vec<u8>, request: &InFlight) -> Result<(), AllocError>
+    ensures { OnOk result (out.new.items ≡ out.old.items ++ line_text (flight_line request.now.id request.now.answered)) }
+{
+    put_txn(out, request.id)?;
+    put_word(out, flight_word(request.answered))?;
+    end_line(out)
+}
+
+fn flight_word(answered: bool) -> &'static [u8]
+    ensures { result.now ≡ flight_word answered }
+{
+    if answered { b"answered" } else { b"open" }
+}
+
+/// Appends the line of a place of a row: its transaction, the code of the request, the ruling, and behind a payment
+/// `reversed` or `standing`.
+pub(crate) fn put_row_place(
+    out: &mut Vec<u8>,
+    id: TxnId,
+    place: &Place,
+    ruling: &Ruling,
+    reversed: bool,
+) -> Result<(), AllocError>
+    ensures { OnOk result (out.new.items ≡ out.old.items ++ line_text (place_line (txn_name id) place.now.count place.now.number place.now.code (row_words ruling.now reversed))) }
+{
+    put_txn(out, id)?;
+    put_mark(out, place)?;
+    put_word(out, &place.code)?;
+    put_ruled(out, ruling, reversed)?;
+    end_line(out)
+}
+
+/// Appends a ruling and whether its payment stands.
+fn put_ruled(out: &mut Vec<u8>, ruling: &Ruling, reversed: bool) -> Result<(), AllocError>
+    ensures { OnOk result (out.new.items ≡ out.old.items ++ behind_spaces (row_words ruling.now reversed)) }
+{
+    put_ruling(out, ruling)?;
+    put_standing(out, ruling, reversed)
+}
+
+/// Appends whether a payment stands; nothing behind another ruling.
+#[tactic(auto, using(crate::proofs::JoinedWords::no_words))]
+fn put_standing(out: &mut Vec<u8>, ruling: &Ruling, reversed: bool) -> Result<(), AllocError>
+    ensures { OnOk result (out.new.items ≡ out.old.items ++ behind_spaces (standing_words ruling.now reversed)) }
+{
+    match ruling {
+        Ruling::Paid { .. } => put_word(out, standing_word(reversed)),
+        Ruling::Duplicate { .. } => Ok(()),
+        Ruling::Reversed { .. } => Ok(()),
+        Ruling::Rejected { .. } => Ok(()),
+    }
+}
+
+fn standing_word(reversed: bool) -> &'static [u8]
+    ensures { result.now ≡ standing_word reversed }
+{
+    if reversed { b"reversed" } else { b"standing" }
+}
+
+/// Appends a transaction: the pharmacy, a point, and its number there.
+fn put_txn(out: &mut Vec<u8>, id: TxnId) -> Result<(), AllocError>
+    ensures { OnOk result (out.new.items ≡ out.old.items ++ txn_name id) }
+{
+    put_decimal(out, u64::from(id.pharmacy()))?;
+    out.push(b'.')?;
+    put_decimal(out, id.number())
+}
