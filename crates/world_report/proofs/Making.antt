@@ -1,14 +1,13 @@
 -- How events follow one another in a report.
-use Rattle.std.proofs.Common.{◌≡◌, ℕ, ◌+◌, ◌-◌, ◌<◌, ◌≤◌, List, [], ◌∷◌, ◌++◌, length, drop, get_or, map, Option, Some, None, refl, sym, ap, ◌∙◌, arith}
+use Rattle.std.proofs.Common.{◌≡◌, ℕ, ◌+◌, ◌-◌, ◌<◌, ◌≤◌, List, ◌∷◌, ◌++◌, length, drop, get_or, map, Some, refl, sym, ap, ◌∙◌, arith}
 use Rattle.std.proofs.lemmas.List.{at_drop_more, drop_all}
 use Rattle.claim_model.specs.Context.{Context}
 use Rattle.claim_model.specs.Node.{Outcome, Done, Refused}
 use Rattle.claim_model.specs.World.{World, step, world_after, run}
 use Rattle.world_setup.specs.declared.event.Event.{Event}
 use Rattle.world_setup.specs.Seen.{event_seen}
-use Rattle.world_setup.specs.Refused.{RefusedAs}
 use Rattle.world_core.specs.Stepping.{next_of}
-use Rattle.world_report.specs.Words.{Line, line_text, lines_text}
+use Rattle.world_report.specs.Words.{line_text, lines_text}
 use Rattle.world_report.specs.Heads.{done_line, refused_line, numbers_from}
 use Rattle.world_setup.specs.Names.{refusal_name}
 use Rattle.claim_model.specs.Refusal.{Refusal}

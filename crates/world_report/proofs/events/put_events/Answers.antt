@@ -1,4 +1,4 @@
-use Rattle.std.proofs.Common.{ap, ◌∙◌, sym}
+use Rattle.std.proofs.Common.{◌∙◌}
 use Rattle.world_core.specs.Parts.{context_of}
 use Rattle.world_report.proofs.Making.{events_go_on, events_are_told, run_goes_on, run_is_done}
 use Rattle.world_report.proofs.events.put_events.Goals as goal

@@ -1,5 +1,4 @@
 use Rattle.std.proofs.Common.{◌≡◌, ◌++◌, drop, map}
-use Rattle.std.specs.List.{flat_map}
 use Rattle.world_report.specs.Words.{lines_text}
 use Rattle.world_report.specs.Rulings.{paid_line}
 use Rattle.world_report.proofs.lists.put_payments.Given as goal

@@ -1,5 +1,4 @@
-use Rattle.std.proofs.Common.{ap, ◌∙◌, ◌++◌, List}
-use Rattle.std.specs.List.{flat_map}
+use Rattle.std.proofs.Common.{◌∙◌}
 use Rattle.claim_model.specs.Bytes.{bytes_with}
 use Rattle.world_report.specs.BookRows.{row_lines}
 use Rattle.world_report.proofs.Joining.{blocks_go_on, blocks_are_done}

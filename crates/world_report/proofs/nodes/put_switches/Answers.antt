@@ -1,4 +1,3 @@
-use Rattle.claim_model.specs.Bytes.{bytes_with}
 use Rattle.world_report.specs.Nodes.{switch_lines}
 use Rattle.world_report.proofs.Joining.{nodes_go_on, nodes_are_done}
 use Rattle.world_report.proofs.nodes.put_switches.Goals as goal

@@ -1,6 +1,4 @@
 use Rattle.std.proofs.Common.{◌≡◌, ◌+◌, ◌++◌, drop}
-use Rattle.bin_routes.specs.Table.{RouteMaps}
-use Rattle.claim_model.specs.Bytes.{bytes_with}
 use Rattle.world_report.specs.Words.{lines_text}
 use Rattle.world_report.specs.Nodes.{switch_lines, lines_from}
 use Rattle.world_report.proofs.nodes.put_switches.Given as goal
