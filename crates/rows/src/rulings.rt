@@ -1,6 +1,6 @@
 //! Rulings that are written as the answer to a request, and read back.
 
-ghost use Rattle.std.specs.Prelude.{◌≡◌, length};
+ghost use Rattle.std.specs.Prelude.{◌≡◌, [], ◌∷◌, length};
 ghost use Rattle.claim_profile.specs.Answer.{AreWritable, IsWritable};
 
 use crate::arguments::{amount_of, four_first, number_first, two_first};
@@ -142,41 +142,66 @@ fn rejects_first(alloc: Global, argument: &[u8]) -> Option<(Rejects, &[u8])> {
 fn accepted(told: &mut Told, alloc: Global, request: &[u8], ruling: Ruling)
     requires { IsWritable ruling }
 {
-    match RequestHeader::read(request) {
-        Ok(header) => match header.count() {
-            1 => write(told, alloc, &header, HeaderStatus::Accepted, &[ruling]),
-            4 => {
-                let rulings = [ruling, ruling, ruling, ruling];
-                write(told, alloc, &header, HeaderStatus::Accepted, &rulings);
-            }
-            _ => told.refuse(),
-        },
-        Err(_) => told.refuse(),
-    }
+    answer(told, alloc, request, HeaderStatus::Accepted, ruling);
 }
 
 /// Tells the answer that refuses a request, and rejects each transaction with the same codes.
 fn refused(told: &mut Told, alloc: Global, argument: &[u8]) {
     match rejects_first(alloc, argument) {
-        Some((rejects, request)) => refuse_all(told, alloc, request, rejects),
+        Some((rejects, request)) => {
+            let ruling = Ruling::Rejected { rejects };
+            answer(told, alloc, request, HeaderStatus::Rejected, ruling);
+        }
         None => told.refuse(),
     }
 }
 
-/// The same with these codes.
-fn refuse_all(told: &mut Told, alloc: Global, request: &[u8], rejects: Rejects) {
-    let ruling = Ruling::Rejected { rejects };
+/// Tells the answer of this status that rules so about each transaction of a request.
+fn answer(told: &mut Told, alloc: Global, request: &[u8], status: HeaderStatus, ruling: Ruling)
+    requires { AreWritable status (ruling ∷ []) }
+{
     match RequestHeader::read(request) {
         Ok(header) => match header.count() {
-            1 => write(told, alloc, &header, HeaderStatus::Rejected, &[ruling]),
-            4 => {
-                let rulings = [ruling, ruling, ruling, ruling];
-                write(told, alloc, &header, HeaderStatus::Rejected, &rulings);
-            }
+            1 => answer_one(told, alloc, &header, status, ruling),
+            4 => answer_four(told, alloc, &header, status, &ruling),
             _ => told.refuse(),
         },
         Err(_) => told.refuse(),
     }
+}
+
+/// The same for one transaction.
+fn answer_one(
+    told: &mut Told,
+    alloc: Global,
+    header: &RequestHeader,
+    status: HeaderStatus,
+    ruling: Ruling,
+)
+    requires count { header.now.count ≡ 1 }
+    requires writable { AreWritable status (ruling ∷ []) }
+{
+    write(told, alloc, header, status, &[ruling]);
+}
+
+/// The same for four transactions.
+fn answer_four(
+    told: &mut Told,
+    alloc: Global,
+    header: &RequestHeader,
+    status: HeaderStatus,
+    ruling: &Ruling,
+)
+    requires count { header.now.count ≡ 4 }
+    requires writable { AreWritable status (ruling.now ∷ []) }
+{
+    write(
+        told,
+        alloc,
+        header,
+        status,
+        &[*ruling, *ruling, *ruling, *ruling],
+    );
 }
 
 /// Tells the text of an answer, and that it is read back as another one where it is.
