@@ -1,5 +1,6 @@
 //! Answers: what a payer rules, read in full and checked in place.
 
+use crate::telling::differ;
 use case_files::{Subject, Told};
 use claim_profile::{Amounts, Answer, AnswerFault, Auth, Ruling, check_answer, read_answer};
 use d0_header::ResponseHeader;
@@ -29,7 +30,7 @@ fn answer(told: &mut Told, alloc: Global, text: &[u8]) {
 /// Tells the rulings of an answer that is checked with the same header.
 fn taken(told: &mut Told, answer: &Answer, checked: Result<ResponseHeader, AnswerFault>) {
     if checked != Ok(*answer.header()) {
-        return told.word("doors differ");
+        return differ(told);
     }
     for ruling in answer.rulings() {
         tell_ruling(told, *ruling);
@@ -41,7 +42,7 @@ fn refused(told: &mut Told, fault: AnswerFault, checked: Result<ResponseHeader, 
     if checked == Err(fault) {
         told.named(fault);
     } else {
-        told.word("doors differ");
+        differ(told);
     }
 }
 

@@ -1,6 +1,7 @@
 //! Byte strings that can be shared.
 
 use crate::arguments::{place_first, text_of};
+use crate::telling::differ;
 use case_files::{Subject, Told};
 use input_text::split_word;
 use octets::Octets;
@@ -43,7 +44,7 @@ impl Subject for ByteStrings {
 /// Tells what the bytes of a vector are.
 fn of_vector(told: &mut Told, alloc: Global, argument: &[u8]) {
     match Vec::from_slice(alloc, argument) {
-        Ok(bytes) => whole(told, &Octets::from(bytes)),
+        Ok(bytes) => whole(told, &Octets::from_vec(bytes)),
         Err(_) => told.refuse(),
     }
 }
@@ -80,8 +81,8 @@ fn copy_again(told: &mut Told, octets: &Octets, other: &Octets) {
 
 /// Tells a string that is shared, a copy of it, and what it is when it is shared once more.
 fn share(told: &mut Told, alloc: Global, argument: &[u8]) {
-    match Octets::copy_of(alloc, argument) {
-        Ok(octets) => share_copy(told, &octets),
+    match Vec::from_slice(alloc, argument) {
+        Ok(bytes) => share_copy(told, &Octets::from(bytes)),
         Err(_) => told.refuse(),
     }
 }
@@ -117,7 +118,10 @@ fn compare(told: &mut Told, alloc: Global, argument: &[u8]) {
 /// The same of a string and bytes.
 fn compare_with(told: &mut Told, alloc: Global, first: &Octets, second: &[u8]) {
     match Octets::copy_of(alloc, second) {
-        Ok(second) => tell_order(told, first.cmp(&second), first.partial_cmp(&second)),
+        Ok(second) => {
+            tell_order(told, first.cmp(&second), first.partial_cmp(&second));
+            told.word(if *first == second { "equal" } else { "unequal" });
+        }
         Err(_) => told.refuse(),
     }
 }
@@ -127,7 +131,7 @@ fn tell_order(told: &mut Told, order: Ordering, partial: Option<Ordering>) {
     if partial == Some(order) {
         told.named(order);
     } else {
-        told.word("doors differ");
+        differ(told);
     }
 }
 
@@ -172,14 +176,22 @@ fn end_of(octets: &Octets, start: usize) -> Option<Octets> {
     }
 }
 
-/// Tells the end, but for its first byte, of the end of a shared string, when all that it was cut from is gone.
+/// Tells the end, from its second byte on, of the end of a shared string, when both that it was cut from are gone.
 fn end_of_end(told: &mut Told, alloc: Global, argument: &[u8]) {
     match place_first(argument) {
-        Some((start, text)) => match shared_end(alloc, text, start) {
-            Some(end) => tell_tail(told, &end, 1),
+        Some((start, text)) => match last_end(alloc, text, start) {
+            Some(last) => told.bytes(last.as_slice()),
             None => told.refuse(),
         },
         None => told.refuse(),
+    }
+}
+
+/// The same end, without what it was cut from.
+fn last_end(alloc: Global, text: &[u8], start: usize) -> Option<Octets> {
+    match shared_end(alloc, text, start) {
+        Some(end) => end_of(&end, 1),
+        None => None,
     }
 }
 

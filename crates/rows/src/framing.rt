@@ -4,6 +4,7 @@ ghost use Rattle.std.specs.Prelude.{◌≡◌};
 
 use crate::arguments::number_first;
 use crate::replacing::each_replaced;
+use crate::telling::differ;
 use case_files::{Subject, Told};
 use d0_header::RequestHeader;
 use d0_segments::{
@@ -38,10 +39,10 @@ fn request(told: &mut Told, alloc: Global, text: &[u8]) {
                 told.shown(framed.header().count());
                 parts(told, alloc, &built, &framed, text);
             }
-            Err(_) => told.word("doors differ"),
+            Err(_) => differ(told),
         },
         Err(fault) => match check_request(text) {
-            Ok(_) => told.word("doors differ"),
+            Ok(_) => differ(told),
             Err(same) => tell_fault(told, fault, same),
         },
     }
@@ -55,10 +56,10 @@ fn response(told: &mut Told, alloc: Global, text: &[u8]) {
                 told.shown(framed.header().count());
                 parts(told, alloc, &built, &framed, text);
             }
-            Err(_) => told.word("doors differ"),
+            Err(_) => differ(told),
         },
         Err(fault) => match check_response(text) {
-            Ok(_) => told.word("doors differ"),
+            Ok(_) => differ(told),
             Err(same) => tell_fault(told, fault, same),
         },
     }
@@ -69,7 +70,7 @@ fn tell_fault(told: &mut Told, fault: FramingFault, checked: FramingFault) {
     if checked == fault {
         told.named(fault);
     } else {
-        told.word("doors differ");
+        differ(told);
     }
 }
 
@@ -96,7 +97,7 @@ fn both(told: &mut Told, listed: &[u8], placed: &[u8]) {
     if listed == placed {
         told.bytes(listed);
     } else {
-        told.word("doors differ");
+        differ(told);
     }
 }
 
@@ -148,11 +149,24 @@ fn put_field(out: &mut Vec<u8>, field: &Field<'_>) -> Result<(), AllocError> {
 fn placed<H: Header>(alloc: Global, framed: &Framed<'_, H>) -> Result<Vec<u8>, AllocError> {
     let mut out = Vec::new(alloc);
     put_placed(&mut out, framed.body())?;
-    for place in 0..framed.group_count() {
-        out.push(b'+')?;
-        put_placed(&mut out, framed.group(place))?;
-    }
+    put_groups(&mut out, framed.body(), framed.group_count())?;
     Ok(out)
+}
+
+/// Appends the parts of so many groups from a place on, and `+` for one that is too many.
+fn put_groups(out: &mut Vec<u8>, from: Cursor<'_>, count: usize) -> Result<(), AllocError> {
+    let mut rest = from;
+    for _ in 0..count {
+        if let Some(group) = rest.group() {
+            out.push(b'+')?;
+            put_placed(out, group)?;
+            rest = group;
+        }
+    }
+    if rest.group().is_some() {
+        out.push(b'+')?;
+    }
+    Ok(())
 }
 
 /// Appends the parts of the segments from a place up to the next group.

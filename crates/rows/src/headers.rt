@@ -1,5 +1,6 @@
 //! Headers of requests and of answers, and days of the calendar.
 
+use crate::telling::part;
 use case_files::{Subject, Told};
 use d0_header::{RequestHeader, ResponseHeader, is_date};
 use std::alloc::Global;
@@ -35,27 +36,19 @@ fn request(told: &mut Told, text: &[u8]) {
 
 /// Tells to whom a request goes, and what it asks for.
 fn processor(told: &mut Told, header: &RequestHeader) {
-    told.word("bin");
-    told.bytes(&header.bin());
-    told.word("version");
-    told.bytes(&header.version());
-    told.word("code");
-    told.bytes(&header.code());
-    told.word("pcn");
-    told.bytes(&header.pcn());
+    part(told, "bin", &header.bin());
+    part(told, "version", &header.version());
+    part(told, "code", &header.code());
+    part(told, "pcn", &header.pcn());
     told.field("count", header.count());
 }
 
 /// Tells from whom a request comes.
 fn sender(told: &mut Told, header: &RequestHeader) {
-    told.word("qualifier");
-    told.bytes(&header.qualifier());
-    told.word("provider");
-    told.bytes(&header.provider());
-    told.word("date");
-    told.bytes(&header.date());
-    told.word("vendor");
-    told.bytes(&header.vendor());
+    part(told, "qualifier", &header.qualifier());
+    part(told, "provider", &header.provider());
+    part(told, "date", &header.date());
+    part(told, "vendor", &header.vendor());
 }
 
 /// Tells the header that a request begins with as it is written.
@@ -84,19 +77,13 @@ fn response(told: &mut Told, text: &[u8]) {
 
 /// Tells the fields of the header of an answer.
 fn answer(told: &mut Told, header: &ResponseHeader) {
-    told.word("version");
-    told.bytes(&header.version());
-    told.word("code");
-    told.bytes(&header.code());
+    part(told, "version", &header.version());
+    part(told, "code", &header.code());
     told.field("count", header.count());
-    told.word("status");
-    told.bytes(&[header.status()]);
-    told.word("qualifier");
-    told.bytes(&header.qualifier());
-    told.word("provider");
-    told.bytes(&header.provider());
-    told.word("date");
-    told.bytes(&header.date());
+    part(told, "status", &[header.status()]);
+    part(told, "qualifier", &header.qualifier());
+    part(told, "provider", &header.provider());
+    part(told, "date", &header.date());
 }
 
 /// Tells the header that an answer begins with as it is written.

@@ -19,6 +19,7 @@ mod printed_text;
 mod replacing;
 mod routes;
 mod rulings;
+mod telling;
 
 use case_files::{CaseFile, Runner, Suite, run};
 use std::alloc::AllocError;

@@ -1,5 +1,6 @@
 //! Orders: what the transactions of a request ask for, read in a list and in place.
 
+use crate::telling::{differ, part};
 use case_files::{Subject, Told};
 use claim_profile::{
     Claim, Order, OrderFault, Reversal, check_readable, order_at, read_order, read_readable,
@@ -27,10 +28,10 @@ fn order(told: &mut Told, alloc: Global, text: &[u8]) {
     match read_readable(alloc, text) {
         Ok(request) => match check_readable(text) {
             Some(framed) => each_order(told, &request, &framed),
-            None => told.word("doors differ"),
+            None => differ(told),
         },
         Err(fault) => match check_readable(text) {
-            Some(_) => told.word("doors differ"),
+            Some(_) => differ(told),
             None => told.named(fault),
         },
     }
@@ -43,7 +44,7 @@ fn each_order(
     framed: &Framed<'_, RequestHeader>,
 ) {
     if request.groups().len() != framed.group_count() {
-        return told.word("doors differ");
+        return differ(told);
     }
     for place in 0..request.groups().len() {
         outcome(told, read_order(request, place), order_at(framed, place));
@@ -53,7 +54,7 @@ fn each_order(
 /// Tells whether an order is taken, on which both readers agree.
 fn outcome(told: &mut Told, read: Result<Order, OrderFault>, found: Result<Order, OrderFault>) {
     if read != found {
-        return told.word("doors differ");
+        return differ(told);
     }
     match read {
         Ok(_) => told.word("taken"),
@@ -86,26 +87,19 @@ fn first_order(told: &mut Told, framed: &Framed<'_, RequestHeader>) {
 
 /// Tells which dispensing a claim is for.
 fn tell_fill(told: &mut Told, claim: &Claim) {
-    told.word("bin");
-    told.bytes(&claim.fill.bin);
-    told.word("pcn");
-    told.bytes(&claim.fill.pcn);
-    told.word("qualifier");
-    told.bytes(&claim.fill.qualifier);
-    told.word("provider");
-    told.bytes(&claim.fill.provider);
+    part(told, "bin", &claim.fill.bin);
+    part(told, "pcn", &claim.fill.pcn);
+    part(told, "qualifier", &claim.fill.qualifier);
+    part(told, "provider", &claim.fill.provider);
     told.field("prescription", claim.fill.prescription);
     told.field("fill", claim.fill.fill);
 }
 
 /// Tells what was dispensed to whom, and what is asked for it.
 fn tell_claim(told: &mut Told, claim: &Claim) {
-    told.word("date");
-    told.bytes(&claim.date);
-    told.word("cardholder");
-    told.bytes(claim.cardholder.as_slice());
-    told.word("product");
-    told.bytes(claim.product.as_slice());
+    part(told, "date", &claim.date);
+    part(told, "cardholder", claim.cardholder.as_slice());
+    part(told, "product", claim.product.as_slice());
     told.field("quantity", claim.quantity);
     told.field("cost", claim.cost);
     told.field("fee", claim.fee);
@@ -113,19 +107,14 @@ fn tell_claim(told: &mut Told, claim: &Claim) {
 
 /// Tells which payment a reversal is for.
 fn tell_reversal(told: &mut Told, reversal: &Reversal) {
-    told.word("bin");
-    told.bytes(&reversal.bin);
-    told.word("pcn");
-    told.bytes(&reversal.pcn);
-    told.word("qualifier");
-    told.bytes(&reversal.qualifier);
-    told.word("provider");
-    told.bytes(&reversal.provider);
+    part(told, "bin", &reversal.bin);
+    part(told, "pcn", &reversal.pcn);
+    part(told, "qualifier", &reversal.qualifier);
+    part(told, "provider", &reversal.provider);
     told.field("prescription", reversal.prescription);
     match reversal.fill {
         Some(fill) => told.field("fill", fill),
         None => told.word("any fill"),
     }
-    told.word("date");
-    told.bytes(&reversal.date);
+    part(told, "date", &reversal.date);
 }
