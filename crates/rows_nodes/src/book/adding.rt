@@ -33,9 +33,13 @@ impl Books {
 
 /// The number, the request and the answer of a row.
 fn kept_row(argument: &[u8]) -> Option<(TxnId, &[u8], &[u8])> {
-    let (id, texts) = numbered(argument)?;
-    let (request, answer) = cut(texts, b" answered ")?;
-    Some((id, request, answer))
+    match numbered(argument) {
+        Some((id, texts)) => match cut(texts, b" answered ") {
+            Some((request, answer)) => Some((id, request, answer)),
+            None => None,
+        },
+        None => None,
+    }
 }
 
 /// Adds a row, and tells whether it stands, and how many rows there are then.

@@ -65,10 +65,10 @@ impl Books {
 fn altered(argument: &[u8]) -> Option<(usize, u8, BookSettings, &[u8])> {
     let (place, rest) = placed(argument)?;
     match rest {
-        [byte, b' ', rest @ ..] => {
-            let (settings, text) = book_settings(rest)?;
-            Some((place, *byte, settings, text))
-        }
+        [byte, b' ', rest @ ..] => match book_settings(rest) {
+            Some((settings, text)) => Some((place, *byte, settings, text)),
+            None => None,
+        },
         _ => None,
     }
 }
