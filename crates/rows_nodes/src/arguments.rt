@@ -15,41 +15,77 @@ pub(crate) fn first_word(text: &[u8]) -> (&[u8], &[u8]) {
 /// The number of a first word `NAMENUMBER`, and what stands behind it.
 pub(crate) fn named_number<'a>(name: &[u8], text: &'a [u8]) -> Option<(u64, &'a [u8])> {
     let (word, rest) = first_word(text);
-    let digits = word.strip_prefix(name)?;
-    let number = read_decimal(digits, 18)?;
-    Some((number, rest))
+    match number_in(name, word) {
+        Some(number) => Some((number, rest)),
+        None => None,
+    }
+}
+
+/// The number of a word `NAMENUMBER`.
+fn number_in(name: &[u8], word: &[u8]) -> Option<u64> {
+    match word.strip_prefix(name) {
+        Some(digits) => read_decimal(digits, 18),
+        None => None,
+    }
 }
 
 /// The first serial number and the most rows of a book, and what stands behind them.
 pub(crate) fn book_settings(text: &[u8]) -> Option<(BookSettings, &[u8])> {
-    let (serial, rest) = named_number(b"serial=", text)?;
-    let (cap, rest) = named_number(b"cap=", rest)?;
-    let cap = u32::try_from(cap).ok()?;
-    let settings = BookSettings::new(serial, cap).ok()?;
-    Some((settings, rest))
+    match named_number(b"serial=", text) {
+        Some((serial, rest)) => settings_from(serial, rest),
+        None => None,
+    }
+}
+
+/// The same behind the first serial number.
+fn settings_from(serial: u64, text: &[u8]) -> Option<(BookSettings, &[u8])> {
+    match capped(text) {
+        Some((cap, rest)) => match BookSettings::new(serial, cap) {
+            Ok(settings) => Some((settings, rest)),
+            Err(_) => None,
+        },
+        None => None,
+    }
+}
+
+/// The most rows or entries, and what stands behind them.
+pub(crate) fn capped(text: &[u8]) -> Option<(u32, &[u8])> {
+    match named_number(b"cap=", text) {
+        Some((cap @ 0..=65_536, rest)) => Some((cap as u32, rest)),
+        _ => None,
+    }
 }
 
 /// The id of a request of pharmacy 1, and what stands behind its number.
 pub(crate) fn numbered(text: &[u8]) -> Option<(TxnId, &[u8])> {
-    let (number, rest) = named_number(b"", text)?;
-    let id = TxnId::new(1, number)?;
-    Some((id, rest))
+    match named_number(b"", text) {
+        Some((number, rest)) => match TxnId::new(1, number) {
+            Some(id) => Some((id, rest)),
+            None => None,
+        },
+        None => None,
+    }
 }
 
 /// A place in bytes that a first word tells, and what stands behind it.
 pub(crate) fn placed(text: &[u8]) -> Option<(usize, &[u8])> {
-    let (place, rest) = named_number(b"", text)?;
-    let place = usize::try_from(place).ok()?;
-    Some((place, rest))
+    match named_number(b"", text) {
+        Some((place, rest)) => Some((place as usize, rest)),
+        None => None,
+    }
 }
 
 /// What stands before and behind the first place of a mark.
 pub(crate) fn cut<'a>(text: &'a [u8], mark: &[u8]) -> Option<(&'a [u8], &'a [u8])> {
     for place in 0..text.len() {
-        if text[place..].starts_with(mark) {
-            let behind = text.get(place.saturating_add(mark.len())..)?;
+        if let Some(behind) = text[place..].strip_prefix(mark) {
             return Some((&text[..place], behind));
         }
     }
     None
+}
+
+/// Whether two texts are the same.
+pub(crate) fn are_same(one: &[u8], other: &[u8]) -> bool {
+    one == other
 }

@@ -2,7 +2,7 @@
 
 ghost use Rattle.std.specs.Prelude.{◌≡◌, IfSome, length};
 
-use crate::arguments::named_number;
+use crate::arguments::{capped, placed};
 use crate::records::{self, Kind};
 use case_files::{Subject, Told};
 use kept_records::{RecordFault, read_journal, save_journal, write_journal};
@@ -112,9 +112,9 @@ impl Journals {
 
     /// Tells the request and the answer of a number in the journal at rest.
     fn entry(&self, told: &mut Told, argument: &[u8]) {
-        match named_number(b"", argument) {
+        match placed(argument) {
             Some((number, _)) => match &self.rest {
-                Some(rest) => tell_entry(told, rest, number),
+                Some(rest) => tell_entry(told, rest, number as u64),
                 None => told.refuse(),
             },
             None => told.refuse(),
@@ -143,13 +143,6 @@ fn tell_text(told: &mut Told, text: Result<Vec<u8>, AllocError>) {
         Ok(text) => told.bytes(text.as_slice()),
         Err(_) => told.refuse(),
     }
-}
-
-/// The most entries of a journal, and what stands behind them.
-fn capped(argument: &[u8]) -> Option<(u32, &[u8])> {
-    let (cap, rest) = named_number(b"cap=", argument)?;
-    let cap = u32::try_from(cap).ok()?;
-    Some((cap, rest))
 }
 
 /// The settings of a pharmacy that tries switches 1 and 2.

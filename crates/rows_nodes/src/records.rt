@@ -1,6 +1,7 @@
 //! What holds of each kind of record, a book's or a journal's: what its beginnings come to, and what it comes to with one
 //! byte changed.
 
+use crate::arguments::are_same;
 use case_files::Told;
 use kept_records::RecordFault;
 use std::alloc::Global;
@@ -111,7 +112,7 @@ fn judge<K: Kind>(told: &mut Told, alloc: Global, kind: &K, bytes: Vec<u8>, coun
 /// Tells bytes that were read and are not the text of what they are read as.
 fn compare(told: &mut Told, text: &[u8], bytes: Vec<u8>) {
     let bytes = with_byte(bytes, VERSION_PLACE, WRITTEN);
-    if text != bytes.as_slice() {
+    if !are_same(text, bytes.as_slice()) {
         told.word("not-its-text");
         told.bytes(bytes.as_slice());
     }

@@ -1,6 +1,6 @@
 //! Books that are made again from kept rows, and rows that cannot stand.
 
-use crate::arguments::{cut, numbered};
+use crate::arguments::{are_same, cut, numbered};
 use crate::book::{Books, opening};
 use case_files::Told;
 use envelope::TxnId;
@@ -59,11 +59,10 @@ fn add_kept(told: &mut Told, rest: &mut BookAtRest, argument: &[u8]) {
 /// Tells that the last row is the one that was added.
 fn tell_last(told: &mut Told, row: Option<&Row>, request: &[u8], answer: &[u8]) {
     match row {
-        Some(row) => told.word(if row.request() == request && row.answer() == answer {
-            "stands"
-        } else {
-            "stands-otherwise"
-        }),
+        Some(row) => {
+            let same = are_same(row.request(), request) && are_same(row.answer(), answer);
+            told.word(if same { "stands" } else { "stands-otherwise" });
+        }
         None => told.word("is-lost"),
     }
 }

@@ -1,6 +1,6 @@
 //! What a book at work answers.
 
-use crate::arguments::{first_word, numbered};
+use crate::arguments::{are_same, first_word, numbered};
 use crate::book::{each, keys, opening, texts, views};
 use bin_routes::Routes;
 use case_files::Told;
@@ -56,7 +56,7 @@ fn tell_reply(told: &mut Told, book: &Book, id: TxnId, reply: &Reply) {
     told.bytes(reply.bytes.as_slice());
     match book.held(id) {
         Some(held) => {
-            if held != reply.bytes.as_slice() {
+            if !are_same(held, reply.bytes.as_slice()) {
                 told.word("held-otherwise");
             }
         }
@@ -101,8 +101,10 @@ fn price(told: &mut Told, book: &mut Book, argument: &[u8]) {
 
 /// The price that a word tells.
 fn read_price(word: &[u8]) -> Option<u32> {
-    let price = read_decimal(word, 9)?;
-    u32::try_from(price).ok()
+    match read_decimal(word, 9) {
+        Some(price @ 0..=999_999_999) => Some(price as u32),
+        _ => None,
+    }
 }
 
 /// Tells what a change of the plan came to.

@@ -8,7 +8,7 @@ use claim_profile::{Code, Rejects, Ruling};
 use envelope::TxnId;
 use input_text::put_decimal;
 use payer_book::Book;
-use std::alloc::{AllocError, Global};
+use std::alloc::Global;
 
 /// What came of a request: the serial number that it names, where it names one.
 #[derive(Clone, Copy, PartialEq, Eq)]
@@ -53,9 +53,13 @@ pub(crate) fn tell(told: &mut Told, alloc: Global, book: &mut Book, argument: &[
 
 /// How many prescriptions, and what is asked for each.
 fn counted(argument: &[u8]) -> Option<(u64, Form<'_>)> {
-    let (count, text) = named_number(b"", argument)?;
-    let (front, behind) = cut(text, b"@")?;
-    Some((count, Form { front, behind }))
+    match named_number(b"", argument) {
+        Some((count, text)) => match cut(text, b"@") {
+            Some((front, behind)) => Some((count, Form { front, behind })),
+            None => None,
+        },
+        None => None,
+    }
 }
 
 /// What comes of the request for each prescription.
@@ -110,17 +114,18 @@ fn next(
 /// The request for a prescription.
 fn spelled(alloc: Global, form: Form<'_>, prescription: u64) -> Option<Vec<u8>> {
     let mut text = Vec::new(alloc);
-    match put(&mut text, form, prescription) {
-        Ok(()) => Some(text),
-        Err(_) => None,
+    if put(&mut text, form, prescription) {
+        Some(text)
+    } else {
+        None
     }
 }
 
-/// Appends the request for a prescription.
-fn put(out: &mut Vec<u8>, form: Form<'_>, prescription: u64) -> Result<(), AllocError> {
-    out.extend_from_slice(form.front)?;
-    put_decimal(out, prescription)?;
-    out.extend_from_slice(form.behind)
+/// Appends the request for a prescription, and tells whether there was memory for it.
+fn put(out: &mut Vec<u8>, form: Form<'_>, prescription: u64) -> bool {
+    out.extend_from_slice(form.front).is_ok()
+        && put_decimal(out, prescription).is_ok()
+        && out.extend_from_slice(form.behind).is_ok()
 }
 
 /// What comes of a request.

@@ -46,8 +46,10 @@ fn chosen(name: &[u8]) -> Option<HashKeys> {
 
 /// The byte that a name tells.
 fn byte_of(name: &[u8]) -> Option<u8> {
-    let (byte, _) = named_number(b"byte=", name)?;
-    u8::try_from(byte).ok()
+    match named_number(b"byte=", name) {
+        Some((byte @ 0..=255, _)) => Some(byte as u8),
+        _ => None,
+    }
 }
 
 /// What a map with these keys begins each hash with.

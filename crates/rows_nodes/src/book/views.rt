@@ -29,10 +29,13 @@ pub(crate) fn payment(told: &mut Told, book: &Book, argument: &[u8]) {
 
 /// The authorization that an argument tells.
 fn authorization(argument: &[u8]) -> Option<Auth> {
-    let (payer, rest) = named_number(b"payer=", argument)?;
-    let (serial, _) = named_number(b"serial=", rest)?;
-    let payer = u16::try_from(payer).ok()?;
-    Auth::new(payer, serial)
+    match named_number(b"payer=", argument) {
+        Some((payer @ 0..=65_535, rest)) => match named_number(b"serial=", rest) {
+            Some((serial, _)) => Auth::new(payer as u16, serial),
+            None => None,
+        },
+        _ => None,
+    }
 }
 
 /// Tells a payment, and which request reversed it.
