@@ -1,0 +1,116 @@
+//! What a book at work answers.
+
+use crate::arguments::{are_same, first_word, numbered};
+use crate::book::{each, keys, opening, texts, views};
+use bin_routes::Routes;
+use case_files::Told;
+use envelope::{Envelope, TxnId};
+use input_text::read_decimal;
+use payer_book::{Book, PlanFault, Reply};
+use std::alloc::Global;
+
+/// Tells what comes of a step.
+pub(crate) fn tell(told: &mut Told, alloc: Global, book: &mut Book, word: &str, argument: &[u8]) {
+    match word {
+        "answer" | "packet" => request(told, alloc, book, word, argument),
+        "price" => price(told, book, argument),
+        "each" => each::tell(told, alloc, book, argument),
+        "keys" => keys::compare(told, book, argument),
+        "held" => views::held(told, book, argument),
+        "payment" => views::payment(told, book, argument),
+        "row" => views::row(told, book.rows(), argument),
+        "terms" => views::terms(told, book),
+        "write" => texts::written(told, alloc, book),
+        _ => told.refuse(),
+    }
+}
+
+/// A request comes to the book: `NUMBER REQUEST`.
+fn request(told: &mut Told, alloc: Global, book: &mut Book, word: &str, argument: &[u8]) {
+    match numbered(argument) {
+        Some((id, request)) => match opening::routes(alloc) {
+            Some(routes) => match word {
+                "answer" => answer(told, book, &routes, id, request),
+                _ => packet(told, book, &routes, id, request),
+            },
+            None => told.refuse(),
+        },
+        None => told.refuse(),
+    }
+}
+
+/// The book answers.
+fn answer(told: &mut Told, book: &mut Book, routes: &Routes, id: TxnId, request: &[u8]) {
+    match book.answer(routes, id, request) {
+        Ok(reply) => tell_reply(told, book, id, &reply),
+        Err(fault) => {
+            told.word("refused");
+            told.named(fault);
+        }
+    }
+}
+
+/// Tells an answer. The book has to hold it from now on.
+fn tell_reply(told: &mut Told, book: &Book, id: TxnId, reply: &Reply) {
+    told.word(if reply.kept { "kept" } else { "new" });
+    told.bytes(reply.bytes.as_slice());
+    match book.held(id) {
+        Some(held) => {
+            if !are_same(held, reply.bytes.as_slice()) {
+                told.word("held-otherwise");
+            }
+        }
+        None => told.word("not-held"),
+    }
+}
+
+/// The book answers with a packet.
+fn packet(told: &mut Told, book: &mut Book, routes: &Routes, id: TxnId, request: &[u8]) {
+    match book.answer_packet(routes, id, request) {
+        Ok(packet) => tell_packet(told, packet.as_slice()),
+        Err(fault) => {
+            told.word("refused");
+            told.named(fault);
+        }
+    }
+}
+
+/// Tells the kind, the id and the payload of a packet.
+fn tell_packet(told: &mut Told, packet: &[u8]) {
+    match Envelope::read(packet) {
+        Ok(envelope) => {
+            told.named(envelope.kind());
+            told.shown(envelope.id());
+            told.bytes(envelope.payload());
+        }
+        Err(fault) => told.named(fault),
+    }
+}
+
+/// The plan has another price from now on, in ten-thousandths of a dollar a unit, or none: `PRICE PRODUCT`, `off PRODUCT`.
+fn price(told: &mut Told, book: &mut Book, argument: &[u8]) {
+    let (word, product) = first_word(argument);
+    match word {
+        b"off" => tell_price(told, book.change_plan(product, None)),
+        _ => match read_price(word) {
+            Some(price) => tell_price(told, book.change_plan(product, Some(price))),
+            None => told.refuse(),
+        },
+    }
+}
+
+/// The price that a word tells.
+fn read_price(word: &[u8]) -> Option<u32> {
+    match read_decimal(word, 9) {
+        Some(price @ 0..=999_999_999) => Some(price as u32),
+        _ => None,
+    }
+}
+
+/// Tells what a change of the plan came to.
+fn tell_price(told: &mut Told, changed: Result<(), PlanFault>) {
+    match changed {
+        Ok(()) => told.word("ok"),
+        Err(fault) => told.named(fault),
+    }
+}

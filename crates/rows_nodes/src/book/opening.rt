@@ -1,0 +1,119 @@
+//! Opening, stopping and starting books.
+
+use crate::arguments::{book_settings, first_word};
+use crate::book::{Books, keys};
+use bin_routes::{RouteRow, Routes};
+use case_files::Told;
+use claim_profile::Amount;
+use octets::Octets;
+use payer_book::{Book, BookAtRest, BookSettings, HashKeys, PayerNo, Plan};
+use std::alloc::Global;
+
+impl Books {
+    /// Opens an empty book: `open serial=FIRST cap=ROWS`.
+    pub(crate) fn open(&mut self, told: &mut Told, alloc: Global, argument: &[u8]) {
+        match book_settings(argument) {
+            Some((settings, _)) => self.begin(told, opened(alloc, settings)),
+            None => told.refuse(),
+        }
+    }
+
+    /// Opens an empty book whose maps hash with these keys: `open-keyed KEYS serial=FIRST cap=ROWS`.
+    pub(crate) fn open_keyed(&mut self, told: &mut Told, alloc: Global, argument: &[u8]) {
+        let (name, rest) = first_word(argument);
+        match book_settings(rest) {
+            Some((settings, _)) => match keys::named(&self.drawn, name) {
+                Some(keys) => self.begin(told, keyed(alloc, settings, &keys)),
+                None => told.word("no-keys"),
+            },
+            None => told.refuse(),
+        }
+    }
+
+    /// From now on steps are for this book.
+    fn begin(&mut self, told: &mut Told, book: Option<Book>) {
+        match book {
+            Some(_) => told.word("ok"),
+            None => told.refuse(),
+        }
+        self.set_work(book);
+    }
+
+    /// The book goes to rest.
+    pub(crate) fn stop(&mut self, told: &mut Told) {
+        match self.work.take() {
+            Some(book) => {
+                self.rest = Some(book.stop());
+                told.word("at-rest");
+            }
+            None => told.refuse(),
+        }
+    }
+
+    /// The book goes to work.
+    pub(crate) fn start(&mut self, told: &mut Told) {
+        match self.rest.take() {
+            Some(rest) => {
+                self.work = rest.start().ok();
+                told.word("at-work");
+            }
+            None => told.refuse(),
+        }
+    }
+
+    /// From now on steps are for this book at work.
+    pub(crate) fn set_work(&mut self, book: Option<Book>) {
+        self.work = book;
+        self.rest = None;
+    }
+
+    /// From now on steps are for this book at rest.
+    pub(crate) fn set_rest(&mut self, rest: BookAtRest) {
+        self.work = None;
+        self.rest = Some(rest);
+    }
+}
+
+/// An empty book of payer 1.
+pub(crate) fn opened(alloc: Global, settings: BookSettings) -> Option<Book> {
+    let payer = PayerNo::new(1)?;
+    match plan(alloc) {
+        Some(plan) => Some(Book::new(alloc, payer, settings, plan)),
+        None => None,
+    }
+}
+
+/// The same, and its maps hash with these keys.
+fn keyed(alloc: Global, settings: BookSettings, keys: &HashKeys) -> Option<Book> {
+    let payer = PayerNo::new(1)?;
+    match plan(alloc) {
+        Some(plan) => Some(Book::keyed(alloc, payer, settings, plan, keys)),
+        None => None,
+    }
+}
+
+/// A plan of one product at 1.8567 dollars a unit, with a fee of 1.50 and a copay of 10.00 dollars.
+fn plan(alloc: Global) -> Option<Plan> {
+    let fee = Amount::new(150)?;
+    let copay = Amount::new(1000)?;
+    match Plan::new(alloc, fee, copay) {
+        Ok(plan) => priced(plan),
+        Err(_) => None,
+    }
+}
+
+/// The plan with its product.
+fn priced(mut plan: Plan) -> Option<Plan> {
+    match plan.set(b"00093721410", 18_567) {
+        Ok(()) => Some(plan),
+        Err(_) => None,
+    }
+}
+
+/// The routes by which the BIN number 610455 leads to payer 1.
+pub(crate) fn routes(alloc: Global) -> Option<Routes> {
+    match Octets::copy_of(alloc, b"610455") {
+        Ok(bin) => Routes::new(alloc, &[RouteRow::new(bin, None, 1)], 1).ok(),
+        Err(_) => None,
+    }
+}
