@@ -24,20 +24,17 @@ impl Subject for Limits {
 
 /// Tells a copy of the settings `QUALIFIER AGAIN TRIES CAP`, or why there are none.
 fn open(told: &mut Told, alloc: Global, argument: &[u8]) {
-    match parts(argument) {
-        Some((qualifier, numbers)) => match Vec::from_slice(alloc, &[1, 2]) {
-            Ok(nodes) => open_with(told, qualifier, nodes, numbers),
-            Err(_) => told.refuse(),
-        },
-        None => told.refuse(),
+    match split_word(argument) {
+        Some(([first, second], numbers)) => open_of(told, alloc, [*first, *second], numbers),
+        _ => told.refuse(),
     }
 }
 
-/// A qualifier of two bytes, and three numbers.
-fn parts(argument: &[u8]) -> Option<([u8; 2], (u32, u32, u32))> {
-    match split_word(argument)? {
-        ([first, second], numbers) => Some(([*first, *second], three_numbers(numbers)?)),
-        _ => None,
+/// Tells a copy of the settings of a qualifier and three numbers.
+fn open_of(told: &mut Told, alloc: Global, qualifier: [u8; 2], numbers: &[u8]) {
+    match (three_numbers(numbers), Vec::from_slice(alloc, &[1, 2])) {
+        (Some(numbers), Ok(nodes)) => open_with(told, qualifier, nodes, numbers),
+        _ => told.refuse(),
     }
 }
 

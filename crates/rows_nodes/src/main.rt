@@ -6,6 +6,7 @@ mod journal;
 mod journal_at_rest;
 mod journal_settings;
 mod journal_told;
+mod plain_table;
 mod schedules;
 mod settings;
 mod settings_told;

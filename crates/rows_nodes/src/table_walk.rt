@@ -1,20 +1,12 @@
 //! A switch and a plain list that are handed the same random calls, half of them with the packet at hand.
 
+use crate::plain_table::{Done, Plain, PlainTable, UNROUTED};
 use bin_routes::{RouteRow, Routes};
 use case_files::Told;
 use envelope::{Envelope, Kind, TxnId, write};
 use octets::Octets;
 use std::alloc::Global;
-use switch_node::{InFlight, RequestFault, ResponseFault, Routed, Switch, SwitchSettings};
-
-/// The request that has no route.
-const UNROUTED: u64 = 2;
-
-/// The text that is no request.
-const NO_REQUEST: u64 = 3;
-
-/// The text that is no answer.
-const NO_ANSWER: u64 = 2;
+use switch_node::{InFlight, Routed, Switch, SwitchSettings};
 
 /// Two billings that have a route, one that has none, and no request.
 fn request_of(which: u64) -> &'static [u8] {
@@ -68,32 +60,6 @@ impl Dice {
     }
 }
 
-/// An entry of the plain list: which request the number has, and which answer came.
-#[derive(Clone, Copy)]
-struct Plain {
-    number: u64,
-    request: u64,
-    answer: Option<u64>,
-}
-
-/// What is done with a call. `Other` is nothing that a switch may do.
-#[derive(Clone, Copy, PartialEq, Eq)]
-enum Done {
-    /// The request goes to payer 1 as it came.
-    Forwarded,
-    /// The request gets this answer.
-    Answered(u64),
-    /// The request gets the rejection.
-    Rejected,
-    /// The request is refused.
-    Refused(RequestFault),
-    /// The response goes to the pharmacy as it came.
-    Sent,
-    /// The response is refused.
-    Stopped(ResponseFault),
-    Other,
-}
-
 /// How often each was done.
 #[derive(Clone, Copy)]
 struct Counts {
@@ -105,15 +71,31 @@ struct Counts {
     stopped: u64,
 }
 
+/// The routes of one row, BIN 610455 to payer 1, and the routes of none.
+#[derive(Drop)]
+struct Ways {
+    routes: Routes,
+    nowhere: Routes,
+}
+
+impl Ways {
+    /// The routes of a request.
+    fn of(&self, is_routed: bool) -> &Routes {
+        if is_routed {
+            &self.routes
+        } else {
+            &self.nowhere
+        }
+    }
+}
+
 /// A switch and a plain list that are handed the same.
 #[derive(Drop)]
 pub(crate) struct Pair {
     alloc: Global,
     switch: Switch,
-    list: Vec<Plain>,
-    cap: u32,
-    routes: Routes,
-    nowhere: Routes,
+    list: PlainTable,
+    ways: Ways,
     dice: Dice,
     counts: Counts,
 }
@@ -121,14 +103,12 @@ pub(crate) struct Pair {
 impl Pair {
     /// A switch of that cap and a list, both empty.
     pub(crate) fn opened(alloc: Global, cap: u32) -> Option<Pair> {
-        match (SwitchSettings::new(cap), routed(alloc)) {
-            (Ok(settings), Some((routes, nowhere))) => Some(Pair {
+        match (SwitchSettings::new(cap), both_ways(alloc)) {
+            (Ok(settings), Some(ways)) => Some(Pair {
                 alloc,
                 switch: Switch::new(alloc, settings),
-                list: Vec::new(alloc),
-                cap,
-                routes,
-                nowhere,
+                list: PlainTable::new(alloc, cap),
+                ways,
                 dice: Dice { state: 20_240_115 },
                 counts: Counts {
                     forwarded: 0,
@@ -145,7 +125,7 @@ impl Pair {
 
     /// One random call of both: whether they did the same.
     pub(crate) fn turn(&mut self) -> bool {
-        let numbers = u64::from(self.cap) / 2 * 3 + 3;
+        let numbers = u64::from(self.list.cap()) / 2 * 3 + 3;
         let number = self.dice.roll(numbers).saturating_add(1);
         let is_request = self.dice.roll(8) < 5;
         match TxnId::new(1, number) {
@@ -160,12 +140,8 @@ impl Pair {
         let which = self.dice.roll(4);
         let is_routed = self.dice.roll(8) > 0;
         let at_hand = self.dice.roll(2) > 0;
-        let want = self.plain_request(id.number(), which, is_routed);
-        let routes = if is_routed {
-            &self.routes
-        } else {
-            &self.nowhere
-        };
+        let want = self.list.request(id.number(), which, is_routed);
+        let routes = self.ways.of(is_routed);
         let done = match write(self.alloc, Kind::Request, id, request_of(which)) {
             Ok(packet) => {
                 let packet = Octets::from_vec(packet);
@@ -177,40 +153,11 @@ impl Pair {
         done == want
     }
 
-    /// What the plain list does with a request.
-    fn plain_request(&mut self, number: u64, request: u64, is_routed: bool) -> Done {
-        if request == NO_REQUEST {
-            return Done::Refused(RequestFault::Unreadable);
-        }
-        let has_route = is_routed && request != UNROUTED;
-        match known(self.list.as_slice(), number) {
-            Some(plain) => repeated(plain, request, has_route),
-            None if has_route => self.enter(number, request),
-            None => Done::Rejected,
-        }
-    }
-
-    /// Enters a request last; the oldest leaves a full list.
-    fn enter(&mut self, number: u64, request: u64) -> Done {
-        if self.list.len() >= self.cap as usize && !self.list.is_empty() {
-            let _oldest = self.list.remove(0);
-        }
-        let entered = self.list.push(Plain {
-            number,
-            request,
-            answer: None,
-        });
-        match entered {
-            Ok(()) => Done::Forwarded,
-            Err(_) => Done::Other,
-        }
-    }
-
     /// A random response to a transaction.
     fn response(&mut self, id: TxnId) -> bool {
         let which = self.dice.roll(3);
         let is_alone = self.dice.roll(2) > 0;
-        let want = plain_response(self.list.as_mut_slice(), id.number(), which);
+        let want = self.list.response(id.number(), which);
         let done = match write(self.alloc, Kind::Answer, id, answer_of(which)) {
             Ok(packet) => {
                 let packet = Octets::from_vec(packet);
@@ -232,10 +179,11 @@ impl Pair {
 
     /// Whether these are the entries of the plain list.
     fn has(&self, list: &[InFlight]) -> bool {
-        if list.len() != self.list.len() || self.switch.len() != self.list.len() {
+        let plain = self.list.as_slice();
+        if list.len() != plain.len() || self.switch.len() != plain.len() {
             return false;
         }
-        for (entry, plain) in list.iter().zip(self.list.as_slice()) {
+        for (entry, plain) in list.iter().zip(plain) {
             if !is_entry(&self.switch, *entry, *plain) {
                 return false;
             }
@@ -269,14 +217,14 @@ impl Counts {
     }
 }
 
-/// The routes of one row, BIN 610455 to payer 1, and the routes of none.
-fn routed(alloc: Global) -> Option<(Routes, Routes)> {
+/// Routes for requests that have one, and for requests that have none.
+fn both_ways(alloc: Global) -> Option<Ways> {
     let bin = Octets::copy_of(alloc, b"610455").ok()?;
     match (
         Routes::new(alloc, &[RouteRow::new(bin, None, 1)], 1),
         Routes::new(alloc, &[], 1),
     ) {
-        (Ok(routes), Ok(nowhere)) => Some((routes, nowhere)),
+        (Ok(routes), Ok(nowhere)) => Some(Ways { routes, nowhere }),
         _ => None,
     }
 }
@@ -290,24 +238,23 @@ fn asked(switch: &mut Switch, routes: &Routes, packet: &Octets, at_hand: bool) -
             } else {
                 switch.request(routes, &envelope)
             };
-            seen(routed, envelope.id(), packet.as_slice())
+            match routed {
+                Ok(routed) => seen(&routed, envelope.id(), packet.as_slice()),
+                Err(fault) => Done::Refused(fault),
+            }
         }
         Err(_) => Done::Other,
     }
 }
 
 /// What was done with the request of a packet.
-fn seen(routed: Result<Routed, RequestFault>, id: TxnId, packet: &[u8]) -> Done {
+fn seen(routed: &Routed, id: TxnId, packet: &[u8]) -> Done {
     match routed {
-        Ok(Routed::Forward(payer, sent)) => {
-            if payer.get() == 1 && sent.as_slice() == packet {
-                Done::Forwarded
-            } else {
-                Done::Other
-            }
+        Routed::Forward(payer, sent) if payer.get() == 1 && sent.as_slice() == packet => {
+            Done::Forwarded
         }
-        Ok(Routed::Answer(sent)) => answered(sent.as_slice(), id),
-        Err(fault) => Done::Refused(fault),
+        Routed::Forward(..) => Done::Other,
+        Routed::Answer(sent) => answered(sent.as_slice(), id),
     }
 }
 
@@ -351,48 +298,6 @@ fn responded(switch: &mut Switch, packet: &Octets, is_alone: bool) -> Done {
         }
         Err(_) => Done::Other,
     }
-}
-
-/// The entry of a number in a plain list.
-fn known(list: &[Plain], number: u64) -> Option<Plain> {
-    for plain in list {
-        if plain.number == number {
-            return Some(*plain);
-        }
-    }
-    None
-}
-
-/// What the plain list does with a request whose number it has.
-fn repeated(plain: Plain, request: u64, has_route: bool) -> Done {
-    if plain.request != request {
-        return Done::Refused(RequestFault::NumberReused);
-    }
-    match plain.answer {
-        Some(answer) => Done::Answered(answer),
-        None if has_route => Done::Forwarded,
-        None => Done::Rejected,
-    }
-}
-
-/// What a plain list does with a response.
-fn plain_response(list: &mut [Plain], number: u64, answer: u64) -> Done {
-    if answer == NO_ANSWER {
-        return Done::Stopped(ResponseFault::Unreadable);
-    }
-    for plain in list {
-        if plain.number == number {
-            return match plain.answer {
-                None => {
-                    plain.answer = Some(answer);
-                    Done::Sent
-                }
-                Some(held) if held == answer => Done::Sent,
-                Some(_) => Done::Stopped(ResponseFault::Differs),
-            };
-        }
-    }
-    Done::Stopped(ResponseFault::NotWaiting)
 }
 
 /// Whether an entry of a switch is one of the plain list.
