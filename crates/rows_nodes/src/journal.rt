@@ -111,7 +111,7 @@ fn tick(told: &mut Told, pharmacy: &mut Pharmacy) {
     }
 }
 
-/// Hands the pharmacy a packet of a kind: `PHARMACY.NUMBER TEXT`.
+/// Hands the pharmacy a packet of a kind: `PHARMACY NUMBER TEXT`.
 fn hear(told: &mut Told, alloc: Global, pharmacy: &mut Pharmacy, kind: Kind, argument: &[u8]) {
     match id_and_text(argument) {
         Some((id, text)) => match write(alloc, kind, id, text) {

@@ -44,7 +44,8 @@ pub(crate) fn tell_packet(told: &mut Told, packet: &[u8]) {
 
 /// Tells a transaction as the pharmacy and the number that it has there.
 pub(crate) fn tell_id(told: &mut Told, id: TxnId) {
-    told.shown(format_args!("{}.{}", id.pharmacy(), id.number()));
+    told.field("pharmacy", id.pharmacy());
+    told.field("number", id.number());
 }
 
 /// A number of at most 18 digits and what stands behind it.
@@ -62,41 +63,44 @@ pub(crate) fn three_numbers(argument: &[u8]) -> Option<(u32, u32, u32)> {
 
 /// A number that fits 32 bits.
 pub(crate) fn small(word: &[u8]) -> Option<u32> {
-    u32::try_from(read_decimal(word, 10)?).ok()
+    match read_decimal(word, 10) {
+        Some(number @ 0..=4_294_967_295) => Some(number as u32),
+        _ => None,
+    }
 }
 
-/// A transaction, as `PHARMACY.NUMBER`, and the text behind it.
+/// A transaction and the text behind it: `PHARMACY NUMBER TEXT`.
 pub(crate) fn id_and_text(argument: &[u8]) -> Option<(TxnId, &[u8])> {
-    let (word, text) = split_word(argument)?;
-    Some((id_in(word)?, text))
-}
-
-/// The transaction that a word names.
-pub(crate) fn id_in(word: &[u8]) -> Option<TxnId> {
-    let (pharmacy, number) = cut(word, b".")?;
-    let pharmacy = u16::try_from(read_decimal(pharmacy, 5)?).ok()?;
-    TxnId::new(pharmacy, read_decimal(number, 18)?)
+    let (pharmacy, rest) = number_and_text(argument)?;
+    let (number, text) = number_and_text(rest)?;
+    match pharmacy {
+        0..=65_535 => Some((TxnId::new(pharmacy as u16, number)?, text)),
+        _ => None,
+    }
 }
 
 /// The place, from 0, of what a number from 1 names.
 pub(crate) fn place_in(word: &[u8]) -> Option<usize> {
-    let number = read_decimal(word, 5)?;
-    usize::try_from(number.checked_sub(1)?).ok()
+    match read_decimal(word, 5) {
+        Some(number @ 1..=99_999) => Some(number as usize - 1),
+        _ => None,
+    }
 }
 
 /// What stands before and behind the arrow `=>`; nothing where it ends the text.
 pub(crate) fn in_two(argument: &[u8]) -> Option<(&[u8], &[u8])> {
-    match cut(argument, b" => ") {
-        Some(parts) => Some(parts),
-        None => Some((argument.strip_suffix(b" =>")?, b"")),
+    match argument.strip_suffix(b" =>") {
+        Some(front) => Some((front, b"")),
+        None => cut(argument, b" => "),
     }
 }
 
 /// What stands before and behind the first place of a mark.
 pub(crate) fn cut<'a>(text: &'a [u8], mark: &[u8]) -> Option<(&'a [u8], &'a [u8])> {
     for at in 0..text.len() {
-        if let Some(behind) = text.get(at..)?.strip_prefix(mark) {
-            return Some((text.get(..at)?, behind));
+        let (front, rest) = text.split_at(at);
+        if let Some(behind) = rest.strip_prefix(mark) {
+            return Some((front, behind));
         }
     }
     None

@@ -104,7 +104,7 @@ fn step(
     }
 }
 
-/// Hands the switch a packet of a kind as a request: `PHARMACY.NUMBER TEXT`.
+/// Hands the switch a packet of a kind as a request: `PHARMACY NUMBER TEXT`.
 fn request(
     told: &mut Told,
     alloc: Global,
@@ -148,7 +148,7 @@ fn tell_routed(told: &mut Told, routed: &Routed) {
     }
 }
 
-/// Hands the switch a packet of a kind as a response: `PHARMACY.NUMBER TEXT`.
+/// Hands the switch a packet of a kind as a response: `PHARMACY NUMBER TEXT`.
 fn response(told: &mut Told, alloc: Global, switch: &mut Switch, kind: Kind, argument: &[u8]) {
     match id_and_text(argument) {
         Some((id, text)) => match write(alloc, kind, id, text) {

@@ -2,7 +2,7 @@
 
 use crate::steps::{id_and_text, refused, tell_id};
 use case_files::{Subject, Told};
-use claim_profile::read_readable;
+use claim_profile::check_readable;
 use envelope::TxnId;
 use pharmacy_journal::{OpenTxn, SettledTxn};
 use std::alloc::Global;
@@ -36,7 +36,7 @@ impl Transactions {
         }
     }
 
-    /// Opens a transaction with a readable request: `PHARMACY.NUMBER TEXT`.
+    /// Opens a transaction with a readable request: `PHARMACY NUMBER TEXT`.
     fn open(&mut self, told: &mut Told, alloc: Global, argument: &[u8]) {
         self.open = match id_and_text(argument) {
             Some((id, text)) => opened(alloc, id, text),
@@ -48,21 +48,26 @@ impl Transactions {
         }
     }
 
-    /// Settles the transaction by an answer; where it stays open, tells why and the answer that is given back.
+    /// Settles the transaction by an answer.
     fn settle(&mut self, told: &mut Told, alloc: Global, answer: &[u8]) {
         match (self.open.take(), Vec::from_slice(alloc, answer)) {
-            (Some(open), Ok(answer)) => match open.settle(answer) {
-                Ok(settled) => {
-                    self.settled = Some(settled);
-                    told.word("ok");
-                }
-                Err((open, answer, fault)) => {
-                    self.open = Some(open);
-                    refused(told, fault);
-                    told.bytes(answer.as_slice());
-                }
-            },
+            (Some(open), Ok(answer)) => self.settle_by(told, open, answer),
             _ => told.refuse(),
+        }
+    }
+
+    /// Settles a transaction; where it stays open, tells why and the answer that is given back.
+    fn settle_by(&mut self, told: &mut Told, open: OpenTxn, answer: Vec<u8>) {
+        match open.settle(answer) {
+            Ok(settled) => {
+                self.settled = Some(settled);
+                told.word("ok");
+            }
+            Err((open, answer, fault)) => {
+                self.open = Some(open);
+                refused(told, fault);
+                told.bytes(answer.as_slice());
+            }
         }
     }
 
@@ -107,7 +112,8 @@ impl Transactions {
 
 /// The open transaction of a readable request.
 fn opened(alloc: Global, id: TxnId, text: &[u8]) -> Option<OpenTxn> {
-    let _readable = read_readable(alloc, text).ok()?;
-    let request = Vec::from_slice(alloc, text).ok()?;
-    Some(OpenTxn::new(id, request))
+    match (check_readable(text), Vec::from_slice(alloc, text)) {
+        (Some(_), Ok(request)) => Some(OpenTxn::new(id, request)),
+        _ => None,
+    }
 }
