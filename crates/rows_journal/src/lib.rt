@@ -1,5 +1,0 @@
-//! Tests of a pharmacy's journal.
-#![tactic(auto)]
-
-#[cfg(test)]
-mod journal;

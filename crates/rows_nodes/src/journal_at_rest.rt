@@ -1,0 +1,160 @@
+//! A journal at rest: its entries are added one by one, and then it starts.
+
+use crate::journal_told::{tell_entry, tell_list, tell_paid, tell_sent};
+use crate::steps::{done, in_two, small, tell_found};
+use case_files::{Subject, Told};
+use input_text::read_decimal;
+use pharmacy_journal::{JournalAtRest, Pharmacy, PharmacySettings};
+use std::alloc::Global;
+
+/// The journal of pharmacy 1, at rest or started.
+#[derive(Drop)]
+pub(crate) struct Rests {
+    rest: Option<JournalAtRest>,
+    pharmacy: Option<Pharmacy>,
+}
+
+impl Subject for Rests {
+    fn tell(&mut self, told: &mut Told, alloc: Global, word: &str, argument: &[u8]) {
+        match word {
+            "open" => self.open(told, alloc, argument),
+            "close" => self.close(told),
+            "start" => self.start(told),
+            _ => match (&mut self.rest, &mut self.pharmacy) {
+                (Some(rest), _) => at_rest(told, rest, word, argument),
+                (None, Some(pharmacy)) => started(told, pharmacy, word, argument),
+                (None, None) => told.refuse(),
+            },
+        }
+    }
+}
+
+impl Rests {
+    /// No journal yet.
+    pub(crate) fn new() -> Rests {
+        Rests {
+            rest: None,
+            pharmacy: None,
+        }
+    }
+
+    /// A journal at rest without entries, which takes so many.
+    fn open(&mut self, told: &mut Told, alloc: Global, argument: &[u8]) {
+        self.rest = match small(argument) {
+            Some(cap) => opened(alloc, cap),
+            None => None,
+        };
+        match &self.rest {
+            Some(_) => told.word("ok"),
+            None => told.refuse(),
+        }
+    }
+
+    /// Lets the journal go, and tells the cap of the settings that are left.
+    fn close(&mut self, told: &mut Told) {
+        match self.rest.take() {
+            Some(rest) => told.field("cap", rest.into_settings().cap()),
+            None => told.refuse(),
+        }
+    }
+
+    /// Starts the journal.
+    fn start(&mut self, told: &mut Told) {
+        self.pharmacy = match self.rest.take() {
+            Some(rest) => rest.start().ok(),
+            None => None,
+        };
+        match &self.pharmacy {
+            Some(_) => told.word("ok"),
+            None => told.refuse(),
+        }
+    }
+}
+
+/// A journal at rest of pharmacy 1, which sends to the switches 1 and 2.
+fn opened(alloc: Global, cap: u32) -> Option<JournalAtRest> {
+    let nodes = Vec::from_slice(alloc, &[1, 2]).ok()?;
+    match PharmacySettings::new(*b"01", *b"1234567893     ", nodes, 1, 1, cap) {
+        Ok(settings) => Some(JournalAtRest::new(alloc, 1, settings)),
+        Err(_) => None,
+    }
+}
+
+/// Takes a step on a journal at rest.
+fn at_rest(told: &mut Told, rest: &mut JournalAtRest, word: &str, argument: &[u8]) {
+    match word {
+        "add" => done(told, rest.add(argument, None)),
+        "settled" => settled(told, rest, argument),
+        "entry" => entry(told, rest, argument),
+        "held" => held(told, rest, argument),
+        "list" => list(told, rest),
+        "paid" => paid(told, rest),
+        "tell" => tell(told, rest),
+        _ => told.refuse(),
+    }
+}
+
+/// Adds an entry that has its answer: `REQUEST => ANSWER`.
+fn settled(told: &mut Told, rest: &mut JournalAtRest, argument: &[u8]) {
+    match in_two(argument) {
+        Some((request, answer)) => done(told, rest.add(request, Some(answer))),
+        None => told.refuse(),
+    }
+}
+
+/// Tells the entry of a number.
+fn entry(told: &mut Told, rest: &JournalAtRest, argument: &[u8]) {
+    match read_decimal(argument, 18) {
+        Some(number) => tell_entry(told, rest.entry(number)),
+        None => told.refuse(),
+    }
+}
+
+/// Tells the answer that a number has.
+fn held(told: &mut Told, rest: &JournalAtRest, argument: &[u8]) {
+    match read_decimal(argument, 18) {
+        Some(number) => tell_found(told, rest.held(number)),
+        None => told.refuse(),
+    }
+}
+
+/// Tells the entries.
+fn list(told: &mut Told, rest: &JournalAtRest) {
+    match rest.list() {
+        Ok(views) => tell_list(told, views.as_slice()),
+        Err(_) => told.refuse(),
+    }
+}
+
+/// Tells the payments that the journal counts.
+fn paid(told: &mut Told, rest: &JournalAtRest) {
+    match rest.paid() {
+        Ok(paid) => tell_paid(told, paid.as_slice()),
+        Err(_) => told.refuse(),
+    }
+}
+
+/// Tells the pharmacy's number, its cap, and how many entries it has.
+fn tell(told: &mut Told, rest: &JournalAtRest) {
+    told.field("number", rest.number());
+    told.field("cap", rest.settings().cap());
+    told.field("entries", rest.entries());
+}
+
+/// Takes a step on the pharmacy that was started.
+fn started(told: &mut Told, pharmacy: &mut Pharmacy, word: &str, argument: &[u8]) {
+    match (word, read_decimal(argument, 18)) {
+        ("entry", Some(number)) => tell_entry(told, pharmacy.entry(number)),
+        ("held", Some(number)) => tell_found(told, pharmacy.held(number)),
+        ("tick", None) => tick(told, pharmacy),
+        _ => told.refuse(),
+    }
+}
+
+/// Lets time pass, and tells the packets that are sent.
+fn tick(told: &mut Told, pharmacy: &mut Pharmacy) {
+    match pharmacy.tick() {
+        Ok(sent) => tell_sent(told, sent.as_slice()),
+        Err(_) => told.refuse(),
+    }
+}
