@@ -1,7 +1,9 @@
 //! The pictures of runs that days go through.
 
-use run_marks::{Mark, mark_run};
-use run_picture::{Extent, draw_replay, picture};
+pub(crate) use run_marks::Mark;
+use run_marks::mark_run;
+pub(crate) use run_picture::{Extent, PictureStop, extent_of};
+use run_picture::{draw_replay, picture};
 use schedule_cli::{ProgramFault, ReaderSource, Scheduled, WriterSink, read_scheduled};
 use std::alloc::Global;
 

@@ -1,12 +1,10 @@
 //! What the pictures of runs show, and the command line of the program that draws them.
 
 use crate::day::parts_named;
-use crate::drawings::{begun, draw, draw_marks, marks_of};
+use crate::drawings::{Extent, Mark, PictureStop, begun, draw, draw_marks, extent_of, marks_of};
 use crate::words::day_and_count;
 use case_files::{CaseFile, Subject, Told};
 use input_text::split_word;
-use run_marks::Mark;
-use run_picture::{Extent, PictureStop, extent_of};
 use schedule_cli::{ProgramFault, Scheduled};
 use std::alloc::Global;
 
