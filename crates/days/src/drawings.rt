@@ -1,9 +1,7 @@
 //! The pictures of runs that days go through.
 
-pub(crate) use run_picture::Mark;
-use run_picture::mark_run;
-pub(crate) use run_picture::{Extent, PictureStop, extent_of};
-use run_picture::{draw_replay, picture};
+pub(crate) use run_picture::{Extent, Mark, PictureStop, extent_of};
+use run_picture::{draw_replay, mark_run, picture};
 use schedule_cli::{ProgramFault, ReaderSource, Scheduled, WriterSink, read_scheduled};
 use std::alloc::Global;
 

@@ -9,6 +9,8 @@ mod changes;
 mod crowd;
 mod day;
 mod drawings;
+mod explained;
+mod failing;
 mod history;
 mod logs;
 mod merging;
@@ -23,21 +25,23 @@ mod receiver;
 mod records;
 mod search;
 mod tally;
+mod texts;
 mod walks;
 mod way;
 mod words;
 
 use case_files::{CaseFile, Runner, Suite, read_folder, run};
 use cases::Cases;
-use schedule_cli::Word;
+use schedule_cli::{HashKeys, Word};
 use std::alloc::AllocError;
 use std::io;
 use std::process::ExitCode;
 
-/// All files of cases.
+/// All files of cases, and keys that nobody knows for the maps of books.
 #[derive(Drop)]
 struct Days {
     cases: Cases,
+    keys: Option<HashKeys>,
 }
 
 impl Suite for Days {
@@ -64,6 +68,8 @@ impl Days {
             "altered" => runner.rows(file, &mut altered::Altered { days }),
             "merging" => runner.rows(file, &mut merging::Merging::new(alloc, days)),
             "promises" => runner.rows(file, &mut promises::Promises::new(alloc, days)),
+            "explained" => runner.rows(file, &mut explained::Explained),
+            "failing" => runner.rows(file, &mut failing::Failing::new(alloc, &self.keys)),
             "pictures" => runner.rows(file, &mut pictures::Pictures { days }),
             _ => runner.fail(file, 0, "a file that is not known"),
         }
@@ -78,7 +84,9 @@ fn read_cases(rt: &HostRuntime) -> io::Result<Days> {
     let wrong = read_folder(rt, "wrong")?;
     println!(rt; "other-read {} cases", read.len())?;
     println!(rt; "other-replay {} cases", replay.len())?;
+    let keys = HashKeys::random(rt).ok();
     Ok(Days {
+        keys,
         cases: Cases {
             here,
             read,
