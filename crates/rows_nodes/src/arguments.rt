@@ -12,6 +12,15 @@ pub(crate) fn first_word(text: &[u8]) -> (&[u8], &[u8]) {
     }
 }
 
+/// The number of a first word, and what stands behind it.
+pub(crate) fn first_number(text: &[u8]) -> Option<(u64, &[u8])> {
+    let (word, rest) = first_word(text);
+    match read_decimal(word, 18) {
+        Some(number) => Some((number, rest)),
+        None => None,
+    }
+}
+
 /// The number of a first word `NAMENUMBER`, and what stands behind it.
 pub(crate) fn named_number<'a>(name: &[u8], text: &'a [u8]) -> Option<(u64, &'a [u8])> {
     let (word, rest) = first_word(text);
@@ -58,19 +67,11 @@ pub(crate) fn capped(text: &[u8]) -> Option<(u32, &[u8])> {
 
 /// The id of a request of pharmacy 1, and what stands behind its number.
 pub(crate) fn numbered(text: &[u8]) -> Option<(TxnId, &[u8])> {
-    match named_number(b"", text) {
+    match first_number(text) {
         Some((number, rest)) => match TxnId::new(1, number) {
             Some(id) => Some((id, rest)),
             None => None,
         },
-        None => None,
-    }
-}
-
-/// A place in bytes that a first word tells, and what stands behind it.
-pub(crate) fn placed(text: &[u8]) -> Option<(usize, &[u8])> {
-    match named_number(b"", text) {
-        Some((place, rest)) => Some((place as usize, rest)),
         None => None,
     }
 }

@@ -2,7 +2,7 @@
 
 ghost use Rattle.std.specs.Prelude.{◌≡◌, IfSome, length};
 
-use crate::arguments::{capped, placed};
+use crate::arguments::{capped, first_number};
 use crate::records::{self, Kind};
 use case_files::{Subject, Told};
 use kept_records::{RecordFault, read_journal, save_journal, write_journal};
@@ -112,9 +112,9 @@ impl Journals {
 
     /// Tells the request and the answer of a number in the journal at rest.
     fn entry(&self, told: &mut Told, argument: &[u8]) {
-        match placed(argument) {
+        match first_number(argument) {
             Some((number, _)) => match &self.rest {
-                Some(rest) => tell_entry(told, rest, number as u64),
+                Some(rest) => tell_entry(told, rest, number),
                 None => told.refuse(),
             },
             None => told.refuse(),
@@ -150,7 +150,10 @@ fn settings(alloc: Global, cap: u32) -> Option<PharmacySettings>
     ensures { IfSome result (λ s. length s.nodes ≡ 2) }
 {
     match Vec::from_slice(alloc, &[1, 2]) {
-        Ok(nodes) => PharmacySettings::new(*b"01", *b"1234567893     ", nodes, 6, 2, cap).ok(),
+        Ok(nodes) => match PharmacySettings::new(*b"01", *b"1234567893     ", nodes, 6, 2, cap) {
+            Ok(settings) => Some(settings),
+            Err(_) => None,
+        },
         Err(_) => None,
     }
 }

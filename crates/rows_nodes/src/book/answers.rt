@@ -52,11 +52,21 @@ fn answer(told: &mut Told, book: &mut Book, routes: &Routes, id: TxnId, request:
 
 /// Tells an answer. The book has to hold it from now on.
 fn tell_reply(told: &mut Told, book: &Book, id: TxnId, reply: &Reply) {
-    told.word(if reply.kept { "kept" } else { "new" });
+    told.word(said(reply.kept));
     told.bytes(reply.bytes.as_slice());
-    match book.held(id) {
+    tell_held(told, book.held(id), reply.bytes.as_slice());
+}
+
+/// Whether an answer was kept.
+fn said(kept: bool) -> &'static str {
+    if kept { "kept" } else { "new" }
+}
+
+/// Tells where the answer that is held is not the one that was given.
+fn tell_held(told: &mut Told, held: Option<&[u8]>, answer: &[u8]) {
+    match held {
         Some(held) => {
-            if !are_same(held, reply.bytes.as_slice()) {
+            if !are_same(held, answer) {
                 told.word("held-otherwise");
             }
         }

@@ -1,6 +1,6 @@
 //! The same request for many prescriptions, one after the other.
 
-use crate::arguments::{cut, named_number};
+use crate::arguments::{cut, first_number};
 use crate::book::opening;
 use bin_routes::Routes;
 use case_files::Told;
@@ -53,7 +53,7 @@ pub(crate) fn tell(told: &mut Told, alloc: Global, book: &mut Book, argument: &[
 
 /// How many prescriptions, and what is asked for each.
 fn counted(argument: &[u8]) -> Option<(u64, Form<'_>)> {
-    match named_number(b"", argument) {
+    match first_number(argument) {
         Some((count, text)) => match cut(text, b"@") {
             Some((front, behind)) => Some((count, Form { front, behind })),
             None => None,

@@ -43,7 +43,7 @@ impl Books {
     pub(crate) fn stop(&mut self, told: &mut Told) {
         match self.work.take() {
             Some(book) => {
-                self.rest = Some(book.stop());
+                self.set_rest(book.stop());
                 told.word("at-rest");
             }
             None => told.refuse(),
@@ -54,7 +54,7 @@ impl Books {
     pub(crate) fn start(&mut self, told: &mut Told) {
         match self.rest.take() {
             Some(rest) => {
-                self.work = rest.start().ok();
+                self.set_work(rest.start().ok());
                 told.word("at-work");
             }
             None => told.refuse(),

@@ -1,7 +1,7 @@
 //! Books as texts.
 
-use crate::arguments::{book_settings, placed};
-use crate::book::Books;
+use crate::arguments::{book_settings, first_number};
+use crate::book::{Books, views};
 use crate::records::{self, Kind, changed};
 use case_files::Told;
 use d0_segments::check_request;
@@ -52,8 +52,7 @@ impl Books {
         match read {
             Ok(rest) => {
                 told.word("taken");
-                told.field("products", rest.plan().products());
-                told.field("rows", rest.rows().len());
+                views::counts(told, rest.plan(), rest.rows());
                 self.set_rest(rest);
             }
             Err(fault) => told.named(fault),
@@ -63,10 +62,9 @@ impl Books {
 
 /// A place, the byte there, the settings of a book and its text.
 fn altered(argument: &[u8]) -> Option<(usize, u8, BookSettings, &[u8])> {
-    let (place, rest) = placed(argument)?;
-    match rest {
-        [byte, b' ', rest @ ..] => match book_settings(rest) {
-            Some((settings, text)) => Some((place, *byte, settings, text)),
+    match first_number(argument) {
+        Some((place, [byte, b' ', rest @ ..])) => match book_settings(rest) {
+            Some((settings, text)) => Some((place as usize, *byte, settings, text)),
             None => None,
         },
         _ => None,

@@ -1,9 +1,9 @@
 //! What is seen of a book.
 
-use crate::arguments::{named_number, numbered, placed};
+use crate::arguments::{first_number, named_number, numbered};
 use case_files::Told;
 use claim_profile::Auth;
-use payer_book::{Book, BookAtRest, PaymentView, Row};
+use payer_book::{Book, BookAtRest, BookSettings, PayerNo, PaymentView, Plan, Row};
 
 /// Tells the answer that a book holds for a number.
 pub(crate) fn held(told: &mut Told, book: &Book, argument: &[u8]) {
@@ -50,8 +50,8 @@ fn tell_payment(told: &mut Told, payment: &PaymentView) {
 
 /// Tells the row at a place, from 0.
 pub(crate) fn row(told: &mut Told, rows: &[Row], argument: &[u8]) {
-    match placed(argument) {
-        Some((place, _)) => match rows.get(place) {
+    match first_number(argument) {
+        Some((place, _)) => match rows.get(place as usize) {
             Some(row) => tell_row(told, row),
             None => told.word("none"),
         },
@@ -70,18 +70,25 @@ fn tell_row(told: &mut Told, row: &Row) {
 
 /// Tells whose book it is, what it was opened with, and how many products and rows it has.
 pub(crate) fn terms(told: &mut Told, book: &Book) {
-    told.field("payer", book.payer().get());
-    told.field("serial", book.settings().serial());
-    told.field("cap", book.settings().cap());
-    told.field("products", book.plan().products());
-    told.field("rows", book.rows().len());
+    opened_with(told, book.payer(), book.settings());
+    counts(told, book.plan(), book.rows());
 }
 
 /// The same of a book at rest.
 pub(crate) fn rest_terms(told: &mut Told, rest: &BookAtRest) {
-    told.field("payer", rest.payer().get());
-    told.field("serial", rest.settings().serial());
-    told.field("cap", rest.settings().cap());
-    told.field("products", rest.plan().products());
-    told.field("rows", rest.rows().len());
+    opened_with(told, rest.payer(), rest.settings());
+    counts(told, rest.plan(), rest.rows());
+}
+
+/// Tells a payer, and what its book was opened with.
+fn opened_with(told: &mut Told, payer: PayerNo, settings: BookSettings) {
+    told.field("payer", payer.get());
+    told.field("serial", settings.serial());
+    told.field("cap", settings.cap());
+}
+
+/// Tells how many products and rows a book has.
+pub(crate) fn counts(told: &mut Told, plan: &Plan, rows: &[Row]) {
+    told.field("products", plan.products());
+    told.field("rows", rows.len());
 }
