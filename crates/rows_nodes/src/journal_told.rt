@@ -71,7 +71,12 @@ pub(crate) fn tell_settings(told: &mut Told, settings: &PharmacySettings) {
     told.bytes(&settings.qualifier());
     told.bytes(&settings.provider());
     told.word("switches");
-    for node in settings.nodes() {
+    tell_switches(told, settings.nodes());
+}
+
+/// Tells the numbers of switches.
+fn tell_switches(told: &mut Told, nodes: &[u16]) {
+    for node in nodes {
         told.shown(*node);
     }
 }

@@ -57,33 +57,37 @@ impl Documents {
 
     /// Reads the document.
     fn read(&mut self, told: &mut Told, alloc: Global) {
-        match Vec::from_slice(alloc, self.document.as_slice()) {
-            Ok(text) => self.keep(told, alloc, text),
+        self.text.clear();
+        match self.text.extend_from_slice(self.document.as_slice()) {
+            Ok(()) => self.settle(told, alloc),
             Err(_) => told.refuse(),
         }
     }
 
     /// Reads the document with a piece in place of another, `OLD => NEW`; the document stays as it is.
     fn replace(&mut self, told: &mut Told, alloc: Global, argument: &[u8]) {
-        match replaced(alloc, self.document.as_slice(), argument) {
-            Some(text) => self.keep(told, alloc, text),
+        self.text.clear();
+        match replaced(self.document.as_slice(), argument) {
+            Some((front, new, behind)) => match put_three(&mut self.text, front, new, behind) {
+                Ok(()) => self.settle(told, alloc),
+                Err(_) => told.refuse(),
+            },
             None => told.refuse(),
         }
     }
 
-    /// Keeps a text and the settings that it spells.
-    fn keep(&mut self, told: &mut Told, alloc: Global, text: Vec<u8>) {
-        self.settings = match read_settings(alloc, text.as_slice()) {
+    /// Reads the text, and keeps the settings that it spells.
+    fn settle(&mut self, told: &mut Told, alloc: Global) {
+        match read_settings(alloc, self.text.as_slice()) {
             Ok(settings) => {
+                self.settings = Some(settings);
                 told.word("ok");
-                Some(settings)
             }
             Err(fault) => {
+                self.settings = None;
                 refused(told, fault);
-                None
             }
-        };
-        self.text = text;
+        }
     }
 
     /// Tells what is wrong in the text that was read last.
@@ -102,17 +106,21 @@ fn put_line(document: &mut Vec<u8>, text: &[u8]) -> Result<(), AllocError> {
     document.extend_from_slice(b"\n")
 }
 
-/// A document with NEW in place of the first OLD that stands in it, for `OLD => NEW`.
-fn replaced(alloc: Global, document: &[u8], argument: &[u8]) -> Option<Vec<u8>> {
+/// What stands in a document before the first OLD, NEW, and what stands behind that OLD, for `OLD => NEW`.
+fn replaced<'a>(document: &'a [u8], argument: &'a [u8]) -> Option<(&'a [u8], &'a [u8], &'a [u8])> {
     let (old, new) = in_two(argument)?;
     let (front, behind) = cut(document, old)?;
-    joined(alloc, front, new, behind).ok()
+    Some((front, new, behind))
 }
 
-/// Three texts as one.
-fn joined(alloc: Global, front: &[u8], text: &[u8], behind: &[u8]) -> Result<Vec<u8>, AllocError> {
-    let mut whole = Vec::from_slice(alloc, front)?;
+/// Appends three texts.
+fn put_three(
+    whole: &mut Vec<u8>,
+    front: &[u8],
+    text: &[u8],
+    behind: &[u8],
+) -> Result<(), AllocError> {
+    whole.extend_from_slice(front)?;
     whole.extend_from_slice(text)?;
-    whole.extend_from_slice(behind)?;
-    Ok(whole)
+    whole.extend_from_slice(behind)
 }

@@ -44,6 +44,11 @@ fn tell_payer(told: &mut Told, payer: &PayerSettings) {
     told.field("fee", payer.plan.fee());
     told.field("copay", payer.plan.copay());
     told.field("products", payer.plan.products());
+    tell_prices(told, payer);
+}
+
+/// Tells the products of a payer's plan and their prices.
+fn tell_prices(told: &mut Told, payer: &PayerSettings) {
     for place in 0..payer.plan.products() {
         if let Some((product, price)) = payer.plan.product(place) {
             told.bytes(product);

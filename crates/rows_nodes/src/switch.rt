@@ -78,7 +78,7 @@ impl Switches {
 }
 
 /// The routes of one row: a BIN goes to payer 1.
-fn routed(alloc: Global, bin: &[u8]) -> Option<Routes> {
+pub(crate) fn routed(alloc: Global, bin: &[u8]) -> Option<Routes> {
     match Octets::copy_of(alloc, bin) {
         Ok(bin) => Routes::new(alloc, &[RouteRow::new(bin, None, 1)], 1).ok(),
         Err(_) => None,

@@ -1,7 +1,8 @@
 //! A switch and a plain list that are handed the same random calls, half of them with the packet at hand.
 
 use crate::plain_table::{Done, Plain, PlainTable, UNROUTED};
-use bin_routes::{RouteRow, Routes};
+use crate::switch::routed;
+use bin_routes::Routes;
 use case_files::Told;
 use envelope::{Envelope, Kind, TxnId, write};
 use octets::Octets;
@@ -219,12 +220,8 @@ impl Counts {
 
 /// Routes for requests that have one, and for requests that have none.
 fn both_ways(alloc: Global) -> Option<Ways> {
-    let bin = Octets::copy_of(alloc, b"610455").ok()?;
-    match (
-        Routes::new(alloc, &[RouteRow::new(bin, None, 1)], 1),
-        Routes::new(alloc, &[], 1),
-    ) {
-        (Ok(routes), Ok(nowhere)) => Some(Ways { routes, nowhere }),
+    match (routed(alloc, b"610455"), Routes::new(alloc, &[], 1)) {
+        (Some(routes), Ok(nowhere)) => Some(Ways { routes, nowhere }),
         _ => None,
     }
 }

@@ -51,23 +51,8 @@ impl Transactions {
     /// Settles the transaction by an answer.
     fn settle(&mut self, told: &mut Told, alloc: Global, answer: &[u8]) {
         match (self.open.take(), Vec::from_slice(alloc, answer)) {
-            (Some(open), Ok(answer)) => self.settle_by(told, open, answer),
+            (Some(open), Ok(answer)) => *self = settled_by(told, open, answer),
             _ => told.refuse(),
-        }
-    }
-
-    /// Settles a transaction; where it stays open, tells why and the answer that is given back.
-    fn settle_by(&mut self, told: &mut Told, open: OpenTxn, answer: Vec<u8>) {
-        match open.settle(answer) {
-            Ok(settled) => {
-                self.settled = Some(settled);
-                told.word("ok");
-            }
-            Err((open, answer, fault)) => {
-                self.open = Some(open);
-                refused(told, fault);
-                told.bytes(answer.as_slice());
-            }
         }
     }
 
@@ -115,5 +100,26 @@ fn opened(alloc: Global, id: TxnId, text: &[u8]) -> Option<OpenTxn> {
     match (check_readable(text), Vec::from_slice(alloc, text)) {
         (Some(_), Ok(request)) => Some(OpenTxn::new(id, request)),
         _ => None,
+    }
+}
+
+/// Settles a transaction by an answer; where it stays open, tells why and the answer that is given back.
+fn settled_by(told: &mut Told, open: OpenTxn, answer: Vec<u8>) -> Transactions {
+    match open.settle(answer) {
+        Ok(settled) => {
+            told.word("ok");
+            Transactions {
+                open: None,
+                settled: Some(settled),
+            }
+        }
+        Err((open, answer, fault)) => {
+            refused(told, fault);
+            told.bytes(answer.as_slice());
+            Transactions {
+                open: Some(open),
+                settled: None,
+            }
+        }
     }
 }
