@@ -1,6 +1,6 @@
 //! Callers that submit claims and wait for the answers.
 
-use crate::claims::billing_of;
+use crate::four_callers::billing_of;
 use node_threads::{Status, System, Till};
 use std::alloc::Global;
 use std::sync::Wait;

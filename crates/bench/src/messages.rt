@@ -1,29 +1,13 @@
-//! Work for valgrind to count: messages that are read so many times, another number in each.
-//! Usage: bench_messages WORK TIMES, where WORK is checks, lists, orders, listed or answers.
-#![tactic(auto)]
+//! Messages that are read so many times, another number in each.
 
-mod texts;
-
-use crate::texts::{billing, numbered, paid};
+use crate::texts::{billing, paid, put_digit};
 use claim_profile::{Claim, Order, check_readable, order_at, read_answer, read_order};
 use d0_segments::{check_request, read_request};
 use std::alloc::Global;
-use std::env;
-use std::process::ExitCode;
 
-fn main(rt: HostRuntime) -> ExitCode {
-    match run(&rt) {
-        Some(()) => ExitCode::SUCCESS,
-        None => ExitCode::FAILURE,
-    }
-}
-
-/// Does the work that the command line names; None where it names none, or where a message is refused.
-fn run(rt: &HostRuntime) -> Option<()> {
-    let alloc = rt.alloc();
-    let words: Vec<String> = env::args(rt).ok()?.collect(alloc).ok()?;
-    let times: u32 = words.get(2)?.parse().ok()?;
-    match words.get(1)?.as_str() {
+/// Does the work of that name.
+pub(crate) fn work(alloc: Global, name: &str, times: u32) -> Option<()> {
+    match name {
         "checks" => checks(alloc, times),
         "lists" => lists(alloc, times),
         "orders" => orders(alloc, times),
@@ -37,7 +21,7 @@ fn run(rt: &HostRuntime) -> Option<()> {
 fn checks(alloc: Global, times: u32) -> Option<()> {
     let mut text = Vec::from_slice(alloc, billing()).ok()?;
     for number in 0..times {
-        numbered(&mut text, 90, number)?;
+        put_digit(&mut text, 90, number)?;
         let Ok(framed) = check_request(&text) else {
             return None;
         };
@@ -52,7 +36,7 @@ fn checks(alloc: Global, times: u32) -> Option<()> {
 fn lists(alloc: Global, times: u32) -> Option<()> {
     let mut text = Vec::from_slice(alloc, billing()).ok()?;
     for number in 0..times {
-        numbered(&mut text, 90, number)?;
+        put_digit(&mut text, 90, number)?;
         let transmission = read_request(alloc, &text).ok()?;
         if transmission.header().count() != 1 {
             return None;
@@ -66,7 +50,7 @@ fn orders(alloc: Global, times: u32) -> Option<()> {
     let mut text = Vec::from_slice(alloc, billing()).ok()?;
     let first = order_of(&text)?;
     for number in 0..times {
-        numbered(&mut text, 90, number)?;
+        put_digit(&mut text, 90, number)?;
         if !asks_the_same(&order_of(&text)?, &first) {
             return None;
         }
@@ -102,7 +86,7 @@ fn listed(alloc: Global, times: u32) -> Option<()> {
     let mut text = Vec::from_slice(alloc, billing()).ok()?;
     let first = order_in_lists(alloc, &text)?;
     for number in 0..times {
-        numbered(&mut text, 90, number)?;
+        put_digit(&mut text, 90, number)?;
         if !asks_the_same(&order_in_lists(alloc, &text)?, &first) {
             return None;
         }
@@ -125,7 +109,7 @@ fn order_in_lists(alloc: Global, text: &[u8]) -> Option<Claim> {
 fn answers(alloc: Global, times: u32) -> Option<()> {
     let mut text = Vec::from_slice(alloc, paid()).ok()?;
     for number in 0..times {
-        numbered(&mut text, 76, number)?;
+        put_digit(&mut text, 76, number)?;
         let answer = read_answer(alloc, &text).ok()?;
         if answer.rulings().len() != 1 {
             return None;
