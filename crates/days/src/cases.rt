@@ -9,7 +9,7 @@ use std::alloc::{AllocError, Global};
 /// All files of cases, by folder.
 #[derive(Drop)]
 pub(crate) struct Cases {
-    /// Those of the folder itself: days, and the examples of the handbook.
+    /// Those of the folder itself: days, and lines of requests.
     pub(crate) here: Vec<CaseFile>,
     /// Inputs of `read`, with what an independent implementation wrote of them.
     pub(crate) read: Vec<CaseFile>,
@@ -24,49 +24,6 @@ impl Cases {
     pub(crate) fn days(&self) -> &[CaseFile] {
         self.here.as_slice()
     }
-
-    /// The file of these names before and behind the dot.
-    fn file(&self, stem: &str, ending: &str) -> Option<&CaseFile> {
-        for file in &self.here {
-            if file.stem() == stem && file.ending() == ending {
-                return Some(file);
-            }
-        }
-        None
-    }
-
-    /// Compares what the program writes of an example with the file beside it.
-    pub(crate) fn compare_example(
-        &self,
-        runner: &mut Runner,
-        file: &CaseFile,
-    ) -> Result<(), AllocError> {
-        match self.file(file.stem(), "expected") {
-            Some(expected) => {
-                let word = word_of(file.bytes());
-                compare_with(runner, file, word, file.bytes(), expected.bytes())
-            }
-            None => runner.fail(file, 0, "nothing is expected of it"),
-        }
-    }
-
-    /// What is expected is expected of an example.
-    pub(crate) fn has_input(&self, runner: &mut Runner, file: &CaseFile) -> Result<(), AllocError> {
-        match self.file(file.stem(), "txt") {
-            Some(_) => Ok(()),
-            None => runner.fail(file, 0, "nothing of which it is expected"),
-        }
-    }
-}
-
-/// The word of an example: where a line of three dashes ends settings, they are those of a replay.
-fn word_of(input: &[u8]) -> Word {
-    for place in 0..input.len() {
-        if input.get(place..).unwrap_or(b"").starts_with(b"\n---\n") {
-            return Word::Replay;
-        }
-    }
-    Word::Read
 }
 
 /// Compares what the program writes of a case with what the case tells.

@@ -49,8 +49,6 @@ impl Suite for Days {
         match file.ending() {
             "day" => cases::compare(runner, file, Word::Replay),
             "claims" => cases::compare(runner, file, Word::Read),
-            "txt" => self.cases.compare_example(runner, file),
-            "expected" => self.cases.has_input(runner, file),
             _ => self.rows(runner, file),
         }
     }
