@@ -11,8 +11,8 @@ ghost use Rattle.schedule_run.specs.Told.{IsRefusal, is_unreadable, done_line, n
 
 use claim_profile::{AnswerFault, Ruling, read_answer};
 use input_text::put_decimal;
-use world_report::put_ruling;
 use std::alloc::{AllocError, Global};
+use world_report::put_ruling;
 use world_setup::StepFault;
 
 /// Appends the line of a command that was made, or of its refusal.
