@@ -1,11 +1,13 @@
 //! What nodes hold after a day, and settings of which no world is made.
 
 use crate::day::{left, settings_of};
-use crate::words::{both, day_and_count, read_id, read_node};
+use crate::way::tell_bytes;
+use crate::words::{both, read_id, read_node, word_and_count};
 use case_files::{CaseFile, Subject, Told};
 use claim_profile::Auth;
 use envelope::TxnId;
 use input_text::split_word;
+use payer_book::PaymentView;
 use std::alloc::Global;
 use world_core::World;
 use world_setup::{Node, WorldSettings};
@@ -50,18 +52,22 @@ fn node_and_id(words: &[u8]) -> Option<(Node, TxnId)> {
 /// Tells the answer that a node of a world holds for a number.
 fn held_after(told: &mut Told, world: Option<World>, node: Node, id: TxnId) {
     match world {
-        Some(world) => match world.held(node, id) {
-            Ok(Some(answer)) => told.bytes(answer.as_slice()),
-            Ok(None) => told.word("none"),
-            Err(_) => told.refuse(),
-        },
+        Some(world) => held_in(told, &world, node, id),
         None => told.refuse(),
+    }
+}
+
+/// Tells the answer that a node of a world holds for a number.
+fn held_in(told: &mut Told, world: &World, node: Node, id: TxnId) {
+    match world.held(node, id) {
+        Ok(answer) => tell_bytes(told, answer),
+        Err(_) => told.refuse(),
     }
 }
 
 /// Tells how many payments a pharmacy counts after a day.
 fn paid(told: &mut Told, alloc: Global, days: &[CaseFile], argument: &[u8]) {
-    match day_and_count(argument) {
+    match word_and_count(argument) {
         Some((day, number @ 1..=999)) => paid_after(told, left(alloc, days, day), number as u16),
         _ => told.refuse(),
     }
@@ -70,11 +76,16 @@ fn paid(told: &mut Told, alloc: Global, days: &[CaseFile], argument: &[u8]) {
 /// Tells how many payments a pharmacy of a world counts.
 fn paid_after(told: &mut Told, world: Option<World>, pharmacy: u16) {
     match world {
-        Some(world) => match world.paid(pharmacy) {
-            Ok(paid) => told.shown(paid.len()),
-            Err(_) => told.refuse(),
-        },
+        Some(world) => paid_in(told, &world, pharmacy),
         None => told.refuse(),
+    }
+}
+
+/// Tells how many payments a pharmacy of a world counts.
+fn paid_in(told: &mut Told, world: &World, pharmacy: u16) {
+    match world.paid(pharmacy) {
+        Ok(paid) => told.shown(paid.len()),
+        Err(_) => told.refuse(),
     }
 }
 
@@ -92,15 +103,25 @@ fn payment(told: &mut Told, alloc: Global, days: &[CaseFile], argument: &[u8]) {
 /// Tells whether a payment of a world stands.
 fn payment_after(told: &mut Told, world: Option<World>, auth: Auth) {
     match world {
-        Some(world) => match world.payment(auth.payer(), auth) {
-            Ok(Some(payment)) => told.word(match payment.reversed_by {
-                Some(_) => "reversed",
-                None => "standing",
-            }),
-            Ok(None) => told.word("none"),
-            Err(_) => told.refuse(),
-        },
+        Some(world) => payment_in(told, &world, auth),
         None => told.refuse(),
+    }
+}
+
+/// Tells whether a payment of a world stands.
+fn payment_in(told: &mut Told, world: &World, auth: Auth) {
+    match world.payment(auth.payer(), auth) {
+        Ok(payment) => tell_payment(told, payment),
+        Err(_) => told.refuse(),
+    }
+}
+
+/// Tells whether a payment stands.
+fn tell_payment(told: &mut Told, payment: Option<PaymentView>) {
+    match payment {
+        Some(payment) if payment.reversed_by.is_some() => told.word("reversed"),
+        Some(_) => told.word("standing"),
+        None => told.word("none"),
     }
 }
 

@@ -9,7 +9,7 @@ use crate::tally::{Outcome, Tally};
 use case_files::{CaseFile, Subject, Told};
 use octets::Octets;
 use std::alloc::Global;
-use world_setup::{Node, StepFault};
+use world_setup::{Call, Node, StepFault};
 
 /// Where an envelope has the pharmacy's number, low byte, and how many bytes its head has.
 const PHARMACY: usize = 5;
@@ -71,22 +71,32 @@ fn packets_of(told: &mut Told, history: &History, alteration: Alteration) {
 
 /// Alters the packet of a delivery.
 fn alter(history: &History, delivery: Delivery, alteration: Alteration, tally: &mut Tally) {
+    match kept_before(history, delivery) {
+        Some(before) => alter_over(history, delivery, &before, alteration, tally),
+        None => tally.spoil(),
+    }
+}
+
+/// Alters the packet of a delivery to a node that keeps this before.
+fn alter_over(
+    history: &History,
+    delivery: Delivery,
+    before: &[u8],
+    alteration: Alteration,
+    tally: &mut Tally,
+) {
     match packet_of(&history.recorded.world, delivery.packet) {
         Some(packet) => {
-            let bytes = Vec::from_slice(history.alloc, packet.bytes.as_slice());
-            let before = kept_before(history, delivery);
-            match (bytes, before) {
-                (Ok(bytes), Some(before)) => {
-                    let hand = Hand {
-                        history,
-                        delivery,
-                        from: packet.from,
-                        to: packet.to,
-                        before: before.as_slice(),
-                    };
-                    hand.alter(bytes, alteration, tally);
-                }
-                _ => tally.spoil(),
+            let hand = Hand {
+                history,
+                delivery,
+                from: packet.from,
+                to: packet.to,
+                before,
+            };
+            match Vec::from_slice(history.alloc, packet.bytes.as_slice()) {
+                Ok(bytes) => hand.alter(bytes, alteration, tally),
+                Err(_) => tally.spoil(),
             }
         }
         None => tally.spoil(),
@@ -162,24 +172,48 @@ impl Hand<'_> {
 
     /// Gives the node bytes in place of the packet. Where they are refused, it keeps what it had.
     fn give(self, bytes: &[u8]) -> Outcome {
-        let packet = Octets::copy_of(self.history.alloc, bytes);
-        match (self.history.receiver(self.delivery), packet) {
-            (Some(receiver), Ok(packet)) => self.take(receiver, &packet),
-            _ => Outcome::Lost,
+        match Octets::copy_of(self.history.alloc, bytes) {
+            Ok(bytes) => self.make(&Call::Take {
+                from: self.from,
+                bytes,
+            }),
+            Err(_) => Outcome::Lost,
         }
     }
 
-    /// What a node makes of a packet.
-    fn take(self, mut receiver: Receiver, packet: &Octets) -> Outcome {
+    /// Makes a call on the node in place of the taking of the packet.
+    fn make(self, call: &Call) -> Outcome {
+        match self.history.receiver(self.delivery) {
+            Some(receiver) => self.make_on(receiver, call),
+            None => Outcome::Lost,
+        }
+    }
+
+    /// What a node makes of a call.
+    fn make_on(self, mut receiver: Receiver, call: &Call) -> Outcome {
         let history = self.history;
-        match receiver.take(history.alloc, &history.routes, self.from, packet) {
+        match receiver.step(history.alloc, &history.routes, call) {
             None => Outcome::Taken,
             Some(StepFault::OutOfMemory) => Outcome::Lost,
-            Some(fault) => match receiver.kept(history.alloc) {
-                Some(kept) if kept.as_slice() == self.before => Outcome::Refused(fault.name()),
-                _ => Outcome::Lost,
-            },
+            Some(fault) => self.refused(receiver, fault),
         }
+    }
+
+    /// What becomes of a node that refuses by this fault.
+    fn refused(self, receiver: Receiver, fault: StepFault) -> Outcome {
+        if is_kept(receiver.kept(self.history.alloc), self.before) {
+            Outcome::Refused(fault.name())
+        } else {
+            Outcome::Lost
+        }
+    }
+}
+
+/// Whether a node keeps what it had.
+fn is_kept(kept: Option<Vec<u8>>, before: &[u8]) -> bool {
+    match kept {
+        Some(kept) => kept.as_slice() == before,
+        None => false,
     }
 }
 

@@ -130,17 +130,17 @@ fn put_changed(
     spot: Spot,
 ) -> bool {
     match change {
-        Change::Sent => {
-            let sent = altered_sent(alloc, record.sent(), spot.bit);
-            put_both(other, copy_call(record.call()), sent)
-        }
-        Change::Taken => {
-            let call = altered_call(alloc, record.call(), spot.bit);
-            put_both(other, call, copy_sent(alloc, record.sent()))
-        }
+        Change::Sent => match altered_sent(alloc, record.sent(), spot.bit) {
+            Some(sent) => put_sent(other, record, sent),
+            None => false,
+        },
+        Change::Taken => match altered_call(alloc, record.call(), spot.bit) {
+            Some(call) => put_call(alloc, other, record, call),
+            None => false,
+        },
         Change::Exchanged => put_at(alloc, other, log, spot.other),
         Change::LeftOut => true,
-        Change::Doubled => { put_record(alloc, other, record) && put_record(alloc, other, record) }
+        Change::Doubled => put_record(alloc, other, record) && put_record(alloc, other, record),
     }
 }
 
@@ -154,16 +154,25 @@ fn put_at(alloc: Global, other: &mut NodeLog, log: &NodeLog, place: usize) -> bo
 
 /// Records what another log has recorded.
 fn put_record(alloc: Global, other: &mut NodeLog, record: &Record) -> bool {
-    let call = copy_call(record.call());
-    let sent = copy_sent(alloc, record.sent());
-    put_both(other, call, sent)
+    match copy_sent(alloc, record.sent()) {
+        Some(sent) => put_sent(other, record, sent),
+        None => false,
+    }
 }
 
-/// Records a call and what it sent, where there are both.
-fn put_both(other: &mut NodeLog, call: Option<Call>, sent: Option<Vec<Sent>>) -> bool {
-    match (call, sent) {
-        (Some(call), Some(sent)) => put(other, call, sent),
-        _ => false,
+/// Records what another log has recorded, with these packets.
+fn put_sent(other: &mut NodeLog, record: &Record, sent: Vec<Sent>) -> bool {
+    match copy_call(record.call()) {
+        Some(call) => put(other, call, sent),
+        None => false,
+    }
+}
+
+/// Records what another log has recorded, with this call.
+fn put_call(alloc: Global, other: &mut NodeLog, record: &Record, call: Call) -> bool {
+    match copy_sent(alloc, record.sent()) {
+        Some(sent) => put(other, call, sent),
+        None => false,
     }
 }
 

@@ -71,32 +71,32 @@ pub(crate) fn day_named<'a>(alloc: Global, days: &'a [CaseFile], name: &[u8]) ->
 
 /// Reads a day.
 fn read_day<'a>(alloc: Global, parts: Parts<'a>) -> Option<Day<'a>> {
-    match divide(alloc, parts.input) {
-        Ok(division) => {
-            let settings = read_settings(alloc, division.settings.as_slice()).ok();
-            let events = read_schedule(alloc, division.schedule).ok();
-            joined(settings, events, parts.outcome)
-        }
-        Err(_) => None,
+    match settings_in(alloc, parts.input) {
+        Some(settings) => with_events(alloc, parts, settings),
+        None => None,
     }
 }
 
-/// A day of these settings and events.
-fn joined<'a>(
-    settings: Option<WorldSettings>,
-    events: Option<Vec<Event>>,
-    report: &'a [u8],
-) -> Option<Day<'a>> {
-    match (settings, events) {
-        (Some(settings), Some(events)) => {
-            let nodes = behind_lines(report, events.len());
+/// The day of these settings.
+fn with_events<'a>(alloc: Global, parts: Parts<'a>, settings: WorldSettings) -> Option<Day<'a>> {
+    match events_in(alloc, parts.input) {
+        Some(events) => {
+            let nodes = behind_lines(parts.outcome, events.len());
             Some(Day {
                 settings,
                 events,
                 nodes,
             })
         }
-        _ => None,
+        None => None,
+    }
+}
+
+/// The events of an input.
+fn events_in(alloc: Global, input: &[u8]) -> Option<Vec<Event>> {
+    match divide(alloc, input) {
+        Ok(division) => read_schedule(alloc, division.schedule).ok(),
+        Err(_) => None,
     }
 }
 

@@ -50,17 +50,23 @@ fn history_from(alloc: Global, day: Day<'_>) -> Option<History> {
 
 /// A day before its first event.
 fn opening(alloc: Global, settings: WorldSettings) -> Option<History> {
-    let routes = settings.checked_routes(alloc).ok();
-    let recorded = record_of(alloc, &settings);
-    match (routes, recorded) {
-        (Some(routes), Some(recorded)) => Some(History {
+    match settings.checked_routes(alloc) {
+        Ok(routes) => with_routes(alloc, settings, routes),
+        Err(_) => None,
+    }
+}
+
+/// The same, with routes that were read.
+fn with_routes(alloc: Global, settings: WorldSettings, routes: Routes) -> Option<History> {
+    match record_of(alloc, &settings) {
+        Some(recorded) => Some(History {
             alloc,
             settings,
             routes,
             recorded,
             deliveries: Vec::new(alloc),
         }),
-        _ => None,
+        None => None,
     }
 }
 
@@ -128,7 +134,7 @@ impl History {
         match node {
             Some(mut node) => {
                 for record in records.iter().take(calls) {
-                    if !node.makes(self.alloc, &self.routes, record.call()) {
+                    if node.step(self.alloc, &self.routes, record.call()).is_some() {
                         return None;
                     }
                 }

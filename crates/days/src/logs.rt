@@ -61,25 +61,21 @@ impl Recorded {
         }
     }
 
-    /// Makes events; false where memory is refused.
-    pub(crate) fn make_all(&mut self, events: &[Event]) -> bool {
-        for event in events {
-            if !self.make(event) {
-                return false;
-            }
-        }
-        true
-    }
-
     /// Records the call of an accepted event with the packets from this number on.
     fn record(&mut self, event: &Event, first: u64) -> bool {
         self.calls = self.calls.saturating_add(1);
+        match call_of(&self.world, event) {
+            Some(call) => self.record_call(event, call, first),
+            None => false,
+        }
+    }
+
+    /// Records a call with the packets from this number on.
+    fn record_call(&mut self, event: &Event, call: Call, first: u64) -> bool {
         let node = addressee(&self.world, event);
-        let call = call_of(&self.world, event);
-        let sent = sent_from(self.alloc, self.world.packets(), first);
-        match (call, sent) {
-            (Some(call), Some(sent)) => self.enter(node, call, sent),
-            _ => false,
+        match sent_from(self.alloc, self.world.packets(), first) {
+            Some(sent) => self.enter(node, call, sent),
+            None => false,
         }
     }
 

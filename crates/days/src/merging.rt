@@ -73,27 +73,20 @@ fn over(told: &mut Told, alloc: Global, days: &[CaseFile], name: &[u8], way: Way
 
 /// Merges the logs of a day.
 fn over_day(told: &mut Told, alloc: Global, day: &Day<'_>, way: Way) {
-    match lived(alloc, day) {
+    match run_of(alloc, &day.settings, &day.events) {
         Some(recorded) => over_logs(told, alloc, day, &recorded, way),
         None => told.refuse(),
     }
 }
 
-/// The world of a day and the logs of its nodes after its events.
-fn lived(alloc: Global, day: &Day<'_>) -> Option<Recorded> {
-    match record_of(alloc, &day.settings) {
-        Some(recorded) => made(recorded, &day.events),
-        None => None,
-    }
-}
-
 /// A world and its logs after events; None where memory is refused.
 fn made(mut recorded: Recorded, events: &[Event]) -> Option<Recorded> {
-    if recorded.make_all(events) {
-        Some(recorded)
-    } else {
-        None
+    for event in events {
+        if !recorded.make(event) {
+            return None;
+        }
     }
+    Some(recorded)
 }
 
 /// Merges logs of a day in some way.

@@ -24,13 +24,10 @@ pub(crate) fn node_at(world: &World, place: usize) -> Node {
 
 /// The number of the node at a place among those of its kind.
 pub(crate) fn number_of(place: usize) -> u16 {
-    match u16::try_from(place) {
-        Ok(place) => place.saturating_add(1),
-        Err(_) => 0,
-    }
+    if place < 65_535 { place as u16 + 1 } else { 0 }
 }
 
 /// The place of a number among those of its kind.
 pub(crate) fn place_of(number: u16) -> usize {
-    usize::from(number.saturating_sub(1))
+    (number as usize).saturating_sub(1)
 }

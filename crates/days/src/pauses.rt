@@ -3,7 +3,7 @@
 use crate::day::{Day, day_named, has_nodes, opened};
 use crate::nodes::{count_nodes, node_at};
 use crate::walks::Walks;
-use crate::words::{both, read_count, read_node};
+use crate::words::{read_count, read_node};
 use case_files::{CaseFile, Told};
 use input_text::split_word;
 use std::alloc::Global;
@@ -40,13 +40,18 @@ fn all_pauses(told: &mut Told, alloc: Global, day: &Day<'_>, world: &World) {
 /// tells them, and how many promises were broken.
 pub(crate) fn pause(told: &mut Told, alloc: Global, days: &[CaseFile], argument: &[u8]) {
     match read_pause(argument) {
-        Some(asked) => match (
-            day_named(alloc, days, asked.day),
-            day_named(alloc, days, asked.like),
-        ) {
-            (Some(day), Some(like)) => tell_pauses(told, alloc, &day, asked, like.nodes),
-            _ => told.refuse(),
+        Some(asked) => match day_named(alloc, days, asked.day) {
+            Some(day) => pause_day(told, alloc, days, &day, asked),
+            None => told.refuse(),
         },
+        None => told.refuse(),
+    }
+}
+
+/// The same for a day that was read.
+fn pause_day(told: &mut Told, alloc: Global, days: &[CaseFile], day: &Day<'_>, asked: Asked<'_>) {
+    match day_named(alloc, days, asked.like) {
+        Some(like) => tell_pauses(told, alloc, day, asked, like.nodes),
         None => told.refuse(),
     }
 }
@@ -62,38 +67,19 @@ struct Asked<'a> {
     like: &'a [u8],
 }
 
-/// What a row asks.
+/// What a row asks: five words.
 fn read_pause(argument: &[u8]) -> Option<Asked<'_>> {
-    match split_word(argument) {
-        Some((day, rest)) => match split_word(rest) {
-            Some((node, rest)) => match (read_node(node), read_span(rest)) {
-                (Some(node), Some((first, last, like))) => Some(Asked {
-                    day,
-                    node,
-                    first,
-                    last,
-                    like,
-                }),
-                _ => None,
-            },
-            None => None,
-        },
-        None => None,
-    }
-}
-
-/// Two numbers and what stands behind them.
-fn read_span(words: &[u8]) -> Option<(usize, usize, &[u8])> {
-    match split_word(words) {
-        Some((first, rest)) => match split_word(rest) {
-            Some((last, like)) => match both(read_count(first), read_count(last)) {
-                Some((first, last)) => Some((first as usize, last as usize, like)),
-                None => None,
-            },
-            None => None,
-        },
-        None => None,
-    }
+    let (day, rest) = split_word(argument)?;
+    let (node, rest) = split_word(rest)?;
+    let (first, rest) = split_word(rest)?;
+    let (last, like) = split_word(rest)?;
+    Some(Asked {
+        day,
+        node: read_node(node)?,
+        first: read_count(first)? as usize,
+        last: read_count(last)? as usize,
+        like,
+    })
 }
 
 /// Tells how often the nodes are as told.
@@ -126,22 +112,17 @@ struct Paused {
 
 /// A day in which one node stops and starts again once so many events were made, against these lines of the nodes after it.
 fn pause_once(alloc: Global, day: &Day<'_>, node: Node, after: usize, nodes: &[u8]) -> Paused {
-    match (
-        opened(alloc, &day.settings),
-        day.events.split_at_checked(after),
-    ) {
-        (Some(world), Some((front, rest))) => {
-            let mut run = Run {
+    match opened(alloc, &day.settings) {
+        Some(world) => {
+            let run = Run {
                 world,
                 walks: Walks::new(alloc),
             };
-            run.make_all(front);
-            run.make(&Event::Stop(node));
-            run.make(&Event::Start(node));
-            run.make_all(rest);
-            run.ended(alloc, nodes)
+            let front = day.events.get(..after).unwrap_or(&[]);
+            let rest = day.events.get(after..).unwrap_or(&[]);
+            run.made(front).paused(node).made(rest).ended(alloc, nodes)
         }
-        _ => Paused {
+        None => Paused {
             same: false,
             broken: 1,
         },
@@ -156,11 +137,19 @@ struct Run {
 }
 
 impl Run {
-    /// Makes events.
-    fn make_all(&mut self, events: &[Event]) {
+    /// The run after some more events.
+    fn made(mut self, events: &[Event]) -> Run {
         for event in events {
             self.make(event);
         }
+        self
+    }
+
+    /// The run after a node stopped and started.
+    fn paused(mut self, node: Node) -> Run {
+        self.make(&Event::Stop(node));
+        self.make(&Event::Start(node));
+        self
     }
 
     /// Makes an event, refused or not, and walks the promises.
@@ -172,7 +161,7 @@ impl Run {
     }
 
     /// How it ended.
-    fn ended(&self, alloc: Global, nodes: &[u8]) -> Paused {
+    fn ended(self, alloc: Global, nodes: &[u8]) -> Paused {
         Paused {
             same: has_nodes(alloc, &self.world, nodes),
             broken: self.walks.met.broken,

@@ -2,7 +2,7 @@
 
 use crate::day::parts_named;
 use crate::drawings::{Extent, Mark, PictureStop, begun, draw, draw_marks, extent_of, marks_of};
-use crate::words::day_and_count;
+use crate::words::word_and_count;
 use case_files::{CaseFile, Subject, Told};
 use input_text::split_word;
 use schedule_cli::{ProgramFault, Scheduled};
@@ -73,7 +73,7 @@ fn marks(told: &mut Told, alloc: Global, days: &[CaseFile], name: &[u8]) {
 
 /// Tells the mark of a number, from 1, of the run of a day.
 fn mark(told: &mut Told, alloc: Global, days: &[CaseFile], argument: &[u8]) {
-    match day_and_count(argument) {
+    match word_and_count(argument) {
         Some((name, number @ 1..)) => match day_marks(alloc, days, name) {
             Some(marks) => tell_mark(told, marks.get(number as usize - 1)),
             None => told.refuse(),

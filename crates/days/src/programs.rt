@@ -1,8 +1,8 @@
 //! The programs of the product that days go through.
 
-use schedule_cli::{ProgramFault, Stop, Word, read_claims, replay};
+use case_files::Told;
+use schedule_cli::{Stop, Word, read_claims, replay};
 use std::alloc::Global;
-use std::io::Write;
 use world_core::World;
 
 /// Appends what `claimswitch` writes of an input, under the word `read` or else `replay`. Where it stops, a line with its
@@ -14,15 +14,24 @@ pub(crate) fn run_program(alloc: Global, word: Word, input: &[u8], out: &mut Vec
         Word::Replay | Word::Run => replay(alloc, &mut reader, out),
     };
     if let Err(fault) = done {
-        put_stop(out, fault);
+        put_stop(alloc, out, Stop::Fault(fault));
     }
 }
 
 /// Appends how the program stops.
-fn put_stop(out: &mut Vec<u8>, fault: ProgramFault) {
-    let stop = Stop::Fault(fault);
-    let status = stop.status();
-    let _ = writeln!(out, "status {status}\nclaimswitch: {stop}");
+fn put_stop(alloc: Global, out: &mut Vec<u8>, stop: Stop) {
+    let mut told = Told::new(alloc);
+    told.shown(stop);
+    put(out, b"status ");
+    put(out, if stop.status() == 1 { b"1" } else { b"2" });
+    put(out, b"\nclaimswitch: ");
+    put(out, told.as_slice());
+    put(out, b"\n");
+}
+
+/// Appends bytes, where there is memory for them.
+fn put(out: &mut Vec<u8>, bytes: &[u8]) {
+    let _ = out.extend_from_slice(bytes);
 }
 
 /// Appends the lines of the report on the nodes of a world, and tells whether there was memory for them.

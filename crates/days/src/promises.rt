@@ -45,7 +45,7 @@ impl Subject for Promises<'_> {
 fn random(told: &mut Told, alloc: Global, crowd: &Crowd, argument: &[u8]) {
     match read_two(argument) {
         Some((seeds, events)) => {
-            let mut met = Met::default();
+            let mut met = Met::with_broken(0);
             for seed in 0..seeds {
                 met.add(walk_through(alloc, crowd, seed, events));
             }
@@ -68,7 +68,7 @@ fn tell_met(told: &mut Told, met: Met) {
 fn walk_through(alloc: Global, crowd: &Crowd, seed: u64, events: u64) -> Met {
     match opening(alloc, crowd) {
         Some(world) => walked(alloc, world, crowd, Random::new(seed), events),
-        None => broken(),
+        None => Met::with_broken(1),
     }
 }
 
@@ -80,20 +80,12 @@ fn opening(alloc: Global, crowd: &Crowd) -> Option<World> {
     }
 }
 
-/// One broken promise.
-fn broken() -> Met {
-    Met {
-        broken: 1,
-        ..Met::default()
-    }
-}
-
 /// What the walks over a world meet as it goes on.
 fn walked(alloc: Global, mut world: World, crowd: &Crowd, mut random: Random, events: u64) -> Met {
     let mut walks = Walks::new(alloc);
     for _ in 0..events {
         if !make(alloc, &mut world, crowd, &mut random) {
-            return broken();
+            return Met::with_broken(1);
         }
         walks.walk(&world);
     }

@@ -30,7 +30,7 @@ struct Plan {
 }
 
 /// What became of logs.
-#[derive(Clone, Copy, Default)]
+#[derive(Clone, Copy)]
 struct Met {
     merged: u64,
     tangled: u64,
@@ -77,7 +77,11 @@ pub(crate) fn short(told: &mut Told, alloc: Global, crowd: &Crowd, argument: &[u
 
 /// Tells what became of the logs of random runs.
 fn runs(told: &mut Told, alloc: Global, crowd: &Crowd, seeds: u64, plan: Plan) {
-    let mut met = Met::default();
+    let mut met = Met {
+        merged: 0,
+        tangled: 0,
+        wrong: 0,
+    };
     for seed in 0..seeds {
         let mut random = Random::new(seed);
         one_run(alloc, &mut random, crowd, plan, &mut met);

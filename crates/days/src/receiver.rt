@@ -4,9 +4,8 @@ use crate::nodes::place_of;
 use bin_routes::{PayerNo, Routes};
 use envelope::{Kind, TxnId, write};
 use node_state::{PayerNode, PharmacyNode, SwitchNode};
-use octets::Octets;
 use std::alloc::Global;
-use world_setup::{Call, Node, StepFault, WorldSettings};
+use world_setup::{Call, Node, Sent, StepFault, WorldSettings};
 
 /// One node.
 #[derive(Drop)]
@@ -38,27 +37,17 @@ impl Receiver {
         }
     }
 
-    /// Makes a call; false where it is refused.
-    pub(crate) fn makes(&mut self, alloc: Global, routes: &Routes, call: &Call) -> bool {
-        match self {
-            Receiver::Pharmacy(node) => node.step(alloc, call).is_ok(),
-            Receiver::Switch(node) => node.step(alloc, routes, call).is_ok(),
-            Receiver::Payer(node) => node.step(alloc, routes, call).is_ok(),
-        }
-    }
-
-    /// Takes a packet, and gives the refusal where it is refused.
-    pub(crate) fn take(
+    /// Makes a call, and gives the refusal where it is refused.
+    pub(crate) fn step(
         &mut self,
         alloc: Global,
         routes: &Routes,
-        from: Node,
-        packet: &Octets,
+        call: &Call,
     ) -> Option<StepFault> {
         match self {
-            Receiver::Pharmacy(node) => node.take(alloc, packet).err(),
-            Receiver::Switch(node) => node.take(alloc, routes, packet).err(),
-            Receiver::Payer(node) => node.take(alloc, routes, from, packet).err(),
+            Receiver::Pharmacy(node) => refusal(node.step(alloc, call)),
+            Receiver::Switch(node) => refusal(node.step(alloc, routes, call)),
+            Receiver::Payer(node) => refusal(node.step(alloc, routes, call)),
         }
     }
 
@@ -69,6 +58,14 @@ impl Receiver {
             Receiver::Switch(node) => table_of(alloc, &node),
             Receiver::Payer(node) => book_record(alloc, node),
         }
+    }
+}
+
+/// The refusal of a step.
+fn refusal(step: Result<Vec<Sent>, StepFault>) -> Option<StepFault> {
+    match step {
+        Ok(_) => None,
+        Err(fault) => Some(fault),
     }
 }
 

@@ -8,7 +8,7 @@ use crate::day::settings_of;
 use crate::history::{History, history_of};
 use crate::nodes::place_of;
 use crate::receiver::{Receiver, pharmacy};
-use crate::words::day_and_node;
+use crate::words::word_and_node;
 use bin_routes::PayerNo;
 use case_files::{CaseFile, Told};
 use kept_records::{RecordFault, read_book, read_journal, write_book, write_journal};
@@ -20,7 +20,7 @@ use world_setup::{Node, WorldSettings};
 
 /// Alters the record with which a node ends a day, at each byte and in its length.
 pub(crate) fn record(told: &mut Told, alloc: Global, days: &[CaseFile], argument: &[u8]) {
-    match day_and_node(argument) {
+    match word_and_node(argument) {
         Some((day, node)) => match history_of(alloc, days, day) {
             Some(history) => record_of(told, &history, node),
             None => told.refuse(),
@@ -54,7 +54,12 @@ fn kept(node: Option<Receiver>, alloc: Global) -> Option<Vec<u8>> {
 
 /// Tells of each alteration of a record whether it is refused.
 fn tell_record(told: &mut Told, reading: Reading<'_>, mut record: Vec<u8>) {
-    let mut counts = Counts::default();
+    let mut counts = Counts {
+        refused: 0,
+        itself: 0,
+        lengths: 0,
+        wrong: 0,
+    };
     told.field("bytes", record.len());
     told.word(match reading.read(&record) {
         Read::Itself => "reads-back",
@@ -88,7 +93,7 @@ enum Read {
 }
 
 /// How many altered records were refused, were themselves what was read, and were read as another one.
-#[derive(Clone, Copy, Default)]
+#[derive(Clone, Copy)]
 struct Counts {
     refused: u64,
     itself: u64,

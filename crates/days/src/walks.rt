@@ -12,7 +12,7 @@ use world_core::World;
 use world_setup::Node;
 
 /// What walks met.
-#[derive(Clone, Copy, Default)]
+#[derive(Clone, Copy)]
 pub(crate) struct Met {
     /// Answers that a node held.
     pub(crate) answers: u64,
@@ -27,6 +27,17 @@ pub(crate) struct Met {
 }
 
 impl Met {
+    /// Nothing, and so many broken promises.
+    pub(crate) fn with_broken(broken: u64) -> Met {
+        Met {
+            answers: 0,
+            standing: 0,
+            counted: 0,
+            reversed: 0,
+            broken,
+        }
+    }
+
     /// Counts a broken promise.
     fn spoil(&mut self) {
         self.broken = self.broken.saturating_add(1);
@@ -64,7 +75,7 @@ impl Walks {
         Walks {
             alloc,
             answers: Vec::new(alloc),
-            met: Met::default(),
+            met: Met::with_broken(0),
         }
     }
 
@@ -110,9 +121,15 @@ impl Walks {
     /// The answer that a node holds to a number, if there is one, is the first.
     fn answer_of(&mut self, world: &World, node: Node, id: TxnId) {
         match world.held(node, id) {
-            Ok(Some(answer)) => self.is_first(id, answer),
-            Ok(None) => {}
+            Ok(answer) => self.hear(id, answer),
             Err(_) => self.met.spoil(),
+        }
+    }
+
+    /// An answer, if there is one, is the first to its number.
+    fn hear(&mut self, id: TxnId, answer: Option<Octets>) {
+        if let Some(answer) = answer {
+            self.is_first(id, answer);
         }
     }
 

@@ -2,9 +2,10 @@
 
 use crate::day::settings_of;
 use crate::receiver::{payer, pharmacy, switch};
-use crate::words::{both, read_count, read_id, read_node};
+use crate::words::{both, read_node, word_and_count, word_and_id};
 use bin_routes::Routes;
 use case_files::{CaseFile, Subject, Told};
+use envelope::TxnId;
 use input_text::split_word;
 use node_state::NodeState;
 use octets::Octets;
@@ -59,8 +60,16 @@ impl Way<'_> {
     /// Makes a call on a node, and tells what it sends.
     fn call(&mut self, told: &mut Told, alloc: Global, word: &str, argument: &[u8]) {
         let (name, rest) = split_word(argument).unwrap_or((argument, b""));
-        match (&mut self.nodes, read_node(name), call_of(alloc, word, rest)) {
-            (Some(nodes), Some(node), Some(call)) => nodes.step(told, alloc, node, &call),
+        match call_of(alloc, word, rest) {
+            Some(call) => self.step(told, alloc, name, &call),
+            None => told.refuse(),
+        }
+    }
+
+    /// Makes a call on the node of a name, and tells what it sends.
+    fn step(&mut self, told: &mut Told, alloc: Global, name: &[u8], call: &Call) {
+        match (&mut self.nodes, read_node(name)) {
+            (Some(nodes), Some(node)) => nodes.step(told, alloc, node, call),
             _ => told.refuse(),
         }
     }
@@ -78,12 +87,10 @@ impl Way<'_> {
 
     /// Tells the request of a number in the journal of a node.
     fn request(&self, told: &mut Told, alloc: Global, argument: &[u8]) {
-        match split_word(argument) {
-            Some((name, number)) => match (self.node(name), read_count(number)) {
-                (Some(node), Some(number)) => {
-                    tell_bytes(told, node.request(alloc, number).unwrap_or(None))
-                }
-                _ => told.refuse(),
+        match word_and_count(argument) {
+            Some((name, number)) => match self.node(name) {
+                Some(node) => tell_request(told, alloc, node, number),
+                None => told.refuse(),
             },
             None => told.refuse(),
         }
@@ -91,10 +98,10 @@ impl Way<'_> {
 
     /// Tells the answer that a node holds for a number.
     fn held(&self, told: &mut Told, alloc: Global, argument: &[u8]) {
-        match split_word(argument) {
-            Some((name, id)) => match (self.node(name), read_id(id)) {
-                (Some(node), Some(id)) => { tell_bytes(told, node.held(alloc, id).unwrap_or(None)) }
-                _ => told.refuse(),
+        match word_and_id(argument) {
+            Some((name, id)) => match self.node(name) {
+                Some(node) => tell_held(told, alloc, node, id),
+                None => told.refuse(),
             },
             None => told.refuse(),
         }
@@ -143,8 +150,24 @@ fn tell_sent(told: &mut Told, sent: &[Sent]) {
     }
 }
 
+/// Tells the request of a number in the journal of a node.
+fn tell_request(told: &mut Told, alloc: Global, node: &NodeState, number: u64) {
+    match node.request(alloc, number) {
+        Ok(request) => tell_bytes(told, request),
+        Err(_) => told.refuse(),
+    }
+}
+
+/// Tells the answer that a node holds for a number.
+fn tell_held(told: &mut Told, alloc: Global, node: &NodeState, id: TxnId) {
+    match node.held(alloc, id) {
+        Ok(answer) => tell_bytes(told, answer),
+        Err(_) => told.refuse(),
+    }
+}
+
 /// Tells bytes, where there are any.
-fn tell_bytes(told: &mut Told, bytes: Option<Octets>) {
+pub(crate) fn tell_bytes(told: &mut Told, bytes: Option<Octets>) {
     match bytes {
         Some(bytes) => told.bytes(bytes.as_slice()),
         None => told.word("none"),
@@ -153,18 +176,49 @@ fn tell_bytes(told: &mut Told, bytes: Option<Octets>) {
 
 /// The first nodes of settings as they open.
 fn opening(alloc: Global, settings: &WorldSettings) -> Option<Nodes> {
-    let routes = settings.checked_routes(alloc).ok();
-    let pharmacy = pharmacy(alloc, settings, 1);
-    let switch = switch(alloc, settings, 1);
-    let payer = payer(alloc, settings, 1);
-    match (routes, pharmacy, switch, payer) {
-        (Some(routes), Some(pharmacy), Some(switch), Some(payer)) => Some(Nodes {
+    match settings.checked_routes(alloc) {
+        Ok(routes) => with_routes(alloc, settings, routes),
+        Err(_) => None,
+    }
+}
+
+/// The same, with routes that were read.
+fn with_routes(alloc: Global, settings: &WorldSettings, routes: Routes) -> Option<Nodes> {
+    match pharmacy(alloc, settings, 1) {
+        Some(node) => with_pharmacy(alloc, settings, routes, NodeState::pharmacy(node)),
+        None => None,
+    }
+}
+
+/// The same, with a pharmacy.
+fn with_pharmacy(
+    alloc: Global,
+    settings: &WorldSettings,
+    routes: Routes,
+    pharmacy: NodeState,
+) -> Option<Nodes> {
+    match switch(alloc, settings, 1) {
+        Some(node) => with_switch(alloc, settings, routes, pharmacy, NodeState::switch(node)),
+        None => None,
+    }
+}
+
+/// The same, with a switch.
+fn with_switch(
+    alloc: Global,
+    settings: &WorldSettings,
+    routes: Routes,
+    pharmacy: NodeState,
+    switch: NodeState,
+) -> Option<Nodes> {
+    match payer(alloc, settings, 1) {
+        Some(node) => Some(Nodes {
             routes,
-            pharmacy: NodeState::pharmacy(pharmacy),
-            switch: NodeState::switch(switch),
-            payer: NodeState::payer(payer),
+            pharmacy,
+            switch,
+            payer: NodeState::payer(node),
         }),
-        _ => None,
+        None => None,
     }
 }
 
@@ -186,24 +240,32 @@ fn call_of(alloc: Global, word: &str, rest: &[u8]) -> Option<Call> {
 
 /// The taking of a packet, whose sender stands before it.
 fn taking(alloc: Global, words: &[u8]) -> Option<Call> {
-    match split_word(words) {
-        Some((from, bytes)) => match (read_node(from), Octets::copy_of(alloc, bytes)) {
-            (Some(from), Ok(bytes)) => Some(Call::Take { from, bytes }),
-            _ => None,
+    match read_sender(words) {
+        Some((from, bytes)) => match Octets::copy_of(alloc, bytes) {
+            Ok(bytes) => Some(Call::Take { from, bytes }),
+            Err(_) => None,
         },
+        None => None,
+    }
+}
+
+/// A sender, and the packet behind it.
+fn read_sender(words: &[u8]) -> Option<(Node, &[u8])> {
+    match split_word(words) {
+        Some((from, bytes)) => both(read_node(from), Some(bytes)),
         None => None,
     }
 }
 
 /// A change of a plan: a product and its price.
 fn change(alloc: Global, words: &[u8]) -> Option<Call> {
-    match split_word(words) {
-        Some((product, price)) => match (Octets::copy_of(alloc, product), read_count(price)) {
-            (Ok(product), Some(price)) => Some(Call::Plan {
+    match word_and_count(words) {
+        Some((product, price)) => match Octets::copy_of(alloc, product) {
+            Ok(product) => Some(Call::Plan {
                 product,
                 price: u32::try_from(price).ok(),
             }),
-            _ => None,
+            Err(_) => None,
         },
         None => None,
     }

@@ -29,8 +29,8 @@ fn numbered(word: &[u8], letters: &[u8]) -> Option<u16> {
 /// A number of at most four digits.
 pub(crate) fn read_number(digits: &[u8]) -> Option<u16> {
     match read_decimal(digits, 4) {
-        Some(number) => u16::try_from(number).ok(),
-        None => None,
+        Some(number @ 0..=9999) => Some(number as u16),
+        _ => None,
     }
 }
 
@@ -55,18 +55,26 @@ pub(crate) fn both<A: Copy, B: Copy>(first: Option<A>, second: Option<B>) -> Opt
     }
 }
 
-/// The name of a day, and the node behind it.
-pub(crate) fn day_and_node(argument: &[u8]) -> Option<(&[u8], Node)> {
+/// A word, and the node behind it.
+pub(crate) fn word_and_node(argument: &[u8]) -> Option<(&[u8], Node)> {
     match split_word(argument) {
-        Some((day, node)) => both(Some(day), read_node(node)),
+        Some((word, node)) => both(Some(word), read_node(node)),
         None => None,
     }
 }
 
-/// The name of a day, and the number behind it.
-pub(crate) fn day_and_count(argument: &[u8]) -> Option<(&[u8], u64)> {
+/// A word, and the number behind it.
+pub(crate) fn word_and_count(argument: &[u8]) -> Option<(&[u8], u64)> {
     match split_word(argument) {
-        Some((day, count)) => both(Some(day), read_count(count)),
+        Some((word, count)) => both(Some(word), read_count(count)),
+        None => None,
+    }
+}
+
+/// A word, and the id behind it.
+pub(crate) fn word_and_id(argument: &[u8]) -> Option<(&[u8], TxnId)> {
+    match split_word(argument) {
+        Some((word, id)) => both(Some(word), read_id(id)),
         None => None,
     }
 }
