@@ -1,47 +1,34 @@
 //! Work for valgrind to count: a node that has `size` entries does one thing `times` more.
 //! Usage: bench WORK SIZE TIMES, where WORK is claims, kept, turns, submits, hears, ticks, settled, table, exchanges, books,
 //! saved, journals; a message that is read, TIMES over: checks, lists, orders, listed, answers;
-//! a day of SIZE claims: recorded, merged, run; four callers of SIZE claims each, of which TIMES may be open: threads;
 //! or a flood: full-new, full-repeats, full-reused, full-unreadable, full-submissions, full-heard or full-differs; or
 //! chosen or chosen-secret, which pay SIZE claims of the prescriptions on standard input, one of 12 digits a line, in a
 //! book whose maps hash with the fixed keys or with random ones.
 #![tactic(auto)]
 
 mod book;
-mod callers;
-mod day;
 mod floods;
-mod four_callers;
 mod journal;
-mod merging;
 mod messages;
 mod records;
 mod table;
 mod texts;
-mod threads;
 
 use payer_book::HashKeys;
 use std::alloc::Global;
 use std::env;
-use std::io::{Eprint, Read};
+use std::io::Read;
 use std::process::ExitCode;
-use std::sync::Wait;
-use std::thread::Threads;
-use std::time::Clock;
 
 fn main(rt: HostRuntime) -> ExitCode {
-    match run(&rt, &rt) {
+    match run(&rt) {
         Some(()) => ExitCode::SUCCESS,
         None => ExitCode::FAILURE,
     }
 }
 
-/// Does the work that the command line names; None where it names none, or where a call is refused. Callers have their
-/// threads from `threads`.
-fn run<T>(rt: &HostRuntime, threads: &T) -> Option<()>
-where
-    T: Threads + Wait + Clock + Eprint + Copy + Send + Sync + 'static,
-{
+/// Does the work that the command line names; None where it names none, or where a call is refused.
+fn run(rt: &HostRuntime) -> Option<()> {
     let alloc = rt.alloc();
     let words: Vec<String> = env::args(rt).ok()?.collect(alloc).ok()?;
     let size: u32 = words.get(2)?.parse().ok()?;
@@ -49,11 +36,9 @@ where
     match words.get(1)?.as_str() {
         "chosen" => chosen(rt, &HashKeys::fixed(), size),
         "chosen-secret" => chosen(rt, &HashKeys::random(rt).ok()?, size),
-        "threads" => threads::work(threads, alloc, size, times),
         "checks" | "lists" | "orders" | "listed" | "answers" => {
             messages::work(alloc, words.get(1)?.as_str(), times)
         }
-        "recorded" | "merged" | "run" => merging::work(alloc, words.get(1)?.as_str(), size),
         name => work(alloc, name, size, times),
     }
 }

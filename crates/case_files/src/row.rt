@@ -6,13 +6,27 @@ use std::alloc::{AllocError, Global};
 
 /// A call and what it has to come to.
 #[derive(Drop)]
-pub(crate) struct Row<'a> {
+pub struct Row<'a> {
+    word: &'a str,
+    argument: Vec<u8>,
+    outcome: Vec<u8>,
+}
+
+impl Row<'_> {
     /// The word that says which call.
-    pub(crate) word: &'a str,
+    pub fn word(&self) -> &str {
+        self.word
+    }
+
     /// What is called with, its names filled in, as bytes.
-    pub(crate) argument: Vec<u8>,
+    pub fn argument(&self) -> &[u8] {
+        self.argument.as_slice()
+    }
+
     /// What the call has to come to, its names filled in, as it is told.
-    pub(crate) outcome: Vec<u8>,
+    pub(crate) fn outcome(&self) -> &[u8] {
+        self.outcome.as_slice()
+    }
 }
 
 /// Reads the row `WORD ARGUMENT -> OUTCOME`, or `WORD -> OUTCOME`; None where a line is none.

@@ -5,7 +5,7 @@ use crate::folder::{CaseFile, read_folder};
 use crate::row::{Row, read_row};
 use crate::texts::Texts;
 use crate::told::Told;
-use input_text::{Lines, is_skipped};
+use input_text::{Line, Lines, is_skipped};
 use std::alloc::{AllocError, Global};
 use std::io;
 use std::process::ExitCode;
@@ -30,12 +30,25 @@ struct Count {
     differing: u64,
 }
 
+impl Count {
+    /// No row yet.
+    fn nothing() -> Count {
+        Count {
+            rows: 0,
+            differing: 0,
+        }
+    }
+}
+
 /// Compares rows, and keeps what is printed.
 #[derive(Drop)]
 pub struct Runner {
     alloc: Global,
     texts: Texts,
+    /// How many texts are for all files.
+    shared: usize,
     told: Told,
+    count: Count,
     out: String,
     failed: bool,
 }
@@ -46,7 +59,9 @@ impl Runner {
         Runner {
             alloc,
             texts: Texts::new(alloc),
+            shared: 0,
             told: Told::new(alloc),
+            count: Count::nothing(),
             out: String::new(alloc),
             failed: false,
         }
@@ -85,44 +100,71 @@ impl Runner {
 
     /// Runs the rows of a file. Where its ending is `differ`, each row has to differ, which shows that rows are compared.
     pub fn rows<S: Subject>(&mut self, file: &CaseFile, subject: &mut S) -> Result<(), AllocError> {
-        let known = self.texts.len();
-        let differ = file.ending() == "differ";
-        let mut count = Count {
-            rows: 0,
-            differing: 0,
-        };
+        let alloc = self.alloc;
         for line in Lines::new(file.bytes()) {
-            let place = Place {
-                file: file.name(),
-                line: line.number,
-            };
-            count = self.take(place, line.text, subject, differ, count)?;
+            if let Some(row) = self.row(file, line)? {
+                subject.tell(self.told(), alloc, row.word(), row.argument());
+                self.compare(file, line.number, &row)?;
+            }
         }
-        self.texts.truncate(known);
-        self.counted(file, differ, count)
+        self.end(file)
     }
 
-    /// Takes a line: nothing, a text's name, or a row.
-    fn take<S: Subject>(
+    /// The row of a line. None where the line is skipped or names a text, and where it is no row, which is printed.
+    pub fn row<'a>(
         &mut self,
-        place: Place<'_>,
-        line: &[u8],
-        subject: &mut S,
-        differ: bool,
-        count: Count,
-    ) -> Result<Count, AllocError> {
-        if is_skipped(line) {
-            return Ok(count);
+        file: &CaseFile,
+        line: Line<'a>,
+    ) -> Result<Option<Row<'a>>, AllocError> {
+        if is_skipped(line.text) {
+            return Ok(None);
         }
-        if let Some(text) = line.strip_prefix(b"let ") {
+        let place = Place {
+            file: file.name(),
+            line: line.number,
+        };
+        if let Some(text) = line.text.strip_prefix(b"let ") {
             self.name_text(place, text)?;
-            return Ok(count);
+            return Ok(None);
         }
-        let equal = self.compare(place, line, subject, differ)?;
-        Ok(Count {
-            rows: count.rows.saturating_add(1),
-            differing: count.differing.saturating_add(u64::from(!equal)),
-        })
+        let row = read_row(self.alloc, &self.texts, line.text)?;
+        if row.is_none() {
+            self.wrong(place, "no row", line.text)?;
+        }
+        Ok(row)
+    }
+
+    /// Where the call of the next row is told; nothing is told yet.
+    pub fn told(&mut self) -> &mut Told {
+        self.told.clear();
+        &mut self.told
+    }
+
+    /// Compares what was told with what the row at a line says; where it should be the same and is not, that is printed.
+    pub fn compare(
+        &mut self,
+        file: &CaseFile,
+        line: usize,
+        row: &Row<'_>,
+    ) -> Result<(), AllocError> {
+        let place = Place {
+            file: file.name(),
+            line,
+        };
+        let equal = self.judge(place, row, file.ending() == "differ")?;
+        self.count = Count {
+            rows: self.count.rows.saturating_add(1),
+            differing: self.count.differing.saturating_add(u64::from(!equal)),
+        };
+        Ok(())
+    }
+
+    /// Forgets the texts of a file and prints how many rows it had.
+    pub fn end(&mut self, file: &CaseFile) -> Result<(), AllocError> {
+        let count = self.count;
+        self.count = Count::nothing();
+        self.texts.truncate(self.shared);
+        self.counted(file, file.ending() == "differ", count)
     }
 
     /// Takes a text and its name.
@@ -133,40 +175,22 @@ impl Runner {
         Ok(())
     }
 
-    /// Whether a row comes to what it says; where it should and does not, that is printed.
-    fn compare<S: Subject>(
-        &mut self,
-        place: Place<'_>,
-        line: &[u8],
-        subject: &mut S,
-        differ: bool,
-    ) -> Result<bool, AllocError> {
-        let row = read_row(self.alloc, &self.texts, line)?;
-        let Some(row) = row else {
-            self.wrong(place, "no row", line)?;
-            return Ok(true);
-        };
-        self.told.clear();
-        subject.tell(
-            &mut self.told,
-            self.alloc,
-            row.word,
-            row.argument.as_slice(),
-        );
-        self.judge(place, &row, differ)
-    }
-
     /// Whether what was told is the row's outcome.
     fn judge(&mut self, place: Place<'_>, row: &Row<'_>, differ: bool) -> Result<bool, AllocError> {
         if self.told.is_refused() {
             self.failed = true;
-            put_place(&mut self.out, place, "not understood", row.word.as_bytes())?;
+            put_place(
+                &mut self.out,
+                place,
+                "not understood",
+                row.word().as_bytes(),
+            )?;
             return Ok(true);
         }
-        let equal = self.told.as_slice() == row.outcome.as_slice();
+        let equal = self.told.as_slice() == row.outcome();
         if equal == differ {
             self.failed = true;
-            put_place(&mut self.out, place, "wanted", row.outcome.as_slice())?;
+            put_place(&mut self.out, place, "wanted", row.outcome())?;
             put_place(&mut self.out, place, "told", self.told.as_slice())?;
         }
         Ok(equal)
@@ -192,8 +216,8 @@ impl Runner {
         writeln!(self.out, "{name} {rows} rows")
     }
 
-    /// Takes the texts of a file, a line each: `NAME = TEXT`.
-    fn texts(&mut self, file: &CaseFile) -> Result<(), AllocError> {
+    /// Takes the texts of a file for all files, a line each: `NAME = TEXT`.
+    pub fn texts(&mut self, file: &CaseFile) -> Result<(), AllocError> {
         for line in Lines::new(file.bytes()) {
             let place = Place {
                 file: file.name(),
@@ -203,6 +227,7 @@ impl Runner {
                 self.name_text(place, line.text)?;
             }
         }
+        self.shared = self.texts.len();
         Ok(())
     }
 }

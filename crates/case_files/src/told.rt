@@ -71,7 +71,7 @@ impl Told {
     }
 
     /// Whether the row was refused.
-    pub fn is_refused(&self) -> bool {
+    pub(crate) fn is_refused(&self) -> bool {
         self.refused
     }
 

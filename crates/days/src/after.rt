@@ -1,6 +1,7 @@
 //! What nodes hold after a day, and settings of which no world is made.
 
 use crate::day::{left, settings_of};
+use crate::logs::packet_of;
 use crate::way::tell_bytes;
 use crate::words::{both, read_id, read_node, word_and_count};
 use case_files::{CaseFile, Subject, Told};
@@ -24,6 +25,8 @@ impl Subject for After<'_> {
             "held" => held(told, alloc, self.days, argument),
             "paid" => paid(told, alloc, self.days, argument),
             "payment" => payment(told, alloc, self.days, argument),
+            "packet" => packet(told, alloc, self.days, argument),
+            "table" => table(told, alloc, self.days, argument),
             "opening" => opening(told, alloc, self.days, argument),
             _ => told.refuse(),
         }
@@ -122,6 +125,52 @@ fn tell_payment(told: &mut Told, payment: Option<PaymentView>) {
         Some(payment) if payment.reversed_by.is_some() => told.word("reversed"),
         Some(_) => told.word("standing"),
         None => told.word("none"),
+    }
+}
+
+/// Tells the packet of a number after a day.
+fn packet(told: &mut Told, alloc: Global, days: &[CaseFile], argument: &[u8]) {
+    match word_and_count(argument) {
+        Some((day, number)) => match left(alloc, days, day) {
+            Some(world) => packet_in(told, &world, number),
+            None => told.refuse(),
+        },
+        None => told.refuse(),
+    }
+}
+
+/// Tells the packet of a number in a world.
+fn packet_in(told: &mut Told, world: &World, number: u64) {
+    match packet_of(world, number) {
+        Some(packet) => told.bytes(packet.bytes.as_slice()),
+        None => told.word("none"),
+    }
+}
+
+/// Tells the requests in the table of a switch after a day, oldest first.
+fn table(told: &mut Told, alloc: Global, days: &[CaseFile], argument: &[u8]) {
+    match word_and_count(argument) {
+        Some((day, number @ 1..=999)) => match left(alloc, days, day) {
+            Some(world) => table_in(told, &world, number as u16),
+            None => told.refuse(),
+        },
+        _ => told.refuse(),
+    }
+}
+
+/// Tells the requests in the table of a switch of a world, each with whether its answer came.
+fn table_in(told: &mut Told, world: &World, switch: u16) {
+    match world.table(switch) {
+        Ok(requests) => {
+            if requests.is_empty() {
+                told.word("none");
+            }
+            for request in &requests {
+                told.shown(request.id);
+                told.word(if request.answered { "answered" } else { "open" });
+            }
+        }
+        Err(_) => told.refuse(),
     }
 }
 

@@ -1,6 +1,6 @@
 //! The pictures of runs that days go through.
 
-pub(crate) use run_picture::{Extent, Mark, PictureStop, extent_of};
+pub(crate) use run_picture::{Extent, Mark, PictureStop, Wish, wish_of};
 use run_picture::{draw_replay, mark_run, picture};
 use schedule_cli::{ProgramFault, ReaderSource, Scheduled, WriterSink, read_scheduled};
 use std::alloc::Global;

@@ -1,8 +1,7 @@
 //! What is told on standard error of an input that the program refuses, the words of its command line, and how it ends.
 
 use crate::texts::part_words;
-use case_files::{Subject, Told};
-use fake_io::{ALL, Paper, Pieces};
+use case_files::{ALL, Paper, Pieces, Subject, Told};
 use input_text::{read_decimal, split_word};
 use schedule_cli::{
     KeptReader, ProgramFault, Stop, Word, read_claims, replay, why_refused, word_of,

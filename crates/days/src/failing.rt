@@ -1,8 +1,7 @@
 //! Reads and writes that fail, each call in turn, and readers and writers that never come to an end.
 
 use crate::words::read_count;
-use case_files::{Subject, Told};
-use fake_io::{ALL, Endless, Paper, Pieces};
+use case_files::{ALL, Endless, Paper, Pieces, Subject, Told};
 use input_text::split_word;
 use schedule_cli::{
     HashKeys, MOST_CALLS, ProgramFault, Word, read_claims, read_claims_keyed, replay, replay_keyed,

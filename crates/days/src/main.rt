@@ -62,7 +62,7 @@ impl Days {
         match file.stem() {
             "folders" => runner.rows(file, &mut self.cases),
             "after" => runner.rows(file, &mut after::After { days }),
-            "way" => runner.rows(file, &mut way::Way::new(days)),
+            "way" => runner.rows(file, &mut way::Way::new(alloc, days)),
             "altered" => runner.rows(file, &mut altered::Altered { days }),
             "merging" => runner.rows(file, &mut merging::Merging::new(alloc, days)),
             "promises" => runner.rows(file, &mut promises::Promises::new(alloc, days)),

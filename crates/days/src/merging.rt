@@ -8,7 +8,7 @@ use crate::random_logs::{long, short};
 use case_files::{CaseFile, Subject, Told};
 use run_merge::{MergeFault, NodeLog, merge};
 use std::alloc::Global;
-use world_setup::{Event, WorldSettings};
+use world_setup::{Event, Node, WorldSettings};
 
 /// The place of the payer's log among those of one pharmacy, two switches and one payer.
 const PAYER: usize = 3;
@@ -34,7 +34,9 @@ impl Subject for Merging<'_> {
     fn tell(&mut self, told: &mut Told, alloc: Global, word: &str, argument: &[u8]) {
         match word {
             "merge" => over(told, alloc, self.days, argument, Way::Whole),
+            "copies" => over(told, alloc, self.days, argument, Way::Copied),
             "without-payer" => over(told, alloc, self.days, argument, Way::WithoutLast),
+            "without-calls" => over(told, alloc, self.days, argument, Way::WithoutCalls),
             "other-answer" => over(told, alloc, self.days, argument, Way::Changed(Change::Sent)),
             "other-order" => over(
                 told,
@@ -57,8 +59,12 @@ impl Subject for Merging<'_> {
 enum Way {
     /// As they are.
     Whole,
+    /// Copies of them.
+    Copied,
     /// Without the last of them.
     WithoutLast,
+    /// With a log of no calls for the first pharmacy.
+    WithoutCalls,
     /// The payer's is changed at its first call.
     Changed(Change),
 }
@@ -94,7 +100,15 @@ fn over_logs(told: &mut Told, alloc: Global, day: &Day<'_>, recorded: &Recorded,
     let logs = recorded.logs.as_slice();
     match way {
         Way::Whole => merged_back(told, alloc, day, logs),
+        Way::Copied => match copy_logs(alloc, logs) {
+            Some(copies) => merged_alike(told, alloc, day, logs, &copies),
+            None => told.refuse(),
+        },
         Way::WithoutLast => tell_merged(told, alloc, day, without_last(logs)),
+        Way::WithoutCalls => match without_calls(alloc, logs) {
+            Some(logs) => tell_merged(told, alloc, day, &logs),
+            None => told.refuse(),
+        },
         Way::Changed(change) => match changed_payer(alloc, logs, change) {
             Some(logs) => tell_merged(told, alloc, day, &logs),
             None => told.refuse(),
@@ -107,6 +121,31 @@ fn without_last(logs: &[NodeLog]) -> &[NodeLog] {
     match logs.split_last() {
         Some((_, others)) => others,
         None => logs,
+    }
+}
+
+/// The logs with one of no calls for the first pharmacy.
+fn without_calls(alloc: Global, logs: &[NodeLog]) -> Option<Vec<NodeLog>> {
+    with_log(alloc, logs, 0, NodeLog::new(alloc, Node::Pharmacy(1)))
+}
+
+/// Tells whether copies of the settings and logs of a day merge to the same events as these.
+fn merged_alike(
+    told: &mut Told,
+    alloc: Global,
+    day: &Day<'_>,
+    logs: &[NodeLog],
+    copies: &[NodeLog],
+) {
+    match (merge(alloc, &day.settings, logs), day.settings.copy()) {
+        (Ok(events), Ok(settings)) => match merge(alloc, &settings, copies) {
+            Ok(others) => {
+                told.field("events", others.len());
+                told.truth(events == others);
+            }
+            Err(_) => told.refuse(),
+        },
+        _ => told.refuse(),
     }
 }
 

@@ -1,8 +1,10 @@
 //! What the pictures of runs show, and the command line of the program that draws them.
 
 use crate::day::parts_named;
-use crate::drawings::{Extent, Mark, PictureStop, begun, draw, draw_marks, extent_of, marks_of};
-use crate::words::word_and_count;
+use crate::drawings::{
+    Extent, Mark, PictureStop, Wish, begun, draw, draw_marks, marks_of, wish_of,
+};
+use crate::words::{both, read_count, word_and_count};
 use case_files::{CaseFile, Subject, Told};
 use input_text::split_word;
 use schedule_cli::{ProgramFault, Scheduled};
@@ -23,7 +25,8 @@ impl Subject for Pictures<'_> {
             "same" => same(told, alloc, self.days, argument),
             "all" => shows(told, alloc, self.days, argument, Extent::All),
             "ends" => shows(told, alloc, self.days, argument, Extent::Ends),
-            "extent" => extent(told, alloc, argument),
+            "part" => part(told, alloc, self.days, argument),
+            "wish" => wish(told, alloc, argument),
             "stop" => stop(told, argument),
             _ => told.refuse(),
         }
@@ -137,11 +140,30 @@ fn count_of(file: &[u8], text: &[u8]) -> u64 {
     count
 }
 
-/// Tells which extent words of a command line ask for. Two quotes are an empty word.
-fn extent(told: &mut Told, alloc: Global, argument: &[u8]) {
+/// Tells how often a text stands in the picture of a part of a day: the first event, the last one, the day, the text.
+fn part(told: &mut Told, alloc: Global, days: &[CaseFile], argument: &[u8]) {
+    match part_of(argument) {
+        Some((extent, rest)) => shows(told, alloc, days, rest, extent),
+        None => told.refuse(),
+    }
+}
+
+/// The part that two numbers of events say, and what stands behind them.
+fn part_of(argument: &[u8]) -> Option<(Extent, &[u8])> {
+    let (first, behind) = split_word(argument)?;
+    let (last, rest) = split_word(behind)?;
+    match both(read_count(first), read_count(last)) {
+        Some((first, last)) => Some((Extent::Part { first, last }, rest)),
+        None => None,
+    }
+}
+
+/// Tells what words of a command line ask for. Two quotes are an empty word.
+fn wish(told: &mut Told, alloc: Global, argument: &[u8]) {
     match words_of(alloc, argument) {
-        Some(words) => match extent_of(alloc, &words) {
-            Ok(extent) => told.named(extent),
+        Some(words) => match wish_of(alloc, &words) {
+            Ok(Wish::Draw(extent)) => told.named(extent),
+            Ok(Wish::Tell(text)) => told.bytes(text.as_bytes()),
             Err(stop) => told.named(stop),
         },
         None => told.refuse(),

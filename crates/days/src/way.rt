@@ -12,26 +12,22 @@ use octets::Octets;
 use std::alloc::Global;
 use world_setup::{Call, Node, Sent, WorldSettings};
 
-/// Rows of calls on single nodes, which are those of a day that was opened.
+/// Rows of calls on single nodes, which are the first pharmacy, switch and payer of a day that was opened, in this order.
 #[derive(Drop)]
 pub(crate) struct Way<'a> {
     days: &'a [CaseFile],
-    nodes: Option<Nodes>,
-}
-
-/// The first nodes of a day, and its routes.
-#[derive(Drop)]
-struct Nodes {
-    routes: Routes,
-    pharmacy: NodeState,
-    switch: NodeState,
-    payer: NodeState,
+    routes: Option<Routes>,
+    nodes: Vec<NodeState>,
 }
 
 impl<'a> Way<'a> {
     /// No node yet.
-    pub(crate) fn new(days: &'a [CaseFile]) -> Way<'a> {
-        Way { days, nodes: None }
+    pub(crate) fn new(alloc: Global, days: &'a [CaseFile]) -> Way<'a> {
+        Way {
+            days,
+            routes: None,
+            nodes: Vec::new(alloc),
+        }
     }
 }
 
@@ -50,11 +46,21 @@ impl Subject for Way<'_> {
 impl Way<'_> {
     /// Opens the first nodes of a day.
     fn open(&mut self, told: &mut Told, alloc: Global, name: &[u8]) {
-        self.nodes = match settings_of(alloc, self.days, name) {
-            Some(settings) => opening(alloc, &settings),
-            None => None,
-        };
-        told.word(if self.nodes.is_some() { "ok" } else { "none" });
+        self.nodes.clear();
+        match settings_of(alloc, self.days, name) {
+            Some(settings) => self.open_with(told, alloc, &settings),
+            None => told.word("none"),
+        }
+    }
+
+    /// Opens the first nodes of settings.
+    fn open_with(&mut self, told: &mut Told, alloc: Global, settings: &WorldSettings) {
+        self.routes = settings.checked_routes(alloc).ok();
+        let all = self.routes.is_some()
+            && push_pharmacy(&mut self.nodes, alloc, settings)
+            && push_switch(&mut self.nodes, alloc, settings)
+            && push_payer(&mut self.nodes, alloc, settings);
+        told.word(if all { "ok" } else { "none" });
     }
 
     /// Makes a call on a node, and tells what it sends.
@@ -68,8 +74,8 @@ impl Way<'_> {
 
     /// Makes a call on the node of a name, and tells what it sends.
     fn step(&mut self, told: &mut Told, alloc: Global, name: &[u8], call: &Call) {
-        match (&mut self.nodes, read_node(name)) {
-            (Some(nodes), Some(node)) => nodes.step(told, alloc, node, call),
+        match (&self.routes, self.nodes.get_mut(place_of(name))) {
+            (Some(routes), Some(node)) => step(told, alloc, routes, node, call),
             _ => told.refuse(),
         }
     }
@@ -109,24 +115,17 @@ impl Way<'_> {
 
     /// The node of a name.
     fn node(&self, name: &[u8]) -> Option<&NodeState> {
-        match (&self.nodes, read_node(name)) {
-            (Some(nodes), Some(Node::Pharmacy(1))) => Some(&nodes.pharmacy),
-            (Some(nodes), Some(Node::Switch(1))) => Some(&nodes.switch),
-            (Some(nodes), Some(Node::Payer(1))) => Some(&nodes.payer),
-            _ => None,
-        }
+        self.nodes.get(place_of(name))
     }
 }
 
-impl Nodes {
-    /// Makes a call on a node, and tells what it sends.
-    fn step(&mut self, told: &mut Told, alloc: Global, node: Node, call: &Call) {
-        match node {
-            Node::Pharmacy(1) => step(told, alloc, &self.routes, &mut self.pharmacy, call),
-            Node::Switch(1) => step(told, alloc, &self.routes, &mut self.switch, call),
-            Node::Payer(1) => step(told, alloc, &self.routes, &mut self.payer, call),
-            _ => told.refuse(),
-        }
+/// The place of the node of a name; no place where it is none of the first.
+fn place_of(name: &[u8]) -> usize {
+    match name {
+        b"ph1" => 0,
+        b"sw1" => 1,
+        b"pr1" => 2,
+        _ => usize::MAX,
     }
 }
 
@@ -174,51 +173,27 @@ pub(crate) fn tell_bytes(told: &mut Told, bytes: Option<Octets>) {
     }
 }
 
-/// The first nodes of settings as they open.
-fn opening(alloc: Global, settings: &WorldSettings) -> Option<Nodes> {
-    match settings.checked_routes(alloc) {
-        Ok(routes) => with_routes(alloc, settings, routes),
-        Err(_) => None,
-    }
-}
-
-/// The same, with routes that were read.
-fn with_routes(alloc: Global, settings: &WorldSettings, routes: Routes) -> Option<Nodes> {
+/// Opens the first pharmacy; false where memory is refused.
+fn push_pharmacy(nodes: &mut Vec<NodeState>, alloc: Global, settings: &WorldSettings) -> bool {
     match pharmacy(alloc, settings, 1) {
-        Some(node) => with_pharmacy(alloc, settings, routes, NodeState::pharmacy(node)),
-        None => None,
+        Some(node) => nodes.push(NodeState::pharmacy(node)).is_ok(),
+        None => false,
     }
 }
 
-/// The same, with a pharmacy.
-fn with_pharmacy(
-    alloc: Global,
-    settings: &WorldSettings,
-    routes: Routes,
-    pharmacy: NodeState,
-) -> Option<Nodes> {
+/// Opens the first switch; false where memory is refused.
+fn push_switch(nodes: &mut Vec<NodeState>, alloc: Global, settings: &WorldSettings) -> bool {
     match switch(alloc, settings, 1) {
-        Some(node) => with_switch(alloc, settings, routes, pharmacy, NodeState::switch(node)),
-        None => None,
+        Some(node) => nodes.push(NodeState::switch(node)).is_ok(),
+        None => false,
     }
 }
 
-/// The same, with a switch.
-fn with_switch(
-    alloc: Global,
-    settings: &WorldSettings,
-    routes: Routes,
-    pharmacy: NodeState,
-    switch: NodeState,
-) -> Option<Nodes> {
+/// Opens the first payer; false where memory is refused.
+fn push_payer(nodes: &mut Vec<NodeState>, alloc: Global, settings: &WorldSettings) -> bool {
     match payer(alloc, settings, 1) {
-        Some(node) => Some(Nodes {
-            routes,
-            pharmacy,
-            switch,
-            payer: NodeState::payer(node),
-        }),
-        None => None,
+        Some(node) => nodes.push(NodeState::payer(node)).is_ok(),
+        None => false,
     }
 }
 

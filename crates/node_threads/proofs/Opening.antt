@@ -5,7 +5,7 @@ use Rattle.std.proofs.lemmas.Bool.{lt-ltb}
 use Rattle.claim_model.specs.Node.{Pharmacy, Switch, Payer}
 use Rattle.world_setup.specs.declared.settings.WorldSettings.{WorldSettings}
 use Rattle.run_merge.proofs.Opens.{pharmacy_there, switch_there, payer_there}
-use Rattle.node_threads.specs.Setting.{opened}
+use Rattle.node_logged.specs.Setting.{opened}
 
 -- an option that is some
 pub some_by : {A : Type 0} (o : Option A) → is_some o ≡ true → IsSome o

@@ -10,26 +10,27 @@ use Rattle.world_setup.specs.declared.settings.WorldSettings.{WorldSettings}
 use Rattle.run_merge.specs.LogSeen.{logs_seen}
 use Rattle.run_merge.specs.Merged.{IsMerged}
 use Rattle.run_merge.specs.declared.log.NodeLog.{NodeLog}
-use Rattle.node_threads.specs.Tills.{Till}
-use Rattle.node_threads.specs.Setting.{context_of}
-use Rattle.node_threads.specs.Replayed.{ledgers_of}
-use Rattle.node_threads.specs.Judged.{AreReceipts, AreHeard}
-use Rattle.node_threads.specs.Causes.{IsCause}
-use Rattle.node_threads.specs.Verdicts.{IsRun, logs_in}
-use Rattle.node_threads.specs.declared.judging.verdict.Finished.{Finished}
-use Rattle.node_threads.specs.declared.judging.finish_fault.FinishFault.{FinishFault}
-use Rattle.node_threads.specs.declared.judging.finish_fault.FinishFault.TheVariants as fault
+use Rattle.node_logged.specs.Tills.{Till}
+use Rattle.node_logged.specs.Setting.{context_of}
+use Rattle.node_logged.specs.Replayed.{AreOfWorld, ledgers_of}
+use Rattle.node_logged.specs.Judged.{AreReceipts, AreHeard}
+use Rattle.node_logged.specs.Causes.{IsCause}
+use Rattle.node_logged.specs.Verdicts.{IsRun, logs_in}
+use Rattle.node_logged.specs.declared.judging.verdict.Finished.{Finished}
+use Rattle.node_logged.specs.declared.judging.finish_fault.FinishFault.{FinishFault}
+use Rattle.node_logged.specs.declared.judging.finish_fault.FinishFault.TheVariants as fault
 
 pub run_carried : (s : WorldSettings) (tills : List Till) (logs : List NodeLog) (r : Result Finished FinishFault)
     → IfOk r (λ f. f.logs.items ≡ logs)
     → IfOk r (λ f. IsMerged s (logs_seen logs) (map event_seen f.events.items))
     → IfOk r (λ f. f.world ≡ record { routes = routes_of s.routes.items; world = run (context_of s) (opening (settings_seen s)) (map event_seen f.events.items) })
+    → IfOk r (λ f. AreOfWorld (ledgers_of s (logs_seen logs)) f.world.world)
     → OnOk r (AllByRecursion (AreReceipts tills) (ledgers_of s (logs_seen logs)))
     → OnOk r (AllByRecursion (AreHeard tills) (ledgers_of s (logs_seen logs)))
     → IfOk r (λ f. IsRun s tills f f.logs.items)
-run_carried s tills logs (Ok f) same events world receipts heard =
-    subst (λ (l : List NodeLog). IsRun s tills f l) (sym same) (record { events = events; world = world; receipts = receipts; heard = heard })
-run_carried s tills logs (Err fault) same events world receipts heard = tt
+run_carried s tills logs (Ok f) same events world ledgers receipts heard =
+    subst (λ (l : List NodeLog). IsRun s tills f l) (sym same) (record { events = events; world = world; ledgers = ledgers; receipts = receipts; heard = heard })
+run_carried s tills logs (Err fault) same events world ledgers receipts heard = tt
 
 cause_of : (s : WorldSettings) (tills : List Till) (logs : List NodeLog) (why : FinishFault) → IsCause s logs tills why → IsCause s (logs_in why) tills why
 cause_of s tills logs fault.OutOfMemory is = tt

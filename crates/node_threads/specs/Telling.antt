@@ -1,6 +1,6 @@
 -- What a caller is told of a request, and what its till has then.
 use Rattle.std.specs.Prelude.{ℕ, List, Option, Some, None}
-use Rattle.node_threads.specs.Tills.{Till, with_answer}
+use Rattle.node_logged.specs.Tills.{Till, with_answer}
 use Rattle.node_threads.specs.declared.status.Status.{Status}
 use Rattle.node_threads.specs.declared.status.Status.TheVariants.{Open, Settled}
 

@@ -2,14 +2,12 @@
 
 ghost use Rattle.std.specs.Prelude.{◌≡◌, IfOk, IfErr};
 ghost use Rattle.std.specs.Arc.{arc_value};
-ghost use Rattle.node_threads.specs.Causes.{IsCause};
-ghost use Rattle.node_threads.specs.LedgerSeen.{tills_seen};
-ghost use Rattle.node_threads.specs.Verdicts.{IsRun, logs_in};
+ghost use Rattle.node_logged.specs.Causes.{IsCause};
+ghost use Rattle.node_logged.specs.LedgerSeen.{tills_seen};
+ghost use Rattle.node_logged.specs.Verdicts.{IsRun, logs_in};
 
 use crate::hall::Hall;
-use crate::judging::{FinishFault, Finished, judge};
-use crate::shared::Shared;
-use crate::till::Till;
+use node_logged::{FinishFault, Finished, Shared, Till, judge};
 use run_merge::NodeLog;
 use std::alloc::Global;
 use std::sync::{Arc, Wait};

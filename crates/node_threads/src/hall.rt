@@ -5,8 +5,8 @@ ghost use Rattle.std.specs.Arc.{arc_value};
 ghost use Rattle.run_merge.specs.Naming.{is_there, is_numbered};
 ghost use Rattle.world_setup.specs.Seen.{node_seen, settings_seen};
 
-use crate::shared::Shared;
 use crate::station::Station;
+use node_logged::Shared;
 use run_merge::NodeLog;
 use std::alloc::{AllocError, Global};
 use std::marker::Model;

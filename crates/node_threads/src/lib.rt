@@ -1,35 +1,28 @@
-//! Nodes on threads: each node behind a lock of its own, with the log of its calls beside it, an inbox, into which any thread
-//! puts packets, and a worker, which takes them; the tills of callers; and the verdict on what the nodes did.
+//! Nodes on threads: each node with its log behind a lock of its own, an inbox, into which any thread puts packets, and a
+//! worker, which takes them; and a running system of all nodes, which ends with the verdict on their logs.
 //!
-//! Where `judge` answers with a run, the receipts at the tills of each pharmacy are the numbers and requests of its journal's
-//! entries, each exactly once (`receipts_are_the_entries_each_once`).
+//! Nodes with their logs, tills and the verdict are those of `node_logged`, and are named here too.
 #![tactic(auto)]
 
 mod ending;
 mod hall;
-mod held;
 mod inbox;
-mod judging;
-mod laws;
 mod links;
+mod packets;
 mod post;
-mod shared;
 mod starting;
 mod station;
 mod status;
 mod system;
-mod till;
 mod treatment;
 mod workers;
 
-pub use held::Held;
 pub use inbox::{EnterFault, Inbox, Mail, Pass, Places, PutFault, Traffic};
-pub use judging::{FinishFault, Finished, judge};
-pub use laws::receipts_are_the_entries_each_once;
+pub use node_logged::{
+    FinishFault, Finished, Held, Receipt, Shared, Till, judge, receipts_are_the_entries_each_once,
+};
 pub use post::Post;
-pub use shared::Shared;
 pub use starting::StartFault;
 pub use status::{Status, StatusFault};
 pub use system::System;
-pub use till::{Receipt, Till};
 pub use workers::{Gate, Workers};

@@ -3,10 +3,9 @@
 ghost use Rattle.std.specs.Prelude.{IsSome};
 ghost use Rattle.std.specs.Arc.{arc_value};
 ghost use Rattle.world_setup.specs.Seen.{node_seen};
-ghost use Rattle.node_threads.specs.Setting.{opened};
+ghost use Rattle.node_logged.specs.Setting.{opened};
 
-use crate::held::Held;
-use crate::shared::Shared;
+use node_logged::{Held, Shared};
 use std::alloc::{AllocError, Global};
 use std::sync::{Arc, Mutex, MutexGuard, Wait};
 use world_setup::{Call, Node, StepFault};

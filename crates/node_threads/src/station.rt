@@ -3,16 +3,15 @@
 ghost use Rattle.std.specs.Prelude.{◌≡◌, IsSome, IfOk, OnErr};
 ghost use Rattle.std.specs.Arc.{arc_value};
 ghost use Rattle.world_setup.specs.Seen.{node_seen};
-ghost use Rattle.node_threads.specs.Setting.{opened};
-ghost use Rattle.node_threads.specs.Tills.{with_receipt};
-ghost use Rattle.node_threads.specs.TillSeen.{till_seen};
+ghost use Rattle.node_logged.specs.Setting.{opened};
+ghost use Rattle.node_logged.specs.Tills.{with_receipt};
+ghost use Rattle.node_logged.specs.TillSeen.{till_seen};
 
-use crate::held::Held;
 use crate::inbox::{Inbox, Pass};
 use crate::links::Links;
+use crate::packets::packets;
 use crate::post::Post;
-use crate::shared::Shared;
-use crate::till::Till;
+use node_logged::{Held, Shared, Till};
 use std::alloc::{AllocError, Global};
 use std::sync::{Arc, Mutex, Wait};
 use world_setup::{Action, Call, Node, Packet, StepFault};
@@ -77,7 +76,7 @@ impl Station {
     ) -> Result<Vec<Packet>, StepFault> {
         let mut held = self.post.lock(rt);
         held.call(alloc, call)?;
-        Ok(held.packets(alloc))
+        Ok(packets(alloc, &held))
     }
 
     /// Submits a request at a pharmacy for a caller, and gives the number of its entry with copies of the packets that it
@@ -97,7 +96,7 @@ impl Station {
             return Err(StepFault::NoSuchNode);
         }
         let number = held.submit(alloc, till, request)?;
-        Ok((number, held.packets(alloc)))
+        Ok((number, packets(alloc, &held)))
     }
 
     /// Treats a packet on its link to the station of its addressee.

@@ -1,12 +1,12 @@
 //! What a caller is told of a request.
 
 ghost use Rattle.std.specs.Prelude.{◌≡◌, IfOk, OnErr, Some};
-ghost use Rattle.node_threads.specs.Tills.{with_answer};
-ghost use Rattle.node_threads.specs.TillSeen.{till_seen};
+ghost use Rattle.node_logged.specs.Tills.{with_answer};
+ghost use Rattle.node_logged.specs.TillSeen.{till_seen};
 ghost use Rattle.node_threads.specs.Telling.{told};
 ghost use Rattle.node_threads.specs.declared.status.StatusFault.TheVariants.{OutOfMemory};
 
-use crate::till::Till;
+use node_logged::Till;
 use octets::Octets;
 use std::alloc::AllocError;
 use thiserror::Error;

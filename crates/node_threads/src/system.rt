@@ -7,25 +7,23 @@ ghost use Rattle.world_setup.specs.Seen.{node_seen, settings_seen};
 ghost use Rattle.world_setup.specs.Taken.{world_fault};
 ghost use Rattle.world_setup.specs.declared.fault.StepFault.TheVariants.{NoSuchNode};
 ghost use Rattle.world_setup.specs.declared.world_fault.WorldFault.TheVariants.{OutOfMemory};
-ghost use Rattle.node_threads.specs.Tills.{has_receipt, answer_heard, with_receipt};
-ghost use Rattle.node_threads.specs.TillSeen.{till_seen};
-ghost use Rattle.node_threads.specs.Causes.{IsCause};
-ghost use Rattle.node_threads.specs.LedgerSeen.{tills_seen};
-ghost use Rattle.node_threads.specs.Verdicts.{IsRun, logs_in};
+ghost use Rattle.node_logged.specs.Tills.{has_receipt, answer_heard, with_receipt};
+ghost use Rattle.node_logged.specs.TillSeen.{till_seen};
+ghost use Rattle.node_logged.specs.Causes.{IsCause};
+ghost use Rattle.node_logged.specs.LedgerSeen.{tills_seen};
+ghost use Rattle.node_logged.specs.Verdicts.{IsRun, logs_in};
 ghost use Rattle.node_threads.specs.Telling.{told, after_telling};
 ghost use Rattle.node_threads.specs.declared.starting.StartFault.TheVariants.{World, NoThread};
 ghost use Rattle.node_threads.specs.declared.status.StatusFault.TheVariants.{NotThisTill};
 
 use crate::ending::{judged, last_owner};
 use crate::hall::Hall;
-use crate::judging::{FinishFault, Finished};
-use crate::shared::Shared;
 use crate::starting::StartFault;
 use crate::station::Station;
 use crate::status::{Status, StatusFault, tell};
-use crate::till::Till;
 use crate::workers::{Gate, Workers};
 use envelope::TxnId;
+use node_logged::{FinishFault, Finished, Shared, Till};
 use octets::Octets;
 use std::alloc::{AllocError, Global};
 use std::marker::Model;
@@ -53,7 +51,7 @@ impl System {
     /// faults say.
     ///
     /// # Errors
-    /// Those of the settings, as of a world; `NoThread`. The workers that were started have ended then.
+    /// Those of the settings, as of a world; then `NoThread`. The workers that were started have ended then.
     pub fn start<R, G>(
         rt: &R,
         alloc: Global,
@@ -67,6 +65,7 @@ impl System {
         ensures settings { IfOk result (λ started. started.0 ≡ settings) }
         ensures taken { OnOk result (world_fault settings ≡ None) }
         ensures fault { IfErr result (λ fault. (fault ≡ NoThread) ⊎ ((fault ≡ World OutOfMemory) ⊎ (option_map World (world_fault settings) ≡ Some fault))) }
+        ensures no_thread { IfErr result (λ fault. fault ≡ NoThread → world_fault settings ≡ None) }
     {
         let shared = Arc::new(alloc, Shared::new(alloc, settings)?)?;
         let hall = Arc::new(alloc, Hall::opening(rt, alloc, shared)?)?;
@@ -85,9 +84,10 @@ impl System {
     /// A till of a pharmacy, with no receipt and nothing heard.
     ///
     /// # Errors
-    /// `NoSuchNode` where the pharmacy is not there.
+    /// `NoSuchNode` where the pharmacy is not there, and nothing else.
     pub fn till(&self, pharmacy: u16) -> Result<Till, StepFault>
         ensures missing { (result ≡ Err NoSuchNode) ↔ (is_there (settings_seen self.now) (Pharmacy pharmacy) ≡ false) }
+        ensures refused { IfErr result (λ fault. fault ≡ NoSuchNode) }
         ensures empty { IfOk result (λ till. till_seen till ≡ record { pharmacy = pharmacy; receipts = []; heard = [] }) }
     {
         match self.hall.station(Node::Pharmacy(pharmacy)) {
@@ -127,9 +127,10 @@ impl System {
     /// the node stays at rest, and a later restart starts it.
     ///
     /// # Errors
-    /// `NoSuchNode`.
+    /// `NoSuchNode`; memory was refused.
     pub fn restart<R: Wait>(&self, rt: &R, node: Node) -> Result<(), StepFault>
-        ensures { (result ≡ Err NoSuchNode) ↔ (is_there (settings_seen self.now) (node_seen node) ≡ false) }
+        ensures missing { (result ≡ Err NoSuchNode) ↔ (is_there (settings_seen self.now) (node_seen node) ≡ false) }
+        ensures refused { IfErr result (λ fault. (fault ≡ NoSuchNode) ⊎ (fault ≡ StepFault.OutOfMemory)) }
     {
         let station = self.there(node)?;
         station.post().lock(rt).restart(self.hall.alloc())

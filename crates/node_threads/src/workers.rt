@@ -6,6 +6,7 @@ ghost use Rattle.node_threads.specs.declared.starting.StartFault.TheVariants.{Wo
 
 use crate::hall::Hall;
 use crate::inbox::{Mail, Pass};
+use crate::packets::packets;
 use crate::starting::StartFault;
 use crate::station::Station;
 use std::alloc::{AllocError, Global};
@@ -163,5 +164,5 @@ fn inside<R: Wait, G: Gate>(
     let mut held = station.post().lock(rt);
     gate.inside(station.node());
     held.call(alloc, call).ok()?;
-    Some(held.packets(alloc))
+    Some(packets(alloc, &held))
 }

@@ -29,11 +29,13 @@ mod rows;
 mod sheet;
 mod stop;
 mod whole;
+mod words;
 
-pub use extent::{Extent, extent_of};
+pub use extent::Extent;
 pub use laws::marks_are_the_runs;
 pub use mark::Mark;
 pub use marking::mark_run;
 pub use sheet::picture;
 pub use stop::PictureStop;
 pub use whole::draw_replay;
+pub use words::{Wish, wish_of};

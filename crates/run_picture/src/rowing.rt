@@ -2,6 +2,7 @@
 
 use crate::Mark;
 use crate::events::{begun_by, caption_of, note_of, refusal_of};
+use crate::extent::Gap;
 use crate::lanes::Side;
 use crate::measures::{BAND, BAR, MARGIN, ROW_TOP, back, on};
 use crate::page::{draw_cross, write_beside};
@@ -218,11 +219,19 @@ fn write_label(
     write_beside(drawing, side, plan.x(from), y, plan.label(packet))
 }
 
-/// Draws the band that stands for events that are not drawn, and says which.
-pub(crate) fn draw_band(drawing: &mut Drawing, plan: &Plan<'_>) -> Result<(), AllocError> {
-    let Some(y) = plan.rows.band() else {
-        return Ok(());
-    };
+/// Draws the bands that stand for events that are not drawn.
+pub(crate) fn draw_bands(drawing: &mut Drawing, plan: &Plan<'_>) -> Result<(), AllocError> {
+    if let Some(y) = plan.rows.early_band() {
+        draw_band(drawing, plan, y, plan.hidden.early)?;
+    }
+    match plan.rows.late_band() {
+        Some(y) => draw_band(drawing, plan, y, plan.hidden.late),
+        None => Ok(()),
+    }
+}
+
+/// Draws the band with its middle here that stands for events that are not drawn, and says which.
+fn draw_band(drawing: &mut Drawing, plan: &Plan<'_>, y: u64, gap: Gap) -> Result<(), AllocError> {
     let width = plan.columns.width();
     let corner = Point {
         x: MARGIN,
@@ -233,15 +242,21 @@ pub(crate) fn draw_band(drawing: &mut Drawing, plan: &Plan<'_>) -> Result<(), Al
         height: BAND,
     };
     drawing.rect(Fill::DashedBorder, corner, size)?;
-    let mut words = Vec::new(plan.alloc);
-    words.extend_from_slice(b"events ")?;
-    put_decimal(&mut words, plan.hidden.first)?;
-    words.extend_from_slice(b" to ")?;
-    put_decimal(&mut words, plan.hidden.last)?;
-    words.extend_from_slice(b" are not drawn; `claimpicture all` draws them")?;
+    let words = band_words(plan, gap)?;
     let at = Point {
         x: on(MARGIN, MARGIN),
         y: on(y, BASE),
     };
     drawing.words(Face::Bold, Anchor::Start, at, words.as_slice())
+}
+
+/// Which events a band stands for.
+fn band_words(plan: &Plan<'_>, gap: Gap) -> Result<Vec<u8>, AllocError> {
+    let mut words = Vec::new(plan.alloc);
+    words.extend_from_slice(b"events ")?;
+    put_decimal(&mut words, gap.first)?;
+    words.extend_from_slice(b" to ")?;
+    put_decimal(&mut words, gap.last)?;
+    words.extend_from_slice(b" are not drawn; `claimpicture all` draws them")?;
+    Ok(words)
 }

@@ -35,7 +35,8 @@ pub(crate) struct Departure {
 pub(crate) struct Rows {
     rows: Vec<Row>,
     departures: Vec<Departure>,
-    band: Option<u64>,
+    early: Option<u64>,
+    late: Option<u64>,
     next: u64,
 }
 
@@ -50,7 +51,8 @@ impl Rows {
         let mut rows = Rows {
             rows: Vec::new(alloc),
             departures: Vec::new(alloc),
-            band: None,
+            early: None,
+            late: None,
             next: FIRST_ROW,
         };
         for mark in marks {
@@ -76,9 +78,14 @@ impl Rows {
         self.departures.as_slice()
     }
 
-    /// The middle of the band that stands for events that are not drawn.
-    pub(crate) fn band(&self) -> Option<u64> {
-        self.band
+    /// The middle of the band that stands for the first events that are not drawn.
+    pub(crate) fn early_band(&self) -> Option<u64> {
+        self.early
+    }
+
+    /// The middle of the band that stands for later ones.
+    pub(crate) fn late_band(&self) -> Option<u64> {
+        self.late
     }
 
     /// Where the rows end.
@@ -114,7 +121,7 @@ impl Rows {
     /// Adds the row of the next event.
     fn add_row(&mut self, event: u64, rest: u64, hidden: Hidden) -> Result<(), AllocError> {
         if hidden.has(event) {
-            let y = self.band_line();
+            let y = self.band_line(hidden.early.has(event));
             return Ok(
                 self.rows.push(Row {
                     y,
@@ -133,14 +140,19 @@ impl Rows {
         Ok(())
     }
 
-    /// The middle of the band, which is put in at the first event that is not drawn.
-    fn band_line(&mut self) -> u64 {
-        if let Some(y) = self.band {
+    /// The middle of the early band or of the late one, which is put in at its first event.
+    fn band_line(&mut self, early: bool) -> u64 {
+        let there = if early { self.early } else { self.late };
+        if let Some(y) = there {
             return y;
         }
         let y = on(self.next, on(BAND / 2, MARGIN));
-        self.band = Some(y);
         self.next = on(y, on(BAND / 2, MARGIN));
+        if early {
+            self.early = Some(y);
+        } else {
+            self.late = Some(y);
+        }
         y
     }
 

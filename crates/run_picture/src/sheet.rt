@@ -11,7 +11,7 @@ use crate::frame::{description_of, heading_of, heading_width, write_heading};
 use crate::lifelines::{draw_lifelines, draw_names};
 use crate::measures::{MARGIN, on};
 use crate::plan::Plan;
-use crate::rowing::{draw_band, draw_doings, draw_rules, write_rows};
+use crate::rowing::{draw_bands, draw_doings, draw_rules, write_rows};
 use std::alloc::{AllocError, Global};
 use svg_text::{Drawing, Fill, Frame, Point, Size};
 use world_core::World;
@@ -59,5 +59,5 @@ fn draw_all(drawing: &mut Drawing, plan: &Plan<'_>) -> Result<(), AllocError> {
     draw_doings(drawing, plan)?;
     draw_names(drawing, plan)?;
     write_rows(drawing, plan)?;
-    draw_band(drawing, plan)
+    draw_bands(drawing, plan)
 }

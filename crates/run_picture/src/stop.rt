@@ -12,8 +12,8 @@ use thiserror::Error;
 /// Why the program ends without having written all. The text follows `claimpicture: ` on standard error.
 #[derive(Clone, Copy, Debug, PartialEq, Eq, Error)]
 pub enum PictureStop {
-    /// The words are neither none nor `all`. A wish for help or the version counts here.
-    #[error("usage: claimpicture [all]")]
+    /// The words are neither none nor `all` nor a part of a run.
+    #[error("usage: claimpicture [all|FIRST-LAST]")]
     Usage,
     /// The program stopped.
     #[error("{0}")]

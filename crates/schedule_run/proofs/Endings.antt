@@ -8,10 +8,10 @@ use Rattle.schedule.specs.declared.commands.Command.{Command}
 use Rattle.schedule.specs.declared.commands.Command.TheVariants.{Submit, Tick, Plan, Restart, Await}
 use Rattle.schedule.specs.Runs.{RunParts}
 use Rattle.world_report.specs.Words.{Line, lines_text}
-use Rattle.node_threads.specs.Tills as tills
-use Rattle.node_threads.specs.TillSeen.{till_seen}
-use Rattle.node_threads.specs.LedgerSeen.{tills_seen}
-use Rattle.node_threads.specs.declared.till.Till.{Till}
+use Rattle.node_logged.specs.Tills as tills
+use Rattle.node_logged.specs.TillSeen.{till_seen}
+use Rattle.node_logged.specs.LedgerSeen.{tills_seen}
+use Rattle.node_logged.specs.declared.till.Till.{Till}
 use Rattle.schedule_cli.specs.Replays.{NoReport}
 use Rattle.schedule_cli.specs.declared.input.TheConstants.{MOST_INPUT}
 use Rattle.schedule_cli.specs.declared.fault.ProgramFault.TheVariants as program

@@ -5,3 +5,4 @@ pub mod Turns
 pub mod Tills
 pub mod Looks
 pub mod Endings
+pub mod CutOff

@@ -4,7 +4,7 @@ use Rattle.std.proofs.lemmas.Option.{none-some}
 use Rattle.claim_profile.specs.Ruling.{answer_of}
 use Rattle.claim_model.proofs.Options.{same_some}
 use Rattle.world_report.specs.Words.{Line, line_text, lines_text}
-use Rattle.node_threads.specs.Tills.{Till}
+use Rattle.node_logged.specs.Tills.{Till}
 use Rattle.node_threads.specs.declared.status.Status.{Status}
 use Rattle.node_threads.specs.declared.status.StatusFault.{StatusFault}
 use Rattle.node_threads.specs.declared.status.StatusFault.TheVariants.{NotThisTill}

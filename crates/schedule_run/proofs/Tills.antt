@@ -6,11 +6,11 @@ use Rattle.std.proofs.lemmas.Option.{slice_get-map}
 use Rattle.claim_model.proofs.Options.{same_some}
 use Rattle.world_setup.specs.declared.fault.StepFault.{StepFault}
 use Rattle.world_report.specs.Words.{Line, line_text, lines_text}
-use Rattle.node_threads.specs.Tills as tills
-use Rattle.node_threads.specs.Tills.{with_receipt}
-use Rattle.node_threads.specs.TillSeen.{till_seen}
-use Rattle.node_threads.specs.LedgerSeen.{tills_seen}
-use Rattle.node_threads.specs.declared.till.Till.{Till}
+use Rattle.node_logged.specs.Tills as tills
+use Rattle.node_logged.specs.Tills.{with_receipt}
+use Rattle.node_logged.specs.TillSeen.{till_seen}
+use Rattle.node_logged.specs.LedgerSeen.{tills_seen}
+use Rattle.node_logged.specs.declared.till.Till.{Till}
 use Rattle.schedule_run.specs.Told.{IsAwaited, IsEmpty, IsRefusal, IsSubmitted, Tells, TillChanges, number_line}
 use Rattle.schedule_run.proofs.Words.{one_line_text}
 

@@ -1,6 +1,6 @@
 -- What comes of waiting.
 use Rattle.std.specs.Prelude.{ℕ}
-use Rattle.node_threads.specs.Tills.{Till}
+use Rattle.node_logged.specs.Tills.{Till}
 use Rattle.schedule_run.specs.Told.{TellsAnswer, TellsOpen, TellsNone}
 use Rattle.schedule_run.specs.declared.awaiting.Awaited.{Awaited}
 use Rattle.schedule_run.specs.declared.awaiting.Awaited.TheVariants.{Settled, Open, NotThisTill}

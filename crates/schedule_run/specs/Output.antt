@@ -1,5 +1,5 @@
 -- What a run writes, and why it stops.
-use Rattle.std.specs.Prelude.{◌≡◌, ℕ, ◌≤◌, Bool, true, false, List, ◌++◌, length, Option, Some, Result, Ok, Err, IfErr, IfSome, OnOk}
+use Rattle.std.specs.Prelude.{◌≡◌, ℕ, ◌≤◌, Bool, true, false, ◌⊎◌, List, [], ◌++◌, length, take, Option, Some, Result, Ok, Err, IfErr, IfSome, OnOk, OnErr}
 use Rattle.std.specs.Io.KnownBytes.{Appends}
 use Rattle.world_setup.specs.declared.world_fault.WorldFault.TheVariants as world
 use Rattle.world_setup.specs.declared.settings.WorldSettings.{WorldSettings}
@@ -7,13 +7,13 @@ use Rattle.world_settings.specs.Document.{document_seen}
 use Rattle.world_core.specs.Parts.{WorldParts, context_of}
 use Rattle.schedule.specs.Division.{settings_text}
 use Rattle.schedule.specs.Runs.{RunParts}
-use Rattle.node_threads.specs.Tills.{Till}
-use Rattle.node_threads.specs.Verdicts.{IsRun}
-use Rattle.node_threads.specs.declared.judging.verdict.Finished.{Finished}
+use Rattle.node_logged.specs.Tills.{Till}
+use Rattle.node_logged.specs.Verdicts.{IsRun}
+use Rattle.node_logged.specs.declared.judging.verdict.Finished.{Finished}
 use Rattle.node_threads.specs.declared.starting.StartFault.{StartFault}
 use Rattle.node_threads.specs.declared.starting.StartFault.TheVariants as start
-use Rattle.node_threads.specs.declared.judging.finish_fault.FinishFault.{FinishFault}
-use Rattle.node_threads.specs.declared.judging.finish_fault.FinishFault.TheVariants as finish
+use Rattle.node_logged.specs.declared.judging.finish_fault.FinishFault.{FinishFault}
+use Rattle.node_logged.specs.declared.judging.finish_fault.FinishFault.TheVariants as finish
 use Rattle.world_report.specs.Words.{Line, lines_text}
 use Rattle.world_report.specs.Nodes.{world_lines}
 use Rattle.schedule_cli.specs.Replays.{NoReport, BadSettings, BadLine, world_in, opened_world}
@@ -25,7 +25,7 @@ use Rattle.schedule_run.specs.declared.fault.RunFault.{RunFault}
 use Rattle.schedule_run.specs.declared.fault.RunFault.TheVariants.{Program, Finish, NoThread}
 use Rattle.schedule_run.specs.declared.fault.Unjudged.TheVariants as unjudged
 use Rattle.schedule_run.specs.Asked.{asked_in}
-use Rattle.schedule_run.specs.Told.{RunTold}
+use Rattle.schedule_run.specs.Told.{RunCutOff, RunTold}
 
 -- the lines of the nodes of a world
 abbrev pub node_lines : WorldParts → List Line
@@ -47,6 +47,17 @@ pub record IsReported (s : WorldSettings) (run : RunParts) (output : List ℕ) :
   pub ends : EndsAs s run told world
   pub whole : output ≡ lines_text (told ++ node_lines world)
 
+-- a beginning of an output of nodes of these settings
+pub record ReportCutOff (s : WorldSettings) (run : RunParts) (written : List ℕ) : Type 0 where
+  pub output : List ℕ
+  pub reported : IsReported s run output
+  pub count : ℕ
+  pub is : written ≡ take count output
+
+-- what was written of nodes of these settings when the run stopped: a beginning of what its first commands were told, or of an output
+abbrev pub IsStopped : WorldSettings → RunParts → List ℕ → Type 0
+IsStopped s run written = RunCutOff run written ⊎ ReportCutOff s run written
+
 -- an input asks for a run, and this is an output of it
 pub record IsOutput (input output : List ℕ) : Type 0 where
   pub run : RunParts
@@ -54,6 +65,34 @@ pub record IsOutput (input output : List ℕ) : Type 0 where
   pub settings : WorldSettings
   pub opens : world_in (settings_text input) ≡ Some (opened_world (document_seen settings))
   pub reported : IsReported settings run output
+
+-- a beginning of what the first commands that an input asks for were told
+pub record ToldCutOff (input written : List ℕ) : Type 0 where
+  pub run : RunParts
+  pub asked : asked_in input ≡ Ok run
+  pub cut : RunCutOff run written
+
+-- a beginning of an output of an input
+pub record OutputCutOff (input written : List ℕ) : Type 0 where
+  pub output : List ℕ
+  pub whole : IsOutput input output
+  pub count : ℕ
+  pub is : written ≡ take count output
+
+-- what was written when a run stopped: nothing, or a beginning of what the first commands were told, or of an output
+abbrev pub IsBeginning : List ℕ → List ℕ → Type 0
+IsBeginning input written = (written ≡ []) ⊎ (ToldCutOff input written ⊎ OutputCutOff input written)
+
+-- a beginning of these bytes was appended
+abbrev pub AppendsFront : Option (List ℕ) → Option (List ℕ) → (List ℕ → Type 0) → Type 0
+AppendsFront old new P = (written : List ℕ) × P written × Appends old new written
+
+-- all commands of a run were told, and their lines written
+pub record AllAreTold (old new : Option (List ℕ)) (run : RunParts) : Type 0 where
+  pub lines : List Line
+  pub written : Appends old new (lines_text lines)
+  pub after : List Till
+  pub told : RunTold run lines after
 
 -- why the nodes do not start, as the run tells it
 abbrev pub start_told : StartFault → RunFault
@@ -91,6 +130,12 @@ is_late (Program (program.Line number)) = false
 is_late (Program Write) = true
 is_late (Finish why) = true
 is_late NoThread = false
+
+-- what the nodes did is not judged to be a run
+abbrev pub is_unjudged : RunFault → Bool
+is_unjudged (Program why) = false
+is_unjudged (Finish why) = true
+is_unjudged NoThread = false
 
 -- a run that was asked for stops for these causes: a thread is missing, or a later one
 abbrev pub is_start : RunFault → Bool
@@ -132,3 +177,7 @@ pub record Runs {W : Type 0} (result : Result (Unit {0}) RunFault) (input : Opti
   pub fits : IfSome input (λ bytes. FitsRun result bytes)
   -- nothing is written before all is checked and the threads have started
   pub quiet : IfErr result (λ fault. is_early fault ≡ true → new ≡ old)
+  -- where the run stops, nothing was written, or a beginning of what its first commands were told, or of an output
+  pub beginning : OnErr result (IfSome input (λ bytes. AppendsFront (contents old) (contents new) (IsBeginning bytes)))
+  -- what the nodes did is judged only once all commands were told, and their lines written
+  pub told : IfErr result (λ fault. is_unjudged fault ≡ true → IfSome input (λ bytes. (run : RunParts) × (asked_in bytes ≡ Ok run) × AllAreTold (contents old) (contents new) run))

@@ -3,7 +3,7 @@ use Rattle.std.specs.Prelude.{ℕ, ◌==◌, List, Option, Some, None, option_an
 use Rattle.std.specs.List.{find}
 use Rattle.d0_header.specs.Request.{Request}
 use Rattle.claim_profile.specs.Readable.{readable_header}
-use Rattle.node_threads.specs.Tills.{Receipt, Till}
+use Rattle.node_logged.specs.Tills.{Receipt, Till}
 
 -- the request of the first receipt with this number
 abbrev pub request_of : ℕ → List Receipt → Option (List ℕ)

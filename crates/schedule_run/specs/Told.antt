@@ -1,5 +1,5 @@
 -- What the commands of a run are told, as lines of words. Which of the stated lines they are hangs on the threads.
-use Rattle.std.specs.Prelude.{◌≡◌, ◌⊎◌, ℕ, Bool, true, false, List, [], ◌∷◌, ◌++◌, length, map, replicate, set, slice_get, Some, None, IfSome, Result, Ok, Err, codes, decimal}
+use Rattle.std.specs.Prelude.{◌≡◌, ◌⊎◌, ℕ, Bool, true, false, List, [], ◌∷◌, ◌++◌, length, map, replicate, set, slice_get, take, Some, None, IfSome, Result, Ok, Err, codes, decimal}
 use Rattle.std.specs.List.{AllByRecursion}
 use Rattle.claim_model.specs.Refusal.{Refusal}
 use Rattle.claim_model.specs.Words.{Ruling}
@@ -7,13 +7,13 @@ use Rattle.world_setup.specs.Names.{refusal_name}
 use Rattle.schedule.specs.declared.commands.Command.{Command}
 use Rattle.schedule.specs.declared.commands.Command.TheVariants.{Submit, Tick, Plan, Restart, Await}
 use Rattle.schedule.specs.Runs.{RunParts}
-use Rattle.world_report.specs.Words.{Line}
+use Rattle.world_report.specs.Words.{Line, lines_text}
 use Rattle.world_report.specs.Rulings.{ruling_words}
 use Rattle.world_report.specs.Places.{place_lines}
 use Rattle.claim_profile.specs.Ruling.{AnswerParts, answer_of}
 use Rattle.claim_profile.specs.declared.answer_reading.AnswerFault.{AnswerFault}
 use Rattle.claim_profile.specs.declared.answer_reading.AnswerFault.TheVariants.{OutOfMemory, Framing, NoStatus, BadStatus, BadAmount, BadAuthorization, BadRejects, BadClaim}
-use Rattle.node_threads.specs.Tills.{Till, answer_heard, has_receipt, with_receipt, with_answer}
+use Rattle.node_logged.specs.Tills.{Till, answer_heard, has_receipt, with_receipt, with_answer}
 use Rattle.schedule_run.specs.Places.{places_asked}
 
 -- a call that was made
@@ -131,3 +131,21 @@ IsEmpty till = (till.receipts ≡ []) × (till.heard ≡ [])
 abbrev pub RunTold : RunParts → List Line → List Till → Type 0
 RunTold run lines after =
     (empty : List Till) × (rest : List Line) × AllByRecursion IsEmpty empty × (lines ≡ replicate (length run.faults) done_line ++ rest) × AreTold run.commands empty rest after
+
+-- what was written of commands when the telling stopped: a beginning of the lines that the first of them were told, each in its turn
+pub record IsCutOff (commands : List Command) (before : List Till) (written : List ℕ) : Type 0 where
+  pub made : ℕ
+  pub lines : List Line
+  pub after : List Till
+  pub told : AreTold (take made commands) before lines after
+  pub count : ℕ
+  pub is : written ≡ take count (lines_text lines)
+
+-- what was written of a run when the telling stopped: a beginning of the lines of its links' faults and, behind them, of its first commands
+pub record RunCutOff (run : RunParts) (written : List ℕ) : Type 0 where
+  pub made : ℕ
+  pub lines : List Line
+  pub after : List Till
+  pub told : RunTold (record { faults = run.faults; commands = take made run.commands }) lines after
+  pub count : ℕ
+  pub is : written ≡ take count (lines_text lines)

@@ -1,7 +1,7 @@
 //! Waiting for the answer of a request.
 
 ghost use Rattle.std.specs.Prelude.{IfOk};
-ghost use Rattle.node_threads.specs.TillSeen.{till_seen};
+ghost use Rattle.node_logged.specs.TillSeen.{till_seen};
 ghost use Rattle.schedule_run.specs.Hearing.{ComesOf};
 
 use node_threads::{Status, StatusFault, System, Till};

@@ -1,11 +1,12 @@
 //! Making the commands of a run.
 
-ghost use Rattle.std.specs.Prelude.{◌≡◌, ◌++◌, ◌<◌, ◌⊎◌, List, length, slice_get, IfErr, IfSome, OnOk};
+ghost use Rattle.std.specs.Prelude.{◌≡◌, ◌++◌, ◌<◌, ◌⊎◌, List, length, slice_get, IfErr, IfSome, OnOk, OnErr};
 ghost use Rattle.std.specs.Io.KnownBytes.{Appends};
 ghost use Rattle.world_report.specs.Words.{Line, lines_text};
-ghost use Rattle.node_threads.specs.TillSeen.{till_seen};
-ghost use Rattle.node_threads.specs.LedgerSeen.{tills_seen};
-ghost use Rattle.schedule_run.specs.Told.{AreTold, IsAwaited, IsSubmitted, IsTold, Tells};
+ghost use Rattle.node_logged.specs.TillSeen.{till_seen};
+ghost use Rattle.node_logged.specs.LedgerSeen.{tills_seen};
+ghost use Rattle.schedule_run.specs.Told.{AreTold, IsAwaited, IsCutOff, IsSubmitted, IsTold, Tells};
+ghost use Rattle.schedule_run.specs.Output.{AppendsFront};
 
 use crate::awaiting::{Awaited, wait_for};
 use crate::lines::{put_open, put_outcome, put_refused, put_settled, put_submitted};
@@ -21,7 +22,8 @@ use world_setup::StepFault;
 /// Makes the commands in order, each line written before the next command is made.
 ///
 /// # Errors
-/// `Write`, where the commands behind that line are not made; `OutOfMemory`.
+/// `Write`, where the commands behind that line are not made; `OutOfMemory`. What was written is a beginning of the lines of
+/// the first commands.
 pub(crate) fn make_commands<T: Wait + Clock, K: Sink>(
     rt: &T,
     alloc: Global,
@@ -31,6 +33,7 @@ pub(crate) fn make_commands<T: Wait + Clock, K: Sink>(
     sink: &mut K,
 ) -> Result<(), ProgramFault>
     ensures told { OnOk result ((lines : List Line) × Appends (K.contents sink.old) (K.contents sink.new) (lines_text lines) × AreTold commands.now (tills_seen tills.old) lines (tills_seen tills.new)) }
+    ensures cut_off { OnErr result (AppendsFront (K.contents sink.old) (K.contents sink.new) (IsCutOff commands.now (tills_seen tills.old))) }
     ensures faults { IfErr result (λ fault. (fault ≡ ProgramFault.Write) ⊎ (fault ≡ ProgramFault.OutOfMemory)) }
     ensures same_reference { K.loan sink.new ≡ K.loan sink.old }
 {

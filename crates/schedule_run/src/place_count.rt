@@ -3,7 +3,7 @@
 ghost use Rattle.std.specs.Prelude.{◌≡◌, option_and_then};
 ghost use Rattle.std.specs.Option.{option_copied};
 ghost use Rattle.claim_profile.specs.Readable.{readable_header};
-ghost use Rattle.node_threads.specs.TillSeen.{till_seen};
+ghost use Rattle.node_logged.specs.TillSeen.{till_seen};
 ghost use Rattle.schedule_run.specs.Places.{places_asked, places_of_header, request_of};
 
 use claim_profile::check_readable;

@@ -1,15 +1,15 @@
 //! A run from its input to its report.
 
-ghost use Rattle.std.specs.Prelude.{◌≡◌, ◌⊎◌, ℕ, true, None, List, [], length, replicate, IfOk, IfErr, IfSome, OnOk};
+ghost use Rattle.std.specs.Prelude.{◌≡◌, ◌⊎◌, ◌+◌, ◌≤◌, ℕ, true, None, Ok, List, [], length, replicate, take, IfOk, IfErr, IfSome, OnOk, OnErr};
 ghost use Rattle.std.specs.Io.KnownBytes.{Appends};
 ghost use Rattle.std.specs.List.{AllByRecursion};
 ghost use Rattle.world_setup.specs.Taken.{world_fault};
 ghost use Rattle.world_report.specs.Words.{Line, lines_text};
-ghost use Rattle.schedule.specs.Runs.{run_seen};
-ghost use Rattle.node_threads.specs.LedgerSeen.{tills_seen};
+ghost use Rattle.schedule.specs.Runs.{RunParts, run_seen};
+ghost use Rattle.node_logged.specs.LedgerSeen.{tills_seen};
 ghost use Rattle.schedule_run.specs.Asked.{asked_in};
-ghost use Rattle.schedule_run.specs.Told.{IsEmpty, RunTold, done_line};
-ghost use Rattle.schedule_run.specs.Output.{IsOutput, IsReported, Runs, EndsAs, StopsRun, FitsRun, is_early, is_start, is_late, node_lines};
+ghost use Rattle.schedule_run.specs.Told.{IsEmpty, RunCutOff, RunTold, done_line};
+ghost use Rattle.schedule_run.specs.Output.{AllAreTold, AppendsFront, IsBeginning, IsOutput, IsReported, IsStopped, Runs, EndsAs, StopsRun, FitsRun, is_early, is_start, is_late, is_unjudged, node_lines};
 
 use crate::asked::{Asked, asked_of};
 use crate::commands::make_commands;
@@ -18,7 +18,8 @@ use crate::lines::put_done;
 use node_threads::{Gate, System, Till, Workers};
 use schedule::{Command, Run};
 use schedule_cli::{
-    HashKeys, ProgramFault, ReaderSource, Sink, Source, WriterSink, read_all, write_output,
+    HashKeys, MOST_CALLS, ProgramFault, ReaderSource, Sink, Source, WriterSink, read_all,
+    write_output,
 };
 use std::alloc::{AllocError, Global};
 use std::io::{Read, Write};
@@ -82,11 +83,14 @@ where
 {
     let mut source = ReaderSource::new(reader);
     let mut sink = WriterSink::new(writer);
-    run_over(rt, alloc, keys, &mut source, &mut sink)
+    run_schedule_over(rt, alloc, keys, &mut source, &mut sink)
 }
 
 /// The same over a source and a sink.
-fn run_over<T, S: Source, K: Sink>(
+///
+/// # Errors
+/// Those of `run_schedule`.
+pub fn run_schedule_over<T, S: Source, K: Sink>(
     rt: &T,
     alloc: Global,
     keys: &HashKeys,
@@ -99,6 +103,9 @@ where
     ensures refused { IfErr result (λ fault. IfSome (S.remaining source.old) (λ input. StopsRun fault (asked_in input))) }
     ensures fits { IfSome (S.remaining source.old) (λ input. FitsRun result input) }
     ensures quiet { IfErr result (λ fault. is_early fault ≡ true → sink.new ≡ sink.old) }
+    ensures beginning { OnErr result (IfSome (S.remaining source.old) (λ input. AppendsFront (K.contents sink.old) (K.contents sink.new) (IsBeginning input))) }
+    ensures told { IfErr result (λ fault. is_unjudged fault ≡ true → IfSome (S.remaining source.old) (λ input. (run : RunParts) × (asked_in input ≡ Ok run) × AllAreTold (K.contents sink.old) (K.contents sink.new) run)) }
+    ensures calls { S.calls source.new ≤ S.calls source.old + MOST_CALLS }
     ensures same_reference { K.loan sink.new ≡ K.loan sink.old }
 {
     let input = read_all(alloc, source)?;
@@ -114,6 +121,8 @@ where
     ensures output { OnOk result ((output : List ℕ) × IsReported asked.settings (run_seen asked.run) output × Appends (K.contents sink.old) (K.contents sink.new) output) }
     ensures unwritten { IfErr result (λ fault. is_early fault ≡ true → sink.new ≡ sink.old) }
     ensures started { IfErr result (λ fault. is_start fault ≡ true) }
+    ensures stopped { OnErr result (AppendsFront (K.contents sink.old) (K.contents sink.new) (IsStopped asked.settings (run_seen asked.run))) }
+    ensures told { IfErr result (λ fault. is_unjudged fault ≡ true → AllAreTold (K.contents sink.old) (K.contents sink.new) (run_seen asked.run)) }
     ensures same_reference { K.loan sink.new ≡ K.loan sink.old }
 {
     let Asked { settings, run } = asked;
@@ -139,6 +148,8 @@ where
     T: Threads + Wait + Clock,
     ensures ended { IfOk result (λ world. (lines : List Line) × Appends (K.contents sink.old) (K.contents sink.new) (lines_text lines) × EndsAs system (run_seen run.now) lines world) }
     ensures faults { IfErr result (λ fault. is_late fault ≡ true) }
+    ensures cut_off { OnErr result (AppendsFront (K.contents sink.old) (K.contents sink.new) (RunCutOff (run_seen run.now))) }
+    ensures unjudged { IfErr result (λ fault. is_unjudged fault ≡ true → AllAreTold (K.contents sink.old) (K.contents sink.new) (run_seen run.now)) }
     ensures same_reference { K.loan sink.new ≡ K.loan sink.old }
 {
     let mut tills = Vec::new(alloc);
@@ -160,6 +171,7 @@ fn serve<T: Wait + Clock, K: Sink>(
 ) -> Result<(), ProgramFault>
     requires none { tills.now.items ≡ [] }
     ensures told { OnOk result ((lines : List Line) × Appends (K.contents sink.old) (K.contents sink.new) (lines_text lines) × RunTold (run_seen run.now) lines (tills_seen tills.new.items)) }
+    ensures cut_off { OnErr result (AppendsFront (K.contents sink.old) (K.contents sink.new) (RunCutOff (run_seen run.now))) }
     ensures faults { IfErr result (λ fault. (fault ≡ ProgramFault.Write) ⊎ (fault ≡ ProgramFault.OutOfMemory)) }
     ensures same_reference { K.loan sink.new ≡ K.loan sink.old }
 {
@@ -206,6 +218,7 @@ fn faults_told(alloc: Global, faults: &[LinkFault]) -> Result<Vec<u8>, AllocErro
 /// Writes the lines of all nodes.
 fn write_nodes<K: Sink>(alloc: Global, world: &World, sink: &mut K) -> Result<(), ProgramFault>
     ensures all { OnOk result (Appends (K.contents sink.old) (K.contents sink.new) (lines_text (node_lines world.now))) }
+    ensures front { OnErr result ((count : ℕ) × Appends (K.contents sink.old) (K.contents sink.new) (take count (lines_text (node_lines world.now)))) }
     ensures faults { IfErr result (λ fault. (fault ≡ ProgramFault.Write) ⊎ (fault ≡ ProgramFault.OutOfMemory)) }
     ensures same_reference { K.loan sink.new ≡ K.loan sink.old }
 {

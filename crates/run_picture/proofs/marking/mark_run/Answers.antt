@@ -1,4 +1,4 @@
-use Rattle.std.proofs.Common.{ap, ◌∙◌, sym, map}
+use Rattle.std.proofs.Common.{◌∙◌, map}
 use Rattle.world_core.specs.Parts.{context_of}
 use Rattle.run_picture.specs.Seen.{mark_seen}
 use Rattle.run_picture.proofs.Making.{events_go_on, events_are_told, run_goes_on, run_is_done}

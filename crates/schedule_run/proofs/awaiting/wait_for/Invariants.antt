@@ -1,5 +1,5 @@
 use Rattle.std.proofs.Common.{◌≡◌}
-use Rattle.node_threads.specs.TillSeen.{till_seen}
+use Rattle.node_logged.specs.TillSeen.{till_seen}
 use Rattle.schedule_run.proofs.awaiting.wait_for.Given as goal
 
 -- while the request is open, the till hears nothing

@@ -1,5 +1,5 @@
 use Rattle.std.proofs.lemmas.Result.{on_ok_weaker}
-use Rattle.node_threads.specs.TillSeen.{till_seen}
+use Rattle.node_logged.specs.TillSeen.{till_seen}
 use Rattle.schedule_run.proofs.Looks.{answer_told, none_told, open_told}
 use Rattle.schedule_run.proofs.commands.await_at.Goals as goal
 

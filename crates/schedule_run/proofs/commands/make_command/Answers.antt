@@ -1,5 +1,5 @@
 use Rattle.std.proofs.lemmas.Result.{on_ok_weaker}
-use Rattle.node_threads.specs.LedgerSeen.{tills_seen}
+use Rattle.node_logged.specs.LedgerSeen.{tills_seen}
 use Rattle.schedule_run.proofs.Turns.{call_told}
 use Rattle.schedule_run.proofs.commands.make_command.Goals as goal
 

@@ -1,7 +1,7 @@
 use Rattle.std.proofs.Common.{◌≡◌, List, take}
 use Rattle.std.specs.Io.KnownBytes.{Appends}
 use Rattle.world_report.specs.Words.{Line, lines_text}
-use Rattle.node_threads.specs.LedgerSeen.{tills_seen}
+use Rattle.node_logged.specs.LedgerSeen.{tills_seen}
 use Rattle.schedule_run.specs.Told.{AreTold}
 use Rattle.schedule_run.proofs.commands.make_commands.Given as goal
 

@@ -1,5 +1,5 @@
 use Rattle.std.specs.List.{AllByRecursion}
-use Rattle.node_threads.specs.LedgerSeen.{tills_seen}
+use Rattle.node_logged.specs.LedgerSeen.{tills_seen}
 use Rattle.schedule_run.specs.Told.{IsEmpty}
 use Rattle.schedule_run.proofs.running.open_tills.Given as goal
 

@@ -1,0 +1,106 @@
+//! The program `claimnode`: one node as a process, with its log on disk. Lines that ask the node stand on standard input,
+//! what it says goes to standard output, and each call is on disk before what it sent is said.
+#![tactic(auto)]
+
+mod end;
+mod file;
+mod lines;
+mod words;
+
+use crate::end::End;
+use crate::file::LogFile;
+use crate::lines::Lines;
+use crate::words::{Words, words_of};
+use node_service::Service;
+use std::io::{Read, Write};
+use std::process::ExitCode;
+use std::{env, fs};
+
+/// The most bytes that are read at once. All lines that wait in them are served, and synced once.
+const CHUNK: usize = 65_536;
+
+fn main(rt: HostRuntime) -> ExitCode {
+    match run(&rt) {
+        Ok(()) => ExitCode::SUCCESS,
+        Err(End::Words(error)) => {
+            let _ = error.print(&rt);
+            ExitCode::from(if error.use_stderr() { 2 } else { 0 })
+        }
+        Err(end) => {
+            let _ = eprintln!(rt; "claimnode: {end}");
+            ExitCode::from(1)
+        }
+    }
+}
+
+/// Serves the node that the command line names, from its log.
+fn run(rt: &HostRuntime) -> Result<(), End> {
+    let alloc = rt.alloc();
+    let given: Vec<String> = match env::args(rt) {
+        Ok(words) => words.collect(alloc)?,
+        Err(_) => return Err(End::OutOfMemory),
+    };
+    let words = words_of(alloc, given.as_slice())?;
+    let text = fs::read(rt, words.settings)?;
+    let mut log = LogFile::open(rt, words.log)?;
+    let service = opened(rt, &words, text.as_slice(), &mut log)?;
+    serve(rt, service, &mut log)
+}
+
+/// The node as its log has it. A record that was cut off is cut from the file, and a log that is new gets its head.
+fn opened(
+    rt: &HostRuntime,
+    words: &Words<'_>,
+    text: &[u8],
+    log: &mut LogFile,
+) -> Result<Service, End> {
+    let alloc = rt.alloc();
+    let bytes = log.read(alloc)?;
+    let (mut service, kept) = Service::open(alloc, text, words.node, bytes.as_slice())?;
+    if kept < bytes.len() {
+        log.cut(kept as u64)?;
+    }
+    if !service.records().is_empty() {
+        log.append(service.records())?;
+        log.sync_folder(rt, words.log)?;
+        service.clear();
+    }
+    Ok(service)
+}
+
+/// Serves lines until standard input ends.
+fn serve(rt: &HostRuntime, mut service: Service, log: &mut LogFile) -> Result<(), End> {
+    let mut writer = rt.stdout();
+    let calls = service.calls();
+    let ready = format!(in rt.alloc(); "ready {calls}\n")?;
+    writer.write_all(ready.as_bytes())?;
+    writer.flush()?;
+    let mut reader = rt.stdin();
+    let mut lines = Lines::new(rt.alloc());
+    let mut chunk = Vec::from_elem(rt.alloc(), 0u8, CHUNK)?;
+    for _ in 0..u64::MAX {
+        let count = reader.read(chunk.as_mut_slice())?;
+        if count == 0 {
+            break;
+        }
+        lines.add(&chunk[..count])?;
+        lines.serve(rt.alloc(), &mut service)?;
+        write_served(&mut writer, &mut service, log)?;
+    }
+    Ok(())
+}
+
+/// Appends the records of what was served and syncs them, and only then writes what came of it.
+fn write_served<W: Write>(
+    writer: &mut W,
+    service: &mut Service,
+    log: &mut LogFile,
+) -> Result<(), End> {
+    if !service.records().is_empty() {
+        log.append(service.records())?;
+    }
+    writer.write_all(service.written())?;
+    writer.flush()?;
+    service.clear();
+    Ok(())
+}

@@ -1,0 +1,9 @@
+pub mod Meeting
+pub mod FieldsBack
+pub mod FramesBack
+pub mod CallsBack
+pub mod LogsBack
+pub mod Loops
+pub mod FieldsOnly
+pub mod LogsOnly
+pub mod Torn

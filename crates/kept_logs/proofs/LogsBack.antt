@@ -1,0 +1,148 @@
+-- The first bytes of a log's text are read as what stands whole in them.
+use Rattle.std.proofs.Common.{◌≡◌, ℕ, zero, suc, ◌+◌, ◌-◌, ◌<◌, ◌≤◌, true, List, [], ◌++◌, length, take, drop, nat_lt, Some, None, Ok, Err, inl, inr, refl, ap, ◌∙◌, sym, arith, append_assoc, append-nil, length-append}
+use Rattle.std.proofs.lemmas.Bool.{cases_lt}
+use Rattle.std.proofs.lemmas.Bool.Decides.{nat_tests}
+use Rattle.std.proofs.lemmas.List.{take_at, take_all, take-append-le}
+use Rattle.claim_model.specs.Node.{Node, Pharmacy, Switch, Payer}
+use Rattle.claim_logs.specs.Logs.{Logged, NodeLog}
+use Rattle.kept_logs.specs.declared.fault.LogFault.TheVariants.{Short}
+use Rattle.kept_logs.specs.Fields.{bytes_at, node_text, node_at}
+use Rattle.kept_logs.specs.Records.{logged_text}
+use Rattle.kept_logs.specs.Frames.{check_of, frame_text, Whole, met}
+use Rattle.kept_logs.specs.Logs.{owner_text, head_text, calls_text, log_text, head_in, calls_in, log_in}
+use Rattle.kept_logs.specs.Fits.{FitsNode, FitsLog}
+use Rattle.kept_logs.specs.Cuts.{whole_within, first_calls, calls_within, log_within, with_call, ReadsBack}
+use Rattle.kept_logs.proofs.Meeting.{met-append, met-short}
+use Rattle.kept_logs.proofs.FieldsBack.{bytes_at-put, node_at-put}
+use Rattle.kept_logs.proofs.FramesBack.{check_length, take_over, taken_at_most}
+use Rattle.kept_logs.proofs.CallsBack.{ReadsCalls, reads_calls, calls_text-more, calls_text-split, all_within}
+
+-- ---- the head
+
+pub node_length : (node : Node) → length (node_text node) ≡ 3
+unfolding node_text
+node_length (Pharmacy n) = refl
+node_length (Switch n) = refl
+node_length (Payer n) = refl
+
+owner_length : (digest : List ℕ) (node : Node) → length digest ≡ 32 → length (owner_text digest node) ≡ 35
+unfolding owner_text
+owner_length digest node h = omega (arith, length-append (node_text node) digest, node_length node, h)
+
+pub head_length : (digest : List ℕ) (node : Node) → length digest ≡ 32 → length (head_text digest node) ≡ 46
+unfolding head_text
+head_length digest node h =
+    let owner : List ℕ = owner_text digest node in
+    omega (arith, length-append owner (check_of 0 owner), owner_length digest node h, check_length 0 owner)
+
+node_at_owner : (digest : List ℕ) (node : Node) → FitsNode node → node_at (owner_text digest node) ≡ Some (node, digest)
+unfolding owner_text
+node_at_owner digest node fits = node_at-put node digest fits
+
+met-self : (xs : List ℕ) → met xs xs ≡ Whole []
+met-self xs = ap (met xs) (sym (append-nil xs)) ∙ met-append xs []
+
+pub head_in-put : (digest : List ℕ) (node : Node) (rest : List ℕ) → length digest ≡ 32 → FitsNode node → head_in digest (head_text digest node ++ rest) ≡ Ok (node, rest)
+unfolding head_in head_text
+head_in-put digest node rest h fits =
+    let owner : List ℕ = owner_text digest node in
+    rw (append_assoc owner (check_of 0 owner) rest, bytes_at-put 35 owner (check_of 0 owner ++ rest) (owner_length digest node h), met-append (check_of 0 owner) rest, node_at_owner digest node fits, met-self digest) refl
+
+no_owner : (bytes : List ℕ) → length bytes < 35 → bytes_at 35 bytes ≡ None
+unfolding bytes_at
+no_owner bytes h = rw (less (length bytes) h) refl
+  where
+    less : (m : ℕ) → m < 35 → nat_lt m 35 ≡ true
+    less m h = grind (arith, nat_tests)
+
+pub head_in-short : (digest : List ℕ) (node : Node) (n : ℕ) (rest : List ℕ) → length digest ≡ 32 → n < 46 → head_in digest (take n (head_text digest node ++ rest)) ≡ Err Short
+unfolding head_in head_text
+head_in-short digest node zero rest h small = refl
+head_in-short digest node (suc zero) rest h small = refl
+head_in-short digest node (suc (suc zero)) rest h small = refl
+head_in-short digest node (suc (suc (suc m))) rest h small = elim (cases_lt m 35) [
+  | inl within ↦ rw (no_owner (take m ((owner ++ sum) ++ rest)) (omega (arith, taken_at_most m ((owner ++ sum) ++ rest), within))) refl
+  | inr behind ↦ rw (cut behind, bytes_at-put 35 owner (take (m - length owner) sum) (owner_length digest node h), met-short sum (m - length owner) (omega (arith, small, behind, owner_length digest node h, check_length 0 owner))) refl
+]
+  where
+    owner : List ℕ
+    owner = owner_text digest node
+
+    sum : List ℕ
+    sum = check_of 0 owner
+
+    cut : 35 ≤ m → take m ((owner ++ sum) ++ rest) ≡ owner ++ take (m - length owner) sum
+    cut behind =
+        take-append-le m (owner ++ sum) rest (omega (arith, small, length-append owner sum, owner_length digest node h, check_length 0 owner))
+        ∙ take_over owner sum m (omega (arith, behind, owner_length digest node h))
+
+-- ---- the log
+
+pub log_length : (digest : List ℕ) (log : NodeLog) → length digest ≡ 32 → length (log_text digest log) ≡ 46 + length (calls_text 1 log.calls)
+unfolding log_text
+log_length digest log h = omega (arith, length-append (head_text digest log.node) (calls_text 1 log.calls), head_length digest log.node h)
+
+-- a cut behind the head
+cut_text : (digest : List ℕ) (log : NodeLog) (n : ℕ) → length digest ≡ 32 → 46 ≤ n → take n (log_text digest log) ≡ head_text digest log.node ++ take (n - 46) (calls_text 1 log.calls)
+unfolding log_text
+cut_text digest log n h long =
+    let head : List ℕ = head_text digest log.node in
+    let text : List ℕ = calls_text 1 log.calls in
+    let e : length head ≡ 46 = head_length digest log.node h in
+    take_over head text n (omega (arith, long, e)) ∙ ap (λ m. head ++ take (n - m) text) e
+
+read_by : (digest : List ℕ) (log : NodeLog) (n : ℕ) → length digest ≡ 32 → FitsLog log
+    → (left bytes : List ℕ) → left ≡ take n (calls_text 1 log.calls) → bytes ≡ head_text digest log.node ++ left → ReadsCalls (length bytes) 1 (length left) n log.calls (whole_within 1 n log.calls)
+    → log_in digest bytes ≡ Ok (record { log = first_calls (whole_within 1 n log.calls) log; whole = length (log_text digest (first_calls (whole_within 1 n log.calls) log)) })
+unfolding log_in
+read_by digest log n h fits left bytes is all read =
+    let k : ℕ = whole_within 1 n log.calls in
+    let head : head_in digest bytes ≡ Ok (log.node, left) = ap (head_in digest) all ∙ head_in-put digest log.node left h fits.node in
+    let calls : calls_in (length bytes) 1 (length left) left ≡ Ok (take k log.calls, read.rest) = ap (calls_in (length bytes) 1 (length left)) is ∙ read.read in
+    let count : length bytes - length read.rest ≡ length (log_text digest (first_calls k log)) =
+    omega (arith, ap length all, length-append (head_text digest log.node) left, head_length digest log.node h, read.count, ap length is, log_length digest (first_calls k log) h) in
+    rw (head, calls, count) refl
+
+-- the text of the first calls, and what follows
+text_split : (digest : List ℕ) (log : NodeLog) (k : ℕ) → log_text digest log ≡ log_text digest (first_calls k log) ++ calls_text (1 + k) (drop k log.calls)
+unfolding log_text
+text_split digest log k =
+    let head : List ℕ = head_text digest log.node in
+    ap (λ t. head ++ t) (calls_text-split 1 k log.calls) ∙ sym (append_assoc head (calls_text 1 (take k log.calls)) (calls_text (1 + k) (drop k log.calls)))
+
+pub reads_back : (digest : List ℕ) (log : NodeLog) (n : ℕ) → length digest ≡ 32 → FitsLog log → 46 ≤ n → ReadsBack digest n log
+reads_back digest log n h fits long =
+    let k : ℕ = calls_within n log in
+    let left : List ℕ = take (n - 46) (calls_text 1 log.calls) in
+    let bytes : List ℕ = take n (log_text digest log) in
+    let all : bytes ≡ head_text digest log.node ++ left = cut_text digest log n h long in
+    let read = reads_calls (length bytes) 1 (length left) (n - 46) log.calls fits.calls (omega arith) in
+    record {
+      read = read_by digest log (n - 46) h fits left bytes refl all read;
+      stand = omega (arith, log_length digest (first_calls k log) h, read.stand, long);
+      most = λ l. omega (arith, log_length digest (first_calls (suc k) log) h, read.more l, long);
+      text = ap (take (length (log_text digest (first_calls k log)))) (text_split digest log k) ∙ take_at (log_text digest (first_calls k log)) (calls_text (1 + k) (drop k log.calls)) (length (log_text digest (first_calls k log))) refl;
+    }
+
+pub reads_whole : (digest : List ℕ) (log : NodeLog) → length digest ≡ 32 → FitsLog log → log_in digest (log_text digest log) ≡ Ok (record { log = log; whole = length (log_text digest log) })
+reads_whole digest log h fits =
+    let text : List ℕ = log_text digest log in
+    let n : ℕ = length text in
+    let size : n ≡ 46 + length (calls_text 1 log.calls) = log_length digest log h in
+    let back = reads_back digest log n h fits (omega (arith, size)) in
+    let all : calls_within n log ≡ length log.calls = all_within 1 (n - 46) log.calls (omega (arith, size)) in
+    let calls : take (calls_within n log) log.calls ≡ log.calls = ap (λ k. take k log.calls) all ∙ take_all (length log.calls) log.calls (omega arith) in
+    let same : log_within n log ≡ log = ap (λ (cs : List Logged). record { node = log.node; calls = cs }) calls in
+    ap (log_in digest) (sym (take_all n text (omega arith))) ∙ back.read ∙ ap (λ (l : NodeLog). Ok (record { log = l; whole = length (log_text digest l) })) same
+
+pub reads_short : (digest : List ℕ) (log : NodeLog) (n : ℕ) → length digest ≡ 32 → n < 46 → log_in digest (take n (log_text digest log)) ≡ Err Short
+unfolding log_in log_text
+reads_short digest log n h small = rw (head_in-short digest log.node n (calls_text 1 log.calls) h small) refl
+
+pub one_more : (digest : List ℕ) (log : NodeLog) (r : Logged) → log_text digest (with_call log r) ≡ log_text digest log ++ frame_text (length log.calls + 1) (logged_text r)
+unfolding log_text
+one_more digest log r =
+    let head : List ℕ = head_text digest log.node in
+    let e : 1 + length log.calls ≡ length log.calls + 1 = omega arith in
+    ap (λ t. head ++ t) (calls_text-more 1 log.calls r ∙ ap (λ n. calls_text 1 log.calls ++ frame_text n (logged_text r)) e)
+    ∙ sym (append_assoc head (calls_text 1 log.calls) (frame_text (length log.calls + 1) (logged_text r)))

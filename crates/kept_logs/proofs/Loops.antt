@@ -1,0 +1,134 @@
+-- Loops over packets and records: what is done, and what is left.
+use Rattle.std.proofs.Common.{◌≡◌, ℕ, suc, ◌+◌, ◌-◌, ◌<◌, ◌≤◌, List, [], ◌∷◌, ◌++◌, length, drop, get_or, Option, Some, None, option_map, Result, Ok, Err, refl, ap, ◌∙◌, sym, arith, append_assoc, append-nil}
+use Rattle.std.proofs.lemmas.List.{drop_more}
+use Rattle.std.specs.List.{AllByRecursion}
+use Rattle.claim_model.specs.Node.{Node, Sent}
+use Rattle.claim_logs.specs.Logs.{Logged, NodeLog}
+use Rattle.kept_logs.specs.declared.fault.LogFault.{LogFault}
+use Rattle.kept_logs.specs.Fits.{FitsSent, FitsLogged}
+use Rattle.kept_logs.specs.Records.{sent_text, sent_at, sents_text, sents_in, logged_text}
+use Rattle.kept_records.specs.Options.{◌>>=◌}
+use Rattle.kept_logs.specs.Frames.{frame_text}
+use Rattle.kept_logs.specs.Logs.{head_text, calls_text, log_text, record_in, behind, calls_in}
+
+-- what is left at a place begins with what stands there
+pub left_at : {A : Type 0} (xs : List A) (k : ℕ) (x : A) → k < length xs → x ≡ get_or xs k x → drop k xs ≡ x ∷ drop (k + 1) xs
+left_at xs k x h e = drop_more xs k x h ∙ ap (λ y. y ∷ drop (k + 1) xs) (sym e)
+
+-- ---- packets that are put
+
+-- so far and then what is left is all, and all fit if those that are left do
+pub record PutsSents (before now : List ℕ) (all left : List Sent) : Type 0 where
+  pub text : now ++ sents_text left ≡ before ++ sents_text all
+  pub fits : AllByRecursion FitsSent left → AllByRecursion FitsSent all
+
+pub sents_begin : (before : List ℕ) (all : List Sent) → PutsSents before before all all
+sents_begin before all = record { text = refl; fits = λ f. f }
+
+pub sents_go_on : (before now longer : List ℕ) (all left : List Sent) (one : Sent) (rest : List Sent) → left ≡ one ∷ rest → longer ≡ now ++ sent_text one → FitsSent one → PutsSents before now all left → PutsSents before longer all rest
+unfolding sents_text
+sents_go_on before now longer all left one rest is put fits so_far = record {
+  text = ap (λ t. t ++ sents_text rest) put ∙ append_assoc now (sent_text one) (sents_text rest) ∙ ap (λ xs. now ++ sents_text xs) (sym is) ∙ so_far.text;
+  fits = λ f. so_far.fits (rw is (fits, f));
+}
+
+pub sents_end : (before now : List ℕ) (all left : List Sent) → left ≡ [] → PutsSents before now all left → (now ≡ before ++ sents_text all) × AllByRecursion FitsSent all
+unfolding sents_text
+sents_end before now all left none so_far = (sym (append-nil now) ∙ ap (λ xs. now ++ sents_text xs) (sym none) ∙ so_far.text, so_far.fits (rw none tt))
+
+-- ---- records that are put
+
+pub record PutsCalls (before now : List ℕ) (all : List Logged) (number : ℕ) (left : List Logged) : Type 0 where
+  pub text : now ++ calls_text number left ≡ before ++ calls_text 1 all
+  pub fits : AllByRecursion FitsLogged left → AllByRecursion FitsLogged all
+
+pub calls_begin : (before : List ℕ) (all : List Logged) → PutsCalls before before all 1 all
+calls_begin before all = record { text = refl; fits = λ f. f }
+
+pub calls_go_on : (before now longer : List ℕ) (all : List Logged) (number : ℕ) (left : List Logged) (one : Logged) (rest : List Logged) → left ≡ one ∷ rest → longer ≡ now ++ frame_text number (logged_text one) → FitsLogged one
+    → PutsCalls before now all number left → PutsCalls before longer all (number + 1) rest
+unfolding calls_text
+calls_go_on before now longer all number left one rest is put fits so_far = record {
+  text = ap (λ t. t ++ calls_text (number + 1) rest) put ∙ append_assoc now (frame_text number (logged_text one)) (calls_text (number + 1) rest) ∙ ap (λ xs. now ++ calls_text number xs) (sym is) ∙ so_far.text;
+  fits = λ f. so_far.fits (rw is (fits, f));
+}
+
+pub calls_end : (before now : List ℕ) (all : List Logged) (number : ℕ) (left : List Logged) → left ≡ [] → PutsCalls before now all number left → (now ≡ before ++ calls_text 1 all) × AllByRecursion FitsLogged all
+unfolding calls_text
+calls_end before now all number left none so_far = (sym (append-nil now) ∙ ap (λ xs. now ++ calls_text number xs) (sym none) ∙ so_far.text, so_far.fits (rw none tt))
+
+-- ---- packets that are taken
+
+-- what was taken and then what is left is all
+abbrev pub and_these : List Sent → Option (List Sent) → Option (List Sent)
+and_these done o = option_map (λ more. done ++ more) o
+
+one_less : (count i : ℕ) → i < count → count - i ≡ suc (count - (i + 1))
+one_less count i h = omega arith
+
+none_left : (count i : ℕ) → count ≤ i → count - i ≡ 0
+none_left count i h = omega arith
+
+pub sents_taken : (count i : ℕ) (done : List Sent) (bytes : List ℕ) (one : Sent) (rest : List ℕ) → i < count → sent_at bytes ≡ Some (one, rest)
+    → and_these done (sents_in (count - i) bytes) ≡ and_these (done ++ one ∷ []) (sents_in (count - (i + 1)) rest)
+unfolding sents_in
+sents_taken count i done bytes one rest h e = rw (one_less count i h, e) (joined (sents_in (count - (i + 1)) rest))
+  where
+    joined : (o : Option (List Sent)) → and_these done (o >>= λ more. Some (one ∷ more)) ≡ and_these (done ++ one ∷ []) o
+    joined None = refl
+    joined (Some more) = ap Some (sym (append_assoc done (one ∷ []) more))
+
+pub sents_stop : (count i : ℕ) (done : List Sent) (bytes : List ℕ) → i < count → sent_at bytes ≡ None → and_these done (sents_in (count - i) bytes) ≡ None
+unfolding sents_in
+sents_stop count i done bytes h e = rw (one_less count i h, e) refl
+
+pub sents_all : (count i : ℕ) (done : List Sent) (bytes : List ℕ) → count ≤ i → length bytes ≡ 0 → and_these done (sents_in (count - i) bytes) ≡ Some done
+unfolding sents_in
+sents_all count i done [] h e = rw (none_left count i h) (ap Some (append-nil done))
+sents_all count i done (x ∷ xs) h e = absurd (omega arith)
+
+pub sents_over : (count i : ℕ) (done : List Sent) (bytes : List ℕ) → count ≤ i → 0 < length bytes → and_these done (sents_in (count - i) bytes) ≡ None
+unfolding sents_in
+sents_over count i done [] h e = absurd (omega arith)
+sents_over count i done (x ∷ xs) h e = rw (none_left count i h) refl
+
+-- ---- records that are taken
+
+pub behind_more : (done : List Logged) (r : Logged) (reading : Result (List Logged × List ℕ) LogFault) → behind done (behind (r ∷ []) reading) ≡ behind (done ++ r ∷ []) reading
+behind_more done r (Ok read) = ap (λ cs. Ok (cs, read.1)) (sym (append_assoc done (r ∷ []) read.0))
+behind_more done r (Err why) = refl
+
+pub calls_taken : (total most i : ℕ) (done : List Logged) (bytes : List ℕ) (r : Logged) (rest : List ℕ) → i < most → record_in (i + 1) (total - length bytes) bytes ≡ Ok (Some (r, rest))
+    → behind done (calls_in total (i + 1) (most - i) bytes) ≡ behind (done ++ r ∷ []) (calls_in total (i + 1 + 1) (most - (i + 1)) rest)
+unfolding calls_in
+calls_taken total most i done bytes r rest h e = rw (one_less most i h, e) (behind_more done r (calls_in total (i + 1 + 1) (most - (i + 1)) rest))
+
+pub calls_cut : (total most i : ℕ) (done : List Logged) (bytes : List ℕ) → i < most → record_in (i + 1) (total - length bytes) bytes ≡ Ok None → behind done (calls_in total (i + 1) (most - i) bytes) ≡ Ok (done, bytes)
+unfolding calls_in
+calls_cut total most i done bytes h e = rw (one_less most i h, e) (ap (λ cs. Ok (cs, bytes)) (append-nil done))
+
+pub calls_stop : (total most i : ℕ) (done : List Logged) (bytes : List ℕ) (why : LogFault) → i < most → record_in (i + 1) (total - length bytes) bytes ≡ Err why → behind done (calls_in total (i + 1) (most - i) bytes) ≡ Err why
+unfolding calls_in
+calls_stop total most i done bytes why h e = rw (one_less most i h, e) refl
+
+pub calls_all : (total most i : ℕ) (done : List Logged) (bytes : List ℕ) → most ≤ i → behind done (calls_in total (i + 1) (most - i) bytes) ≡ Ok (done, bytes)
+unfolding calls_in
+calls_all total most i done bytes h = rw (none_left most i h) (ap (λ cs. Ok (cs, bytes)) (append-nil done))
+
+pub taken_none : {A B : Type 0} (f : A → B) (o : Option A) (p : Option B) → option_map f o ≡ p → o ≡ None → p ≡ None
+taken_none f o p e n = sym e ∙ ap (option_map f) n
+
+pub taken_some : {A B : Type 0} (f : A → B) (o : Option A) (p : Option B) (x : A) → option_map f o ≡ p → o ≡ Some x → p ≡ Some (f x)
+taken_some f o p x e n = sym e ∙ ap (option_map f) n
+
+-- the text of a log, piece by piece
+pub written : (digest : List ℕ) (node : Node) (log : NodeLog) (empty head text : List ℕ) (calls : List Logged) → empty ≡ [] → node ≡ log.node → calls ≡ log.calls → head ≡ empty ++ head_text digest node → text ≡ head ++ calls_text 1 calls → text ≡ log_text digest log
+unfolding log_text
+written digest node log empty head text calls none same these begun ended =
+    let head_is : head ≡ head_text digest log.node = begun ∙ ap (λ e. e ++ head_text digest node) none ∙ ap (head_text digest) same in
+    ended ∙ ap (λ h. h ++ calls_text 1 calls) head_is ∙ ap (λ cs. head_text digest log.node ++ calls_text 1 cs) these
+
+-- the step of a record, where its place is known
+pub stepped : {A : Type 0} (f : A → Logged × List ℕ) (number start place : ℕ) (bytes : List ℕ) (o p : Option A) → start ≡ place → record_in number start bytes ≡ Ok (option_map f o) → o ≡ p
+    → record_in number place bytes ≡ Ok (option_map f p)
+stepped f number start place bytes o p s e n = ap (λ at. record_in number at bytes) (sym s) ∙ e ∙ ap (λ x. Ok (option_map f x)) n

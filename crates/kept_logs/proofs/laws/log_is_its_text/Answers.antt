@@ -1,0 +1,9 @@
+use Rattle.kept_logs.proofs.LogsOnly.{log_in_taken}
+use Rattle.kept_logs.proofs.Torn.{cut_begins}
+use Rattle.kept_logs.proofs.laws.log_is_its_text.Goals as goal
+
+pub returns-clause-text : goal.returns-clause-text
+returns-clause-text c = λ digest bytes read d are h. log_in_taken digest bytes read d (record { below = are }) h
+
+pub returns-clause-cut : goal.returns-clause-cut
+returns-clause-cut c = λ number bytes are h. cut_begins number bytes (record { below = are }) h

@@ -1,0 +1,7 @@
+use Rattle.std.proofs.Common.{map, drop}
+use Rattle.world_setup.specs.Seen.{sent_seen}
+use Rattle.kept_logs.proofs.Loops.{PutsSents}
+use Rattle.kept_logs.proofs.records.put_sents.Given as goal
+
+abbrev pub invariant-loop-one : goal.invariant-loop-one
+invariant-loop-one l = PutsSents l.fn.out.items l.out.items (map sent_seen l.sent) (map sent_seen (drop l.one-index l.sent))

@@ -1,0 +1,42 @@
+-- Logs whose numbers are numbers of a machine.
+use Rattle.std.specs.Prelude.{⊤, ℕ, ◌<◌, ◌^◌, length, Some, None}
+use Rattle.std.specs.List.{AllByRecursion}
+use Rattle.claim_model.specs.Node.{Node, Pharmacy, Switch, Payer, Sent, Call, Submit, Tick, Take, Stop, Start, Reprice}
+use Rattle.claim_logs.specs.Logs.{Logged, NodeLog}
+use Rattle.kept_logs.specs.Records.{logged_text}
+
+abbrev pub number_of : Node → ℕ
+number_of (Pharmacy number) = number
+number_of (Switch number) = number
+number_of (Payer number) = number
+
+-- a node's number has two bytes
+abbrev pub FitsNode : Node → Type 0
+FitsNode node = number_of node < 2 ^ 16
+
+-- a call's numbers
+abbrev pub FitsCall : Call → Type 0
+FitsCall (Submit text) = length text < 2 ^ 64
+FitsCall Tick = ⊤
+FitsCall (Take from bytes) = FitsNode from × (length bytes < 2 ^ 64)
+FitsCall Stop = ⊤
+FitsCall Start = ⊤
+FitsCall (Reprice product None) = length product < 2 ^ 64
+FitsCall (Reprice product (Some price)) = (length product < 2 ^ 64) × (price < 2 ^ 32)
+
+-- a packet's numbers
+pub record FitsSent (sent : Sent) : Type 0 where
+  pub to : FitsNode sent.to
+  pub bytes : length sent.bytes < 2 ^ 64
+
+-- a record's numbers
+pub record FitsLogged (r : Logged) : Type 0 where
+  pub call : FitsCall r.call
+  pub count : length r.sent < 2 ^ 64
+  pub sent : AllByRecursion FitsSent r.sent
+  pub body : length (logged_text r) < 2 ^ 64
+
+-- a log's numbers: each node's has two bytes, each price four, each length eight
+pub record FitsLog (log : NodeLog) : Type 0 where
+  pub node : FitsNode log.node
+  pub calls : AllByRecursion FitsLogged log.calls

@@ -1,0 +1,58 @@
+-- Records in a file. Each is framed so that one that is cut off is told from one that is damaged, and one that stands in another one's place from its own.
+use Rattle.std.specs.Prelude.{ℕ, ◌-◌, ◌==◌, cond, List, [], ◌∷◌, ◌++◌, length, take, drop, nat_lt, Option, Some, None, if◌then◌else◌}
+use Rattle.std.specs.Int.{w64, to_be_bytes}
+use Rattle.sha2.specs.Sha256.{sha256}
+use Rattle.kept_records.specs.Fields.{u64_at}
+
+-- the largest number of eight bytes
+abbrev pub largest : ℕ
+largest = 18446744073709551615
+
+-- the eight bytes that vouch for a body under a number: the first of its digest
+unfoldable pub check_of : ℕ → List ℕ → List ℕ
+check_of number body = take 8 (sha256 (to_be_bytes w64 number ++ body))
+
+-- a record in a file: how many bytes its body has, the same number taken from the largest one, the body, and what vouches for it
+unfoldable pub frame_text : ℕ → List ℕ → List ℕ
+frame_text number body = to_be_bytes w64 (length body) ++ (to_be_bytes w64 (largest - length body) ++ (body ++ check_of number body))
+
+-- bytes against those that have to stand there: they do, and this follows; bytes end before, and are so far as they have to be; or one is another
+pub data Met : Type 0 where
+  Whole : List ℕ → Met
+  Torn : Met
+  Differs : Met
+
+abbrev pub met : List ℕ → List ℕ → Met
+met [] bytes = Whole bytes
+met (wanted ∷ more) [] = Torn
+met (wanted ∷ more) (byte ∷ bytes) = cond (wanted == byte) (met more bytes) Differs
+
+-- what stands at the front of bytes: a record with this body, and this follows; the beginning of a record that is cut off; or no record
+pub data Frame : Type 0 where
+  Framed : List ℕ → List ℕ → Frame
+  CutOff : Frame
+  Damaged : Frame
+
+-- a record whose body is there
+abbrev pub checked : List ℕ → Met → Frame
+checked body (Whole after) = Framed body after
+checked body Torn = CutOff
+checked body Differs = Damaged
+
+-- a record from its body on, whose length is known
+unfoldable pub body_at : ℕ → ℕ → List ℕ → Frame
+body_at number size bytes = if nat_lt (length bytes) size then CutOff else checked (take size bytes) (met (check_of number (take size bytes)) (drop size bytes))
+
+-- a record behind its length
+abbrev pub behind_length : ℕ → ℕ → Met → Frame
+behind_length number size (Whole rest) = body_at number size rest
+behind_length number size Torn = CutOff
+behind_length number size Differs = Damaged
+
+abbrev pub sized_frame : ℕ → Option (ℕ × List ℕ) → Frame
+sized_frame number None = CutOff
+sized_frame number (Some (size, rest)) = behind_length number size (met (to_be_bytes w64 (largest - size)) rest)
+
+-- the record of this number at the front of bytes
+unfoldable pub frame_at : ℕ → List ℕ → Frame
+frame_at number bytes = sized_frame number (u64_at bytes)

@@ -1,0 +1,11 @@
+-- In the order in which one explains them.
+pub mod Faults
+pub mod Fields
+pub mod Calls
+pub mod Records
+pub mod Frames
+pub mod Logs
+pub mod Fits
+pub mod Cuts
+pub mod MetSeen
+pub mod LogSeen

@@ -1,0 +1,90 @@
+-- The text of a log, and what bytes are as a log.
+use Rattle.std.specs.Prelude.{ℕ, zero, suc, ◌+◌, ◌-◌, List, [], ◌∷◌, ◌++◌, length, codes, Option, Some, None, Result, Ok, Err}
+use Rattle.claim_model.specs.Node.{Node}
+use Rattle.claim_logs.specs.Logs.{Logged, NodeLog}
+use Rattle.kept_logs.specs.declared.fault.LogFault.{LogFault}
+use Rattle.kept_logs.specs.declared.fault.LogFault.TheVariants as fault
+use Rattle.kept_logs.specs.Faults.{◌>>=◌, some_or}
+use Rattle.kept_logs.specs.Fields.{bytes_at, node_text, node_at}
+use Rattle.kept_logs.specs.Records.{logged_text, logged_in}
+use Rattle.kept_logs.specs.Frames.{check_of, frame_text, Met, Whole, Torn, Differs, met, Frame, Framed, CutOff, Damaged, frame_at}
+
+-- whose log it is, and under which settings: a node, and the digest of the settings' text, 35 bytes
+unfoldable pub owner_text : List ℕ → Node → List ℕ
+owner_text digest node = node_text node ++ digest
+
+-- the head of a log: its name, its version, its owner, and what vouches for that, under the number 0; 46 bytes
+unfoldable pub head_text : List ℕ → Node → List ℕ
+head_text digest node = codes "PL" ++ (1 ∷ (owner_text digest node ++ check_of 0 (owner_text digest node)))
+
+-- the records of calls, numbered from here on
+unfoldable pub calls_text : ℕ → List Logged → List ℕ
+calls_text number [] = []
+calls_text number (r ∷ calls) = frame_text number (logged_text r) ++ calls_text (number + 1) calls
+
+-- the text of a log under settings of this digest
+unfoldable pub log_text : List ℕ → NodeLog → List ℕ
+log_text digest log = head_text digest log.node ++ calls_text 1 log.calls
+
+-- ---- what bytes are
+
+-- what follows these bytes, which have to stand there
+abbrev pub expected : LogFault → Met → Result (List ℕ) LogFault
+expected why (Whole rest) = Ok rest
+expected why Torn = Err fault.Short
+expected why Differs = Err why
+
+-- the head of a log under settings of this digest: its node, and what follows; or the first fault
+unfoldable pub head_in : List ℕ → List ℕ → Result (Node × List ℕ) LogFault
+head_in digest bytes = do
+  named ← expected fault.NotALog (met (codes "PL") bytes)
+  known ← expected fault.Version (met (1 ∷ []) named)
+  owner ← some_or fault.Short (bytes_at 35 known)
+  rest ← expected fault.DamagedHead (met (check_of 0 owner.0) owner.1)
+  node ← some_or fault.NoNode (node_at owner.0)
+  own ← expected fault.OtherSettings (met digest node.1)
+  Ok (node.0, rest)
+
+-- the record that was read, and what follows it, where its body is an accepted call
+abbrev pub read_record : ℕ → List ℕ → Option Logged → Result (Option (Logged × List ℕ)) LogFault
+read_record place after None = Err (fault.BadRecord place)
+read_record place after (Some r) = Ok (Some (r, after))
+
+-- what a frame at this place comes to: the record and what follows it, nothing where it is cut off, or its fault
+abbrev pub framed_record : ℕ → Frame → Result (Option (Logged × List ℕ)) LogFault
+framed_record place (Framed body after) = read_record place after (logged_in body)
+framed_record place CutOff = Ok None
+framed_record place Damaged = Err (fault.Damaged place)
+
+-- the record of this number at this place
+unfoldable pub record_in : ℕ → ℕ → List ℕ → Result (Option (Logged × List ℕ)) LogFault
+record_in number place bytes = framed_record place (frame_at number bytes)
+
+-- calls before those that were read
+abbrev pub behind : List Logged → Result (List Logged × List ℕ) LogFault → Result (List Logged × List ℕ) LogFault
+behind calls (Ok read) = Ok (calls ++ read.0, read.1)
+behind calls (Err why) = Err why
+
+-- a record, and the records behind it
+abbrev pub and_more : List ℕ → (List ℕ → Result (List Logged × List ℕ) LogFault) → Result (Option (Logged × List ℕ)) LogFault → Result (List Logged × List ℕ) LogFault
+and_more bytes more (Ok None) = Ok ([], bytes)
+and_more bytes more (Ok (Some (r, after))) = behind (r ∷ []) (more after)
+and_more bytes more (Err why) = Err why
+
+-- the calls of records numbered from here on, up to one that is cut off, and the bytes of that; or the fault of the first record that is damaged or
+-- is no call, with its place in so many bytes. So many records are read at most
+unfoldable pub calls_in : ℕ → ℕ → ℕ → List ℕ → Result (List Logged × List ℕ) LogFault
+calls_in total number zero bytes = Ok ([], bytes)
+calls_in total number (suc most) bytes = and_more bytes (λ after. calls_in total (number + 1) most after) (record_in number (total - length bytes) bytes)
+
+-- a log that was read, and how many bytes its text has; what stands behind these is the beginning of a record that is cut off
+pub record Reading : Type 0 where
+  pub log : NodeLog
+  pub whole : ℕ
+
+-- the log under settings of this digest that bytes are, or the first fault
+unfoldable pub log_in : List ℕ → List ℕ → Result Reading LogFault
+log_in digest bytes = do
+  head ← head_in digest bytes
+  calls ← calls_in (length bytes) 1 (length head.1) head.1
+  Ok (record { log = record { node = head.0; calls = calls.0 }; whole = length bytes - length calls.1 })

@@ -1,0 +1,159 @@
+//! Calls in a log.
+
+ghost use Rattle.std.specs.Prelude.{◌≡◌, ◌++◌, OnOk, IfOk};
+ghost use Rattle.std.specs.Option.{option_map};
+ghost use Rattle.claim_model.specs.Node.{Submit, Take, Reprice};
+ghost use Rattle.world_setup.specs.Seen.{node_seen, call_seen};
+ghost use Rattle.kept_logs.specs.Calls.{call_text, call_at, call_of, submit_at, take_at, unplan_at, plan_at};
+ghost use Rattle.kept_logs.specs.Fits.{FitsCall};
+
+use crate::fields::{take_node, take_text, take_u8, take_u32};
+use crate::putting::{put_node, put_text, put_u8, put_u32};
+use octets::Octets;
+use std::alloc::{AllocError, Global};
+use world_setup::{Call, Node};
+
+/// Puts a call.
+#[tactic(auto, unfolding(crate::specs::Calls::call_text))]
+pub(crate) fn put_call(out: &mut Vec<u8>, call: &Call) -> Result<(), AllocError>
+    ensures text { OnOk result (out.new.items ≡ out.old.items ++ call_text (call_seen call.now)) }
+    ensures fits { OnOk result (FitsCall (call_seen call.now)) }
+{
+    match call {
+        Call::Submit(text) => put_submit(out, text),
+        Call::Tick => put_u8(out, 1),
+        Call::Take { from, bytes } => put_take(out, *from, bytes),
+        Call::Stop => put_u8(out, 3),
+        Call::Start => put_u8(out, 4),
+        Call::Plan { product, price } => put_plan(out, product, *price),
+    }
+}
+
+/// Puts a submission.
+#[tactic(auto, unfolding(crate::specs::Calls::call_text))]
+fn put_submit(out: &mut Vec<u8>, text: &Octets) -> Result<(), AllocError>
+    ensures text { OnOk result (out.new.items ≡ out.old.items ++ call_text (Submit text.now)) }
+    ensures fits { OnOk result (FitsCall (Submit text.now)) }
+{
+    put_u8(out, 0)?;
+    put_text(out, text.as_slice())
+}
+
+/// Puts the taking of a packet.
+#[tactic(auto, unfolding(crate::specs::Calls::call_text))]
+fn put_take(out: &mut Vec<u8>, from: Node, bytes: &Octets) -> Result<(), AllocError>
+    ensures text { OnOk result (out.new.items ≡ out.old.items ++ call_text (Take (node_seen from) bytes.now)) }
+    ensures fits { OnOk result (FitsCall (Take (node_seen from) bytes.now)) }
+{
+    put_u8(out, 2)?;
+    put_node(out, from)?;
+    put_text(out, bytes.as_slice())
+}
+
+/// Puts a change of a plan.
+#[tactic(auto, unfolding(crate::specs::Calls::call_text))]
+fn put_plan(out: &mut Vec<u8>, product: &Octets, price: Option<u32>) -> Result<(), AllocError>
+    ensures text { OnOk result (out.new.items ≡ out.old.items ++ call_text (Reprice product.now price)) }
+    ensures fits { OnOk result (FitsCall (Reprice product.now price)) }
+{
+    match price {
+        None => {
+            put_u8(out, 5)?;
+            put_text(out, product.as_slice())
+        }
+        Some(price) => {
+            put_u8(out, 6)?;
+            put_text(out, product.as_slice())?;
+            put_u32(out, price)
+        }
+    }
+}
+
+/// The call at the front and what follows it; none where it is cut off or of no kind that there is.
+#[tactic(auto, unfolding(crate::specs::Calls::call_at))]
+pub(crate) fn take_call(alloc: Global, bytes: &[u8]) -> Result<Option<(Call, &[u8])>, AllocError>
+    ensures { IfOk result (λ o. option_map (λ taken. (call_seen taken.0, taken.1.now)) o ≡ call_at bytes.now) }
+{
+    let Some((kind, rest)) = take_u8(bytes) else {
+        return Ok(None);
+    };
+    call_of(alloc, kind, rest)
+}
+
+/// The call of this kind at the front, and what follows it.
+fn call_of(alloc: Global, kind: u8, bytes: &[u8]) -> Result<Option<(Call, &[u8])>, AllocError>
+    ensures { IfOk result (λ o. option_map (λ taken. (call_seen taken.0, taken.1.now)) o ≡ call_of kind bytes.now) }
+{
+    match kind {
+        0 => take_submit(alloc, bytes),
+        1 => Ok(Some((Call::Tick, bytes))),
+        2 => take_take(alloc, bytes),
+        3 => Ok(Some((Call::Stop, bytes))),
+        4 => Ok(Some((Call::Start, bytes))),
+        5 => take_unplan(alloc, bytes),
+        6 => take_plan(alloc, bytes),
+        _ => Ok(None),
+    }
+}
+
+/// A submission and what follows it.
+#[tactic(auto, unfolding(crate::specs::Calls::submit_at))]
+fn take_submit(alloc: Global, bytes: &[u8]) -> Result<Option<(Call, &[u8])>, AllocError>
+    ensures { IfOk result (λ o. option_map (λ taken. (call_seen taken.0, taken.1.now)) o ≡ submit_at bytes.now) }
+{
+    let Some((text, rest)) = take_text(bytes) else {
+        return Ok(None);
+    };
+    let text = Octets::copy_of(alloc, text)?;
+    Ok(Some((Call::Submit(text), rest)))
+}
+
+/// The taking of a packet, and what follows it.
+#[tactic(auto, unfolding(crate::specs::Calls::take_at))]
+fn take_take(alloc: Global, bytes: &[u8]) -> Result<Option<(Call, &[u8])>, AllocError>
+    ensures { IfOk result (λ o. option_map (λ taken. (call_seen taken.0, taken.1.now)) o ≡ take_at bytes.now) }
+{
+    let Some((from, rest)) = take_node(bytes) else {
+        return Ok(None);
+    };
+    let Some((packet, rest)) = take_text(rest) else {
+        return Ok(None);
+    };
+    let bytes = Octets::copy_of(alloc, packet)?;
+    Ok(Some((Call::Take { from, bytes }, rest)))
+}
+
+/// A product that is taken off a plan, and what follows it.
+#[tactic(auto, unfolding(crate::specs::Calls::unplan_at))]
+fn take_unplan(alloc: Global, bytes: &[u8]) -> Result<Option<(Call, &[u8])>, AllocError>
+    ensures { IfOk result (λ o. option_map (λ taken. (call_seen taken.0, taken.1.now)) o ≡ unplan_at bytes.now) }
+{
+    let Some((product, rest)) = take_text(bytes) else {
+        return Ok(None);
+    };
+    let product = Octets::copy_of(alloc, product)?;
+    let call = Call::Plan {
+        product,
+        price: None,
+    };
+    Ok(Some((call, rest)))
+}
+
+/// A product and its price, and what follows them.
+#[tactic(auto, unfolding(crate::specs::Calls::plan_at))]
+fn take_plan(alloc: Global, bytes: &[u8]) -> Result<Option<(Call, &[u8])>, AllocError>
+    ensures { IfOk result (λ o. option_map (λ taken. (call_seen taken.0, taken.1.now)) o ≡ plan_at bytes.now) }
+{
+    let Some((product, rest)) = take_text(bytes) else {
+        return Ok(None);
+    };
+    let Some((price, rest)) = take_u32(rest) else {
+        return Ok(None);
+    };
+    let product = Octets::copy_of(alloc, product)?;
+    let call = Call::Plan {
+        product,
+        price: Some(price),
+    };
+    Ok(Some((call, rest)))
+}

@@ -1,0 +1,73 @@
+//! Records in a file.
+
+ghost use Rattle.std.specs.Prelude.{◌≡◌, ◌<◌, ◌^◌, length, IfOk};
+ghost use Rattle.kept_logs.specs.Frames.{frame_text, frame_at, body_at};
+ghost use Rattle.kept_logs.specs.MetSeen.{frame_seen};
+
+use crate::digest::check_of;
+use crate::fields::take_u64;
+use crate::met::{Met, meet};
+use crate::putting::put_u64;
+use std::alloc::{AllocError, Global};
+
+/// What a record takes beside its body, in bytes: its length twice, and what vouches for it.
+const AROUND: usize = 24;
+
+/// What stands at the front of bytes.
+#[derive(Clone, Copy)]
+pub(crate) enum Frame<'a> {
+    /// A record with this body, and this follows.
+    Whole(&'a [u8], &'a [u8]),
+    /// The beginning of a record that is cut off.
+    CutOff,
+    /// No record of this number.
+    Damaged,
+}
+
+/// The record of this number with this body.
+#[tactic(auto, unfolding(crate::specs::Frames::frame_text))]
+pub(crate) fn frame_of(alloc: Global, number: u64, body: &[u8]) -> Result<Vec<u8>, AllocError>
+    ensures text { IfOk result (λ frame. frame.items ≡ frame_text number body.now) }
+    ensures fits { length body.now < 2 ^ 64 }
+{
+    let size = body.len() as u64;
+    let mut frame = Vec::with_capacity(alloc, body.len().saturating_add(AROUND))?;
+    put_u64(&mut frame, size)?;
+    put_u64(&mut frame, u64::MAX - size)?;
+    frame.extend_from_slice(body)?;
+    frame.extend_from_slice(&check_of(number, body))?;
+    Ok(frame)
+}
+
+/// The record of this number at the front of bytes.
+#[tactic(auto, unfolding(crate::specs::Frames::frame_at))]
+pub(crate) fn take_frame(number: u64, bytes: &[u8]) -> Frame<'_>
+    ensures { frame_seen result ≡ frame_at number bytes.now }
+{
+    let Some((size, rest)) = take_u64(bytes) else {
+        return Frame::CutOff;
+    };
+    let complement = u64::MAX - size;
+    match meet(&complement.to_be_bytes(), rest) {
+        Met::Whole(rest) => take_body(number, size, rest),
+        Met::Torn => Frame::CutOff,
+        Met::Differs => Frame::Damaged,
+    }
+}
+
+/// The record of this number with a body of so many bytes, which begins here.
+#[tactic(auto, unfolding(crate::specs::Frames::body_at))]
+fn take_body(number: u64, size: u64, bytes: &[u8]) -> Frame<'_>
+    ensures { frame_seen result ≡ body_at number size bytes.now }
+{
+    if (bytes.len() as u64) < size {
+        return Frame::CutOff;
+    }
+    let size = size as usize;
+    let body = &bytes[..size];
+    match meet(&check_of(number, body), &bytes[size..]) {
+        Met::Whole(after) => Frame::Whole(body, after),
+        Met::Torn => Frame::CutOff,
+        Met::Differs => Frame::Damaged,
+    }
+}

@@ -1,0 +1,170 @@
+//! Logs as they are written and read.
+
+ghost use Rattle.std.specs.Prelude.{◌≡◌, ◌≢◌, ◌++◌, length, Ok, Err, IfOk, IfErr, OnOk};
+ghost use Rattle.std.specs.List.{AllByRecursion};
+ghost use Rattle.std.specs.Option.{option_map};
+ghost use Rattle.world_setup.specs.Seen.{node_seen};
+ghost use Rattle.run_merge.specs.LogSeen.{log_seen};
+ghost use Rattle.kept_logs.specs.declared.fault.LogFault.TheVariants.{OutOfMemory};
+ghost use Rattle.kept_logs.specs.Records.{logged_text, logged_in};
+ghost use Rattle.kept_logs.specs.Frames.{frame_text};
+ghost use Rattle.kept_logs.specs.Logs.{calls_text, log_text, read_record, record_in, calls_in, log_in};
+ghost use Rattle.kept_logs.specs.Cuts.{IsLogOf};
+ghost use Rattle.kept_logs.specs.LogSeen.{entry_seen, reading_seen, CallsAre};
+ghost use Rattle.kept_logs.specs.Fits.{FitsLogged, FitsLog};
+
+use crate::digest::SettingsDigest;
+use crate::fault::LogFault;
+use crate::frames::{Frame, frame_of, take_frame};
+use crate::heads::{put_head, take_head};
+use crate::laws::{log_is_its_text, log_reads_back};
+use crate::records::{Entry, body_of, entry_of};
+use run_merge::{NodeLog, Record};
+use std::alloc::{AllocError, Global};
+use world_setup::Node;
+
+/// A log that was read.
+#[derive(Debug, Drop)]
+pub struct ReadLog {
+    /// The log: the calls whose records stand whole in the bytes.
+    pub log: NodeLog,
+    /// How many bytes these take, with the head. What stands behind them is the beginning of a record that is cut
+    /// off; a host that goes on cuts its file there first.
+    pub whole: usize,
+}
+
+/// The text of a log under settings of this digest.
+pub fn write_log(
+    alloc: Global,
+    settings: &SettingsDigest,
+    log: &NodeLog,
+) -> Result<Vec<u8>, AllocError>
+    ensures text { IfOk result (λ text. text.items ≡ log_text settings.now (log_seen log.now)) }
+    ensures fits { IfOk result (λ _. FitsLog (log_seen log.now)) }
+    // It is read as this log.
+    ensures read { IfOk result (λ text. log_in settings.now text.items ≡ Ok (record { log = log_seen log.now; whole = length text.items })) }
+{
+    log_reads_back();
+    let _ = settings.as_slice();
+    put_log(alloc, settings, log)
+}
+
+/// Writes the text of a log.
+fn put_log(alloc: Global, settings: &SettingsDigest, log: &NodeLog) -> Result<Vec<u8>, AllocError>
+    ensures text { IfOk result (λ text. text.items ≡ log_text settings.now (log_seen log.now)) }
+    ensures fits { IfOk result (λ _. FitsLog (log_seen log.now)) }
+{
+    let mut text = Vec::new(alloc);
+    put_head(alloc, &mut text, settings, log.node())?;
+    put_records(alloc, &mut text, log.records())?;
+    Ok(text)
+}
+
+/// Puts records, numbered from 1.
+fn put_records(alloc: Global, text: &mut Vec<u8>, records: &[Record]) -> Result<(), AllocError>
+    ensures text { OnOk result (text.new.items ≡ text.old.items ++ calls_text 1 records.now) }
+    ensures fits { OnOk result (AllByRecursion FitsLogged records.now) }
+{
+    for (place, one) in records.iter().enumerate() {
+        let bytes = record_bytes(alloc, place as u64 + 1, one)?;
+        text.extend_from_slice(&bytes)?;
+    }
+    Ok(())
+}
+
+/// What a host appends to a log's text for the call that is the next one, of this number from 1.
+pub fn record_bytes(alloc: Global, number: u64, one: &Record) -> Result<Vec<u8>, AllocError>
+    ensures text { IfOk result (λ bytes. bytes.items ≡ frame_text number (logged_text one.now)) }
+    ensures fits { IfOk result (λ _. FitsLogged one.now) }
+{
+    let body = body_of(alloc, one)?;
+    frame_of(alloc, number, &body)
+}
+
+/// Reads the log under settings of this digest that begins the bytes, up to a record that is cut off.
+///
+/// # Errors
+/// The first cause that stands: of the head in the order of `LogFault`; then `Damaged` or `BadRecord` for the first
+/// record that is whole and is not the next one as it was written, or cut off and not how one begins. `OutOfMemory` may
+/// stand in place of any answer.
+pub fn read_log(alloc: Global, settings: &SettingsDigest, bytes: &[u8]) -> Result<ReadLog, LogFault>
+    ensures ok { IfOk result (λ read. log_in settings.now bytes.now ≡ Ok (reading_seen read)) }
+    ensures fault { IfErr result (λ e. e ≢ OutOfMemory → log_in settings.now bytes.now ≡ Err e) }
+    // What is read is the text of what it is read as, and behind it how a record begins.
+    ensures found { IfOk result (λ read. IsLogOf settings.now bytes.now (reading_seen read)) }
+{
+    log_is_its_text();
+    let _ = settings.as_slice();
+    read_parts(alloc, settings, bytes)
+}
+
+/// Reads the head and the records of a log.
+#[tactic(auto, unfolding(crate::specs::Logs::log_in))]
+fn read_parts(alloc: Global, settings: &SettingsDigest, bytes: &[u8]) -> Result<ReadLog, LogFault>
+    ensures ok { IfOk result (λ read. log_in settings.now bytes.now ≡ Ok (reading_seen read)) }
+    ensures fault { IfErr result (λ e. e ≢ OutOfMemory → log_in settings.now bytes.now ≡ Err e) }
+{
+    let (node, rest) = take_head(settings, bytes)?;
+    let (log, torn) = read_calls(alloc, node, bytes.len(), rest)?;
+    let whole = bytes.len().saturating_sub(torn);
+    Ok(ReadLog { log, whole })
+}
+
+/// The log of a node whose records these bytes are, and how many bytes its torn end has.
+fn read_calls(
+    alloc: Global,
+    node: Node,
+    total: usize,
+    bytes: &[u8],
+) -> Result<(NodeLog, usize), LogFault>
+    ensures ok { IfOk result (λ read. CallsAre (calls_in total 1 (length bytes.now) bytes.now) (log_seen read.0) (node_seen node) read.1) }
+    ensures fault { IfErr result (λ e. e ≢ OutOfMemory → calls_in total 1 (length bytes.now) bytes.now ≡ Err e) }
+{
+    let mut log = NodeLog::new(alloc, node);
+    let mut rest = bytes;
+    for place in 0..bytes.len() {
+        let number = place as u64 + 1;
+        let start = total.saturating_sub(rest.len());
+        let Some((entry, after)) = take_record(alloc, number, start, rest)? else {
+            return Ok((log, rest.len()));
+        };
+        log.reserve()?;
+        log.record(entry.call, entry.sent);
+        rest = after;
+    }
+    Ok((log, rest.len()))
+}
+
+/// The record of this number at this place and what follows it; none where it is cut off.
+#[tactic(auto, unfolding(crate::specs::Logs::record_in))]
+fn take_record(
+    alloc: Global,
+    number: u64,
+    start: usize,
+    bytes: &[u8],
+) -> Result<Option<(Entry, &[u8])>, LogFault>
+    ensures ok { IfOk result (λ o. record_in number start bytes.now ≡ Ok (option_map (λ taken. (entry_seen taken.0, taken.1.now)) o)) }
+    ensures fault { IfErr result (λ e. e ≢ OutOfMemory → record_in number start bytes.now ≡ Err e) }
+{
+    match take_frame(number, bytes) {
+        Frame::Whole(body, after) => take_entry(alloc, start, body, after),
+        Frame::CutOff => Ok(None),
+        Frame::Damaged => Err(LogFault::Damaged(start)),
+    }
+}
+
+/// The call of the record at this place with this body, and what follows it.
+fn take_entry<'a>(
+    alloc: Global,
+    start: usize,
+    body: &[u8],
+    after: &'a [u8],
+) -> Result<Option<(Entry, &'a [u8])>, LogFault>
+    ensures ok { IfOk result (λ o. read_record start after.now (logged_in body.now) ≡ Ok (option_map (λ taken. (entry_seen taken.0, taken.1.now)) o)) }
+    ensures fault { IfErr result (λ e. e ≢ OutOfMemory → read_record start after.now (logged_in body.now) ≡ Err e) }
+{
+    match entry_of(alloc, body)? {
+        Some(entry) => Ok(Some((entry, after))),
+        None => Err(LogFault::BadRecord(start)),
+    }
+}

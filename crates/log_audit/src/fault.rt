@@ -1,0 +1,50 @@
+//! Why there is nothing to be judged.
+
+ghost use Rattle.std.specs.Prelude.{◌≡◌};
+ghost use Rattle.log_audit.specs.declared.fault.AuditFault.TheVariants.{OutOfMemory};
+
+use kept_logs::LogFault;
+use std::alloc::{AllocError, AllocFailed};
+use thiserror::Error;
+use world_setup::WorldFault;
+
+/// Why there is nothing to be judged.
+#[derive(Clone, Copy, Debug, PartialEq, Eq, Error)]
+pub enum AuditFault {
+    /// Memory was refused.
+    #[error("out of memory")]
+    OutOfMemory,
+    /// The settings spell none.
+    #[error("settings refused")]
+    Settings,
+    /// No world takes the settings.
+    #[error("settings refused: {0}")]
+    World(WorldFault),
+    /// The log at this place, from 0, is none.
+    #[error("{fault}")]
+    Log {
+        /// The place of the log among those handed in.
+        place: usize,
+        /// What is wrong with it.
+        fault: LogFault,
+    },
+    /// An event of the run has no line in a schedule.
+    #[error("an event of the run has no line in a schedule")]
+    NoLine,
+}
+
+impl From<AllocError> for AuditFault {
+    ghost from_gives = { λ _ fault. fault ≡ OutOfMemory };
+
+    fn from(_refused: AllocError) -> AuditFault {
+        AuditFault::OutOfMemory
+    }
+}
+
+impl<T: Drop> From<AllocFailed<T>> for AuditFault {
+    ghost from_gives = { λ _ fault. fault ≡ OutOfMemory };
+
+    fn from(_refused: AllocFailed<T>) -> AuditFault {
+        AuditFault::OutOfMemory
+    }
+}

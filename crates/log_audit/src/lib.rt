@@ -1,0 +1,20 @@
+//! The audit of logs: whether the logs of all nodes are those of one legal run, and what that run left; or why they are
+//! not. The words of the command line, the exit statuses and the lines for standard error stand here too.
+#![tactic(auto)]
+
+mod fault;
+mod judging;
+mod ledger;
+mod misfits;
+mod missing;
+mod names;
+mod packets;
+mod reading;
+mod replaying;
+mod report;
+mod waiting;
+
+pub use fault::AuditFault;
+pub use judging::{Verdict, judge};
+pub use reading::{Audited, read_audited};
+pub use report::{Report, report_on};

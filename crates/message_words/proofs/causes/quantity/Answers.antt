@@ -1,0 +1,13 @@
+use Rattle.std.proofs.Common.{codes}
+use Rattle.d0_segments.specs.Pieces.{shared_of}
+use Rattle.claim_profile.specs.declared.reject.Code.TheVariants as code
+use Rattle.claim_profile.specs.Fields.{values_in}
+use Rattle.claim_profile.specs.Order.{number_up_to}
+use Rattle.message_words.specs.declared.names.FieldName.TheVariants as field
+use Rattle.message_words.specs.Causes.{quantity_condition}
+use Rattle.message_words.proofs.Conditions.{required_condition}
+use Rattle.message_words.proofs.causes.quantity.Goals as goal
+
+pub returns : goal.returns
+unfolding quantity_condition
+returns c = required_condition code.Quantity field.Quantity (number_up_to 10) (values_in (codes "07") (codes "E7") (shared_of c.args.from.bytes.now)) _ _ c.of-found.ensures c.is_bad_number.ensures

@@ -1,0 +1,128 @@
+-- Every cause for which a transaction is rejected, and not the first five alone.
+use Rattle.std.specs.Prelude.{ℕ, Bool, true, List, [], ◌∷◌, map, filter, codes, slice_index_or, if◌then◌else◌}
+use Rattle.std.specs.Prelude.{Option, Some, None, is_none, is_some, option_map}
+use Rattle.std.specs.Str.{bytes_eq}
+use Rattle.d0_header.specs.Request.{Request}
+use Rattle.d0_segments.specs.Parts.{SegmentParts, TransmissionParts}
+use Rattle.claim_profile.specs.declared.reject.Code.{Code}
+use Rattle.claim_profile.specs.declared.reject.Code.TheVariants as code
+use Rattle.claim_profile.specs.Fields.{values_in, texts_in, required, optional}
+use Rattle.claim_profile.specs.Order.{text_up_to, number_up_to, amount_in_cents, the_text, day_of_service}
+use Rattle.claim_profile.specs.Tally.{Tally, Absent, tallied}
+use Rattle.message_words.specs.declared.causes.Cause.{Cause}
+use Rattle.message_words.specs.declared.names.FieldName.{FieldName}
+use Rattle.message_words.specs.declared.names.FieldName.TheVariants as field
+use Rattle.message_words.specs.Found.{found_seen}
+
+-- a cause: the code that tells it, the field, and what stands there
+pub record CauseSeen : Type 0 where
+  pub code : Code
+  pub field : FieldName
+  pub found : Tally
+
+-- a cause of the code, without the place of its value in memory
+abbrev pub cause_seen : Cause → CauseSeen
+cause_seen c = record { code = c.code; field = c.field; found = found_seen c.found }
+
+abbrev pub causes_seen : List Cause → List CauseSeen
+causes_seen causes = map cause_seen causes
+
+-- whether something is wrong, and the cause that it then is
+abbrev pub Condition : Type 0
+Condition = Bool × CauseSeen
+
+abbrev pub condition_seen : Bool × Cause → Condition
+condition_seen c = (c.0, cause_seen c.1)
+
+-- the condition of a field with these values
+abbrev pub condition : Bool → Code → FieldName → List (List ℕ) → Condition
+condition holds code field values = (holds, record { code = code; field = field; found = tallied Absent values })
+
+-- a required field that is not good
+abbrev pub unless_required : {A : Type 0} → Code → FieldName → (List ℕ → Option A) → List (List ℕ) → Condition
+unless_required code field test values = condition (is_none (required test values)) code field values
+
+-- an optional field that is not good
+abbrev pub unless_optional : {A : Type 0} → Code → FieldName → A → (List ℕ → Option A) → List (List ℕ) → Condition
+unless_optional code field absent test values = condition (is_none (optional absent test values)) code field values
+
+-- a field beside a qualifier: where the qualifier is not this one, that is the cause
+abbrev pub unless_qualified : {A : Type 0} → Code → List ℕ → FieldName → List (List ℕ)
+    → FieldName → (List ℕ → Option A) → List (List ℕ) → Condition
+unless_qualified code expected qualifier qualifiers field test values =
+    if is_some (required (the_text expected) qualifiers)
+    then unless_required code field test values
+    else condition true code qualifier qualifiers
+
+-- ---- the conditions, in the order in which their codes are told
+
+unfoldable pub cardholder_condition : List SegmentParts → Condition
+cardholder_condition shared =
+    unless_required code.Cardholder field.Cardholder (text_up_to 20) (texts_in (codes "04") (codes "C2") shared)
+
+-- the date stands in the header, so nothing is found of it in segments
+unfoldable pub date_condition : Request → Condition
+date_condition h =
+    (is_none (day_of_service h), record { code = code.DateOfService; field = field.DateOfService; found = Absent })
+
+unfoldable pub prescription_condition : List SegmentParts → Condition
+prescription_condition group =
+    unless_qualified code.Prescription (codes "1") field.PrescriptionQualifier (texts_in (codes "07") (codes "EM") group)
+    field.Prescription (number_up_to 12) (values_in (codes "07") (codes "D2") group)
+
+unfoldable pub fill_condition : List SegmentParts → Condition
+fill_condition group =
+    unless_required code.FillNumber field.FillNumber (number_up_to 2) (values_in (codes "07") (codes "D3") group)
+
+unfoldable pub product_condition : List SegmentParts → Condition
+product_condition group =
+    unless_qualified code.Product (codes "03") field.ProductQualifier (texts_in (codes "07") (codes "E1") group)
+    field.Product (text_up_to 19) (texts_in (codes "07") (codes "D7") group)
+
+unfoldable pub quantity_condition : List SegmentParts → Condition
+quantity_condition group =
+    unless_required code.Quantity field.Quantity (number_up_to 10) (values_in (codes "07") (codes "E7") group)
+
+unfoldable pub cost_condition : List SegmentParts → Condition
+cost_condition group =
+    unless_required code.IngredientCost field.IngredientCost amount_in_cents (values_in (codes "11") (codes "D9") group)
+
+unfoldable pub fee_condition : List SegmentParts → Condition
+fee_condition group =
+    unless_optional code.DispensingFee field.DispensingFee 0 amount_in_cents (values_in (codes "11") (codes "DC") group)
+
+-- a number of at most two digits, that is given
+abbrev pub given_number : List ℕ → Option (Option ℕ)
+given_number value = option_map (λ (n : ℕ). Some n) (number_up_to 2 value)
+
+-- the fill number of a reversal, which may be left out
+unfoldable pub given_fill_condition : List SegmentParts → Condition
+given_fill_condition group =
+    unless_optional code.FillNumber field.FillNumber None given_number (values_in (codes "07") (codes "D3") group)
+
+unfoldable pub claim_conditions : Request → (shared group : List SegmentParts) → List Condition
+claim_conditions h shared group =
+    cardholder_condition shared ∷ date_condition h ∷ prescription_condition group ∷ fill_condition group
+    ∷ product_condition group ∷ quantity_condition group ∷ cost_condition group ∷ fee_condition group ∷ []
+
+unfoldable pub reversal_conditions : Request → List SegmentParts → List Condition
+reversal_conditions h group = date_condition h ∷ prescription_condition group ∷ given_fill_condition group ∷ []
+
+-- the causes whose condition holds
+abbrev pub holding : List Condition → List CauseSeen
+holding conditions = map (λ c. c.1) (filter (λ c. c.0) conditions)
+
+-- all causes for which a transaction is rejected: of a claim under code `B1`, else of a reversal
+unfoldable pub causes_of : Request → (shared group : List SegmentParts) → List CauseSeen
+causes_of h shared group =
+    if bytes_eq h.code (codes "B1")
+    then holding (claim_conditions h shared group)
+    else holding (reversal_conditions h group)
+
+-- their codes
+abbrev pub codes_told : List CauseSeen → List Code
+codes_told causes = map (λ c. c.code) causes
+
+-- those of the transaction at a place of a request
+abbrev pub causes_in : TransmissionParts Request → ℕ → List CauseSeen
+causes_in t place = causes_of t.header t.shared (slice_index_or t.groups place [])

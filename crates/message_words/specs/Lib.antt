@@ -1,0 +1,4 @@
+pub mod Parts
+pub mod Found
+pub mod Causes
+pub mod Findings

@@ -1,0 +1,117 @@
+//! A whole message in parts, and the transmissions that it carries.
+
+ghost use Rattle.std.specs.Prelude.{◌≡◌, map, IfOk};
+ghost use Rattle.message_words.specs.Parts.{AreParts, part_seen};
+
+use crate::cutter::Cutter;
+use crate::layout::Form;
+use crate::part::Part;
+use crate::records::{cut_packet, cut_record};
+use crate::transmissions::cut_transmission;
+use std::alloc::{AllocError, Global};
+
+/// What a message is.
+#[derive(Clone, Copy, Debug, PartialEq, Eq)]
+pub enum MessageKind {
+    /// A request of a pharmacy.
+    Request,
+    /// An answer of a payer or a switch.
+    Answer,
+    /// An envelope with one of the two.
+    Packet,
+    /// A journal or a book at rest.
+    Record,
+}
+
+/// A request or an answer in a message: where it stands, and how many bytes it has.
+#[derive(Clone, Copy, Debug)]
+pub struct Carried {
+    /// Whether it is a request or an answer.
+    pub form: Form,
+    /// The place of its first byte in the message.
+    pub place: usize,
+    /// How many bytes it has.
+    pub size: usize,
+}
+
+/// A message in parts, in order, and the transmissions in it.
+#[derive(Drop)]
+pub struct Dissected<'a> {
+    /// All its parts.
+    pub parts: Vec<Part<'a>>,
+    /// The requests and answers in it, in order.
+    pub carried: Vec<Carried>,
+}
+
+impl MessageKind {
+    /// Its name.
+    pub fn name(self) -> &'static str {
+        match self {
+            MessageKind::Request => "request",
+            MessageKind::Answer => "answer",
+            MessageKind::Packet => "packet",
+            MessageKind::Record => "record",
+        }
+    }
+
+    /// What a message is by its first two bytes: an envelope begins with `PS`, a journal with `PJ`, a book with `PB`,
+    /// an answer with `D0`, and a request with six digits. Other bytes are taken for a request.
+    pub fn of(bytes: &[u8]) -> MessageKind {
+        match bytes {
+            [b'P', b'S', ..] => MessageKind::Packet,
+            [b'P', b'J' | b'B', ..] => MessageKind::Record,
+            [b'D', b'0', ..] => MessageKind::Answer,
+            _ => MessageKind::Request,
+        }
+    }
+}
+
+/// The parts of a message.
+///
+/// # Errors
+/// Want of memory.
+pub fn dissect<'a>(
+    alloc: Global,
+    kind: MessageKind,
+    bytes: &'a [u8],
+) -> Result<Dissected<'a>, AllocError>
+    // No byte is left out, none is told twice, and each part stands where it says.
+    ensures { IfOk result (λ d. AreParts bytes.now (map part_seen d.parts.items)) }
+{
+    let mut cutter = Cutter::new(alloc, bytes)?;
+    let mut carried = Vec::new(alloc);
+    cut_message(&mut cutter, &mut carried, kind)?;
+    let parts = cutter.finish()?;
+    Ok(Dissected { parts, carried })
+}
+
+/// Cuts a message of a kind.
+fn cut_message(
+    cutter: &mut Cutter<'_>,
+    carried: &mut Vec<Carried>,
+    kind: MessageKind,
+) -> Result<(), AllocError>
+    ensures { cutter.new.whole ≡ cutter.old.whole }
+{
+    let size = cutter.left().len();
+    match kind {
+        MessageKind::Request => cut_carried(cutter, carried, Form::Request, size),
+        MessageKind::Answer => cut_carried(cutter, carried, Form::Answer, size),
+        MessageKind::Packet => cut_packet(cutter, carried),
+        MessageKind::Record => cut_record(cutter, carried),
+    }
+}
+
+/// Cuts the next bytes, so many, as a transmission that the message carries.
+pub(crate) fn cut_carried(
+    cutter: &mut Cutter<'_>,
+    carried: &mut Vec<Carried>,
+    form: Form,
+    size: usize,
+) -> Result<(), AllocError>
+    ensures { cutter.new.whole ≡ cutter.old.whole }
+{
+    let place = cutter.place();
+    carried.push(Carried { form, place, size })?;
+    cut_transmission(cutter, form, size)
+}

@@ -1,0 +1,42 @@
+//! What is in a message, and why it is rejected: the parts of its bytes, the causes for which an order is
+//! rejected, and both as lines of text or as JSON.
+#![tactic(auto)]
+
+mod answer_lines;
+mod causes;
+mod cutter;
+mod describing;
+mod dissecting;
+mod fault_lines;
+mod findings;
+mod found;
+mod laws;
+mod layout;
+mod line_source;
+mod marks;
+mod meaning;
+mod names;
+mod page;
+mod part;
+mod part_rows;
+mod record_lines;
+mod records;
+mod request_lines;
+mod spelling;
+mod text;
+mod transmissions;
+mod values;
+mod wanted;
+
+pub use causes::{Cause, all_causes};
+pub use dissecting::{Carried, Dissected, MessageKind, dissect};
+pub use findings::{Finding, Uncarried, findings_of};
+pub use found::Found;
+pub use laws::cause_laws;
+pub use layout::Form;
+pub use line_source::{InputFault, LONGEST_LINE, LineSource};
+pub use marks::Mark;
+pub use names::{FieldName, Named};
+pub use page::{Page, Style};
+pub use part::{Part, PartKind};
+pub use spelling::{Spelling, SpellingFault, hex_bytes, printed_bytes, unwrapped};

@@ -1,0 +1,181 @@
+//! A text that is written piece by piece. Where memory is refused it takes no more, and says so.
+
+use input_text::{put_decimal, put_printed};
+use std::alloc::{AllocError, Global};
+
+/// A text under construction.
+#[derive(Drop)]
+pub(crate) struct Text {
+    bytes: Vec<u8>,
+    refused: bool,
+}
+
+/// The letters that stand for themselves between the quotation marks of JSON, but for these two.
+const QUOTE: u8 = b'"';
+
+const BACKSLASH: u8 = b'\\';
+
+/// The most spaces that are appended at once.
+const MOST_SPACES: usize = 128;
+
+impl Text {
+    /// A text without bytes.
+    pub(crate) fn new(alloc: Global) -> Text {
+        Text {
+            bytes: Vec::new(alloc),
+            refused: false,
+        }
+    }
+
+    /// Empties the text. Its memory stays, and so does a refusal.
+    pub(crate) fn clear(&mut self) {
+        self.bytes.clear();
+    }
+
+    /// Whether memory was refused.
+    pub(crate) fn is_refused(&self) -> bool {
+        self.refused
+    }
+
+    /// Notes that memory was refused elsewhere.
+    pub(crate) fn refuse(&mut self) {
+        self.refused = true;
+    }
+
+    /// How many bytes there are.
+    pub(crate) fn len(&self) -> usize {
+        self.bytes.len()
+    }
+
+    /// The bytes so far.
+    pub(crate) fn as_slice(&self) -> &[u8] {
+        self.bytes.as_slice()
+    }
+
+    /// Appends words.
+    pub(crate) fn put(&mut self, words: &str) {
+        self.bytes(words.as_bytes());
+    }
+
+    /// Appends bytes.
+    pub(crate) fn bytes(&mut self, bytes: &[u8]) {
+        let done = self.bytes.extend_from_slice(bytes);
+        self.note(done);
+    }
+
+    /// Appends bytes as they are printed.
+    pub(crate) fn printed(&mut self, bytes: &[u8]) {
+        if all_stand(bytes) {
+            self.bytes(bytes);
+            return;
+        }
+        let done = put_printed(&mut self.bytes, bytes);
+        self.note(done);
+    }
+
+    /// Appends a number.
+    pub(crate) fn number(&mut self, number: u64) {
+        if number < 10 {
+            self.bytes(&[digit(number)]);
+            return;
+        }
+        let done = put_decimal(&mut self.bytes, number);
+        self.note(done);
+    }
+
+    /// Appends a point and a number below a thousand by three digits.
+    pub(crate) fn thousandths(&mut self, number: u64) {
+        self.bytes(&[b'.', digit(number / 100), digit(number / 10), digit(number)]);
+    }
+
+    /// Appends cents as dollars, as `-1.23`.
+    pub(crate) fn dollars(&mut self, cents: i64) {
+        if cents < 0 {
+            self.put("-");
+        }
+        let amount = cents.unsigned_abs();
+        self.number(amount / 100);
+        let cents = amount % 100;
+        self.bytes(&[b'.', digit(cents / 10), digit(cents)]);
+    }
+
+    /// Appends spaces up to a column, counted from a place in the text; at least two.
+    pub(crate) fn pad(&mut self, from: usize, column: usize) {
+        let used = self.len().saturating_sub(from);
+        self.spaces(column.saturating_sub(used).max(2));
+    }
+
+    /// Appends so many spaces, at most 128.
+    pub(crate) fn spaces(&mut self, count: usize) {
+        let room = [b' '; MOST_SPACES];
+        self.bytes(&room[..count.min(MOST_SPACES)]);
+    }
+
+    /// Appends bytes as a string of JSON: as they are printed, between quotation marks. Printed bytes are all printable
+    /// characters of ASCII, of which two are marked by a backslash.
+    pub(crate) fn string(&mut self, text: &[u8]) {
+        self.put("\"");
+        if is_plain(text) {
+            self.bytes(text);
+        } else {
+            self.letters(text);
+        }
+        self.put("\"");
+    }
+
+    /// Appends letters of a string of JSON.
+    fn letters(&mut self, text: &[u8]) {
+        for byte in text {
+            self.letter(*byte);
+        }
+    }
+
+    /// Appends a letter of a string of JSON.
+    fn letter(&mut self, byte: u8) {
+        match byte {
+            QUOTE | BACKSLASH => self.bytes(&[BACKSLASH, byte]),
+            0x20..=0x7e => self.bytes(&[byte]),
+            _ => self.put("?"),
+        }
+    }
+
+    /// Keeps that memory was refused.
+    fn note(&mut self, done: Result<(), AllocError>) {
+        if done.is_err() {
+            self.refused = true;
+        }
+    }
+}
+
+/// Whether a byte is printed as it is.
+fn stands_for_itself(byte: u8) -> bool {
+    matches!(byte, 0x20..=0x7e) && byte != BACKSLASH
+}
+
+/// Whether bytes stand for themselves in a string of JSON, and are printed as they are.
+pub(crate) fn is_plain(bytes: &[u8]) -> bool {
+    let mut plain = true;
+    for byte in bytes {
+        plain &= is_letter(*byte);
+    }
+    plain
+}
+
+/// Whether bytes are printed as they are. It does not stop at the first that is not, so that it tests several at once.
+fn all_stand(bytes: &[u8]) -> bool {
+    let mut plain = true;
+    for byte in bytes {
+        plain &= stands_for_itself(*byte);
+    }
+    plain
+}
+
+/// Whether a byte stands for itself in a string of JSON.
+fn is_letter(byte: u8) -> bool {
+    stands_for_itself(byte) && byte != QUOTE
+}
+
+/// The last digit of a number.
+pub(crate) fn digit(number: u64) -> u8 {
+    b'0' + (number % 10) as u8
+}

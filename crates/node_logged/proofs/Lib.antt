@@ -1,0 +1,12 @@
+mod Heard
+mod Ledgers
+mod Marking
+mod Rests
+mod Replaying
+mod Judged
+mod Receipts
+mod Objecting
+mod Replays
+mod Numbers
+mod Options
+mod Agreeing

@@ -1,0 +1,14 @@
+-- In the order in which one explains them.
+pub mod Setting
+pub mod Holding
+pub mod Tills
+pub mod TillSeen
+pub mod Ledgers
+pub mod LedgerSeen
+pub mod Marked
+pub mod Replayed
+pub mod Judged
+pub mod Objections
+pub mod Causes
+pub mod FinishNames
+pub mod Verdicts

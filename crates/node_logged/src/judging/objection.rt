@@ -1,0 +1,69 @@
+//! What speaks against the tills.
+
+ghost use Rattle.std.specs.Prelude.{◌≡◌, length, None, IfOk, MatchOption};
+ghost use Rattle.bin_routes.specs.Fault.{first_fault};
+ghost use Rattle.claim_model.specs.Settings.{settings_fault};
+ghost use Rattle.world_setup.specs.Seen.{settings_seen};
+ghost use Rattle.run_merge.specs.LogSeen.{logs_seen};
+ghost use Rattle.node_logged.specs.LedgerSeen.{tills_seen};
+ghost use Rattle.node_logged.specs.Replayed.{ledgers_of};
+ghost use Rattle.node_logged.specs.Objections.{first_objection};
+ghost use Rattle.node_logged.specs.Causes.{AreRight, Stands};
+
+use crate::judging::counting::lacking;
+use crate::judging::hearing::have_answers;
+use crate::judging::receipts::have_receipts;
+use crate::judging::replaying::ledgers;
+use crate::till::Till;
+use run_merge::NodeLog;
+use std::alloc::{AllocError, Global};
+use world_setup::WorldSettings;
+
+/// What speaks against the tills.
+#[derive(Clone, Copy, Debug, PartialEq, Eq)]
+pub(crate) enum Objection {
+    /// The first pharmacy whose tills do not have as many receipts as its journal has entries.
+    TillMissing(u16),
+    /// Some entry of a journal has no receipt.
+    ReceiptMissing,
+    /// Some answer that was heard is not the journal's.
+    HeardDiffers,
+}
+
+/// What speaks against the tills and nothing before it, if anything does.
+pub(crate) fn objection_to(
+    alloc: Global,
+    settings: &WorldSettings,
+    logs: &[NodeLog],
+    tills: &[Till],
+) -> Result<Option<Objection>, AllocError>
+    requires world { settings_fault (settings_seen settings.now) ≡ None }
+    requires rows { first_fault (length settings.now.payers.items) settings.now.routes.items ≡ None }
+    ensures { IfOk result (λ o. MatchOption o (AreRight (tills_seen tills.now) (ledgers_of settings.now (logs_seen logs.now))) (Stands (tills_seen tills.now) (ledgers_of settings.now (logs_seen logs.now)))) }
+{
+    first_objection(alloc, settings, logs, tills)
+}
+
+/// The first test of tills and journals that fails, in the order of the causes.
+fn first_objection(
+    alloc: Global,
+    settings: &WorldSettings,
+    logs: &[NodeLog],
+    tills: &[Till],
+) -> Result<Option<Objection>, AllocError>
+    requires world { settings_fault (settings_seen settings.now) ≡ None }
+    requires rows { first_fault (length settings.now.payers.items) settings.now.routes.items ≡ None }
+    ensures { IfOk result (λ o. o ≡ first_objection (tills_seen tills.now) (ledgers_of settings.now (logs_seen logs.now))) }
+{
+    let ledgers = ledgers(alloc, settings, logs)?;
+    if let Some(pharmacy) = lacking(&ledgers, tills) {
+        return Ok(Some(Objection::TillMissing(pharmacy)));
+    }
+    if !have_receipts(alloc, &ledgers, tills)? {
+        return Ok(Some(Objection::ReceiptMissing));
+    }
+    if !have_answers(&ledgers, tills) {
+        return Ok(Some(Objection::HeardDiffers));
+    }
+    Ok(None)
+}

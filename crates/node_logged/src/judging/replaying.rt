@@ -1,0 +1,88 @@
+//! The ledgers of all pharmacies, after the calls of their logs.
+
+ghost use Rattle.std.specs.Prelude.{◌≡◌, ◌+◌, ◌<◌, [], length, None, Some, IsSome, IfOk, IfSome, MatchOption};
+ghost use Rattle.std.specs.Option.{option_map};
+ghost use Rattle.bin_routes.specs.Fault.{first_fault};
+ghost use Rattle.claim_model.specs.Numbered.{numbered};
+ghost use Rattle.claim_model.specs.Settings.{settings_fault, opening};
+ghost use Rattle.claim_logs.specs.Nodes.{node_at};
+ghost use Rattle.claim_logs.specs.Logs.{replay};
+ghost use Rattle.world_setup.specs.Seen.{node_seen, settings_seen};
+ghost use Rattle.run_merge.specs.Naming.{calls_of};
+ghost use Rattle.run_merge.specs.LogSeen.{logs_seen};
+ghost use Rattle.node_logged.specs.Setting.{context_of};
+ghost use Rattle.node_logged.specs.Replayed.{ledger_after, ledgers_of};
+
+use crate::judging::ledger::Ledger;
+use node_state::NodeState;
+use run_merge::{NodeLog, replay_log};
+use std::alloc::{AllocError, Global};
+use world_setup::{Node, WorldSettings};
+
+/// The ledgers of all pharmacies of the settings, each after the calls of its log. Each log is replayed once.
+pub(crate) fn ledgers(
+    alloc: Global,
+    settings: &WorldSettings,
+    logs: &[NodeLog],
+) -> Result<Vec<Ledger>, AllocError>
+    requires world { settings_fault (settings_seen settings.now) ≡ None }
+    requires rows { first_fault (length settings.now.payers.items) settings.now.routes.items ≡ None }
+    ensures { IfOk result (λ ledgers. ledgers.items ≡ ledgers_of settings.now (logs_seen logs.now)) }
+{
+    let mut ledgers = Vec::new(alloc);
+    for place in 0..settings.pharmacies.len() {
+        ledgers.push(ledger_of(alloc, settings, logs, place)?)?;
+    }
+    Ok(ledgers)
+}
+
+/// The ledger of the pharmacy at a place among all, after the calls of its log.
+fn ledger_of(
+    alloc: Global,
+    settings: &WorldSettings,
+    logs: &[NodeLog],
+    place: usize,
+) -> Result<Ledger, AllocError>
+    requires world { settings_fault (settings_seen settings.now) ≡ None }
+    requires rows { first_fault (length settings.now.payers.items) settings.now.routes.items ≡ None }
+    requires there { place < length settings.now.pharmacies.items }
+    ensures { IfOk result (λ ledger. option_map (ledger_after (context_of settings.now) (logs_seen logs.now) (place + 1)) (numbered (opening (settings_seen settings.now)).pharmacies (place + 1)) ≡ Some ledger) }
+{
+    let number = place as u16 + 1;
+    let node = node_after(alloc, settings, logs, Node::Pharmacy(number))?;
+    match node.into_journal(alloc)? {
+        Some(journal) => Ok(Ledger::new(number, journal)),
+        None => unreachable!(),
+    }
+}
+
+/// The node of the settings after the calls of its log. Without a log it was not called.
+fn node_after(
+    alloc: Global,
+    settings: &WorldSettings,
+    logs: &[NodeLog],
+    node: Node,
+) -> Result<NodeState, AllocError>
+    requires world { settings_fault (settings_seen settings.now) ≡ None }
+    requires rows { first_fault (length settings.now.payers.items) settings.now.routes.items ≡ None }
+    requires there { IsSome (node_at (opening (settings_seen settings.now)) (node_seen node)) }
+    ensures { IfOk result (λ after. option_map (λ s. replay (context_of settings.now) s (calls_of (logs_seen logs.now) (node_seen node))) (node_at (opening (settings_seen settings.now)) (node_seen node)) ≡ Some after) }
+{
+    match log_of(logs, node) {
+        Some(log) => replay_log(alloc, settings, log),
+        None => NodeState::opening(alloc, settings, node),
+    }
+}
+
+/// The first log of a node.
+fn log_of(logs: &[NodeLog], node: Node) -> Option<&NodeLog>
+    ensures calls { MatchOption result (calls_of (logs_seen logs.now) (node_seen node) ≡ []) (λ log. calls_of (logs_seen logs.now) (node_seen node) ≡ log.now.calls.items) }
+    ensures names { IfSome result (λ log. node_seen log.now.node ≡ node_seen node) }
+{
+    for log in logs {
+        if log.is_of(node) {
+            return Some(log);
+        }
+    }
+    None
+}

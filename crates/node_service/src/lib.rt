@@ -1,0 +1,14 @@
+//! One node as a process serves it: lines in, lines out, and beside them the records that have to be on disk before what
+//! was sent may leave.
+//!
+//! A host appends the records to the node's log, syncs the log, and only then writes what came of the lines. Then
+//! whatever left the node is in its log, and the node of a log that is read again is the one that was.
+#![tactic(auto)]
+
+mod fault;
+mod opening;
+mod service;
+mod telling;
+
+pub use fault::ServiceFault;
+pub use service::Service;

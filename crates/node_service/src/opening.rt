@@ -1,0 +1,114 @@
+//! From the bytes of a log to the node that is served.
+
+ghost use Rattle.std.specs.Prelude.{◌≡◌, [], IfOk, IsSome};
+ghost use Rattle.sha2.specs.Sha256.{sha256};
+ghost use Rattle.world_setup.specs.Seen.{node_seen};
+ghost use Rattle.run_merge.specs.LogSeen.{log_seen};
+ghost use Rattle.node_logged.specs.Setting.{context_of, opened};
+ghost use Rattle.kept_logs.specs.Logs.{log_text};
+ghost use Rattle.kept_logs.specs.LogSeen.{reading_seen};
+ghost use Rattle.node_service.specs.Opened.{IsBegun, IsOpened, IsServed, empty_log};
+
+use crate::fault::ServiceFault;
+use crate::service::Service;
+use kept_logs::{LogFault, ReadLog, SettingsDigest, read_log, write_log};
+use node_logged::Shared;
+use run_merge::{NodeLog, replay_log};
+use std::alloc::{AllocError, Global};
+use world_settings::read_settings;
+use world_setup::Node;
+
+/// A log that was read or begun: what it has, how many bytes of the file stay, and what is to be appended.
+#[derive(Drop)]
+struct Begun {
+    log: NodeLog,
+    kept: usize,
+    records: Vec<u8>,
+}
+
+impl Service {
+    /// The node of this name under the settings that a text spells, from the bytes of its log; and how many of these bytes
+    /// stay. What stands behind them is a record that was cut off, and goes. Where there is no log yet, or no whole head of
+    /// one, the head is to be appended.
+    ///
+    /// # Errors
+    /// `Settings` where the text spells none, or those that open no world; `NoSuchNode`; the fault of the log;
+    /// `OtherNode`. `OutOfMemory` may stand in place of any answer.
+    pub fn open(
+        alloc: Global,
+        text: &[u8],
+        node: Node,
+        bytes: &[u8],
+    ) -> Result<(Service, usize), ServiceFault>
+        ensures { IfOk result (λ opened. IsOpened text.now (node_seen node) bytes.now opened.1 opened.0) }
+    {
+        let settings = read_settings(alloc, text)?;
+        let shared = Shared::new(alloc, settings)?;
+        if !shared.has(node) {
+            return Err(ServiceFault::NoSuchNode);
+        }
+        let begun = begin(alloc, text, node, bytes)?;
+        serve_from(alloc, shared, begun)
+    }
+}
+
+/// The log of this node that bytes are, or one that is begun where they end before its head does.
+fn begin(alloc: Global, text: &[u8], node: Node, bytes: &[u8]) -> Result<Begun, ServiceFault>
+    ensures own { IfOk result (λ begun. (log_seen begun.log).node ≡ node_seen node) }
+    ensures begun { IfOk result (λ begun. IsBegun (sha256 text.now) (node_seen node) bytes.now (log_seen begun.log) begun.kept begun.records.items) }
+{
+    let digest = SettingsDigest::of(text);
+    match read_log(alloc, &digest, bytes) {
+        Ok(read) => own(alloc, node, read),
+        Err(LogFault::Short) => new(alloc, &digest, node),
+        Err(fault) => Err(ServiceFault::from(fault)),
+    }
+}
+
+/// A log that was read, where it is this node's.
+fn own(alloc: Global, node: Node, read: ReadLog) -> Result<Begun, ServiceFault>
+    ensures own { IfOk result (λ begun. (log_seen begun.log).node ≡ node_seen node) }
+    ensures read { IfOk result (λ begun. (log_seen begun.log ≡ (reading_seen read).log) × ((begun.kept ≡ (reading_seen read).whole) × (begun.records.items ≡ []))) }
+{
+    let ReadLog { log, whole } = read;
+    if !log.is_of(node) {
+        return Err(ServiceFault::OtherNode);
+    }
+    Ok(Begun {
+        log,
+        kept: whole,
+        records: Vec::new(alloc),
+    })
+}
+
+/// A log that is begun.
+fn new(alloc: Global, digest: &SettingsDigest, node: Node) -> Result<Begun, ServiceFault>
+    ensures log { IfOk result (λ begun. log_seen begun.log ≡ empty_log (node_seen node)) }
+    ensures new { IfOk result (λ begun. (begun.kept ≡ 0) × (begun.records.items ≡ log_text digest.now (empty_log (node_seen node)))) }
+{
+    let log = NodeLog::new(alloc, node);
+    let records = write_log(alloc, digest, &log)?;
+    Ok(Begun {
+        log,
+        kept: 0,
+        records,
+    })
+}
+
+/// The node that is the replay of a log.
+fn serve_from(alloc: Global, shared: Shared, begun: Begun) -> Result<(Service, usize), ServiceFault>
+    requires { IsSome (opened shared (log_seen begun.log).node) }
+    ensures { IfOk result (λ served. IsServed shared (log_seen begun.log) begun.kept begun.records.items served.1 served.0) }
+{
+    let Begun { log, kept, records } = begun;
+    let state = replay_log(alloc, shared.settings(), &log)?;
+    let service = Service {
+        shared,
+        name: log.node(),
+        state,
+        calls: log.records().len() as u64,
+        records,
+        out: Vec::new(alloc),
+    };
+    Ok((service, kept))
+}

@@ -1,0 +1,130 @@
+//! A node that is served.
+
+ghost use Rattle.std.specs.Prelude.{◌≡◌, [], codes, OnOk};
+ghost use Rattle.claim_model.specs.Node.{Done};
+ghost use Rattle.claim_logs.specs.Nodes.{node_step};
+ghost use Rattle.node_logged.specs.Setting.{context_of};
+ghost use Rattle.world_setup.specs.Seen.{call_seen, node_seen};
+ghost use Rattle.node_lines.specs.Answering.{refused_line};
+ghost use Rattle.node_service.specs.Serving.{after_call, after_line, answer_of, saying};
+
+use crate::telling::{put_answer_to, put_made};
+use kept_logs::record_bytes;
+use node_lines::{Asked, asked_of, put_refused};
+use node_logged::Shared;
+use node_state::NodeState;
+use run_merge::Record;
+use std::alloc::{AllocError, Global};
+use std::marker::Model;
+use world_setup::{Call, Node, StepFault};
+
+/// A node that is served, with what is to be appended to its log and, behind that, to be written.
+#[derive(Drop)]
+pub struct Service {
+    pub(crate) shared: Shared,
+    pub(crate) name: Node,
+    pub(crate) state: NodeState,
+    pub(crate) calls: u64,
+    pub(crate) records: Vec<u8>,
+    pub(crate) out: Vec<u8>,
+}
+
+impl Model for Service {
+    ghost use Rattle.world_setup.specs.Seen.{node_seen};
+    ghost use Rattle.node_service.specs.Serving.{Serving};
+
+    ghost Value = { Serving };
+
+    ghost view = { λ s. record { settings = s.shared; node = node_seen s.name; state = s.state; calls = s.calls; records = s.records.items; out = s.out.items } };
+}
+
+impl Service {
+    /// Does what a line asks of the node, and adds what is to be appended to the log and what is to be written.
+    ///
+    /// The lines are those of node_lines. A line that spells nothing is `refused Line`; a call that the node refuses is
+    /// `refused` and the name of the refusal, and changes nothing.
+    ///
+    /// # Errors
+    /// Memory was refused. The node may have made the call and has no record of it, so the process has to end: the log
+    /// does not have the call, and nothing that it sent was written.
+    #[tactic(auto, unfolding(crate::specs::Serving::after_line))]
+    pub fn serve(&mut self, alloc: Global, line: &[u8]) -> Result<(), AllocError>
+        ensures { OnOk result (self.new ≡ after_line self.old line.now) }
+    {
+        match asked_of(alloc, line)? {
+            Some(Asked::Call(call)) => self.make(alloc, call),
+            Some(Asked::Answer(number)) => self.answer(alloc, number),
+            None => self.refuse_line(),
+        }
+    }
+
+    /// Says the answer to a number.
+    fn answer(&mut self, alloc: Global, number: u64) -> Result<(), AllocError>
+        ensures { OnOk result (self.new ≡ saying self.old (answer_of (context_of self.old.settings) self.old.state self.old.node number)) }
+    {
+        put_answer_to(alloc, &mut self.out, &self.state, self.name, number)
+    }
+
+    /// Says that a line spells nothing.
+    fn refuse_line(&mut self) -> Result<(), AllocError>
+        ensures { OnOk result (self.new ≡ saying self.old (refused_line (codes "Line"))) }
+    {
+        put_refused(&mut self.out, b"Line")
+    }
+
+    /// Makes a call, and records it where it was made.
+    #[tactic(auto, unfolding(crate::specs::Serving::after_call))]
+    fn make(&mut self, alloc: Global, call: Call) -> Result<(), AllocError>
+        ensures { OnOk result (self.new ≡ after_call self.old (call_seen call) (node_step (context_of self.old.settings) self.old.state (call_seen call))) }
+    {
+        match self.state.step(alloc, self.shared.routes(), &call) {
+            Ok(sent) => self.record(alloc, &Record::new(call, sent)),
+            Err(StepFault::OutOfMemory) => Err(AllocError),
+            Err(fault) => put_refused(&mut self.out, fault.name().as_bytes()),
+        }
+    }
+
+    /// Records a call that was made.
+    #[tactic(auto, unfolding(crate::specs::Serving::after_call))]
+    fn record(&mut self, alloc: Global, one: &Record) -> Result<(), AllocError>
+        ensures { OnOk result (self.new ≡ after_call self.old one.now.call (Done self.old.state one.now.sent)) }
+    {
+        let Some(number) = self.calls.checked_add(1) else {
+            return Err(AllocError);
+        };
+        let bytes = record_bytes(alloc, number, one)?;
+        self.records.extend_from_slice(bytes.as_slice())?;
+        put_made(alloc, &mut self.out, &self.state, one)?;
+        self.calls = number;
+        Ok(())
+    }
+
+    /// How many calls the node's log has, those included that are to be appended.
+    pub fn calls(&self) -> u64
+        ensures { result ≡ self.now.calls }
+    {
+        self.calls
+    }
+
+    /// What is to be appended to the log, and synced, before `written` may leave.
+    pub fn records(&self) -> &[u8]
+        ensures { result.now ≡ self.now.records }
+    {
+        self.records.as_slice()
+    }
+
+    /// What is to be written once the records are on disk.
+    pub fn written(&self) -> &[u8]
+        ensures { result.now ≡ self.now.out }
+    {
+        self.out.as_slice()
+    }
+
+    /// Notes that the records are on disk and the rest was written.
+    pub fn clear(&mut self)
+        ensures { self.new ≡ record { settings = self.old.settings; node = self.old.node; state = self.old.state; calls = self.old.calls; records = []; out = [] } }
+    {
+        self.records.clear();
+        self.out.clear();
+    }
+}

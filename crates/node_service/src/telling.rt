@@ -1,0 +1,99 @@
+//! What is written of calls that were made, and of answers.
+
+ghost use Rattle.std.specs.Prelude.{◌≡◌, ◌++◌, OnOk};
+ghost use Rattle.bin_routes.specs.Table.{RouteMaps};
+ghost use Rattle.claim_model.specs.Bytes.{bytes_with};
+ghost use Rattle.claim_model.specs.Node.{Pharmacy};
+ghost use Rattle.world_setup.specs.Seen.{call_seen, node_seen};
+ghost use Rattle.node_lines.specs.Answering.{sent_lines};
+ghost use Rattle.node_service.specs.Serving.{answer_of, answer_text, last_line};
+
+use envelope::TxnId;
+use node_lines::{put_answer, put_done, put_number, put_sent};
+use node_state::NodeState;
+use octets::Octets;
+use run_merge::Record;
+use std::alloc::{AllocError, Global};
+use world_setup::{Call, Node};
+
+/// Appends what is written of a call that was made: the packets that it sent, and its last line.
+pub(crate) fn put_made(
+    alloc: Global,
+    out: &mut Vec<u8>,
+    state: &NodeState,
+    one: &Record,
+) -> Result<(), AllocError>
+    ensures { OnOk result (out.new.items ≡ out.old.items ++ (sent_lines one.now.sent ++ last_line one.now.call state.now)) }
+{
+    put_sent(out, one.sent())?;
+    put_last(alloc, out, state, one.call())
+}
+
+/// Appends the last line of a call that was made: of a submission the number of its entry.
+fn put_last(
+    alloc: Global,
+    out: &mut Vec<u8>,
+    state: &NodeState,
+    call: &Call,
+) -> Result<(), AllocError>
+    ensures { OnOk result (out.new.items ≡ out.old.items ++ last_line (call_seen call.now) state.now) }
+{
+    match call {
+        Call::Submit(_) => put_number(out, state.entries(alloc)? as u64),
+        Call::Tick => put_done(out),
+        Call::Take { .. } => put_done(out),
+        Call::Stop => put_done(out),
+        Call::Start => put_done(out),
+        Call::Plan { .. } => put_done(out),
+    }
+}
+
+/// Appends the answer to a number of this pharmacy; of another node there is none.
+pub(crate) fn put_answer_to(
+    alloc: Global,
+    out: &mut Vec<u8>,
+    state: &NodeState,
+    name: Node,
+    number: u64,
+) -> Result<(), AllocError>
+    ensures { (routes : RouteMaps) → OnOk result (out.new.items ≡ out.old.items ++ answer_of (bytes_with routes) state.now (node_seen name) number) }
+{
+    match name {
+        Node::Pharmacy(pharmacy) => put_own(alloc, out, state, pharmacy, number),
+        Node::Switch(_) => out.extend_from_slice(b"none\n"),
+        Node::Payer(_) => out.extend_from_slice(b"none\n"),
+    }
+}
+
+/// Appends the answer to a number of this pharmacy.
+fn put_own(
+    alloc: Global,
+    out: &mut Vec<u8>,
+    state: &NodeState,
+    pharmacy: u16,
+    number: u64,
+) -> Result<(), AllocError>
+    ensures { (routes : RouteMaps) → OnOk result (out.new.items ≡ out.old.items ++ answer_of (bytes_with routes) state.now (Pharmacy pharmacy) number) }
+{
+    let Some(id) = TxnId::new(pharmacy, number) else {
+        return out.extend_from_slice(b"none\n");
+    };
+    let answer = state.held(alloc, id)?;
+    let request = state.request(alloc, number)?;
+    put_text(out, answer, request)
+}
+
+/// Appends an answer, or whether the number has an entry.
+fn put_text(
+    out: &mut Vec<u8>,
+    answer: Option<Octets>,
+    request: Option<Octets>,
+) -> Result<(), AllocError>
+    ensures { OnOk result (out.new.items ≡ out.old.items ++ answer_text answer request) }
+{
+    match (answer, request) {
+        (Some(answer), _) => put_answer(out, answer.as_slice()),
+        (None, Some(_)) => out.extend_from_slice(b"open\n"),
+        (None, None) => out.extend_from_slice(b"none\n"),
+    }
+}

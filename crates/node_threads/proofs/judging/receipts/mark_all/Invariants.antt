@@ -1,7 +1,0 @@
-use Rattle.std.proofs.Common.{◌++◌, drop, List}
-use Rattle.node_threads.specs.Tills.{Receipt}
-use Rattle.node_threads.specs.Marked.{Marks}
-use Rattle.node_threads.proofs.judging.receipts.mark_all.Given as goal
-
-abbrev pub invariant-loop-receipt : goal.invariant-loop-receipt
-invariant-loop-receipt l = (left all : List Receipt) → Marks l.ledger.entries (l.receipts ++ left) all l.initial.marks → Marks l.ledger.entries (drop l.receipt-index l.receipts ++ left) all l.marks

@@ -1,5 +1,0 @@
-use Rattle.node_threads.proofs.Receipts.{each_once}
-use Rattle.node_threads.proofs.laws.receipts_are_the_entries_each_once.Goals as goal
-
-pub returns : goal.returns
-returns c = each_once

@@ -1,0 +1,103 @@
+"""A small client of a NATS server: publish, subscribe, request. Core NATS alone, over TCP, with nothing but Python's library.
+
+What is published may be lost, repeated or reordered, as the rules of the nodes allow. Payloads are bytes; a server takes
+up to a mebibyte, and a packet in printed bytes has at most 131,144.
+"""
+
+import asyncio
+import itertools
+import json
+
+
+class Connection:
+    """A connection that comes again by itself, with its subscriptions, when the server goes and comes back."""
+
+    def __init__(self, host, port, name):
+        self._at = (host, port)
+        self._name = name
+        self._subscriptions = {}
+        self._numbers = itertools.count(1)
+        self._writer = None
+        self._replies = {}
+        self._inbox = None
+        self._task = None
+        self.is_open = asyncio.Event()
+
+    async def start(self):
+        """Connects, and goes on connecting for as long as the program runs."""
+        self._task = asyncio.create_task(self._run())
+        await self.is_open.wait()
+
+    async def subscribe(self, subject, handler):
+        """Calls `handler(payload, reply)` for each message of a subject."""
+        number = next(self._numbers)
+        self._subscriptions[number] = (subject, handler)
+        self._send(f"SUB {subject} {number}\r\n".encode())
+
+    def publish(self, subject, payload, reply=""):
+        """Sends a message. Without a connection it is lost, as a packet may be."""
+        head = f"PUB {subject} {reply} {len(payload)}\r\n" if reply else f"PUB {subject} {len(payload)}\r\n"
+        self._send(head.encode() + payload + b"\r\n")
+
+    async def request(self, subject, payload, seconds):
+        """The first reply to a message, or None where none comes in time."""
+        if self._inbox is None:
+            self._inbox = f"_INBOX.{self._name}.{id(self):x}"
+            await self.subscribe(f"{self._inbox}.*", self._replied)
+        reply = f"{self._inbox}.{next(self._numbers)}"
+        waiting = asyncio.get_running_loop().create_future()
+        self._replies[reply] = waiting
+        try:
+            self.publish(subject, payload, reply)
+            return await asyncio.wait_for(waiting, seconds)
+        except asyncio.TimeoutError:
+            return None
+        finally:
+            del self._replies[reply]
+
+    async def _replied(self, payload, _reply, subject):
+        waiting = self._replies.get(subject)
+        if waiting and not waiting.done():
+            waiting.set_result(payload)
+
+    def _send(self, data):
+        if self._writer is not None:
+            self._writer.write(data)
+
+    async def _run(self):
+        while True:
+            try:
+                await self._serve()
+            except (OSError, asyncio.IncompleteReadError, ValueError):
+                pass
+            self._writer = None
+            self.is_open.clear()
+            await asyncio.sleep(0.1)
+
+    async def _serve(self):
+        reader, writer = await asyncio.open_connection(*self._at, limit=1 << 21)
+        await reader.readline()  # INFO
+        hello = {"verbose": False, "pedantic": False, "name": self._name, "lang": "python", "version": "0"}
+        writer.write(f"CONNECT {json.dumps(hello)}\r\n".encode())
+        for number, (subject, _) in self._subscriptions.items():
+            writer.write(f"SUB {subject} {number}\r\n".encode())
+        self._writer = writer
+        self.is_open.set()
+        while True:
+            line = await reader.readline()
+            if not line:
+                return
+            words = line.split()
+            if words[0] == b"MSG":
+                await self._message(reader, words)
+            elif words[0] == b"PING":
+                writer.write(b"PONG\r\n")
+
+    async def _message(self, reader, words):
+        payload = await reader.readexactly(int(words[-1]) + 2)
+        _, handler = self._subscriptions[int(words[2])]
+        reply = words[3].decode() if len(words) == 5 else ""
+        if handler == self._replied:
+            await handler(payload[:-2], reply, words[1].decode())
+        else:
+            await handler(payload[:-2], reply)
