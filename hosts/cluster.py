@@ -3,8 +3,9 @@
 
     hosts/cluster.py SETTINGS FOLDER [--server] [--nats HOST:PORT] [--tick SECONDS] [--program PATH] [-v]
 
-Logs go to FOLDER, one a node. A host that dies is started again. With --server a server is started too; its program is
-`nats-server` (Debian: apt-get install nats-server). Ends by Ctrl-C or SIGTERM, and its nodes with it.
+SETTINGS is a file of settings alone, as examples/six-nodes.toml. Logs go to FOLDER, one a node. A host that dies is started
+again, at first at once, then ever later. With --server a server is started too; its program is `nats-server` (Debian: apt-get
+install nats-server). Ends by Ctrl-C or SIGTERM, and its nodes with it.
 """
 
 import argparse
@@ -13,17 +14,26 @@ import os
 import pathlib
 import shutil
 import signal
+import socket
+import subprocess
 import sys
+import time
 import tomllib
 
 HERE = pathlib.Path(__file__).resolve().parent
 AGAIN_SECONDS = 0.2
+MOST_SECONDS = 10
 
 
 def nodes_of(settings):
     """The names of the nodes of a settings file."""
-    with open(settings, "rb") as file:
-        given = tomllib.load(file)
+    try:
+        lines = pathlib.Path(settings).read_text(encoding="utf-8").split("\n")
+        if "---" in lines:
+            sys.exit(f"cluster: {settings}: settings alone are wanted, the part before line {lines.index('---') + 1}, `---`")
+        given = tomllib.loads("\n".join(lines))
+    except (OSError, ValueError) as fault:
+        sys.exit(f"cluster: {settings}: {fault}")
     kinds = (("ph", "pharmacy"), ("sw", "switch"), ("pr", "payer"))
     return [f"{short}{place}" for short, key in kinds for place in range(1, len(given.get(key, [])) + 1)]
 
@@ -31,20 +41,38 @@ def nodes_of(settings):
 def program_of(given):
     """The program claimnode: the one that is named, that of this repository, or that of the PATH."""
     built = HERE.parent / "crates" / "claimnode" / "out" / "claimnode"
-    return given or (str(built) if built.exists() else shutil.which("claimnode") or "claimnode")
+    script = HERE.parent / "claimnode"
+    if given or built.exists():
+        return given or str(built)
+    if script.exists():
+        # The script compiles the program where it is not built, once, before the nodes start.
+        subprocess.run([script, "-V"], stdout=subprocess.DEVNULL, check=False)
+        return str(script)
+    return shutil.which("claimnode") or sys.exit("cluster: no claimnode on the PATH; --program names it")
 
 
-async def keep(words):
-    """Runs a program, and starts it again where it ends."""
+def check_free(host, port):
+    """Ends the program where a server has the port already: the nodes would be on that one."""
+    with socket.socket() as other:
+        if other.connect_ex((host, port)) == 0:
+            sys.exit(f"cluster: {host}:{port} has a server already: leave out --server, or give another by --nats")
+
+
+async def keep(name, words):
+    """Runs a program, and starts it again where it ends: the sooner it ended, the later."""
+    wait = AGAIN_SECONDS
     while True:
+        started = time.monotonic()
         process = await asyncio.create_subprocess_exec(*words)
         try:
-            await process.wait()
+            status = await process.wait()
         except asyncio.CancelledError:
             process.terminate()
             await process.wait()
             raise
-        await asyncio.sleep(AGAIN_SECONDS)
+        wait = min(wait * 2, MOST_SECONDS) if time.monotonic() - started < MOST_SECONDS / 5 else AGAIN_SECONDS
+        print(f"{name} ended with status {status}, and is started again", file=sys.stderr, flush=True)
+        await asyncio.sleep(wait)
 
 
 async def main():
@@ -57,15 +85,18 @@ async def main():
     parser.add_argument("--program", metavar="PATH")
     parser.add_argument("-v", action="store_true")
     given = parser.parse_args()
+    names, program = nodes_of(given.settings), program_of(given.program)
     os.makedirs(given.folder, exist_ok=True)
     host, port = given.nats.rsplit(":", 1)
     tasks = []
     if given.server:
-        tasks.append(asyncio.create_task(keep(["nats-server", "-a", host, "-p", port, "-l", f"{given.folder}/server.txt"])))
-    for name in nodes_of(given.settings):
+        check_free(host, int(port))
+        server = ["nats-server", "-a", host, "-p", port, "-l", f"{given.folder}/server.txt"]
+        tasks.append(asyncio.create_task(keep("the server", server)))
+    for name in names:
         words = [sys.executable, str(HERE / "node.py"), given.settings, name, f"{given.folder}/{name}.log"]
-        words += ["--nats", given.nats, "--tick", given.tick, "--program", program_of(given.program)]
-        tasks.append(asyncio.create_task(keep(words + (["-v"] if given.v else []))))
+        words += ["--nats", given.nats, "--tick", given.tick, "--program", program]
+        tasks.append(asyncio.create_task(keep(name, words + (["-v"] if given.v else []))))
     stop = asyncio.Event()
     for number in (signal.SIGINT, signal.SIGTERM):
         asyncio.get_running_loop().add_signal_handler(number, stop.set)
@@ -73,7 +104,8 @@ async def main():
     for task in tasks:
         task.cancel()
     await asyncio.gather(*tasks, return_exceptions=True)
+    return 0
 
 
 if __name__ == "__main__":
-    asyncio.run(main())
+    sys.exit(asyncio.run(main()))

@@ -7,14 +7,15 @@ up to a mebibyte, and a packet in printed bytes has at most 131,144.
 import asyncio
 import itertools
 import json
+import sys
 
 
 class Connection:
     """A connection that comes again by itself, with its subscriptions, when the server goes and comes back."""
 
-    def __init__(self, host, port, name):
+    def __init__(self, host, port, name, says=True):
         self._at = (host, port)
-        self._name = name
+        self._name, self._says = name, says
         self._subscriptions = {}
         self._numbers = itertools.count(1)
         self._writer = None
@@ -65,11 +66,16 @@ class Connection:
             self._writer.write(data)
 
     async def _run(self):
+        is_told = False
         while True:
             try:
                 await self._serve()
             except (OSError, asyncio.IncompleteReadError, ValueError):
                 pass
+            is_told = is_told and not self.is_open.is_set()
+            if self._says and not is_told:
+                print(f"{self._name}: no server at {self._at[0]}:{self._at[1]}, trying again", file=sys.stderr, flush=True)
+            is_told = True
             self._writer = None
             self.is_open.clear()
             await asyncio.sleep(0.1)

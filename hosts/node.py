@@ -4,9 +4,10 @@
     hosts/node.py SETTINGS NODE LOG [--nats HOST:PORT] [--tick SECONDS] [--program PATH] [-v]
 
 The node's packets come on the subject `claims.NODE`, each as its sender's name, a space and the packet in printed bytes.
-Calls of the operator and of callers come on `claims.NODE.call`, a line each, and are replied to with the last line of what
-the node says. The program appends each call to its log and syncs the log before it says anything, so whatever this host
-hears may go out. Ticks carry progress: what the carrier loses is sent again.
+Callers' lines come on `claims.NODE.call`: `submit` and `answer`, no others. An operator's come on `claims.NODE.operate`: any line
+but `take`. Each is replied to with the last line of what the node says. Who may write to a subject is for the server to say.
+The program appends each call to its log and syncs the log before it says anything, so whatever this host hears may go out.
+Ticks carry progress: what the carrier loses is sent again.
 """
 
 import argparse
@@ -16,6 +17,8 @@ import signal
 import sys
 
 import nats
+
+CALLERS = (b"submit ", b"answer ")
 
 
 class Node:
@@ -35,7 +38,9 @@ class Node:
         )
         ready = await self._process.stdout.readline()
         if not ready.startswith(b"ready "):
-            raise SystemExit(await self._process.wait() or 1)
+            status = await self._process.wait()
+            print(f"{self.name}: claimnode ended with status {status}; log {self._words[3]}", file=sys.stderr, flush=True)
+            raise SystemExit(status or 1)
         self.calls = int(ready.split()[1])
 
     async def call(self, line):
@@ -46,10 +51,13 @@ class Node:
         await self._process.stdin.drain()
         return await done
 
+    def said(self, line):
+        """Hears the last line of a call, before who asked does."""
+
     async def listen(self):
-        """Hands on what the program says, until it ends."""
+        """Hands on what the program says, until it ends. A line that was cut off with it is none."""
         sent = []
-        while line := await self._process.stdout.readline():
+        while (line := await self._process.stdout.readline()).endswith(b"\n"):
             line = line.rstrip(b"\n")
             if line.startswith(b"send "):
                 _, to, text = line.split(b" ", 2)
@@ -57,10 +65,13 @@ class Node:
                 continue
             self.calls += 1
             self.packets += len(sent)
+            self.said(line)
             done = self._waiting.popleft()
             if not done.done():
                 done.set_result((sent, line))
             sent = []
+        for waiting in self._waiting:
+            waiting.cancel()
         return await self._process.wait()
 
 
@@ -81,11 +92,16 @@ class Host:
         asyncio.create_task(self._make(b"take " + payload))
 
     async def called(self, payload, reply):
-        """A line of the operator or a caller."""
-        asyncio.create_task(self._answered(payload, reply))
+        """A line of a caller."""
+        asyncio.create_task(self._answered(payload, reply, payload.startswith(CALLERS)))
 
-    async def _answered(self, payload, reply):
-        last = await self._make(payload.split(b"\n")[0])
+    async def operated(self, payload, reply):
+        """A line of an operator."""
+        asyncio.create_task(self._answered(payload, reply, not payload.startswith(b"take")))
+
+    async def _answered(self, payload, reply, is_allowed):
+        is_line = is_allowed and b"\n" not in payload
+        last = await self._make(payload) if is_line else b"refused Line"
         if reply:
             self._carrier.publish(reply, last)
 
@@ -124,6 +140,7 @@ async def main():
     await carrier.start()
     await carrier.subscribe(f"claims.{given.node}", host.taken)
     await carrier.subscribe(f"claims.{given.node}.call", host.called)
+    await carrier.subscribe(f"claims.{given.node}.operate", host.operated)
     tasks = [asyncio.create_task(node.listen())]
     if given.node.startswith("ph"):
         tasks.append(asyncio.create_task(host.tick(given.tick)))
