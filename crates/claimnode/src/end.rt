@@ -2,7 +2,7 @@
 
 use clap::Error as ClapError;
 use node_service::ServiceFault;
-use std::alloc::{AllocError, AllocFailed};
+use std::alloc::{AllocError, AllocFailed, Global};
 use std::io;
 use thiserror::Error;
 
@@ -15,9 +15,12 @@ pub(crate) enum End {
     /// Memory was refused. What was not said is in no log.
     #[error("out of memory")]
     OutOfMemory,
-    /// A file, standard input or standard output failed.
+    /// The log, standard input or standard output failed.
     #[error("{0}")]
     Io(io::Error),
+    /// A file is not read or opened.
+    #[error("{0}: {1}")]
+    File(String, io::Error),
     /// Another process has the log.
     #[error("another process has the log")]
     Locked,
@@ -30,6 +33,16 @@ pub(crate) enum End {
     /// The settings, the node or its log are refused.
     #[error("{0}")]
     Service(ServiceFault),
+}
+
+impl End {
+    /// That a file of this name is not read or opened.
+    pub(crate) fn of_file(alloc: Global, name: &str, error: io::Error) -> End {
+        match String::from_str(alloc, name) {
+            Ok(name) => End::File(name, error),
+            Err(_) => End::OutOfMemory,
+        }
+    }
 }
 
 impl From<AllocError> for End {

@@ -14,11 +14,15 @@ pub(crate) struct LogFile {
 impl LogFile {
     /// Opens the file, or makes it, and takes it for this process.
     pub(crate) fn open(rt: &HostRuntime, path: &str) -> Result<LogFile, End> {
-        let file = OpenOptions::new()
+        let file = match OpenOptions::new()
             .read(true)
             .append(true)
             .create(true)
-            .open(rt, path)?;
+            .open(rt, path)
+        {
+            Ok(file) => file,
+            Err(error) => return Err(End::of_file(rt.alloc(), path, error)),
+        };
         match file.try_lock() {
             Ok(()) => Ok(LogFile { file }),
             Err(TryLockError::WouldBlock) => Err(End::Locked),

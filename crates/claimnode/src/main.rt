@@ -41,40 +41,49 @@ fn run(rt: &HostRuntime) -> Result<(), End> {
         Err(_) => return Err(End::OutOfMemory),
     };
     let words = words_of(alloc, given.as_slice())?;
-    let text = fs::read(rt, words.settings)?;
-    let mut log = LogFile::open(rt, words.log)?;
-    let service = opened(rt, &words, text.as_slice(), &mut log)?;
-    serve(rt, service, &mut log)
+    match fs::read(rt, words.settings) {
+        Ok(text) => run_node(rt, &words, text.as_slice()),
+        Err(error) => Err(End::of_file(alloc, words.settings, error)),
+    }
 }
 
-/// The node as its log has it. A record that was cut off is cut from the file, and a log that is new gets its head.
-fn opened(
+/// Serves a node under settings from its log.
+fn run_node(rt: &HostRuntime, words: &Words<'_>, text: &[u8]) -> Result<(), End> {
+    let mut log = LogFile::open(rt, words.log)?;
+    let bytes = log.read(rt.alloc())?;
+    match Service::open(rt.alloc(), text, words.node, bytes.as_slice()) {
+        Ok((mut service, kept)) => {
+            let is_torn = kept < bytes.len();
+            run_service(rt, words, &mut service, &mut log, is_torn.then_some(kept))
+        }
+        Err(fault) => Err(End::from(fault)),
+    }
+}
+
+/// Serves a node that was opened. The file is cut behind so many bytes where a record was cut off there, and a log that is
+/// new gets its head.
+fn run_service(
     rt: &HostRuntime,
     words: &Words<'_>,
-    text: &[u8],
+    service: &mut Service,
     log: &mut LogFile,
-) -> Result<Service, End> {
-    let alloc = rt.alloc();
-    let bytes = log.read(alloc)?;
-    let (mut service, kept) = Service::open(alloc, text, words.node, bytes.as_slice())?;
-    if kept < bytes.len() {
-        log.cut(kept as u64)?;
+    whole: Option<usize>,
+) -> Result<(), End> {
+    if let Some(size) = whole {
+        log.cut(size as u64)?;
     }
     if !service.records().is_empty() {
         log.append(service.records())?;
         log.sync_folder(rt, words.log)?;
         service.clear();
     }
-    Ok(service)
+    serve(rt, service, log)
 }
 
 /// Serves lines until standard input ends.
-fn serve(rt: &HostRuntime, mut service: Service, log: &mut LogFile) -> Result<(), End> {
+fn serve(rt: &HostRuntime, service: &mut Service, log: &mut LogFile) -> Result<(), End> {
     let mut writer = rt.stdout();
-    let calls = service.calls();
-    let ready = format!(in rt.alloc(); "ready {calls}\n")?;
-    writer.write_all(ready.as_bytes())?;
-    writer.flush()?;
+    write_ready(rt, &mut writer, service.calls())?;
     let mut reader = rt.stdin();
     let mut lines = Lines::new(rt.alloc());
     let mut chunk = Vec::from_elem(rt.alloc(), 0u8, CHUNK)?;
@@ -84,9 +93,17 @@ fn serve(rt: &HostRuntime, mut service: Service, log: &mut LogFile) -> Result<()
             break;
         }
         lines.add(&chunk[..count])?;
-        lines.serve(rt.alloc(), &mut service)?;
-        write_served(&mut writer, &mut service, log)?;
+        lines.serve(rt.alloc(), service)?;
+        write_served(&mut writer, service, log)?;
     }
+    Ok(())
+}
+
+/// Says that lines are served, and how many calls the log has.
+fn write_ready<W: Write>(rt: &HostRuntime, writer: &mut W, calls: u64) -> Result<(), End> {
+    let ready = format!(in rt.alloc(); "ready {calls}\n")?;
+    writer.write_all(ready.as_bytes())?;
+    writer.flush()?;
     Ok(())
 }
 
