@@ -12,6 +12,7 @@ use crate::file::LogFile;
 use crate::lines::Lines;
 use crate::words::{Words, words_of};
 use node_service::Service;
+use payer_book::HashKeys;
 use std::io::{Read, Write};
 use std::process::ExitCode;
 use std::{env, fs};
@@ -51,12 +52,27 @@ fn run(rt: &HostRuntime) -> Result<(), End> {
 fn run_node(rt: &HostRuntime, words: &Words<'_>, text: &[u8]) -> Result<(), End> {
     let mut log = LogFile::open(rt, words.log)?;
     let bytes = log.read(rt.alloc())?;
-    match Service::open(rt.alloc(), text, words.node, bytes.as_slice()) {
+    match Service::open(
+        rt.alloc(),
+        &hash_keys(rt),
+        text,
+        words.node,
+        bytes.as_slice(),
+    ) {
         Ok((mut service, kept)) => {
             let is_torn = kept < bytes.len();
             run_service(rt, words, &mut service, &mut log, is_torn.then_some(kept))
         }
         Err(fault) => Err(End::from(fault)),
+    }
+}
+
+/// What the maps of a payer's book hash with: keys that nobody knows. Where the system has no random bytes to give, the
+/// fixed keys serve, since no answer hangs on them.
+fn hash_keys(rt: &HostRuntime) -> HashKeys {
+    match HashKeys::random(rt) {
+        Ok(keys) => keys,
+        Err(_) => HashKeys::fixed(),
     }
 }
 

@@ -1,8 +1,9 @@
 //! From the bytes of a log to the node that is served.
 
-ghost use Rattle.std.specs.Prelude.{◌≡◌, [], IfOk, IsSome};
+ghost use Rattle.std.specs.Prelude.{◌≡◌, [], Some, IfOk, IsSome};
 ghost use Rattle.sha2.specs.Sha256.{sha256};
 ghost use Rattle.world_setup.specs.Seen.{node_seen};
+ghost use Rattle.world_settings.specs.Document.{document_seen, settings_in};
 ghost use Rattle.run_merge.specs.LogSeen.{log_seen};
 ghost use Rattle.node_logged.specs.Setting.{context_of, opened};
 ghost use Rattle.kept_logs.specs.Logs.{log_text};
@@ -13,10 +14,11 @@ use crate::fault::ServiceFault;
 use crate::service::Service;
 use kept_logs::{LogFault, ReadLog, SettingsDigest, read_log, write_log};
 use node_logged::Shared;
+use payer_book::HashKeys;
 use run_merge::{NodeLog, replay_log};
 use std::alloc::{AllocError, Global};
 use world_settings::read_settings;
-use world_setup::Node;
+use world_setup::{Node, WorldSettings};
 
 /// A log that was read or begun: what it has, how many bytes of the file stay, and what is to be appended.
 #[derive(Drop)]
@@ -29,26 +31,37 @@ struct Begun {
 impl Service {
     /// The node of this name under the settings that a text spells, from the bytes of its log; and how many of these bytes
     /// stay. What stands behind them is a record that was cut off, and goes. Where there is no log yet, or no whole head of
-    /// one, the head is to be appended.
+    /// one, the head is to be appended. The maps of a payer's book hash with these keys, on which no answer hangs.
     ///
     /// # Errors
     /// `Settings` where the text spells none, or those that open no world; `NoSuchNode`; the fault of the log;
     /// `OtherNode`. `OutOfMemory` may stand in place of any answer.
     pub fn open(
         alloc: Global,
+        keys: &HashKeys,
         text: &[u8],
         node: Node,
         bytes: &[u8],
     ) -> Result<(Service, usize), ServiceFault>
         ensures { IfOk result (λ opened. IsOpened text.now (node_seen node) bytes.now opened.1 opened.0) }
     {
-        let settings = read_settings(alloc, text)?;
+        let settings = settings_of(alloc, keys, text)?;
         let shared = Shared::new(alloc, settings)?;
         if !shared.has(node) {
             return Err(ServiceFault::NoSuchNode);
         }
         let begun = begin(alloc, text, node, bytes)?;
         serve_from(alloc, shared, begun)
+    }
+}
+
+/// The settings that a text spells, with these keys.
+fn settings_of(alloc: Global, keys: &HashKeys, text: &[u8]) -> Result<WorldSettings, ServiceFault>
+    ensures read { IfOk result (λ settings. settings_in text.now ≡ Some (document_seen settings)) }
+{
+    match read_settings(alloc, text) {
+        Ok(settings) => Ok(settings.with_keys(keys)),
+        Err(fault) => Err(ServiceFault::from(fault)),
     }
 }
 
