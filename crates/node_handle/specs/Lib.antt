@@ -1,0 +1,4 @@
+pub mod Erased
+pub mod Numbers
+pub mod Calls
+pub mod Texts
