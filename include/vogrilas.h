@@ -146,6 +146,13 @@ vogrilas_code vogrilas_open(vogrilas_node *node, const void *settings, size_t se
 vogrilas_code vogrilas_serve(vogrilas_node *node, const void *line, size_t line_size);
 
 /*
+** Serves the line `submit TEXT` of these very bytes, or the line `take FROM TEXT`: for callers that have bytes and no text.
+** The codes are those of vogrilas_serve(), and VOGRILAS_NAME where `from` is no node's name; then nothing has changed.
+*/
+vogrilas_code vogrilas_submit(vogrilas_node *node, const void *request, size_t request_size);
+vogrilas_code vogrilas_take(vogrilas_node *node, const void *from, size_t from_size, const void *packet, size_t packet_size);
+
+/*
 ** Copies what is to be appended to the log, and synced, before what was written may be used. It stays until
 ** vogrilas_clear().
 **

@@ -2,3 +2,4 @@ pub mod Erased
 pub mod Numbers
 pub mod Calls
 pub mod Texts
+pub mod Typed

@@ -32,7 +32,7 @@ pub struct NodeHandle {
 
 impl NodeHandle {
     /// A handle with no node.
-    pub fn closed() -> NodeHandle
+    pub(crate) fn closed() -> NodeHandle
         ensures { result.part.node ≡ None }
     {
         let part = Part::of_nothing();

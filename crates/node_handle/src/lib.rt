@@ -8,8 +8,10 @@ mod handle;
 mod part;
 mod reading;
 mod refusal;
+mod typed;
 
 pub use handle::NodeHandle;
 pub use part::Part;
 pub use reading::{print, unprint};
 pub use refusal::{Refusal, number_of};
+pub use typed::{packets_are_asked, requests_are_asked};

@@ -11,6 +11,7 @@ ghost use Rattle.std.specs.declared.option.Option.TheVariants.{None};
 ghost use Rattle.node_handle.specs.Numbers.{Says};
 ghost use Rattle.node_handle.specs.Calls.{Clears, Copies, Counts, Opens, Serves, records_of, written_of};
 ghost use Rattle.node_handle.specs.Texts.{Prints, Unprints};
+ghost use Rattle.node_handle.specs.Typed.{Takes, submit_line};
 
 use node_handle::{NodeHandle, number_of, print, unprint};
 use std::alloc::Global;
@@ -47,6 +48,27 @@ pub extern "C" fn vogrilas_serve(alloc: Global, node: &mut NodeHandle, line: &[u
     ensures { Says result (λ said. Serves node.old.part.node line.now said node.new.part.node) }
 {
     number_of(node.serve(alloc, line))
+}
+
+/// Enters a request, of a pharmacy.
+#[unsafe(no_mangle)]
+pub extern "C" fn vogrilas_submit(alloc: Global, node: &mut NodeHandle, request: &[u8]) -> u32
+    ensures { Says result (λ said. Serves node.old.part.node (submit_line request.now) said node.new.part.node) }
+{
+    number_of(node.submit(alloc, request))
+}
+
+/// Takes a packet that has come from the node of this name.
+#[unsafe(no_mangle)]
+pub extern "C" fn vogrilas_take(
+    alloc: Global,
+    node: &mut NodeHandle,
+    from: &[u8],
+    packet: &[u8],
+) -> u32
+    ensures { Says result (λ said. Takes node.old.part.node from.now packet.now said node.new.part.node) }
+{
+    number_of(node.receive(alloc, from, packet))
 }
 
 /// Copies what is to be appended to the log, and synced, before what was written may be used.
