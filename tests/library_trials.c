@@ -167,6 +167,31 @@ static void try_texts(void) {
     check(vogrilas_print("", 0, text, 0, &size) == VOGRILAS_OK && size == 0, "no bytes");
 }
 
+/* Bytes in place of lines: the same records, and the same is written. */
+static void try_typed(void) {
+    vogrilas_node by_line = VOGRILAS_NODE_INIT, by_bytes = VOGRILAS_NODE_INIT;
+    char bytes[MOST], other[1024];
+    size_t kept, size = 0, again = 0;
+    check(is_closed(&by_line) && vogrilas_submit(&by_bytes, "x", 1) == VOGRILAS_CLOSED, "a closed handle takes no request");
+    check(vogrilas_take(&by_bytes, "sw1", 3, "x", 1) == VOGRILAS_CLOSED, "a closed handle takes no packet");
+    check(open_as(&by_line, "ph1", log_bytes, 46, &kept) == VOGRILAS_OK, "open for lines");
+    check(open_as(&by_bytes, "ph1", log_bytes, 46, &kept) == VOGRILAS_OK, "open for bytes");
+    check(vogrilas_unprint(line + 7, line_size - 7, bytes, MOST, &size) == VOGRILAS_OK, "the bytes of the request");
+    check(vogrilas_serve(&by_line, line, line_size) == VOGRILAS_OK, "a submission by a line");
+    check(vogrilas_submit(&by_bytes, bytes, size) == VOGRILAS_OK, "a submission by bytes");
+    check(vogrilas_serve(&by_line, "take sw1 \\x00\\xff", 17) == VOGRILAS_OK, "a packet by a line");
+    check(vogrilas_take(&by_bytes, "sw1", 3, "\x00\xff", 2) == VOGRILAS_OK, "a packet by bytes");
+    check(vogrilas_take(&by_bytes, "sw1 ", 4, "", 0) == VOGRILAS_NAME, "a packet of nobody");
+    check(vogrilas_records(&by_line, record, MOST, &size) == VOGRILAS_OK && size > 0, "the records by lines");
+    check(vogrilas_records(&by_bytes, bytes, MOST, &again) == VOGRILAS_OK && again == size, "the records by bytes");
+    check(memcmp(record, bytes, size) == 0, "the same records");
+    check(vogrilas_written(&by_line, said, MOST, &size) == VOGRILAS_OK && size > 0, "what is written by lines");
+    check(vogrilas_written(&by_bytes, other, 1024, &again) == VOGRILAS_OK && again == size, "what is written by bytes");
+    check(memcmp(said, other, size) == 0, "the same is written");
+    vogrilas_close(&by_line);
+    vogrilas_close(&by_bytes);
+}
+
 /* Each request for memory refused in turn: the node is closed then, nothing is lost, and its log opens it again. */
 static void try_memory(void) {
     size_t kept, size;
@@ -215,6 +240,7 @@ int main(int count, char **words) {
     try_buffers();
     try_logs();
     try_texts();
+    try_typed();
     lent = 0;
     try_memory();
     for (vogrilas_code code = 0; code <= VOGRILAS_BAD_TEXT; code++)

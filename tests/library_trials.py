@@ -64,6 +64,13 @@ class Trials(unittest.TestCase):
             pharmacy.tick()
         pharmacy.start()
 
+    def test_nobody_sends(self):
+        pharmacy = self.opened("ph1")
+        self.fails(Code.NAME, pharmacy.take, "sw1 ", b"")
+        with self.assertRaises(Refused):
+            pharmacy.take("sw1", b"")
+        self.assertEqual(pharmacy.calls, 0)
+
     def test_prices(self):
         payer = self.opened("pr1")
         self.assertEqual(payer.plan(b"00093721410", 20000), vogrilas.Said(()))

@@ -80,6 +80,28 @@ impl Node {
         Error::of(code, 0)
     }
 
+    /// Enters a request, of a pharmacy: the line `submit` with the text of these bytes.
+    ///
+    /// # Errors
+    /// As of `serve`.
+    pub fn submit(&mut self, request: &[u8]) -> Result<(), Error> {
+        // SAFETY: the pointer leads to as many bytes as are said.
+        let code = unsafe { sys::vogrilas_submit(&mut self.handle, request.as_ptr(), request.len()) };
+        Error::of(code, 0)
+    }
+
+    /// Takes a packet that has come from the node of this name: the line `take` with the text of these bytes.
+    ///
+    /// # Errors
+    /// As of `serve`, and `Name` where the name is no node's.
+    pub fn take(&mut self, from: &str, packet: &[u8]) -> Result<(), Error> {
+        // SAFETY: each pointer leads to as many bytes as are said.
+        let code = unsafe {
+            sys::vogrilas_take(&mut self.handle, from.as_ptr(), from.len(), packet.as_ptr(), packet.len())
+        };
+        Error::of(code, 0)
+    }
+
     /// What is to be appended to the log, and synced, before anything that was written is used.
     ///
     /// # Errors

@@ -63,6 +63,18 @@ fn a_claim_goes_there_and_back() {
 }
 
 #[test]
+fn bytes_are_as_lines() {
+    let (mut by_line, mut by_bytes) = (Kept::open("ph1", Vec::new()), Kept::open("ph1", Vec::new()));
+    let said = by_line.serve(&submission());
+    by_bytes.node.submit(&unprinted(REQUEST.strip_suffix(b"\n").unwrap()).unwrap()).unwrap();
+    assert_eq!(by_bytes.settle(), said);
+    by_bytes.node.take("sw1", b"\0 \xff").unwrap();
+    assert_eq!(by_bytes.settle(), by_line.serve(b"take sw1 \\x00 \\xff"));
+    assert_eq!(by_bytes.log, by_line.log);
+    assert_eq!(by_bytes.node.take("sw1 ", b""), Err(Error { code: Code::Name, place: None }));
+}
+
+#[test]
 fn logs_are_refused() {
     let mut pharmacy = Kept::open("ph1", Vec::new());
     pharmacy.serve(&submission());

@@ -6,9 +6,9 @@ import fcntl
 import os
 import pathlib
 import threading
-from typing import Optional, Union
+from typing import Callable, Optional, Union
 
-from ._node import Node, Refused, Said, printed, read_said, unprinted
+from ._node import Node, Refused, Said, VogrilasError, printed, read_said, unprinted
 
 
 class FileNode:
@@ -40,32 +40,32 @@ class FileNode:
 
     def submit(self, request: bytes) -> Said:
         """Enters a request and sends it; the number of its entry is in what is said. Of a pharmacy."""
-        return self._call(b"submit " + printed(request))
+        return self._call(lambda node: node.submit(request))
 
     def tick(self) -> Said:
         """Time goes on, and what is due is sent again. Of a pharmacy."""
-        return self._call(b"tick")
+        return self._call(_line(b"tick"))
 
     def take(self, sender: str, packet: bytes) -> Said:
         """A packet has come from this node."""
-        return self._call(b"take " + sender.encode() + b" " + printed(packet))
+        return self._call(lambda node: node.take(sender, packet))
 
     def plan(self, product: bytes, price: Optional[int]) -> Said:
         """Another price for a product, in ten-thousandths of a dollar a unit, or none. Of a payer."""
         price_text = b"none" if price is None else b"%d" % price
-        return self._call(b"plan " + printed(product).replace(b" ", b"\\x20") + b" " + price_text)
+        return self._call(_line(b"plan " + printed(product).replace(b" ", b"\\x20") + b" " + price_text))
 
     def stop(self) -> Said:
         """The node stops: it refuses calls until it starts."""
-        return self._call(b"stop")
+        return self._call(_line(b"stop"))
 
     def start(self) -> Said:
         """The node starts again, from what it keeps."""
-        return self._call(b"start")
+        return self._call(_line(b"start"))
 
     def answer(self, number: int) -> Optional[bytes]:
         """The answer to an entry, or None where there is none yet. Raises KeyError where there is no such entry."""
-        word, _, text = self._turn(b"answer %d" % number).rstrip(b"\n").partition(b" ")
+        word, _, text = self._turn(_line(b"answer %d" % number)).rstrip(b"\n").partition(b" ")
         if word == b"answer":
             return unprinted(text)
         if word == b"refused":
@@ -97,16 +97,18 @@ class FileNode:
             raise ValueError("the node is closed")
         return self._node
 
-    def _call(self, line: bytes) -> Said:
-        return read_said(self._turn(line))
+    def _call(self, call: Callable[[Node], None]) -> Said:
+        return read_said(self._turn(call))
 
-    def _turn(self, line: bytes) -> bytes:
-        """Serves a line, has its record on disk, and only then gives what was written."""
+    def _turn(self, call: Callable[[Node], None]) -> bytes:
+        """Makes a call, has its record on disk, and only then gives what was written."""
         with self._lock:
             node = self._open_node()
             try:
-                node.serve(line)
+                call(node)
                 return self._settle()
+            except VogrilasError:  # the library has made no call
+                raise
             except BaseException:
                 self.close()
                 raise
@@ -120,6 +122,11 @@ class FileNode:
         written = node.written()
         node.clear()
         return written
+
+
+def _line(line: bytes) -> Callable[[Node], None]:
+    """The call that serves a line."""
+    return lambda node: node.serve(line)
 
 
 def _write_all(file: int, data: bytes) -> None:

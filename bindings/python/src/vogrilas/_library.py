@@ -25,6 +25,8 @@ _CALLS = {
     "version": [],
     "open": [_NODE, *_BYTES, *_BYTES, *_BYTES, _PLACE],
     "serve": [_NODE, *_BYTES],
+    "submit": [_NODE, *_BYTES],
+    "take": [_NODE, *_BYTES, *_BYTES],
     "records": [_NODE, *_BUFFER],
     "written": [_NODE, *_BUFFER],
     "calls": [_NODE, ctypes.POINTER(ctypes.c_uint64)],

@@ -123,6 +123,17 @@ class Node:
         with self._lock:
             _check(LIBRARY.vogrilas_serve(ctypes.byref(self._handle), line, len(line)))
 
+    def submit(self, request: bytes) -> None:
+        """Enters a request, of a pharmacy: the line `submit` with the text of these bytes."""
+        with self._lock:
+            _check(LIBRARY.vogrilas_submit(ctypes.byref(self._handle), request, len(request)))
+
+    def take(self, sender: str, packet: bytes) -> None:
+        """Takes a packet that has come from this node: the line `take` with the text of these bytes."""
+        name = sender.encode()
+        with self._lock:
+            _check(LIBRARY.vogrilas_take(ctypes.byref(self._handle), name, len(name), packet, len(packet)))
+
     def records(self) -> bytes:
         """What is to be appended to the log, and synced, before anything that was written is used."""
         with self._lock:
