@@ -13,7 +13,8 @@
 **     vogrilas_clear(&node);
 **
 ** Whoever uses what was written before the records are on disk loses the promises of the network with the next crash.
-** docs/DEPLOYING.md says what a host owes, docs/FORMATS.md has the lines, and examples/embed a whole host.
+** docs/DEPLOYING.md says what a host owes, docs/FORMATS.md has the lines, and examples/embed a whole host. bindings/make lays
+** out the library: link lib/libvogrilas.a, or -lvogrilas.
 **
 ** What is proved, of the code that the library is compiled from: each call does what stands here of its results, for every
 ** settings, log and line, and is safe: it never reads or writes outside what it is lent, never frees twice, and returns. What
