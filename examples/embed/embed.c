@@ -7,13 +7,14 @@
 ** REQUEST is a file with one line, a request in printed bytes. The number of the entry is printed, then its answer, each as
 ** the pharmacy writes it.
 **
-** This is a whole host, but for the carrier: here packets go from hand to hand. POSIX, for fsync.
+** This is a whole host, but for the carrier: here packets go from hand to hand. POSIX, for fsync, and flock.
 */
 #define _POSIX_C_SOURCE 200809L
 #include <fcntl.h>
 #include <stdio.h>
 #include <stdlib.h>
 #include <string.h>
+#include <sys/file.h>
 #include <sys/stat.h>
 #include <unistd.h>
 
@@ -105,12 +106,20 @@ static void keep(struct served *one) {
     free(records.at);
 }
 
+/* Has the name of a new file on disk. */
+static void sync_folder(const char *path) {
+    int folder = open(path, O_RDONLY);
+    if (folder < 0 || fsync(folder) != 0) fail(path, "not synced");
+    close(folder);
+}
+
 /* Opens a node from its log, and cuts off what a crash has left behind it. */
 static void open_node(struct served *one, struct bytes settings, const char *folder) {
     char path[4096];
     snprintf(path, sizeof path, "%s/%s.log", folder, one->name);
     one->log = open(path, O_RDWR | O_CREAT | O_APPEND, 0666);
     if (one->log < 0) fail(path, "not there");
+    if (flock(one->log, LOCK_EX | LOCK_NB) != 0) fail(path, "another process has it");
     struct bytes log = whole(one->log, path);
     size_t kept = 0;
     vogrilas_code code = vogrilas_open(&one->node, settings.at, settings.size, one->name, strlen(one->name), log.at, log.size,
@@ -119,6 +128,7 @@ static void open_node(struct served *one, struct bytes settings, const char *fol
     if (kept < log.size && (ftruncate(one->log, (off_t)kept) != 0 || fsync(one->log) != 0)) fail(path, "not cut");
     keep(one);
     vogrilas_clear(&one->node);
+    if (kept == 0) sync_folder(folder);
     free(log.at);
 }
 
