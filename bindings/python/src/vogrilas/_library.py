@@ -1,0 +1,64 @@
+"""The shared library, as ctypes calls it."""
+
+from __future__ import annotations
+
+import ctypes
+import ctypes.util
+import os
+import pathlib
+
+VERSION = 6000
+_HERE = pathlib.Path(__file__).resolve().parent
+_PLACE = ctypes.POINTER(ctypes.c_size_t)
+
+
+class Handle(ctypes.Structure):
+    """A node, or none; its fields are the library's own."""
+
+    _fields_ = [("at", ctypes.c_void_p), ("held", ctypes.c_bool)]
+
+
+_NODE = ctypes.POINTER(Handle)
+_BYTES = [ctypes.c_char_p, ctypes.c_size_t]
+_BUFFER = [ctypes.c_void_p, ctypes.c_size_t, _PLACE]
+_CALLS = {
+    "version": [],
+    "open": [_NODE, *_BYTES, *_BYTES, *_BYTES, _PLACE],
+    "serve": [_NODE, *_BYTES],
+    "submit": [_NODE, *_BYTES],
+    "take": [_NODE, *_BYTES, *_BYTES],
+    "records": [_NODE, *_BUFFER],
+    "written": [_NODE, *_BUFFER],
+    "calls": [_NODE, ctypes.POINTER(ctypes.c_uint64)],
+    "clear": [_NODE],
+    "close": [_NODE],
+    "print": [*_BYTES, *_BUFFER],
+    "unprint": [*_BYTES, *_BUFFER],
+}
+
+
+def _path() -> str:
+    """Where the library is: where VOGRILAS_LIBRARY says, beside this file, or where the system finds it."""
+    told = os.environ.get("VOGRILAS_LIBRARY")
+    if told:
+        return told
+    beside = _HERE / "libvogrilas.so"
+    found = str(beside) if beside.exists() else ctypes.util.find_library("vogrilas")
+    if not found:
+        raise OSError("libvogrilas is not found: set VOGRILAS_LIBRARY to the path of libvogrilas.so")
+    return found
+
+
+def _load() -> ctypes.CDLL:
+    library = ctypes.CDLL(_path())
+    for name, given in _CALLS.items():
+        call = getattr(library, f"vogrilas_{name}")
+        call.argtypes = given
+        call.restype = None if name == "close" else ctypes.c_uint32
+    version = library.vogrilas_version()
+    if version != VERSION:
+        raise OSError(f"libvogrilas is of version {version}, and not {VERSION}")
+    return library
+
+
+LIBRARY = _load()

@@ -1,0 +1,112 @@
+//! Why a call was not made.
+
+use std::fmt;
+
+/// What the library says of a call that was not made.
+#[derive(Clone, Copy, Debug, PartialEq, Eq, Hash)]
+#[non_exhaustive]
+#[repr(u32)]
+pub enum Code {
+    /// Memory was refused. After `serve` the node is closed.
+    NoMemory = 1,
+    /// There is no node any more.
+    Closed = 2,
+    /// The handle has a node already.
+    Open = 3,
+    /// The buffer is too short.
+    ShortBuffer = 4,
+    /// The name is no node's.
+    Name = 5,
+    /// The settings are none, or open no world.
+    Settings = 6,
+    /// The settings have no such node.
+    NoSuchNode = 7,
+    /// The log is another node's.
+    OtherNode = 8,
+    /// The bytes do not begin as a log does.
+    NotALog = 9,
+    /// The log is of another version.
+    LogVersion = 10,
+    /// The head of the log is damaged.
+    DamagedHead = 11,
+    /// The log is of no kind of node.
+    NoKind = 12,
+    /// The log is of other settings.
+    OtherSettings = 13,
+    /// A record of the log is damaged.
+    Damaged = 14,
+    /// A record of the log is no call of the node.
+    BadRecord = 15,
+    /// A text spells no bytes.
+    BadText = 16,
+}
+
+/// Each code, at the place of its number less one.
+const CODES: [Code; 16] = [
+    Code::NoMemory,
+    Code::Closed,
+    Code::Open,
+    Code::ShortBuffer,
+    Code::Name,
+    Code::Settings,
+    Code::NoSuchNode,
+    Code::OtherNode,
+    Code::NotALog,
+    Code::LogVersion,
+    Code::DamagedHead,
+    Code::NoKind,
+    Code::OtherSettings,
+    Code::Damaged,
+    Code::BadRecord,
+    Code::BadText,
+];
+
+/// A call that was not made, and why.
+#[derive(Clone, Copy, Debug, PartialEq, Eq)]
+pub struct Error {
+    /// Why.
+    pub code: Code,
+    /// Where: the first byte of a faulty record, or of a text that spells nothing.
+    pub place: Option<usize>,
+}
+
+impl Error {
+    /// What a code says, and the place where it has one.
+    pub(crate) fn of(code: u32, place: usize) -> Result<(), Error> {
+        let Some(at) = (code as usize).checked_sub(1) else {
+            return Ok(());
+        };
+        let code = *CODES.get(at).expect("a library of the version of this crate");
+        let is_placed = matches!(code, Code::Damaged | Code::BadRecord | Code::BadText);
+        Err(Error { code, place: is_placed.then_some(place) })
+    }
+}
+
+impl fmt::Display for Error {
+    fn fmt(&self, to: &mut fmt::Formatter<'_>) -> fmt::Result {
+        to.write_str(match self.code {
+            Code::NoMemory => "out of memory",
+            Code::Closed => "there is no node any more",
+            Code::Open => "the handle has a node already",
+            Code::ShortBuffer => "the buffer is too short",
+            Code::Name => "the name is no node's",
+            Code::Settings => "settings refused",
+            Code::NoSuchNode => "the settings have no such node",
+            Code::OtherNode => "the log is another node's",
+            Code::NotALog => "not a log",
+            Code::LogVersion => "the log is of another version",
+            Code::DamagedHead => "the head of the log is damaged",
+            Code::NoKind => "the log is of no kind of node",
+            Code::OtherSettings => "the log is of other settings",
+            Code::Damaged => "a record of the log is damaged",
+            Code::BadRecord => "a record of the log is no call of the node",
+            Code::BadText => "the text spells no bytes",
+        })?;
+        match self.place {
+            Some(place) => write!(to, ", at byte {place}"),
+            None => Ok(()),
+        }
+    }
+}
+
+impl std::error::Error for Error {}

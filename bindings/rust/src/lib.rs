@@ -1,0 +1,187 @@
+//! One node of a claims network in your own process: a pharmacy, a switch or a payer, with its log.
+//!
+//! A node is its log: a node that is opened from the bytes of its log is the one that wrote them. A turn of a host:
+//!
+//! ```text
+//! node.serve(line)?;               // as often as lines are there
+//! file.write_all(&node.records()?)?;
+//! file.sync_data()?;
+//! send(node.written()?);           // only now
+//! node.clear()?;
+//! ```
+//!
+//! The node is the proved library `libvogrilas`; `include/vogrilas.h` says what is proved of it and what a caller owes.
+//! This crate keeps what the caller owes, and is tested, not proved.
+#![warn(missing_docs)]
+
+mod error;
+mod sys;
+
+pub use error::{Code, Error};
+
+/// The version of the library that this crate belongs to.
+pub const VERSION: u32 = 6000;
+
+/// The version of the library that is linked.
+pub fn version() -> u32 {
+    // SAFETY: the call takes nothing.
+    unsafe { sys::vogrilas_version() }
+}
+
+/// A node without its file.
+pub struct Node {
+    handle: sys::Handle,
+}
+
+// SAFETY: the library proves that a handle may go to another thread. A call takes the node by `&mut`, so there is one at a time.
+unsafe impl Send for Node {}
+
+/// A node that was opened, and how many bytes of its log stay. What stands behind them is a record that a crash has cut off:
+/// cut the file there.
+pub struct Opened {
+    /// The node.
+    pub node: Node,
+    /// How many bytes of the log stay.
+    pub kept: usize,
+}
+
+impl Node {
+    /// Opens the node of a name, as `ph1`, from the bytes of a settings file and those of its log.
+    ///
+    /// # Errors
+    /// What refuses the name, the settings or the log; of a faulty record also its place.
+    pub fn open(settings: &[u8], name: &str, log: &[u8]) -> Result<Opened, Error> {
+        let mut node = Node { handle: sys::Handle::none() };
+        let mut kept = 0;
+        // SAFETY: the handle is none yet, and each pointer leads to as many bytes as are said; slices are never null.
+        let code = unsafe {
+            sys::vogrilas_open(
+                &mut node.handle,
+                settings.as_ptr(),
+                settings.len(),
+                name.as_ptr(),
+                name.len(),
+                log.as_ptr(),
+                log.len(),
+                &mut kept,
+            )
+        };
+        Error::of(code, kept)?;
+        Ok(Opened { node, kept })
+    }
+
+    /// Does what a line asks, and adds to the records and to what was written.
+    ///
+    /// # Errors
+    /// `NoMemory`: the node is closed, and has to be opened again from its log. `Closed` from then on.
+    pub fn serve(&mut self, line: &[u8]) -> Result<(), Error> {
+        // SAFETY: the pointer leads to as many bytes as are said.
+        let code = unsafe { sys::vogrilas_serve(&mut self.handle, line.as_ptr(), line.len()) };
+        Error::of(code, 0)
+    }
+
+    /// Enters a request, of a pharmacy: the line `submit` with the text of these bytes.
+    ///
+    /// # Errors
+    /// As of `serve`.
+    pub fn submit(&mut self, request: &[u8]) -> Result<(), Error> {
+        // SAFETY: the pointer leads to as many bytes as are said.
+        let code = unsafe { sys::vogrilas_submit(&mut self.handle, request.as_ptr(), request.len()) };
+        Error::of(code, 0)
+    }
+
+    /// Takes a packet that has come from the node of this name: the line `take` with the text of these bytes.
+    ///
+    /// # Errors
+    /// As of `serve`, and `Name` where the name is no node's.
+    pub fn take(&mut self, from: &str, packet: &[u8]) -> Result<(), Error> {
+        // SAFETY: each pointer leads to as many bytes as are said.
+        let code = unsafe {
+            sys::vogrilas_take(&mut self.handle, from.as_ptr(), from.len(), packet.as_ptr(), packet.len())
+        };
+        Error::of(code, 0)
+    }
+
+    /// What is to be appended to the log, and synced, before anything that was written is used.
+    ///
+    /// # Errors
+    /// `Closed`.
+    pub fn records(&mut self) -> Result<Vec<u8>, Error> {
+        // SAFETY: `copied` lends as many bytes as it says.
+        copied(0, |at, room, size| unsafe { sys::vogrilas_records(&mut self.handle, at, room, size) })
+    }
+
+    /// What came of the lines.
+    ///
+    /// # Errors
+    /// `Closed`.
+    pub fn written(&mut self) -> Result<Vec<u8>, Error> {
+        // SAFETY: `copied` lends as many bytes as it says.
+        copied(0, |at, room, size| unsafe { sys::vogrilas_written(&mut self.handle, at, room, size) })
+    }
+
+    /// How many calls the node's log has, those included that are to be appended.
+    ///
+    /// # Errors
+    /// `Closed`.
+    pub fn calls(&mut self) -> Result<u64, Error> {
+        let mut calls = 0;
+        // SAFETY: both are lent whole.
+        let code = unsafe { sys::vogrilas_calls(&mut self.handle, &mut calls) };
+        Error::of(code, 0)?;
+        Ok(calls)
+    }
+
+    /// Notes that the records are on disk and the rest was used.
+    ///
+    /// # Errors
+    /// `Closed`.
+    pub fn clear(&mut self) -> Result<(), Error> {
+        // SAFETY: the handle is lent whole.
+        let code = unsafe { sys::vogrilas_clear(&mut self.handle) };
+        Error::of(code, 0)
+    }
+}
+
+impl Drop for Node {
+    fn drop(&mut self) {
+        // SAFETY: the handle is lent whole. A closed one stays as it is.
+        unsafe { sys::vogrilas_close(&mut self.handle) }
+    }
+}
+
+/// The text that spells bytes in lines.
+///
+/// # Errors
+/// `NoMemory`.
+pub fn printed(bytes: &[u8]) -> Result<Vec<u8>, Error> {
+    // SAFETY: the pointer leads to as many bytes as are said, and `copied` lends as many as it says.
+    copied(bytes.len() + 64, |at, room, size| unsafe {
+        sys::vogrilas_print(bytes.as_ptr(), bytes.len(), at, room, size)
+    })
+}
+
+/// The bytes that a text spells.
+///
+/// # Errors
+/// `BadText`, with the place of the first byte that spells nothing; `NoMemory`.
+pub fn unprinted(text: &[u8]) -> Result<Vec<u8>, Error> {
+    // SAFETY: the pointer leads to as many bytes as are said, and `copied` lends as many as it says.
+    copied(text.len(), |at, room, size| unsafe {
+        sys::vogrilas_unprint(text.as_ptr(), text.len(), at, room, size)
+    })
+}
+
+/// The bytes that a call copies into a buffer, which grows once where it is too short.
+fn copied(room: usize, mut call: impl FnMut(*mut u8, usize, &mut usize) -> u32) -> Result<Vec<u8>, Error> {
+    let mut bytes = vec![0; room];
+    let mut size = 0;
+    let mut code = call(bytes.as_mut_ptr(), bytes.len(), &mut size);
+    if code == Code::ShortBuffer as u32 {
+        bytes.resize(size, 0);
+        code = call(bytes.as_mut_ptr(), bytes.len(), &mut size);
+    }
+    Error::of(code, size)?;
+    bytes.truncate(size);
+    Ok(bytes)
+}

@@ -1,0 +1,41 @@
+//! The library's calls, as `include/vogrilas.h` has them.
+
+use std::ptr::null_mut;
+
+/// A node, or none; its fields are the library's own.
+#[repr(C)]
+pub(crate) struct Handle {
+    at: *mut u8,
+    held: bool,
+}
+
+impl Handle {
+    /// No node.
+    pub(crate) fn none() -> Handle {
+        Handle { at: null_mut(), held: false }
+    }
+}
+
+extern "C" {
+    pub(crate) fn vogrilas_version() -> u32;
+    pub(crate) fn vogrilas_open(
+        node: &mut Handle,
+        settings: *const u8,
+        settings_size: usize,
+        name: *const u8,
+        name_size: usize,
+        log: *const u8,
+        log_size: usize,
+        kept: &mut usize,
+    ) -> u32;
+    pub(crate) fn vogrilas_serve(node: &mut Handle, line: *const u8, line_size: usize) -> u32;
+    pub(crate) fn vogrilas_submit(node: &mut Handle, request: *const u8, request_size: usize) -> u32;
+    pub(crate) fn vogrilas_take(node: &mut Handle, from: *const u8, from_size: usize, packet: *const u8, packet_size: usize) -> u32;
+    pub(crate) fn vogrilas_records(node: &mut Handle, buffer: *mut u8, room: usize, size: &mut usize) -> u32;
+    pub(crate) fn vogrilas_written(node: &mut Handle, buffer: *mut u8, room: usize, size: &mut usize) -> u32;
+    pub(crate) fn vogrilas_calls(node: &mut Handle, calls: &mut u64) -> u32;
+    pub(crate) fn vogrilas_clear(node: &mut Handle) -> u32;
+    pub(crate) fn vogrilas_close(node: &mut Handle);
+    pub(crate) fn vogrilas_print(bytes: *const u8, bytes_size: usize, buffer: *mut u8, room: usize, size: &mut usize) -> u32;
+    pub(crate) fn vogrilas_unprint(text: *const u8, text_size: usize, buffer: *mut u8, room: usize, size: &mut usize) -> u32;
+}

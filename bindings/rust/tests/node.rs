@@ -1,0 +1,113 @@
+//! Trials of a node, with the settings and the request of examples/embed.
+
+use vogrilas::{printed, unprinted, Code, Error, Node, Opened};
+
+const SETTINGS: &[u8] = include_bytes!("../../../examples/embed/settings.toml");
+const REQUEST: &[u8] = include_bytes!("../../../examples/embed/request");
+
+/// A node with the bytes of its log.
+struct Kept {
+    node: Node,
+    log: Vec<u8>,
+}
+
+impl Kept {
+    fn open(name: &str, mut log: Vec<u8>) -> Kept {
+        let Opened { node, kept } = Node::open(SETTINGS, name, &log).unwrap();
+        log.truncate(kept);
+        let mut kept = Kept { node, log };
+        kept.settle();
+        kept
+    }
+
+    fn settle(&mut self) -> String {
+        self.log.extend(self.node.records().unwrap());
+        let written = self.node.written().unwrap();
+        self.node.clear().unwrap();
+        String::from_utf8(written).unwrap()
+    }
+
+    fn serve(&mut self, line: &[u8]) -> String {
+        self.node.serve(line).unwrap();
+        self.settle()
+    }
+}
+
+fn submission() -> Vec<u8> {
+    [b"submit ", REQUEST.strip_suffix(b"\n").unwrap()].concat()
+}
+
+fn code_of(settings: &[u8], name: &str, log: &[u8]) -> Error {
+    Node::open(settings, name, log).err().unwrap()
+}
+
+#[test]
+fn a_claim_goes_there_and_back() {
+    let mut nodes = ["ph1", "sw1", "pr1"].map(|name| (name, Kept::open(name, Vec::new())));
+    let mut at = "ph1".to_string();
+    let mut line = submission();
+    for _ in 0..4 {
+        let (_, node) = nodes.iter_mut().find(|(name, _)| *name == at).unwrap();
+        let said = node.serve(&line);
+        let (to, text) = said.strip_prefix("send ").unwrap().split_once('\n').unwrap().0.split_once(' ').unwrap();
+        line = format!("take {at} {text}").into_bytes();
+        at = to.to_string();
+    }
+    let pharmacy = &mut nodes[0].1;
+    assert_eq!(pharmacy.serve(&line), "ok\n");
+    let answer = pharmacy.serve(b"answer 1");
+    assert!(answer.starts_with("answer ") && answer.contains("ANP"), "{answer}");
+    assert_eq!(pharmacy.node.calls(), Ok(2));
+    let mut again = Kept::open("ph1", pharmacy.log.clone());
+    assert_eq!(again.serve(b"answer 1"), answer);
+}
+
+#[test]
+fn bytes_are_as_lines() {
+    let (mut by_line, mut by_bytes) = (Kept::open("ph1", Vec::new()), Kept::open("ph1", Vec::new()));
+    let said = by_line.serve(&submission());
+    by_bytes.node.submit(&unprinted(REQUEST.strip_suffix(b"\n").unwrap()).unwrap()).unwrap();
+    assert_eq!(by_bytes.settle(), said);
+    by_bytes.node.take("sw1", b"\0 \xff").unwrap();
+    assert_eq!(by_bytes.settle(), by_line.serve(b"take sw1 \\x00 \\xff"));
+    assert_eq!(by_bytes.log, by_line.log);
+    assert_eq!(by_bytes.node.take("sw1 ", b""), Err(Error { code: Code::Name, place: None }));
+}
+
+#[test]
+fn logs_are_refused() {
+    let mut pharmacy = Kept::open("ph1", Vec::new());
+    pharmacy.serve(&submission());
+    let log = &pharmacy.log;
+    assert_eq!(Node::open(SETTINGS, "ph1", &log[..log.len() - 1]).unwrap().kept, 46);
+    let mut damaged = log.clone();
+    *damaged.last_mut().unwrap() ^= 1;
+    let fault = code_of(SETTINGS, "ph1", &damaged);
+    assert_eq!(fault, Error { code: Code::Damaged, place: Some(46) });
+    assert_eq!(fault.to_string(), "a record of the log is damaged, at byte 46");
+    assert_eq!(code_of(SETTINGS, "pr1", log).code, Code::OtherNode);
+    assert_eq!(code_of(b"", "ph1", b"").code, Code::Settings);
+    assert_eq!(code_of(SETTINGS, "ph2", b"").code, Code::NoSuchNode);
+    assert_eq!(code_of(SETTINGS, "", b"").code, Code::Name);
+}
+
+#[test]
+fn texts_spell_every_byte() {
+    let every: Vec<u8> = (0..=255).collect();
+    assert_eq!(unprinted(&printed(&every).unwrap()).unwrap(), every);
+    assert_eq!(unprinted(b"ab\\q"), Err(Error { code: Code::BadText, place: Some(2) }));
+    assert_eq!(printed(b""), Ok(Vec::new()));
+}
+
+#[test]
+fn nodes_go_to_other_threads() {
+    let mut pharmacy = Kept::open("ph1", Vec::new());
+    let there = std::thread::spawn(move || {
+        let said = pharmacy.serve(&submission());
+        (said, pharmacy)
+    });
+    let (said, mut pharmacy) = there.join().unwrap();
+    assert!(said.ends_with("number 1\n"));
+    assert_eq!(pharmacy.serve(b"answer 1"), "open\n");
+    assert_eq!(vogrilas::version(), vogrilas::VERSION);
+}

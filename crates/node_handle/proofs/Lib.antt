@@ -1,0 +1,3 @@
+pub mod Values
+pub mod Crosses
+pub mod Lines

@@ -1,0 +1,124 @@
+-- What the lines of requests and packets ask.
+use Rattle.std.proofs.Common.{◌≡◌, ℕ, ◌+◌, Bool, true, false, ◌&&◌, not, List, [], ◌∷◌, ◌++◌, length, take, drop, Some, None, Option, Ok, Err, IsSome, inr, codes, refl, sym, ap, ◌∙◌, subst, arith, nat_le, nat_lt, cond}
+use Rattle.std.specs.Prelude.{is_some, bytes_eq, if◌then◌else◌}
+use Rattle.std.specs.List.{list_all, position, position_or_len}
+use Rattle.std.specs.Option.{option_map}
+use Rattle.std.proofs.lemmas.Bool.{eqb-true, false≢true, lt-ltb}
+use Rattle.std.proofs.lemmas.List.{length-append, take-append-drop}
+use Rattle.std.proofs.lemmas.List.Folds.{list_all-append}
+use Rattle.std.proofs.lemmas.Slice.Eq.{bytes_eq-Decides}
+use Rattle.std.proofs.Math.Seq.{take-append_seam, drop-append-add}
+use Rattle.outcomes.specs.Options.{◌>>=◌}
+use Rattle.input_text.specs.Words.{is_space, split_word}
+use Rattle.input_text.specs.Decimals.{is_digit, decimal_value}
+use Rattle.input_text.specs.Printing.{printed, unprinted}
+use Rattle.world_setup.specs.declared.node.Node.{Node}
+use Rattle.world_setup.specs.declared.node.Node.TheVariants.{Pharmacy, Switch, Payer}
+use Rattle.world_setup.specs.declared.call.Call.TheVariants.{Submit, Take}
+use Rattle.node_lines.specs.Names.{node_in, node_with, number_in}
+use Rattle.node_lines.specs.Asking.{Calls, asked_of, call_of, taking}
+use Rattle.node_service.specs.Serving.{Serving}
+use Rattle.node_handle.specs.Calls.{Said, Serves}
+use Rattle.node_handle.specs.Typed.{Takes, submit_line, take_line}
+
+-- a byte that is no space
+abbrev is_inner : ℕ → Bool
+is_inner byte = not (is_space byte)
+
+first_space : (word rest : List ℕ) → list_all is_inner word ≡ true → position_or_len is_space (word ++ 32 ∷ rest) ≡ length word
+first_space [] rest inner = refl
+first_space (b ∷ word) rest inner =
+    by_byte (is_space b) refl (first_space word rest)
+  where
+    by_byte : (t : Bool) → is_space b ≡ t → (list_all is_inner word ≡ true → position_or_len is_space (word ++ 32 ∷ rest) ≡ length word) → position_or_len is_space (b ∷ (word ++ 32 ∷ rest)) ≡ length (b ∷ word)
+    by_byte true e behind = absurd (false≢true (subst (λ (t : Bool). (not t && list_all is_inner word) ≡ true) e inner))
+    by_byte false e behind = ap (λ (t : Bool). cond (not t) (1 + position_or_len is_space (word ++ 32 ∷ rest)) 0) e ∙ ap (λ (n : ℕ). 1 + n) (behind (subst (λ (t : Bool). (not t && list_all is_inner word) ≡ true) e inner)) ∙ omega arith
+
+-- a word without a space is parted from what stands behind one
+pub parted : (word rest : List ℕ) → list_all is_inner word ≡ true → split_word (word ++ 32 ∷ rest) ≡ Some (word, rest)
+parted word rest inner =
+    let whole : List ℕ = word ++ 32 ∷ rest in
+    let none : Option ℕ = None in
+    let cut : ℕ → List ℕ × List ℕ = λ place. (take place whole, drop (place + 1) whole) in
+    let found : position is_space whole ≡ Some (length word) =
+    ap (λ (k : ℕ). cond (nat_lt k (length whole)) (Some k) none) (first_space word rest inner)
+    ∙ ap (λ (t : Bool). cond t (Some (length word)) none) (lt-ltb (length word) (length whole) (omega (arith, length-append word (32 ∷ rest)))) in
+    ap (λ (place : Option ℕ). option_map cut place) found
+    ∙ ap (λ (parts : List ℕ × List ℕ). Some parts) (rw (take-append_seam word (32 ∷ rest), drop-append-add word (32 ∷ rest) 1) refl)
+
+pub asks_request : (request : List ℕ) → unprinted (printed request) ≡ Ok request → asked_of (submit_line request) ≡ Some (Calls (Submit request))
+unfolding asked_of call_of
+asks_request request back = rw (parted (codes "submit") (printed request) refl) (rw back refl)
+
+abbrev pick : Bool → Bool → Bool → Option ℕ → Option Node
+pick a b c number = if a then option_map Pharmacy number else if b then option_map Switch number else if c then option_map Payer number else None
+
+nobody : (a b c : Bool) → pick a b c None ≡ None
+nobody true b c = refl
+nobody false true c = refl
+nobody false false true = refl
+nobody false false false = refl
+
+letters_inner : (letters : List ℕ) (number : Option ℕ) (node : Node) → node_with letters number ≡ Some node → list_all is_inner letters ≡ true
+letters_inner letters number node named =
+    by_words (bytes_eq letters (codes "ph")) (bytes_eq letters (codes "sw")) (bytes_eq letters (codes "pr")) refl refl refl named
+  where
+    same : (word : List ℕ) → bytes_eq letters word ≡ true → list_all is_inner word ≡ true → list_all is_inner letters ≡ true
+    same word e inner = subst (λ (l : List ℕ). list_all is_inner l ≡ true) (sym ((bytes_eq-Decides letters word).0 e)) inner
+
+    by_words : (a b c : Bool) → bytes_eq letters (codes "ph") ≡ a → bytes_eq letters (codes "sw") ≡ b → bytes_eq letters (codes "pr") ≡ c → pick a b c number ≡ Some node → list_all is_inner letters ≡ true
+    by_words true b c ea eb ec picked = same (codes "ph") ea refl
+    by_words false true c ea eb ec picked = same (codes "sw") eb refl
+    by_words false false true ea eb ec picked = same (codes "pr") ec refl
+    by_words false false false ea eb ec picked = absurd (false≢true (ap is_some picked))
+
+no_number : (x y t : Bool) (value : ℕ) → t ≡ false → (if x && y && t then Some value else None) ≡ None
+no_number true true t value e = ap (λ (s : Bool). if s then Some value else None) e
+no_number true false t value e = refl
+no_number false y t value e = refl
+
+digits_of_number : (letters digits : List ℕ) (node : Node) → node_with letters (number_in digits) ≡ Some node → list_all is_digit digits ≡ true
+digits_of_number letters digits node named = by_test (list_all is_digit digits) refl
+  where
+    small : ℕ → Option ℕ
+    small number = if nat_le number 65535 then Some number else None
+
+    by_test : (t : Bool) → list_all is_digit digits ≡ t → list_all is_digit digits ≡ true
+    by_test true e = e
+    by_test false e =
+        let gone : number_in digits ≡ None = ap (λ (o : Option ℕ). o >>= small) (no_number (nat_le 1 (length digits)) (nat_le (length digits) 5) (list_all is_digit digits) (decimal_value digits) e) in
+        absurd (false≢true (ap is_some (sym (ap (node_with letters) gone ∙ nobody (bytes_eq letters (codes "ph")) (bytes_eq letters (codes "sw")) (bytes_eq letters (codes "pr"))) ∙ named)))
+
+both : (x y : Bool) → (x && y) ≡ true → (x ≡ true) × (y ≡ true)
+both true y e = (refl, e)
+both false y e = absurd (false≢true e)
+
+inner_digit : (d : ℕ) → is_digit d ≡ true → is_inner d ≡ true
+inner_digit d digit = by_test (is_space d) refl
+  where
+    by_test : (t : Bool) → is_space d ≡ t → is_inner d ≡ true
+    by_test true e = absurd (false≢true (subst (λ (n : ℕ). nat_le 48 n ≡ true) (eqb-true d 32 e) ((both (nat_le 48 d) (nat_le d 57) digit).0)))
+    by_test false e = ap not e
+
+digits_inner : (digits : List ℕ) → list_all is_digit digits ≡ true → list_all is_inner digits ≡ true
+digits_inner [] all = refl
+digits_inner (d ∷ rest) all =
+    let parts = both (is_digit d) (list_all is_digit rest) all in
+    rw (inner_digit d parts.0, digits_inner rest parts.1) refl
+
+name_inner : (from : List ℕ) (node : Node) → node_in from ≡ Some node → list_all is_inner from ≡ true
+unfolding node_in
+name_inner from node named =
+    let letters = letters_inner (take 2 from) (number_in (drop 2 from)) node named in
+    let digits = digits_inner (drop 2 from) (digits_of_number (take 2 from) (drop 2 from) node named) in
+    subst (λ (word : List ℕ). list_all is_inner word ≡ true) (take-append-drop 2 from) (list_all-append is_inner (take 2 from) (drop 2 from) ∙ rw (letters, digits) refl)
+
+pub asks_packet : (from : List ℕ) (node : Node) (packet : List ℕ) → node_in from ≡ Some node → unprinted (printed packet) ≡ Ok packet → asked_of (take_line from packet) ≡ Some (Calls (Take node packet))
+unfolding asked_of call_of taking
+asks_packet from node packet named back =
+    rw (parted (codes "take") (from ++ 32 ∷ printed packet) refl) (rw (parted from (printed packet) (name_inner from node named)) (rw (named, back) refl))
+
+-- what a call on a packet says, where its name is a node's
+pub takes_named : (old : Option Serving) (from packet : List ℕ) (said : Said) (new : Option Serving) → IsSome (node_in from) → Serves old (take_line from packet) said new → Takes old from packet said new
+takes_named old from packet (Ok made) new named serves = (named, serves)
+takes_named old from packet (Err why) new named serves = inr serves

@@ -1,0 +1,64 @@
+-- What a call on a handle makes of its node, and of what the caller lends.
+use Rattle.std.specs.Prelude.{◌≡◌, ◌⊎◌, ℕ, ◌<◌, List, [], ◌++◌, length, drop, Result, Ok, Err, Option, Some, None, IsSome}
+use Rattle.std.specs.Option.{option_map}
+use Rattle.world_setup.specs.Seen.{node_seen}
+use Rattle.world_setup.specs.declared.node.Node.{Node}
+use Rattle.node_lines.specs.Names.{node_in}
+use Rattle.node_service.specs.Serving.{Serving, after_line}
+use Rattle.node_service.specs.Opened.{IsOpened}
+use Rattle.node_handle.specs.declared.refusal.Refusal.{Refusal}
+use Rattle.node_handle.specs.declared.refusal.Refusal.TheVariants.{OutOfMemory, Closed, ShortBuffer, Damaged, BadRecord}
+
+-- what a call says: that it was made, or why not
+abbrev pub Said : Type 0
+Said = Result (Unit {0}) Refusal
+
+-- opened, the node is that of the settings, the name and the log, and so many bytes of the log stay; refused, the handle is as it was, and of the
+-- rest only the place of a faulty record is told
+abbrev pub Opens : Option Serving → List ℕ → List ℕ → List ℕ → Said → ℕ → ℕ → Option Serving → Type 0
+Opens old settings name log (Ok made) before kept new =
+    (s : Serving) × (node : Node) × ((old ≡ None) × ((new ≡ Some s) × ((node_in name ≡ Some node) × IsOpened settings (node_seen node) log kept s)))
+Opens old settings name log (Err why) before kept new = (new ≡ old) × ((kept ≡ before) ⊎ ((why ≡ Damaged) ⊎ (why ≡ BadRecord)))
+
+-- a line that was served made of the node what a line makes of it. Where memory was refused there is no node any more: it may have made the call
+-- and have no record of it
+abbrev pub Serves : Option Serving → List ℕ → Said → Option Serving → Type 0
+Serves old line (Ok made) new = IsSome old × (new ≡ option_map (λ s. after_line s line) old)
+Serves old line (Err why) new = ((why ≡ OutOfMemory) × (new ≡ None)) ⊎ ((why ≡ Closed) × ((old ≡ None) × (new ≡ None)))
+
+-- a node with nothing to be appended to its log, and nothing to be written
+abbrev pub cleared : Serving → Serving
+cleared s = record { settings = s.settings; node = s.node; state = s.state; calls = s.calls; records = []; out = [] }
+
+-- what was handed out is forgotten
+abbrev pub Clears : Option Serving → Said → Option Serving → Type 0
+Clears old (Ok made) new = IsSome old × (new ≡ option_map cleared old)
+Clears old (Err why) new = (why ≡ Closed) × ((old ≡ None) × (new ≡ None))
+
+abbrev pub calls_of : Serving → ℕ
+calls_of s = s.calls
+
+-- how many calls the node's log has is told
+abbrev pub Counts : Option Serving → Said → ℕ → ℕ → Type 0
+Counts node (Ok made) before after = option_map calls_of node ≡ Some after
+Counts node (Err why) before after = (why ≡ Closed) × ((node ≡ None) × (after ≡ before))
+
+abbrev pub records_of : Serving → List ℕ
+records_of s = s.records
+
+abbrev pub written_of : Serving → List ℕ
+written_of s = s.out
+
+-- these bytes stand at the start of a buffer, and how many they are is told
+abbrev pub Stands : List ℕ → List ℕ → List ℕ → ℕ → Type 0
+Stands bytes buffer after size = (after ≡ bytes ++ drop (length bytes) buffer) × (size ≡ length bytes)
+
+-- a buffer has no room for these bytes, and is as it was; how many they are is told
+abbrev pub Lacks : List ℕ → List ℕ → List ℕ → ℕ → Type 0
+Lacks bytes buffer after size = (length buffer < length bytes) × ((after ≡ buffer) × (size ≡ length bytes))
+
+-- the bytes that a node has are copied into a buffer; where there is no node, nothing changes
+abbrev pub Copies : Option (List ℕ) → Said → List ℕ → List ℕ → ℕ → ℕ → Type 0
+Copies given (Ok made) buffer after before size = (bytes : List ℕ) × ((given ≡ Some bytes) × Stands bytes buffer after size)
+Copies given (Err why) buffer after before size =
+    ((why ≡ Closed) × ((given ≡ None) × ((after ≡ buffer) × (size ≡ before)))) ⊎ ((why ≡ ShortBuffer) × ((bytes : List ℕ) × ((given ≡ Some bytes) × Lacks bytes buffer after size)))

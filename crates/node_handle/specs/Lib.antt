@@ -1,0 +1,5 @@
+pub mod Erased
+pub mod Numbers
+pub mod Calls
+pub mod Texts
+pub mod Typed

@@ -1,0 +1,28 @@
+-- The numbers of what calls say.
+use Rattle.std.specs.Prelude.{◌≡◌, ℕ, Result, Ok, Err}
+use Rattle.node_handle.specs.declared.refusal.Refusal.{Refusal}
+use Rattle.node_handle.specs.declared.refusal.Refusal.TheVariants.{OutOfMemory, Closed, Open, ShortBuffer, Name, Settings, NoSuchNode, OtherNode, NotALog, LogVersion, DamagedHead, NoKind, OtherSettings, Damaged, BadRecord, BadText}
+
+-- the number of what a call says: 0 of one that was made
+abbrev pub number_of : Result (Unit {0}) Refusal → ℕ
+number_of (Ok made) = 0
+number_of (Err OutOfMemory) = 1
+number_of (Err Closed) = 2
+number_of (Err Open) = 3
+number_of (Err ShortBuffer) = 4
+number_of (Err Name) = 5
+number_of (Err Settings) = 6
+number_of (Err NoSuchNode) = 7
+number_of (Err OtherNode) = 8
+number_of (Err NotALog) = 9
+number_of (Err LogVersion) = 10
+number_of (Err DamagedHead) = 11
+number_of (Err NoKind) = 12
+number_of (Err OtherSettings) = 13
+number_of (Err Damaged) = 14
+number_of (Err BadRecord) = 15
+number_of (Err BadText) = 16
+
+-- a number is that of a call's outcome, of which this holds
+abbrev pub Says : ℕ → (Result (Unit {0}) Refusal → Type 0) → Type 0
+Says number P = (said : Result (Unit {0}) Refusal) × ((number ≡ number_of said) × P said)

@@ -1,0 +1,245 @@
+//! The handle of a node.
+
+ghost use Rattle.std.specs.Prelude.{◌≡◌, ◌⊎◌, IfOk, IfErr, IsSome, is_some};
+ghost use Rattle.std.specs.declared.option.Option.TheVariants.{None, Some};
+ghost use Rattle.world_setup.specs.Seen.{node_seen};
+ghost use Rattle.node_lines.specs.Names.{node_in};
+ghost use Rattle.node_service.specs.Opened.{IsOpened};
+ghost use Rattle.std.specs.Option.{option_map};
+ghost use Rattle.world_setup.specs.declared.node.Node.{Node};
+ghost use Rattle.node_handle.specs.declared.refusal.Refusal.TheVariants.{Damaged, BadRecord};
+ghost use Rattle.node_handle.specs.Calls.{Opens, Serves, Clears, Counts, Copies, records_of, written_of};
+
+use crate::part::Part;
+use crate::reading::copy_out;
+use crate::refusal::{Refusal, refusal_of};
+use kept_logs::LogFault;
+use loose::Loose;
+use node_lines::node_in;
+use node_service::{Service, ServiceFault};
+use payer_book::HashKeys;
+use std::alloc::Global;
+use std::mem::replace;
+
+/// The handle of a node. Its bytes lie where the caller has them; zeros are a handle with no node.
+#[repr(C)]
+pub struct NodeHandle {
+    /// The node.
+    pub part: Part,
+    /// Whether there is one.
+    pub held: bool,
+    ghost fits: { held ≡ is_some part.node },
+}
+
+impl NodeHandle {
+    /// A handle with no node.
+    pub(crate) fn closed() -> NodeHandle
+        ensures { result.part.node ≡ None }
+    {
+        let part = Part::of_nothing();
+        NodeHandle { part, held: false }
+    }
+
+    /// A handle with this node.
+    pub(crate) fn of(node: Box<Service>) -> NodeHandle
+        ensures { result.part.node ≡ Some node.value }
+    {
+        let part = Part::from_loose(Loose::of(node));
+        NodeHandle { part, held: true }
+    }
+
+    /// The node, taken out.
+    pub(crate) fn take(&mut self, alloc: Global) -> Box<Service>
+        requires { IsSome self.old.part.node }
+        ensures closed { self.new.part.node ≡ None }
+        ensures node { self.old.part.node ≡ Some result.value }
+    {
+        let NodeHandle { part, held: _ } = replace(self, NodeHandle::closed());
+        part.into_loose(alloc).into_box()
+    }
+
+    /// Opens the node of this name, from its log.
+    ///
+    /// # Errors
+    /// `Open` where the handle has a node already, and what refuses the node. Then all is as it was.
+    pub fn open(
+        &mut self,
+        alloc: Global,
+        settings: &[u8],
+        name: &[u8],
+        log: &[u8],
+        kept: &mut usize,
+    ) -> Result<(), Refusal>
+        ensures { Opens self.old.part.node settings.now name.now log.now result kept.old kept.new self.new.part.node }
+    {
+        if self.held {
+            return Err(Refusal::Open);
+        }
+        match opened(alloc, settings, name, log, kept) {
+            Ok(node) => {
+                self.put(node);
+                Ok(())
+            }
+            Err(why) => Err(why),
+        }
+    }
+
+    /// Puts a node where there is none.
+    fn put(&mut self, node: Box<Service>)
+        requires { self.old.part.node ≡ None }
+        ensures { self.new.part.node ≡ Some node.value }
+    {
+        let NodeHandle { part, held: _ } = replace(self, NodeHandle::of(node));
+        part.forget();
+    }
+
+    /// Does what a line asks of the node.
+    ///
+    /// # Errors
+    /// `Closed` where there is no node. `OutOfMemory` closes the handle: the node may have made the call with no record.
+    pub fn serve(&mut self, alloc: Global, line: &[u8]) -> Result<(), Refusal>
+        ensures { Serves self.old.part.node line.now result self.new.part.node }
+    {
+        if !self.held {
+            return Err(Refusal::Closed);
+        }
+        let mut node = self.take(alloc);
+        match node.serve(alloc, line) {
+            Ok(()) => {
+                self.put(node);
+                Ok(())
+            }
+            Err(_) => Err(Refusal::OutOfMemory),
+        }
+    }
+
+    /// Lets the node go.
+    pub fn close(&mut self, alloc: Global)
+        ensures { self.new.part.node ≡ None }
+    {
+        if self.held {
+            drop(self.take(alloc));
+        }
+    }
+
+    /// Forgets what was handed out.
+    pub fn clear(&mut self, alloc: Global) -> Result<(), Refusal>
+        ensures { Clears self.old.part.node result self.new.part.node }
+    {
+        if !self.held {
+            return Err(Refusal::Closed);
+        }
+        let mut node = self.take(alloc);
+        node.clear();
+        self.put(node);
+        Ok(())
+    }
+
+    /// How many calls the node's log has.
+    pub fn calls(&mut self, alloc: Global, calls: &mut u64) -> Result<(), Refusal>
+        ensures kept { self.new.part.node ≡ self.old.part.node }
+        ensures calls { Counts self.old.part.node result calls.old calls.new }
+    {
+        if !self.held {
+            return Err(Refusal::Closed);
+        }
+        let node = self.take(alloc);
+        *calls = node.calls();
+        self.put(node);
+        Ok(())
+    }
+
+    /// Copies what is to be appended to the log.
+    pub fn records(
+        &mut self,
+        alloc: Global,
+        buffer: &mut [u8],
+        size: &mut usize,
+    ) -> Result<(), Refusal>
+        ensures kept { self.new.part.node ≡ self.old.part.node }
+        ensures copied { Copies (option_map records_of self.old.part.node) result buffer.old buffer.new size.old size.new }
+    {
+        if !self.held {
+            return Err(Refusal::Closed);
+        }
+        let node = self.take(alloc);
+        let copied = copy_out(node.records(), buffer, size);
+        self.put(node);
+        copied
+    }
+
+    /// Copies what is to be written once the records are on disk.
+    pub fn written(
+        &mut self,
+        alloc: Global,
+        buffer: &mut [u8],
+        size: &mut usize,
+    ) -> Result<(), Refusal>
+        ensures kept { self.new.part.node ≡ self.old.part.node }
+        ensures copied { Copies (option_map written_of self.old.part.node) result buffer.old buffer.new size.old size.new }
+    {
+        if !self.held {
+            return Err(Refusal::Closed);
+        }
+        let node = self.take(alloc);
+        let copied = copy_out(node.written(), buffer, size);
+        self.put(node);
+        copied
+    }
+}
+
+/// The node of this name, in a box; and how many bytes of its log stay, or the place of the record that is faulty.
+fn opened(
+    alloc: Global,
+    settings: &[u8],
+    name: &[u8],
+    log: &[u8],
+    kept: &mut usize,
+) -> Result<Box<Service>, Refusal>
+    ensures opened { IfOk result (λ o. (node : Node) × ((node_in name.now ≡ Some node) × IsOpened settings.now (node_seen node) log.now kept.new o.value)) }
+    ensures refused { IfErr result (λ why. (kept.new ≡ kept.old) ⊎ ((why ≡ Damaged) ⊎ (why ≡ BadRecord))) }
+{
+    let Some(node) = node_in(name) else {
+        return Err(Refusal::Name);
+    };
+    match Service::open(alloc, &HashKeys::fixed(), settings, node, log) {
+        Ok((service, stay)) => boxed(alloc, service, stay, kept),
+        Err(fault) => Err(told(fault, kept)),
+    }
+}
+
+/// A node in a box, and how many bytes of its log stay.
+fn boxed(
+    alloc: Global,
+    service: Service,
+    stay: usize,
+    kept: &mut usize,
+) -> Result<Box<Service>, Refusal>
+    ensures boxed { IfOk result (λ o. (o.value ≡ service) × (kept.new ≡ stay)) }
+    ensures refused { IfErr result (λ _. kept.new ≡ kept.old) }
+{
+    match Box::new(alloc, service) {
+        Ok(node) => {
+            *kept = stay;
+            Ok(node)
+        }
+        Err(_) => Err(Refusal::OutOfMemory),
+    }
+}
+
+/// The refusal of a fault, with the place of the record that it is about.
+fn told(fault: ServiceFault, kept: &mut usize) -> Refusal
+    ensures { (kept.new ≡ kept.old) ⊎ ((result ≡ Damaged) ⊎ (result ≡ BadRecord)) }
+{
+    match fault {
+        ServiceFault::Log(LogFault::Damaged(place)) => {
+            *kept = place;
+            Refusal::Damaged
+        }
+        ServiceFault::Log(LogFault::BadRecord(place)) => {
+            *kept = place;
+            Refusal::BadRecord
+        }
+        other => refusal_of(other),
+    }
+}

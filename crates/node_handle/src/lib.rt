@@ -1,0 +1,17 @@
+//! One node in the memory of a caller that knows no Rattle: its handle, and what each call on it makes of the node.
+//!
+//! A handle has the pointer of the node's box and says no type of it, so that its bytes may lie in a C struct. A call takes
+//! the box out, works on it, and puts it back.
+#![tactic(auto)]
+
+mod handle;
+mod part;
+mod reading;
+mod refusal;
+mod typed;
+
+pub use handle::NodeHandle;
+pub use part::Part;
+pub use reading::{print, unprint};
+pub use refusal::{Refusal, number_of};
+pub use typed::{packets_are_asked, requests_are_asked};

@@ -1,0 +1,95 @@
+//! Why a call on a handle is refused, and the numbers of refusals.
+
+ghost use Rattle.std.specs.Prelude.{◌≡◌};
+ghost use Rattle.node_handle.specs.Numbers.{number_of};
+
+use kept_logs::LogFault;
+use node_service::ServiceFault;
+
+/// Why a call on a handle is refused.
+#[derive(Clone, Copy, Debug, PartialEq, Eq)]
+pub enum Refusal {
+    /// Memory was refused. The handle has no node.
+    OutOfMemory,
+    /// The handle has no node.
+    Closed,
+    /// The handle has a node already.
+    Open,
+    /// The buffer is too short.
+    ShortBuffer,
+    /// The name is no node's.
+    Name,
+    /// The text spells no settings, or settings that open no world.
+    Settings,
+    /// The settings have no such node.
+    NoSuchNode,
+    /// The log is another node's.
+    OtherNode,
+    /// The bytes are no log.
+    NotALog,
+    /// The log is of another version.
+    LogVersion,
+    /// The head of the log is damaged.
+    DamagedHead,
+    /// The log is of no kind of node.
+    NoKind,
+    /// The log is of other settings.
+    OtherSettings,
+    /// A record of the log is damaged.
+    Damaged,
+    /// A record of the log is no call of the node.
+    BadRecord,
+    /// The text spells no bytes.
+    BadText,
+}
+
+/// The number of what a call says: 0 of one that was made.
+pub fn number_of(said: Result<(), Refusal>) -> u32
+    ensures { result ≡ number_of said }
+{
+    match said {
+        Ok(()) => 0,
+        Err(Refusal::OutOfMemory) => 1,
+        Err(Refusal::Closed) => 2,
+        Err(Refusal::Open) => 3,
+        Err(Refusal::ShortBuffer) => 4,
+        Err(Refusal::Name) => 5,
+        Err(Refusal::Settings) => 6,
+        Err(Refusal::NoSuchNode) => 7,
+        Err(Refusal::OtherNode) => 8,
+        Err(Refusal::NotALog) => 9,
+        Err(Refusal::LogVersion) => 10,
+        Err(Refusal::DamagedHead) => 11,
+        Err(Refusal::NoKind) => 12,
+        Err(Refusal::OtherSettings) => 13,
+        Err(Refusal::Damaged) => 14,
+        Err(Refusal::BadRecord) => 15,
+        Err(Refusal::BadText) => 16,
+    }
+}
+
+/// The refusal of a node that is not opened.
+pub(crate) fn refusal_of(fault: ServiceFault) -> Refusal {
+    match fault {
+        ServiceFault::OutOfMemory => Refusal::OutOfMemory,
+        ServiceFault::Settings => Refusal::Settings,
+        ServiceFault::NoSuchNode => Refusal::NoSuchNode,
+        ServiceFault::OtherNode => Refusal::OtherNode,
+        ServiceFault::Log(fault) => refusal_of_log(fault),
+    }
+}
+
+/// The refusal of a log.
+fn refusal_of_log(fault: LogFault) -> Refusal {
+    match fault {
+        LogFault::OutOfMemory => Refusal::OutOfMemory,
+        LogFault::Short => Refusal::NotALog,
+        LogFault::NotALog => Refusal::NotALog,
+        LogFault::Version => Refusal::LogVersion,
+        LogFault::DamagedHead => Refusal::DamagedHead,
+        LogFault::NoNode => Refusal::NoKind,
+        LogFault::OtherSettings => Refusal::OtherSettings,
+        LogFault::Damaged(_) => Refusal::Damaged,
+        LogFault::BadRecord(_) => Refusal::BadRecord,
+    }
+}

@@ -1,0 +1,92 @@
+//! Calls with bytes of their own: a request, a packet. Each is the line that asks for it.
+
+ghost use Rattle.std.specs.Prelude.{◌≡◌, ℕ, IfOk, List, Ok, Some};
+ghost use Rattle.input_text.specs.Printing.{printed, unprinted};
+ghost use Rattle.world_setup.specs.declared.node.Node.{Node};
+ghost use Rattle.world_setup.specs.declared.call.Call.TheVariants.{Submit, Take};
+ghost use Rattle.node_lines.specs.Names.{node_in};
+ghost use Rattle.node_lines.specs.Asking.{Calls, asked_of};
+ghost use Rattle.node_handle.specs.Calls.{Serves};
+ghost use Rattle.node_handle.specs.Typed.{Takes, submit_line, take_line};
+
+use crate::handle::NodeHandle;
+use crate::refusal::Refusal;
+use input_text::put_printed;
+use node_lines::node_in;
+use std::alloc::{AllocError, Global};
+
+impl NodeHandle {
+    /// Enters a request.
+    ///
+    /// # Errors
+    /// `Closed` where there is no node. `OutOfMemory` closes the handle.
+    pub fn submit(&mut self, alloc: Global, request: &[u8]) -> Result<(), Refusal>
+        ensures { Serves self.old.part.node (submit_line request.now) result self.new.part.node }
+    {
+        match line_of_request(alloc, request) {
+            Ok(line) => self.serve(alloc, line.as_slice()),
+            Err(_) => self.give_up(alloc),
+        }
+    }
+
+    /// Takes a packet that has come from the node of this name.
+    ///
+    /// # Errors
+    /// `Name` where the name is no node's, `Closed` where there is no node. `OutOfMemory` closes the handle.
+    pub fn receive(&mut self, alloc: Global, from: &[u8], packet: &[u8]) -> Result<(), Refusal>
+        ensures { Takes self.old.part.node from.now packet.now result self.new.part.node }
+    {
+        if node_in(from).is_none() {
+            return Err(Refusal::Name);
+        }
+        match line_of_packet(alloc, from, packet) {
+            Ok(line) => self.serve(alloc, line.as_slice()),
+            Err(_) => self.give_up(alloc),
+        }
+    }
+
+    /// Closes the handle, since memory was refused.
+    fn give_up(&mut self, alloc: Global) -> Result<(), Refusal>
+        ensures { (line : List ℕ) → Serves self.old.part.node line result self.new.part.node }
+    {
+        if !self.held {
+            return Err(Refusal::Closed);
+        }
+        self.close(alloc);
+        Err(Refusal::OutOfMemory)
+    }
+}
+
+/// The line that enters a request.
+fn line_of_request(alloc: Global, request: &[u8]) -> Result<Vec<u8>, AllocError>
+    ensures { IfOk result (λ line. line.items ≡ submit_line request.now) }
+{
+    let mut line = Vec::new(alloc);
+    line.extend_from_slice(b"submit ")?;
+    put_printed(&mut line, request)?;
+    Ok(line)
+}
+
+/// The line that tells of a packet.
+fn line_of_packet(alloc: Global, from: &[u8], packet: &[u8]) -> Result<Vec<u8>, AllocError>
+    ensures { IfOk result (λ line. line.items ≡ take_line from.now packet.now) }
+{
+    let mut line = Vec::new(alloc);
+    line.extend_from_slice(b"take ")?;
+    line.extend_from_slice(from)?;
+    line.extend_from_slice(b" ")?;
+    put_printed(&mut line, packet)?;
+    Ok(line)
+}
+
+/// The line of a request asks for the submission of these very bytes: a printed text reads back, as input_text proves.
+#[tactic(auto, using(crate::proofs::Lines::asks_request))]
+pub fn requests_are_asked()
+    ensures { (request : List ℕ) → unprinted (printed request) ≡ Ok request → asked_of (submit_line request) ≡ Some (Calls (Submit request)) }
+{}
+
+/// The line of a packet asks to take these very bytes from this node.
+#[tactic(auto, using(crate::proofs::Lines::asks_packet))]
+pub fn packets_are_asked()
+    ensures { (from : List ℕ) (node : Node) (packet : List ℕ) → node_in from ≡ Some node → unprinted (printed packet) ≡ Ok packet → asked_of (take_line from packet) ≡ Some (Calls (Take node packet)) }
+{}

@@ -1,0 +1,151 @@
+//! The static library of one node, for C and for whatever calls C. `include/vogrilas.h` is its header, which says what a
+//! caller owes.
+//!
+//! Each export is a call of node_handle and says what that says, by the number of its outcome. None of them starts a
+//! thread, waits, or reads or writes a file.
+#![tactic(auto)]
+
+ghost use Rattle.std.specs.Prelude.{◌≡◌};
+ghost use Rattle.std.specs.Option.{option_map};
+ghost use Rattle.std.specs.declared.option.Option.TheVariants.{None};
+ghost use Rattle.node_handle.specs.Numbers.{Says};
+ghost use Rattle.node_handle.specs.Calls.{Clears, Copies, Counts, Opens, Serves, records_of, written_of};
+ghost use Rattle.node_handle.specs.Texts.{Prints, Unprints};
+ghost use Rattle.node_handle.specs.Typed.{Takes, submit_line};
+
+use node_handle::{NodeHandle, number_of, print, unprint};
+use std::alloc::Global;
+
+/// The version of the library: a million for the first number, a thousand for the second, one for the third.
+const VERSION: u32 = 6_000;
+
+/// The version of the library.
+#[unsafe(no_mangle)]
+pub extern "C" fn vogrilas_version() -> u32
+    ensures { result ≡ 6000 }
+{
+    VERSION
+}
+
+/// Opens the node of a name under settings, from the bytes of its log.
+#[unsafe(no_mangle)]
+pub extern "C" fn vogrilas_open(
+    alloc: Global,
+    node: &mut NodeHandle,
+    settings: &[u8],
+    name: &[u8],
+    log: &[u8],
+    kept: &mut usize,
+) -> u32
+    ensures { Says result (λ said. Opens node.old.part.node settings.now name.now log.now said kept.old kept.new node.new.part.node) }
+{
+    number_of(node.open(alloc, settings, name, log, kept))
+}
+
+/// Does what a line asks of the node.
+#[unsafe(no_mangle)]
+pub extern "C" fn vogrilas_serve(alloc: Global, node: &mut NodeHandle, line: &[u8]) -> u32
+    ensures { Says result (λ said. Serves node.old.part.node line.now said node.new.part.node) }
+{
+    number_of(node.serve(alloc, line))
+}
+
+/// Enters a request, of a pharmacy.
+#[unsafe(no_mangle)]
+pub extern "C" fn vogrilas_submit(alloc: Global, node: &mut NodeHandle, request: &[u8]) -> u32
+    ensures { Says result (λ said. Serves node.old.part.node (submit_line request.now) said node.new.part.node) }
+{
+    number_of(node.submit(alloc, request))
+}
+
+/// Takes a packet that has come from the node of this name.
+#[unsafe(no_mangle)]
+pub extern "C" fn vogrilas_take(
+    alloc: Global,
+    node: &mut NodeHandle,
+    from: &[u8],
+    packet: &[u8],
+) -> u32
+    ensures { Says result (λ said. Takes node.old.part.node from.now packet.now said node.new.part.node) }
+{
+    number_of(node.receive(alloc, from, packet))
+}
+
+/// Copies what is to be appended to the log, and synced, before what was written may be used.
+#[unsafe(no_mangle)]
+pub extern "C" fn vogrilas_records(
+    alloc: Global,
+    node: &mut NodeHandle,
+    buffer: &mut [u8],
+    size: &mut usize,
+) -> u32
+    ensures kept { node.new.part.node ≡ node.old.part.node }
+    ensures copied { Says result (λ said. Copies (option_map records_of node.old.part.node) said buffer.old buffer.new size.old size.new) }
+{
+    number_of(node.records(alloc, buffer, size))
+}
+
+/// Copies what came of the lines.
+#[unsafe(no_mangle)]
+pub extern "C" fn vogrilas_written(
+    alloc: Global,
+    node: &mut NodeHandle,
+    buffer: &mut [u8],
+    size: &mut usize,
+) -> u32
+    ensures kept { node.new.part.node ≡ node.old.part.node }
+    ensures copied { Says result (λ said. Copies (option_map written_of node.old.part.node) said buffer.old buffer.new size.old size.new) }
+{
+    number_of(node.written(alloc, buffer, size))
+}
+
+/// Tells how many calls the node's log has, those included that are to be appended.
+#[unsafe(no_mangle)]
+pub extern "C" fn vogrilas_calls(alloc: Global, node: &mut NodeHandle, calls: &mut u64) -> u32
+    ensures kept { node.new.part.node ≡ node.old.part.node }
+    ensures counted { Says result (λ said. Counts node.old.part.node said calls.old calls.new) }
+{
+    number_of(node.calls(alloc, calls))
+}
+
+/// Notes that the records are on disk and the rest was used: both are empty from here on.
+#[unsafe(no_mangle)]
+pub extern "C" fn vogrilas_clear(alloc: Global, node: &mut NodeHandle) -> u32
+    ensures { Says result (λ said. Clears node.old.part.node said node.new.part.node) }
+{
+    number_of(node.clear(alloc))
+}
+
+/// Lets the node go. A handle without one stays as it is.
+#[unsafe(no_mangle)]
+pub extern "C" fn vogrilas_close(alloc: Global, node: &mut NodeHandle)
+    ensures { node.new.part.node ≡ None }
+{
+    node.close(alloc);
+}
+
+/// Copies the text that spells bytes in lines.
+#[unsafe(no_mangle)]
+pub extern "C" fn vogrilas_print(
+    alloc: Global,
+    bytes: &[u8],
+    buffer: &mut [u8],
+    size: &mut usize,
+) -> u32
+    ensures { Says result (λ said. Prints bytes.now said buffer.old buffer.new size.old size.new) }
+{
+    number_of(print(alloc, bytes, buffer, size))
+}
+
+/// Copies the bytes that a text spells.
+#[unsafe(no_mangle)]
+pub extern "C" fn vogrilas_unprint(
+    alloc: Global,
+    text: &[u8],
+    buffer: &mut [u8],
+    size: &mut usize,
+) -> u32
+    ensures { Says result (λ said. Unprints text.now said buffer.old buffer.new size.old size.new) }
+{
+    number_of(unprint(alloc, text, buffer, size))
+}

@@ -1,0 +1,194 @@
+/*
+** One node of the network in your own process: a pharmacy, a switch or a payer, with its log.
+**
+** The library keeps the node and does what lines ask of it. It reads and writes no file, opens no socket, starts no thread and
+** never waits: your program has the log's file and whatever carries the packets. A node is its log: a node that is opened from
+** the bytes of its log is the one that wrote them.
+**
+** A turn of a host:
+**
+**     vogrilas_serve(&node, line, size);      as often as lines are there
+**     vogrilas_records(&node, ..);            append these bytes to the log's file, and sync it
+**     vogrilas_written(&node, ..);            and only then send and answer what stands here
+**     vogrilas_clear(&node);
+**
+** Whoever uses what was written before the records are on disk loses the promises of the network with the next crash.
+** docs/DEPLOYING.md says what a host owes, docs/FORMATS.md has the lines, and examples/embed a whole host. bindings/make lays
+** out the library: link lib/libvogrilas.a, or -lvogrilas.
+**
+** What is proved, of the code that the library is compiled from: each call does what stands here of its results, for every
+** settings, log and line, and is safe: it never reads or writes outside what it is lent, never frees twice, and returns. What
+** is not: the compiler, that this header says the same as the exports of crates/vogrilas_c, and what the caller owes:
+**
+**   - A node begins as VOGRILAS_NODE_INIT (zeros), and from then on only the library changes it. It may be moved to another
+**     place by copying its bytes, if the old place is not used again.
+**   - One call at a time for each node. Different nodes may be in calls of different threads at the same time, and a node may
+**     go from one thread to another, if a lock, or the start or the end of a thread, stands between its calls.
+**   - Pointers are never NULL, also where a size is 0, and lead to so much memory as the size says. What a call writes to does
+**     not overlap anything else that it is lent.
+**   - malloc, realloc and free are one allocator's, and align as the C standard asks. No call is made in a signal handler, nor
+**     in the child that a process with threads has forked.
+*/
+#ifndef VOGRILAS_H
+#define VOGRILAS_H
+
+#include <stdbool.h>
+#include <stddef.h>
+#include <stdint.h>
+
+#ifdef __cplusplus
+extern "C" {
+#endif
+
+/* The version of this header, as vogrilas_version() tells that of the library. */
+#define VOGRILAS_VERSION 6000
+
+/*
+** What a call says: VOGRILAS_OK, or why it was not made. A call that was not made has changed nothing, apart from what its
+** own words say. VOGRILAS_NO_MEMORY may stand in place of any other answer.
+*/
+typedef uint32_t vogrilas_code;
+
+enum {
+    VOGRILAS_OK = 0,
+    VOGRILAS_NO_MEMORY = 1,       /* memory was refused */
+    VOGRILAS_CLOSED = 2,          /* there is no node behind the handle */
+    VOGRILAS_OPEN = 3,            /* there is one already */
+    VOGRILAS_SHORT_BUFFER = 4,    /* the buffer is too short; the size that is wanted is told */
+    VOGRILAS_NAME = 5,            /* the name is none: ph, sw or pr and a number, as ph1 */
+    VOGRILAS_SETTINGS = 6,        /* the settings are none, or open no world */
+    VOGRILAS_NO_SUCH_NODE = 7,    /* the settings have no such node */
+    VOGRILAS_OTHER_NODE = 8,      /* the log is another node's */
+    VOGRILAS_NOT_A_LOG = 9,       /* the bytes do not begin as a log does */
+    VOGRILAS_LOG_VERSION = 10,    /* the log is of another version */
+    VOGRILAS_DAMAGED_HEAD = 11,   /* the head of the log is damaged */
+    VOGRILAS_NO_KIND = 12,        /* the log is of no kind of node */
+    VOGRILAS_OTHER_SETTINGS = 13, /* the log is of other settings */
+    VOGRILAS_DAMAGED = 14,        /* a record of the log is damaged; its place is told */
+    VOGRILAS_BAD_RECORD = 15,     /* a record of the log is no call of the node; its place is told */
+    VOGRILAS_BAD_TEXT = 16        /* a text spells no bytes; the place is told */
+};
+
+/* The words for a code, for people. */
+static inline const char *vogrilas_code_text(vogrilas_code code) {
+    switch (code) {
+    case VOGRILAS_OK: return "ok";
+    case VOGRILAS_NO_MEMORY: return "out of memory";
+    case VOGRILAS_CLOSED: return "there is no node behind the handle";
+    case VOGRILAS_OPEN: return "the handle has a node already";
+    case VOGRILAS_SHORT_BUFFER: return "the buffer is too short";
+    case VOGRILAS_NAME: return "the name is no node's";
+    case VOGRILAS_SETTINGS: return "settings refused";
+    case VOGRILAS_NO_SUCH_NODE: return "the settings have no such node";
+    case VOGRILAS_OTHER_NODE: return "the log is another node's";
+    case VOGRILAS_NOT_A_LOG: return "not a log";
+    case VOGRILAS_LOG_VERSION: return "the log is of another version";
+    case VOGRILAS_DAMAGED_HEAD: return "the head of the log is damaged";
+    case VOGRILAS_NO_KIND: return "the log is of no kind of node";
+    case VOGRILAS_OTHER_SETTINGS: return "the log is of other settings";
+    case VOGRILAS_DAMAGED: return "a record of the log is damaged";
+    case VOGRILAS_BAD_RECORD: return "a record of the log is no call of the node";
+    case VOGRILAS_BAD_TEXT: return "the text spells no bytes";
+    default: return "no code of this version";
+    }
+}
+
+/* A node, or none. Its fields are the library's own. */
+typedef struct vogrilas_node {
+    void *at;
+    bool held;
+} vogrilas_node;
+
+/* What a node is at first. */
+#define VOGRILAS_NODE_INIT { NULL, false }
+
+/*
+** The version of the library: 1000000 * first + 1000 * second + third. It is VOGRILAS_VERSION where library and header
+** belong together.
+*/
+uint32_t vogrilas_version(void);
+
+/*
+** Opens a node: `settings` are the bytes of a settings file, `name` is as "ph1", `log` has all bytes of the log's file, none
+** where there is no file yet.
+**
+** VOGRILAS_OK: the node is the one that wrote the log. *kept is how many bytes of the log stay: behind them stands a record
+** that a crash has cut off, so cut the file there. vogrilas_records() has the head of a log that begins; append it before
+** anything else. Nothing is to be written.
+**
+** Any other code: the handle is as it was. *kept is the place of the faulty record at VOGRILAS_DAMAGED and
+** VOGRILAS_BAD_RECORD, and unchanged at the others. A damaged log is never cut: set it aside, and look at it.
+*/
+vogrilas_code vogrilas_open(vogrilas_node *node, const void *settings, size_t settings_size, const void *name,
+                            size_t name_size, const void *log, size_t log_size, size_t *kept);
+
+/*
+** Does what a line asks, and adds to the records and to what was written. A line has no newline at its end:
+**
+**     submit TEXT            of a pharmacy: enters a request, and sends it
+**     tick                   of a pharmacy: time goes on, and what is due is sent again
+**     take FROM TEXT         a packet has come from this node
+**     plan PRODUCT PRICE     of a payer: another price
+**     stop / start           the node stops, and starts again from what it keeps
+**     answer NUMBER          of a pharmacy: what is known of this entry
+**
+** TEXT is printed bytes, as vogrilas_print() writes them. What is written, each on a line:
+**
+**     send TO TEXT           a packet for this node. `take OWN TEXT` is the line that it is there, with the sender's name
+**     number N               the call was made, and its entry has this number (submit)
+**     ok                     the call was made (tick, take, plan, stop, start)
+**     answer TEXT / open / none      to the question
+**     refused NAME           the call was not made, and nothing has changed; `refused Line`: the line asks nothing
+**
+** VOGRILAS_OK: the line was served. VOGRILAS_CLOSED: there is no node. VOGRILAS_NO_MEMORY: there is no node any more, for
+** it may have made the call and have no record of it. What was not yet on disk is lost, and nobody has heard of it: open the
+** node again from its log.
+*/
+vogrilas_code vogrilas_serve(vogrilas_node *node, const void *line, size_t line_size);
+
+/*
+** Serves the line `submit TEXT` of these very bytes, or the line `take FROM TEXT`: for callers that have bytes and no text.
+** The codes are those of vogrilas_serve(), and VOGRILAS_NAME where `from` is no node's name; then nothing has changed.
+*/
+vogrilas_code vogrilas_submit(vogrilas_node *node, const void *request, size_t request_size);
+vogrilas_code vogrilas_take(vogrilas_node *node, const void *from, size_t from_size, const void *packet, size_t packet_size);
+
+/*
+** Copies what is to be appended to the log, and synced, before what was written may be used. It stays until
+** vogrilas_clear().
+**
+** VOGRILAS_OK: the bytes stand at the start of the buffer, and *size is how many they are. VOGRILAS_SHORT_BUFFER: *size is
+** how many they are, and the buffer is unchanged; ask again with more room. VOGRILAS_CLOSED: there is no node.
+*/
+vogrilas_code vogrilas_records(vogrilas_node *node, void *buffer, size_t room, size_t *size);
+
+/* Copies what came of the lines, in the same way. */
+vogrilas_code vogrilas_written(vogrilas_node *node, void *buffer, size_t room, size_t *size);
+
+/* Tells how many calls the node's log has, those included that are to be appended. */
+vogrilas_code vogrilas_calls(vogrilas_node *node, uint64_t *calls);
+
+/* Notes that the records are on disk and the rest was used: both are empty from here on. */
+vogrilas_code vogrilas_clear(vogrilas_node *node);
+
+/* Lets the node go, with what is not on disk. A handle without a node stays as it is, so a second close does nothing. */
+void vogrilas_close(vogrilas_node *node);
+
+/*
+** Copies the printed text of bytes: printable ASCII characters as they are, and the others as \F, \G, \S (the separators of a
+** message), \\ or \xHH. VOGRILAS_OK and VOGRILAS_SHORT_BUFFER are as of vogrilas_records(). Four times as many bytes are
+** always room enough.
+*/
+vogrilas_code vogrilas_print(const void *bytes, size_t bytes_size, void *buffer, size_t room, size_t *size);
+
+/*
+** Copies the bytes that a printed text spells. VOGRILAS_BAD_TEXT: *size is the place of the first byte that spells nothing.
+** As many bytes as the text has are always room enough.
+*/
+vogrilas_code vogrilas_unprint(const void *text, size_t text_size, void *buffer, size_t room, size_t *size);
+
+#ifdef __cplusplus
+}
+#endif
+
+#endif
