@@ -11,8 +11,10 @@ pub enum Cell<'a> {
     Number(u64),
     /// Bytes, as they are printed.
     Text(&'a [u8]),
+    /// A word, as it is printed.
+    Word(&'static [u8]),
     /// Letters, and a number behind them.
-    Named(&'a [u8], u64),
+    Named(&'static [u8], u64),
     /// `true` or `false`.
     Flag(bool),
     /// No value: nothing in CSV, `null` in JSON.
@@ -22,13 +24,13 @@ pub enum Cell<'a> {
 /// A value and the name of its column.
 #[derive(Clone, Copy)]
 pub struct Field<'a> {
-    pub(crate) name: &'a [u8],
+    pub(crate) name: &'static [u8],
     pub(crate) cell: Cell<'a>,
 }
 
 impl<'a> Field<'a> {
     /// A number.
-    pub fn number(name: &'a [u8], number: u64) -> Field<'a>
+    pub fn number(name: &'static [u8], number: u64) -> Field<'a>
         ensures { field_seen result ≡ record { name = name.now; value = NumberSeen number } }
     {
         Field {
@@ -38,7 +40,7 @@ impl<'a> Field<'a> {
     }
 
     /// A number, where there is one.
-    pub fn number_or_nothing(name: &'a [u8], number: Option<u64>) -> Field<'a>
+    pub fn number_or_nothing(name: &'static [u8], number: Option<u64>) -> Field<'a>
         ensures { field_seen result ≡ record { name = name.now; value = number_or_nothing number } }
     {
         match number {
@@ -48,7 +50,7 @@ impl<'a> Field<'a> {
     }
 
     /// Bytes, as they are printed.
-    pub fn text(name: &'a [u8], bytes: &'a [u8]) -> Field<'a>
+    pub fn text(name: &'static [u8], bytes: &'a [u8]) -> Field<'a>
         ensures { field_seen result ≡ record { name = name.now; value = TextSeen bytes.now } }
     {
         Field {
@@ -57,8 +59,18 @@ impl<'a> Field<'a> {
         }
     }
 
+    /// A word, as it is printed.
+    pub fn word(name: &'static [u8], word: &'static [u8]) -> Field<'a>
+        ensures { field_seen result ≡ record { name = name.now; value = TextSeen word.now } }
+    {
+        Field {
+            name,
+            cell: Cell::Word(word),
+        }
+    }
+
     /// Letters, and a number behind them.
-    pub fn named(name: &'a [u8], letters: &'a [u8], number: u64) -> Field<'a>
+    pub fn named(name: &'static [u8], letters: &'static [u8], number: u64) -> Field<'a>
         ensures { field_seen result ≡ record { name = name.now; value = NamedSeen letters.now number } }
     {
         Field {
@@ -68,7 +80,7 @@ impl<'a> Field<'a> {
     }
 
     /// Whether something holds.
-    pub fn flag(name: &'a [u8], holds: bool) -> Field<'a>
+    pub fn flag(name: &'static [u8], holds: bool) -> Field<'a>
         ensures { field_seen result ≡ record { name = name.now; value = FlagSeen holds } }
     {
         Field {
@@ -78,7 +90,7 @@ impl<'a> Field<'a> {
     }
 
     /// No value.
-    pub fn nothing(name: &'a [u8]) -> Field<'a>
+    pub fn nothing(name: &'static [u8]) -> Field<'a>
         ensures { field_seen result ≡ record { name = name.now; value = NothingSeen } }
     {
         Field {

@@ -17,6 +17,7 @@ pub(crate) fn put_csv_value(out: &mut Vec<u8>, cell: Cell<'_>) -> Result<(), All
     match cell {
         Cell::Number(number) => put_decimal(out, number),
         Cell::Text(bytes) => put_csv_text(out, bytes),
+        Cell::Word(word) => put_csv_text(out, word),
         Cell::Named(letters, number) => put_named(out, letters, number),
         Cell::Flag(holds) => out.extend_from_slice(flag_text(holds)),
         Cell::Nothing => Ok(()),
@@ -30,6 +31,7 @@ pub(crate) fn put_json_value(out: &mut Vec<u8>, cell: Cell<'_>) -> Result<(), Al
     match cell {
         Cell::Number(number) => put_decimal(out, number),
         Cell::Text(bytes) => put_json_text(out, bytes),
+        Cell::Word(word) => put_json_text(out, word),
         Cell::Named(letters, number) => put_json_named(out, letters, number),
         Cell::Flag(holds) => out.extend_from_slice(flag_text(holds)),
         Cell::Nothing => out.extend_from_slice(b"null"),

@@ -1,0 +1,4 @@
+pub mod Kinds
+pub mod Payments
+pub mod Rulings
+pub mod Packets

@@ -1,0 +1,82 @@
+-- The payments of a book, each as a row.
+use Rattle.std.specs.Prelude.{ℕ, ◌+◌, Bool, List, [], ◌∷◌, ◌++◌, codes, cond, Option, Some, None, option_map, is_some}
+use Rattle.std.specs.List.{flat_map, list_any}
+use Rattle.claim_profile.specs.Authorization.{authorization_text}
+use Rattle.claim_profile.specs.Readable.{readable_header}
+use Rattle.claim_model.specs.Words.{TxnId, Auth, Ruling, Paid, Duplicate, Reversed, Rejected}
+use Rattle.claim_model.specs.Context.{Context}
+use Rattle.claim_model.specs.Payments.{same_auth, payment_of}
+use Rattle.claim_model.specs.Rows as model
+use Rattle.claim_model.specs.Rows.{Book, ruled_rows}
+use Rattle.payer_book.specs.declared.book.PaymentView.{PaymentView}
+use Rattle.payer_book.specs.Views.{payment_view}
+use Rattle.table_text.specs.Members.{Row}
+use Rattle.audit_tables.specs.Kinds.{date_in, number_member, text_member, flag_member, optional_member}
+use Rattle.audit_tables.specs.declared.payments.PaidAt.{PaidAt}
+
+-- the authorization is among these
+abbrev pub has_auth : List Auth → Auth → Bool
+has_auth auths auth = list_any (λ a. same_auth a auth) auths
+
+abbrev pub state_word : Bool → List ℕ
+state_word reversed = cond reversed (codes "reversed") (codes "standing")
+
+-- the number of the request that reversed a payment
+abbrev pub reversing : Option TxnId → Option ℕ
+reversing by = option_map (λ (id : TxnId). id.number) by
+
+-- the row of a payment
+unfoldable pub payment_row : PaidAt → Bool → PaymentView → Row
+payment_row at counted p =
+    number_member (codes "payer") at.payer ∷
+    number_member (codes "pharmacy") at.id.pharmacy ∷
+    number_member (codes "number") at.id.number ∷
+    number_member (codes "transaction") at.transaction ∷
+    text_member (codes "authorization") (authorization_text at.auth) ∷
+    text_member (codes "state") (state_word (is_some p.reversed_by)) ∷
+    optional_member (codes "reversed_by") (reversing p.reversed_by) ∷
+    flag_member (codes "counted") counted ∷
+    text_member (codes "bin") p.fill.bin ∷
+    text_member (codes "processor_control_number") p.fill.pcn ∷
+    text_member (codes "provider_qualifier") p.fill.qualifier ∷
+    text_member (codes "provider") p.fill.provider ∷
+    number_member (codes "prescription") p.fill.prescription ∷
+    number_member (codes "fill") p.fill.fill ∷
+    text_member (codes "date_of_service") at.date ∷
+    number_member (codes "cost_cents") p.amounts.cost ∷
+    number_member (codes "fee_cents") p.amounts.fee ∷
+    number_member (codes "copay_cents") p.amounts.copay ∷
+    number_member (codes "paid_cents") p.amounts.total ∷ []
+
+abbrev pub found_payment : PaidAt → Bool → Option PaymentView → List Row
+found_payment at counted None = []
+found_payment at counted (Some p) = payment_row at counted p ∷ []
+
+-- where the payment of an authorization was made
+abbrev pub paid_at : ℕ → model.Row → ℕ → Auth → PaidAt
+paid_at payer row transaction auth = record { payer = payer; id = row.id; transaction = transaction; auth = auth; date = date_in (readable_header row.request) }
+
+-- the payment of an authorization in the book, where a ruling of this row made it; pharmacies count those of these authorizations
+abbrev pub paid_rows : Context → List Auth → Book → model.Row → ℕ → Auth → List Row
+paid_rows ctx counted b row transaction auth =
+    found_payment (paid_at b.payer row transaction auth) (has_auth counted auth) (option_map payment_view (payment_of auth (ruled_rows ctx b.rows)))
+
+-- the payment that a ruling made, by its transaction of the row
+abbrev pub ruling_payment : Context → List Auth → Book → model.Row → ℕ → Ruling → List Row
+ruling_payment ctx counted b row transaction (Paid auth prescription amounts) = paid_rows ctx counted b row transaction auth
+ruling_payment ctx counted b row transaction (Duplicate auth prescription amounts) = []
+ruling_payment ctx counted b row transaction (Reversed auth prescription) = []
+ruling_payment ctx counted b row transaction (Rejected rejects) = []
+
+-- what is told of rulings, by their transactions from one on
+abbrev pub told_from : (ℕ → Ruling → List Row) → ℕ → List Ruling → List Row
+told_from told transaction [] = []
+told_from told transaction (ruling ∷ more) = told transaction ruling ++ told_from told (transaction + 1) more
+
+-- the payments that a row of the book made
+abbrev pub row_payments : Context → List Auth → Book → model.Row → List Row
+row_payments ctx counted b row = told_from (ruling_payment ctx counted b row) 1 row.rulings
+
+-- the payments of a book, in the order in which they were made
+abbrev pub book_payments : Context → List Auth → Book → List Row
+book_payments ctx counted b = flat_map (row_payments ctx counted b) b.rows

@@ -1,0 +1,82 @@
+//! The names of the columns of each table.
+
+use std::alloc::AllocError;
+use table_text::put_head;
+
+/// Appends the names of the columns of payments.
+pub(crate) fn put_payment_names(out: &mut Vec<u8>) -> Result<(), AllocError> {
+    put_head(
+        out,
+        &[
+            b"payer",
+            b"pharmacy",
+            b"number",
+            b"transaction",
+            b"authorization",
+            b"state",
+            b"reversed_by",
+            b"counted",
+            b"bin",
+            b"processor_control_number",
+            b"provider_qualifier",
+            b"provider",
+            b"prescription",
+            b"fill",
+            b"date_of_service",
+            b"cost_cents",
+            b"fee_cents",
+            b"copay_cents",
+            b"paid_cents",
+        ],
+    )
+}
+
+/// Appends the names of the columns of entries.
+pub(crate) fn put_entry_names(out: &mut Vec<u8>) -> Result<(), AllocError> {
+    put_head(
+        out,
+        &[
+            b"pharmacy",
+            b"number",
+            b"kind",
+            b"transactions",
+            b"state",
+            b"counted_payments",
+            b"counted_cents",
+        ],
+    )
+}
+
+/// Appends the names of the columns of rows.
+pub(crate) fn put_row_names(out: &mut Vec<u8>) -> Result<(), AllocError> {
+    put_head(
+        out,
+        &[
+            b"payer",
+            b"pharmacy",
+            b"number",
+            b"kind",
+            b"transaction",
+            b"ruling",
+            b"authorization",
+            b"reject_codes",
+        ],
+    )
+}
+
+/// Appends the names of the columns of packets.
+pub(crate) fn put_packet_names(out: &mut Vec<u8>) -> Result<(), AllocError> {
+    put_head(
+        out,
+        &[
+            b"packet",
+            b"event",
+            b"from",
+            b"to",
+            b"carries",
+            b"pharmacy",
+            b"number",
+            b"bytes",
+        ],
+    )
+}
