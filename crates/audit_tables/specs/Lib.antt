@@ -2,3 +2,4 @@ pub mod Kinds
 pub mod Payments
 pub mod Rulings
 pub mod Packets
+pub mod Entries

@@ -3,7 +3,7 @@ use Rattle.std.specs.Prelude.{ℕ, ◌+◌, Bool, List, [], ◌∷◌, ◌++◌,
 use Rattle.std.specs.List.{flat_map, list_any}
 use Rattle.claim_profile.specs.Authorization.{authorization_text}
 use Rattle.claim_profile.specs.Readable.{readable_header}
-use Rattle.claim_model.specs.Words.{TxnId, Auth, Ruling, Paid, Duplicate, Reversed, Rejected}
+use Rattle.claim_model.specs.Words.{TxnId, Auth, Amounts, Fill, Ruling, Paid, Duplicate, Reversed, Rejected}
 use Rattle.claim_model.specs.Context.{Context}
 use Rattle.claim_model.specs.Payments.{same_auth, payment_of}
 use Rattle.claim_model.specs.Rows as model
@@ -13,6 +13,9 @@ use Rattle.payer_book.specs.Views.{payment_view}
 use Rattle.table_text.specs.Members.{Row}
 use Rattle.audit_tables.specs.Kinds.{date_in, number_member, text_member, flag_member, optional_member}
 use Rattle.audit_tables.specs.declared.payments.PaidAt.{PaidAt}
+use Rattle.audit_tables.specs.declared.payments.Shown.{Shown}
+use Rattle.audit_tables.specs.declared.payments.FillTexts.{FillTexts}
+use Rattle.audit_tables.specs.declared.payments.Cents.{Cents}
 
 -- the authorization is among these
 abbrev pub has_auth : List Auth → Auth → Bool
@@ -25,28 +28,91 @@ state_word reversed = cond reversed (codes "reversed") (codes "standing")
 abbrev pub reversing : Option TxnId → Option ℕ
 reversing by = option_map (λ (id : TxnId). id.number) by
 
--- the row of a payment
-unfoldable pub payment_row : PaidAt → Bool → PaymentView → Row
-payment_row at counted p =
-    number_member (codes "payer") at.payer ∷
-    number_member (codes "pharmacy") at.id.pharmacy ∷
-    number_member (codes "number") at.id.number ∷
-    number_member (codes "transaction") at.transaction ∷
-    text_member (codes "authorization") (authorization_text at.auth) ∷
-    text_member (codes "state") (state_word (is_some p.reversed_by)) ∷
-    optional_member (codes "reversed_by") (reversing p.reversed_by) ∷
-    flag_member (codes "counted") counted ∷
-    text_member (codes "bin") p.fill.bin ∷
-    text_member (codes "processor_control_number") p.fill.pcn ∷
-    text_member (codes "provider_qualifier") p.fill.qualifier ∷
-    text_member (codes "provider") p.fill.provider ∷
-    number_member (codes "prescription") p.fill.prescription ∷
-    number_member (codes "fill") p.fill.fill ∷
-    text_member (codes "date_of_service") at.date ∷
-    number_member (codes "cost_cents") p.amounts.cost ∷
-    number_member (codes "fee_cents") p.amounts.fee ∷
-    number_member (codes "copay_cents") p.amounts.copay ∷
-    number_member (codes "paid_cents") p.amounts.total ∷ []
+-- a fill by its fields
+pub record FillShown : Type 0 where
+  pub bin : List ℕ
+  pub pcn : List ℕ
+  pub qualifier : List ℕ
+  pub provider : List ℕ
+  pub prescription : ℕ
+  pub number : ℕ
+
+abbrev pub fill_shown : Fill → FillShown
+fill_shown f = record { bin = f.bin; pcn = f.pcn; qualifier = f.qualifier; provider = f.provider; prescription = f.prescription; number = f.fill }
+
+abbrev pub cents_of : Amounts → Cents
+cents_of m = record { cost = m.cost; fee = m.fee; copay = m.copay; paid = m.total }
+
+-- what is told of a payment
+pub record PaymentShown : Type 0 where
+  pub payer : ℕ
+  pub pharmacy : ℕ
+  pub number : ℕ
+  pub transaction : ℕ
+  pub authorization : List ℕ
+  pub state : List ℕ
+  pub reversed_by : Option ℕ
+  pub counted : Bool
+  pub fill : FillShown
+  pub date : List ℕ
+  pub cents : Cents
+
+abbrev pub texts_seen : FillTexts → FillShown
+texts_seen t = record { bin = t.bin.now; pcn = t.pcn.now; qualifier = t.qualifier.now; provider = t.provider.now; prescription = t.prescription; number = t.number }
+
+abbrev pub shown_seen : Shown → PaymentShown
+shown_seen s = record {
+  payer = s.payer;
+  pharmacy = s.pharmacy;
+  number = s.number;
+  transaction = s.transaction;
+  authorization = s.authorization.now;
+  state = s.state.now;
+  reversed_by = s.reversed_by;
+  counted = s.counted;
+  fill = texts_seen s.fill;
+  date = s.date.now;
+  cents = s.cents;
+}
+
+-- the row of what is told of a payment
+unfoldable pub shown_row : PaymentShown → Row
+shown_row s =
+    number_member (codes "payer") s.payer ∷
+    number_member (codes "pharmacy") s.pharmacy ∷
+    number_member (codes "number") s.number ∷
+    number_member (codes "transaction") s.transaction ∷
+    text_member (codes "authorization") s.authorization ∷
+    text_member (codes "state") s.state ∷
+    optional_member (codes "reversed_by") s.reversed_by ∷
+    flag_member (codes "counted") s.counted ∷
+    text_member (codes "bin") s.fill.bin ∷
+    text_member (codes "processor_control_number") s.fill.pcn ∷
+    text_member (codes "provider_qualifier") s.fill.qualifier ∷
+    text_member (codes "provider") s.fill.provider ∷
+    number_member (codes "prescription") s.fill.prescription ∷
+    number_member (codes "fill") s.fill.number ∷
+    text_member (codes "date_of_service") s.date ∷
+    number_member (codes "cost_cents") s.cents.cost ∷
+    number_member (codes "fee_cents") s.cents.fee ∷
+    number_member (codes "copay_cents") s.cents.copay ∷
+    number_member (codes "paid_cents") s.cents.paid ∷ []
+
+-- the row of a payment: where it was made, whether a pharmacy counts it, and what the book has of it
+abbrev pub payment_row : PaidAt → Bool → PaymentView → Row
+payment_row at counted p = shown_row (record {
+  payer = at.payer;
+  pharmacy = at.id.pharmacy;
+  number = at.id.number;
+  transaction = at.transaction;
+  authorization = authorization_text at.auth;
+  state = state_word (is_some p.reversed_by);
+  reversed_by = reversing p.reversed_by;
+  counted = counted;
+  fill = fill_shown p.fill;
+  date = at.date;
+  cents = cents_of p.amounts;
+})
 
 abbrev pub found_payment : PaidAt → Bool → Option PaymentView → List Row
 found_payment at counted None = []

@@ -1,5 +1,13 @@
 //! The entries of a journal.
 
+ghost use Rattle.std.specs.Prelude.{◌≡◌, ◌≤◌, ◌++◌, length, OnOk};
+ghost use Rattle.bin_routes.specs.Table.{RouteMaps};
+ghost use Rattle.claim_model.specs.Bytes.{bytes_with};
+ghost use Rattle.claim_model.specs.Counted.{counted};
+ghost use Rattle.pharmacy_journal.specs.Listing.{listed};
+ghost use Rattle.table_text.specs.Rows.{row_text, rows_text};
+ghost use Rattle.audit_tables.specs.Entries.{names, count_named, cents_of, state_word, shown_seen, shown_row, entry_row, entry_rows};
+
 use crate::kinds::kind_word;
 use claim_profile::{Auth, Ruling};
 use node_state::JournalReading;
@@ -7,12 +15,26 @@ use pharmacy_journal::{CountedPayment, EntryView};
 use std::alloc::AllocError;
 use table_text::{Field, Style, put_row};
 
+/// What is told of an entry.
+#[derive(Clone, Copy)]
+pub(crate) struct EntryShown {
+    pub(crate) pharmacy: u64,
+    pub(crate) number: u64,
+    pub(crate) kind: &'static [u8],
+    pub(crate) transactions: u64,
+    pub(crate) state: &'static [u8],
+    pub(crate) payments: u64,
+    pub(crate) cents: u64,
+}
+
 /// Appends a row for each entry of a journal, in order of numbers.
 pub(crate) fn put_journal(
     out: &mut Vec<u8>,
     style: Style,
     journal: &JournalReading<'_>,
-) -> Result<(), AllocError> {
+) -> Result<(), AllocError>
+    ensures { (routes : RouteMaps) → OnOk result (out.new.items ≡ out.old.items ++ rows_text style (entry_rows journal.now.number (listed journal.now) (counted (bytes_with routes) journal.now))) }
+{
     let (entries, paid) = journal.told()?;
     put_entries(
         out,
@@ -31,7 +53,9 @@ fn put_entries(
     pharmacy: u16,
     entries: &[EntryView],
     paid: &[CountedPayment],
-) -> Result<(), AllocError> {
+) -> Result<(), AllocError>
+    ensures { OnOk result (out.new.items ≡ out.old.items ++ rows_text style (entry_rows pharmacy entries.now paid.now)) }
+{
     let mut left = paid;
     for entry in entries {
         let (own, others) = left.split_at(count_named(entry.rulings(), left));
@@ -48,45 +72,70 @@ fn put_entry(
     pharmacy: u16,
     entry: &EntryView,
     own: &[CountedPayment],
-) -> Result<(), AllocError> {
+) -> Result<(), AllocError>
+    ensures { OnOk result (out.new.items ≡ out.old.items ++ row_text style (entry_row pharmacy entry.now own.now)) }
+{
+    let shown = EntryShown {
+        pharmacy: u64::from(pharmacy),
+        number: entry.number(),
+        kind: kind_word(entry.code()),
+        transactions: u64::from(entry.count()),
+        state: state_word(entry.rulings()),
+        payments: own.len() as u64,
+        cents: cents_of(own),
+    };
+    put_shown(out, style, &shown)
+}
+
+/// Appends the row of what is told of an entry.
+#[tactic(auto, unfolding(crate::specs::Entries::shown_row))]
+fn put_shown(out: &mut Vec<u8>, style: Style, shown: &EntryShown) -> Result<(), AllocError>
+    ensures { OnOk result (out.new.items ≡ out.old.items ++ row_text style (shown_row (shown_seen shown.now))) }
+{
     let fields = [
-        Field::number(b"pharmacy", u64::from(pharmacy)),
-        Field::number(b"number", entry.number()),
-        Field::word(b"kind", kind_word(entry.code())),
-        Field::number(b"transactions", u64::from(entry.count())),
-        Field::word(b"state", state_word(entry.rulings().is_empty())),
-        Field::number(b"counted_payments", own.len() as u64),
-        Field::number(b"counted_cents", cents_of(own)),
+        Field::number(b"pharmacy", shown.pharmacy),
+        Field::number(b"number", shown.number),
+        Field::word(b"kind", shown.kind),
+        Field::number(b"transactions", shown.transactions),
+        Field::word(b"state", shown.state),
+        Field::number(b"counted_payments", shown.payments),
+        Field::number(b"counted_cents", shown.cents),
     ];
     put_row(out, style, &fields)
 }
 
-/// Whether an entry has its answer.
-fn state_word(open: bool) -> &'static [u8] {
-    if open { b"open" } else { b"answered" }
-}
-
-/// How many of these payments, from the front, rulings name in this order.
-fn count_named(rulings: &[Ruling], paid: &[CountedPayment]) -> usize {
-    let mut count = 0;
-    for ruling in rulings {
-        if names_at(ruling, paid, count) {
-            count += 1;
-        }
+/// Whether an entry has its answer, by the rulings of it.
+fn state_word(rulings: &[Ruling]) -> &'static [u8]
+    ensures { result.now ≡ state_word rulings.now }
+{
+    match rulings {
+        [] => b"open",
+        [_, ..] => b"answered",
     }
-    count
 }
 
-/// Whether a ruling names the payment at a place.
-fn names_at(ruling: &Ruling, paid: &[CountedPayment], place: usize) -> bool {
-    match paid.get(place) {
-        Some(payment) => names(ruling, payment.auth()),
-        None => false,
+/// How many of these payments, from the first on, rulings name in this order.
+fn count_named(rulings: &[Ruling], paid: &[CountedPayment]) -> usize
+    ensures value { result ≡ count_named rulings.now paid.now }
+    ensures within { result ≤ length paid.now }
+{
+    let [ruling, more @ ..] = rulings else {
+        return 0;
+    };
+    let [payment, others @ ..] = paid else {
+        return 0;
+    };
+    if names(ruling, payment.auth()) {
+        count_named(more, others) + 1
+    } else {
+        count_named(more, paid)
     }
 }
 
 /// Whether a ruling names the payment of an authorization as paid, now or before.
-fn names(ruling: &Ruling, auth: Auth) -> bool {
+fn names(ruling: &Ruling, auth: Auth) -> bool
+    ensures { result ≡ names ruling.now auth }
+{
     match *ruling {
         Ruling::Paid { auth: named, .. } => named == auth,
         Ruling::Duplicate { auth: named, .. } => named == auth,
@@ -95,11 +144,12 @@ fn names(ruling: &Ruling, auth: Auth) -> bool {
     }
 }
 
-/// What payments come to, in cents.
-fn cents_of(payments: &[CountedPayment]) -> u64 {
-    let mut cents = 0u64;
-    for payment in payments {
-        cents = cents.saturating_add(u64::from(payment.amounts().total()));
-    }
-    cents
+/// What payments come to in cents, as far as 64 bits hold it. An entry has few.
+fn cents_of(payments: &[CountedPayment]) -> u64
+    ensures { result ≡ cents_of payments.now }
+{
+    let [first, others @ ..] = payments else {
+        return 0;
+    };
+    u64::from(first.amounts().total()).saturating_add(cents_of(others))
 }

@@ -4,7 +4,7 @@ ghost use Rattle.std.specs.Prelude.{◌≡◌, ◌∷◌, [], ◌++◌, codes, O
 ghost use Rattle.std.specs.List.{flat_map};
 ghost use Rattle.claim_profile.specs.Reject.{code_text};
 ghost use Rattle.table_text.specs.Rows.{row_text, rows_text};
-ghost use Rattle.audit_tables.specs.Rulings.{codes_text, answered_row, ruling_row, row_rulings, book_rulings};
+ghost use Rattle.audit_tables.specs.Rulings.{codes_text, at_seen, answered_row, ruling_row, row_rulings, book_rulings};
 
 use crate::kinds::kind_of;
 use claim_profile::{Code, Ruling};
@@ -14,10 +14,11 @@ use std::alloc::{AllocError, Global};
 use table_text::{Field, Style, put_row};
 
 /// Which transaction of which request a ruling is about.
-#[derive(Drop)]
+#[derive(Clone, Copy)]
 pub(crate) struct RuledAt {
-    pub(crate) payer: u16,
-    pub(crate) id: TxnId,
+    pub(crate) payer: u64,
+    pub(crate) pharmacy: u64,
+    pub(crate) number: u64,
     pub(crate) kind: &'static [u8],
     pub(crate) transaction: u64,
 }
@@ -45,19 +46,31 @@ fn put_row_rulings(
 ) -> Result<(), AllocError>
     ensures { OnOk result (out.new.items ≡ out.old.items ++ rows_text style (row_rulings book.now row.now)) }
 {
-    let payer = book.payer().get();
+    let (payer, id) = (book.payer().get(), row.id());
     let kind = kind_of(row);
     let rulings = row.rulings();
     for (passed, ruling) in rulings.iter().enumerate() {
-        let at = RuledAt {
-            payer,
-            id: row.id(),
-            kind,
-            transaction: passed as u64 + 1,
-        };
-        put_ruling(out, style, &at, ruling)?;
+        put_ruling(
+            out,
+            style,
+            &ruled_at(payer, id, kind, passed as u64 + 1),
+            ruling,
+        )?;
     }
     Ok(())
+}
+
+/// Which transaction of which request it is.
+fn ruled_at(payer: u16, id: TxnId, kind: &'static [u8], transaction: u64) -> RuledAt
+    ensures { at_seen result ≡ record { payer = payer; pharmacy = id.pharmacy; number = id.number; kind = kind.now; transaction = transaction } }
+{
+    RuledAt {
+        payer: u64::from(payer),
+        pharmacy: u64::from(id.pharmacy()),
+        number: id.number(),
+        kind,
+        transaction,
+    }
 }
 
 /// Appends the row of a ruling.
@@ -67,7 +80,7 @@ fn put_ruling(
     at: &RuledAt,
     ruling: &Ruling,
 ) -> Result<(), AllocError>
-    ensures { OnOk result (out.new.items ≡ out.old.items ++ row_text style (ruling_row at.now.payer at.now.id at.now.kind.now at.now.transaction ruling.now)) }
+    ensures { OnOk result (out.new.items ≡ out.old.items ++ row_text style (ruling_row (at_seen at.now) ruling.now)) }
 {
     match *ruling {
         Ruling::Paid { auth, .. } => put_answered(out, style, at, b"paid", &auth.digits(), b""),
@@ -88,7 +101,7 @@ fn put_rejected(
     at: &RuledAt,
     rejects: &[Code],
 ) -> Result<(), AllocError>
-    ensures { OnOk result (out.new.items ≡ out.old.items ++ row_text style (answered_row at.now.payer at.now.id at.now.kind.now at.now.transaction (codes "rejected") [] (codes_text rejects.now))) }
+    ensures { OnOk result (out.new.items ≡ out.old.items ++ row_text style (answered_row (at_seen at.now) (codes "rejected") [] (codes_text rejects.now))) }
 {
     let told = codes_text(*out.allocator(), rejects)?;
     put_answered(out, style, at, b"rejected", b"", told.as_slice())
@@ -104,12 +117,12 @@ fn put_answered(
     authorization: &[u8],
     rejects: &[u8],
 ) -> Result<(), AllocError>
-    ensures { OnOk result (out.new.items ≡ out.old.items ++ row_text style (answered_row at.now.payer at.now.id at.now.kind.now at.now.transaction ruling.now authorization.now rejects.now)) }
+    ensures { OnOk result (out.new.items ≡ out.old.items ++ row_text style (answered_row (at_seen at.now) ruling.now authorization.now rejects.now)) }
 {
     let fields = [
-        Field::number(b"payer", u64::from(at.payer)),
-        Field::number(b"pharmacy", u64::from(at.id.pharmacy())),
-        Field::number(b"number", at.id.number()),
+        Field::number(b"payer", at.payer),
+        Field::number(b"pharmacy", at.pharmacy),
+        Field::number(b"number", at.number),
         Field::word(b"kind", at.kind),
         Field::number(b"transaction", at.transaction),
         Field::word(b"ruling", ruling),
