@@ -1,9 +1,8 @@
 -- How rows follow one another, and how loops over lists go on and end.
-use Rattle.std.proofs.Common.{◌≡◌, ℕ, ◌+◌, ◌<◌, ◌≤◌, List, [], ◌∷◌, ◌++◌, length, drop, get_or, refl, sym, ap, ◌∙◌, append_assoc, append-nil}
+use Rattle.std.proofs.Common.{◌≡◌, ℕ, ◌+◌, ◌<◌, ◌≤◌, List, [], ◌∷◌, ◌++◌, length, drop, get_or, map, refl, sym, ap, ◌∙◌, append_assoc, append-nil}
 use Rattle.std.specs.List.{flat_map}
 use Rattle.std.proofs.lemmas.List.{at_drop_more, drop_all}
 use Rattle.std.proofs.lemmas.Grind.{flat_map-append}
-use Rattle.claim_model.specs.Words.{Ruling}
 use Rattle.table_text.specs.declared.layout.Style.{Style}
 use Rattle.table_text.specs.Members.{Row}
 use Rattle.table_text.specs.Rows.{row_text, rows_text}
@@ -11,6 +10,10 @@ use Rattle.audit_tables.specs.Payments.{told_from}
 
 pub cons_alike : {A : Type 0} {x y : A} {xs ys : List A} → x ≡ y → xs ≡ ys → (x ∷ xs) ≡ (y ∷ ys)
 cons_alike e es = cc
+
+-- one text behind another, behind what was there
+pub texts_join : (a b c x y : List ℕ) → b ≡ a ++ x → c ≡ b ++ y → c ≡ a ++ (x ++ y)
+texts_join a b c x y one two = two ∙ (ap (λ (t : List ℕ). t ++ y) one ∙ append_assoc a x y)
 
 pub rows_text-append : (style : Style) (xs ys : List Row) → rows_text style (xs ++ ys) ≡ rows_text style xs ++ rows_text style ys
 unfolding rows_text
@@ -55,16 +58,30 @@ pub blocks_are_done : {A : Type 0} (style : Style) (told : A → List Row) (a wh
 blocks_are_done {A} style told a whole xs i le so_far =
     block_ends style a whole (sym (ap (λ (left : List A). a ++ rows_text style (flat_map told left)) (drop_all i xs le)) ∙ so_far)
 
--- loops over rulings by their transactions
-pub told_goes_on : (style : Style) (told : ℕ → Ruling → List Row) (a b whole : List ℕ) (rulings : List Ruling) (i : ℕ) (ruling : Ruling) → i < length rulings → ruling ≡ get_or rulings i ruling
-    → b ≡ a ++ rows_text style (told (i + 1) ruling)
-    → a ++ rows_text style (told_from told (i + 1) (drop i rulings)) ≡ whole → b ++ rows_text style (told_from told ((i + 1) + 1) (drop (i + 1) rulings)) ≡ whole
-told_goes_on style told a b whole rulings i ruling lt is one so_far =
-    let text = λ (left : List Ruling). a ++ rows_text style (told_from told (i + 1) left) in
-    let more = drop (i + 1) rulings in
-    block_goes_on style a b whole (told (i + 1) ruling) (told_from told ((i + 1) + 1) more) one (ap (λ (r : Ruling). text (r ∷ more)) is ∙ (sym (at_drop_more text rulings i ruling lt) ∙ so_far))
+-- loops over what has numbers from 1
+pub told_goes_on : {A : Type 0} (style : Style) (told : ℕ → A → List Row) (a b whole : List ℕ) (xs : List A) (i : ℕ) (x : A) → i < length xs → x ≡ get_or xs i x
+    → b ≡ a ++ rows_text style (told (i + 1) x)
+    → a ++ rows_text style (told_from told (i + 1) (drop i xs)) ≡ whole → b ++ rows_text style (told_from told ((i + 1) + 1) (drop (i + 1) xs)) ≡ whole
+told_goes_on {A} style told a b whole xs i x lt is one so_far =
+    let text = λ (left : List A). a ++ rows_text style (told_from told (i + 1) left) in
+    let more = drop (i + 1) xs in
+    block_goes_on style a b whole (told (i + 1) x) (told_from told ((i + 1) + 1) more) one (ap (λ (y : A). text (y ∷ more)) is ∙ (sym (at_drop_more text xs i x lt) ∙ so_far))
 
-pub told_is_done : (style : Style) (told : ℕ → Ruling → List Row) (a whole : List ℕ) (rulings : List Ruling) (i : ℕ) → length rulings ≤ i
-    → a ++ rows_text style (told_from told (i + 1) (drop i rulings)) ≡ whole → a ≡ whole
-told_is_done style told a whole rulings i le so_far =
-    block_ends style a whole (sym (ap (λ (left : List Ruling). a ++ rows_text style (told_from told (i + 1) left)) (drop_all i rulings le)) ∙ so_far)
+pub told_is_done : {A : Type 0} (style : Style) (told : ℕ → A → List Row) (a whole : List ℕ) (xs : List A) (i : ℕ) → length xs ≤ i
+    → a ++ rows_text style (told_from told (i + 1) (drop i xs)) ≡ whole → a ≡ whole
+told_is_done {A} style told a whole xs i le so_far =
+    block_ends style a whole (sym (ap (λ (left : List A). a ++ rows_text style (told_from told (i + 1) left)) (drop_all i xs le)) ∙ so_far)
+
+-- the same over what the model sees of the elements
+pub seen_goes_on : {A B : Type 0} (style : Style) (see : A → B) (told : ℕ → B → List Row) (a b whole : List ℕ) (xs : List A) (i : ℕ) (x : A) → i < length xs → x ≡ get_or xs i x
+    → b ≡ a ++ rows_text style (told (i + 1) (see x))
+    → a ++ rows_text style (told_from told (i + 1) (map see (drop i xs))) ≡ whole → b ++ rows_text style (told_from told ((i + 1) + 1) (map see (drop (i + 1) xs))) ≡ whole
+seen_goes_on {A} style see told a b whole xs i x lt is one so_far =
+    let text = λ (left : List A). a ++ rows_text style (told_from told (i + 1) (map see left)) in
+    let more = drop (i + 1) xs in
+    block_goes_on style a b whole (told (i + 1) (see x)) (told_from told ((i + 1) + 1) (map see more)) one (ap (λ (y : A). text (y ∷ more)) is ∙ (sym (at_drop_more text xs i x lt) ∙ so_far))
+
+pub seen_is_done : {A B : Type 0} (style : Style) (see : A → B) (told : ℕ → B → List Row) (a whole : List ℕ) (xs : List A) (i : ℕ) → length xs ≤ i
+    → a ++ rows_text style (told_from told (i + 1) (map see (drop i xs))) ≡ whole → a ≡ whole
+seen_is_done {A} style see told a whole xs i le so_far =
+    block_ends style a whole (sym (ap (λ (left : List A). a ++ rows_text style (told_from told (i + 1) (map see left))) (drop_all i xs le)) ∙ so_far)

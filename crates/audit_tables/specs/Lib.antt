@@ -3,3 +3,4 @@ pub mod Payments
 pub mod Rulings
 pub mod Packets
 pub mod Entries
+pub mod Tables

@@ -1,10 +1,12 @@
 -- The packets of a run, each as a row.
-use Rattle.std.specs.Prelude.{ℕ, ◌+◌, List, [], ◌∷◌, codes, Option, Some, None, Result, Ok, Err}
+use Rattle.std.specs.Prelude.{ℕ, List, [], ◌∷◌, codes, Option, Some, None, Result, Ok, Err}
 use Rattle.claim_model.specs.Words.{Kind, Request, Response, Envelope, EnvelopeFault}
 use Rattle.claim_model.specs.Context.{Context}
+use Rattle.claim_model.specs.Numbered.{numbered}
 use Rattle.claim_model.specs.World.{Packet}
 use Rattle.table_text.specs.Members.{Row}
 use Rattle.audit_tables.specs.Kinds.{number_member, text_member, optional_member, node_member}
+use Rattle.audit_tables.specs.Payments.{told_from}
 use Rattle.audit_tables.specs.declared.packets.Carried.{Carried}
 
 -- what a packet carries: the word for its kind, and of which transaction it is
@@ -41,8 +43,14 @@ loaded_row number event p load =
 abbrev pub packet_row : Context → ℕ → ℕ → Packet → Row
 packet_row ctx number event p = loaded_row number event p (load_of (ctx.read_envelope p.bytes))
 
--- the rows of packets from a number on, each with the event that sent it
-abbrev pub packet_rows : Context → ℕ → List Packet → List ℕ → List Row
-packet_rows ctx number (p ∷ packets) (event ∷ events) = packet_row ctx number event p ∷ packet_rows ctx (number + 1) packets events
-packet_rows ctx number (p ∷ packets) [] = []
-packet_rows ctx number [] events = []
+abbrev pub sent_row : Context → ℕ → Packet → Option ℕ → List Row
+sent_row ctx number p None = []
+sent_row ctx number p (Some event) = packet_row ctx number event p ∷ []
+
+-- the row of a packet by its number, where the event that sent it is among these, in order of packets
+abbrev pub packet_told : Context → List ℕ → ℕ → Packet → List Row
+packet_told ctx senders number p = sent_row ctx number p (numbered senders number)
+
+-- the rows of packets, each with the event that sent it
+abbrev pub packet_rows : Context → List Packet → List ℕ → List Row
+packet_rows ctx packets senders = told_from (packet_told ctx senders) 1 packets

@@ -122,27 +122,27 @@ found_payment at counted (Some p) = payment_row at counted p ∷ []
 abbrev pub paid_at : ℕ → model.Row → ℕ → Auth → PaidAt
 paid_at payer row transaction auth = record { payer = payer; id = row.id; transaction = transaction; auth = auth; date = date_in (readable_header row.request) }
 
--- the payment of an authorization in the book, where a ruling of this row made it; pharmacies count those of these authorizations
-abbrev pub paid_rows : Context → List Auth → Book → model.Row → ℕ → Auth → List Row
+-- the payment of an authorization in the book, where a ruling of this row made it; `counted` says which authorizations are counted
+abbrev pub paid_rows : Context → (Auth → Bool) → Book → model.Row → ℕ → Auth → List Row
 paid_rows ctx counted b row transaction auth =
-    found_payment (paid_at b.payer row transaction auth) (has_auth counted auth) (option_map payment_view (payment_of auth (ruled_rows ctx b.rows)))
+    found_payment (paid_at b.payer row transaction auth) (counted auth) (option_map payment_view (payment_of auth (ruled_rows ctx b.rows)))
 
 -- the payment that a ruling made, by its transaction of the row
-abbrev pub ruling_payment : Context → List Auth → Book → model.Row → ℕ → Ruling → List Row
+abbrev pub ruling_payment : Context → (Auth → Bool) → Book → model.Row → ℕ → Ruling → List Row
 ruling_payment ctx counted b row transaction (Paid auth prescription amounts) = paid_rows ctx counted b row transaction auth
 ruling_payment ctx counted b row transaction (Duplicate auth prescription amounts) = []
 ruling_payment ctx counted b row transaction (Reversed auth prescription) = []
 ruling_payment ctx counted b row transaction (Rejected rejects) = []
 
--- what is told of rulings, by their transactions from one on
-abbrev pub told_from : (ℕ → Ruling → List Row) → ℕ → List Ruling → List Row
-told_from told transaction [] = []
-told_from told transaction (ruling ∷ more) = told transaction ruling ++ told_from told (transaction + 1) more
+-- what is told of the elements of a list, by their numbers from one on
+abbrev pub told_from : {A : Type 0} → (ℕ → A → List Row) → ℕ → List A → List Row
+told_from told number [] = []
+told_from told number (x ∷ more) = told number x ++ told_from told (number + 1) more
 
 -- the payments that a row of the book made
-abbrev pub row_payments : Context → List Auth → Book → model.Row → List Row
+abbrev pub row_payments : Context → (Auth → Bool) → Book → model.Row → List Row
 row_payments ctx counted b row = told_from (ruling_payment ctx counted b row) 1 row.rulings
 
 -- the payments of a book, in the order in which they were made
-abbrev pub book_payments : Context → List Auth → Book → List Row
+abbrev pub book_payments : Context → (Auth → Bool) → Book → List Row
 book_payments ctx counted b = flat_map (row_payments ctx counted b) b.rows

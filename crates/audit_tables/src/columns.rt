@@ -1,10 +1,17 @@
 //! The names of the columns of each table.
 
+ghost use Rattle.std.specs.Prelude.{◌≡◌, ◌++◌, OnOk};
+ghost use Rattle.table_text.specs.Rows.{head_text};
+ghost use Rattle.audit_tables.specs.Tables.{table_names};
+ghost use Rattle.audit_tables.specs.declared.table.Table.TheVariants.{Payments, Entries, Rows, Packets};
+
 use std::alloc::AllocError;
 use table_text::put_head;
 
 /// Appends the names of the columns of payments.
-pub(crate) fn put_payment_names(out: &mut Vec<u8>) -> Result<(), AllocError> {
+pub(crate) fn put_payment_names(out: &mut Vec<u8>) -> Result<(), AllocError>
+    ensures { OnOk result (out.new.items ≡ out.old.items ++ head_text (table_names Payments)) }
+{
     put_head(
         out,
         &[
@@ -32,7 +39,9 @@ pub(crate) fn put_payment_names(out: &mut Vec<u8>) -> Result<(), AllocError> {
 }
 
 /// Appends the names of the columns of entries.
-pub(crate) fn put_entry_names(out: &mut Vec<u8>) -> Result<(), AllocError> {
+pub(crate) fn put_entry_names(out: &mut Vec<u8>) -> Result<(), AllocError>
+    ensures { OnOk result (out.new.items ≡ out.old.items ++ head_text (table_names Entries)) }
+{
     put_head(
         out,
         &[
@@ -48,7 +57,9 @@ pub(crate) fn put_entry_names(out: &mut Vec<u8>) -> Result<(), AllocError> {
 }
 
 /// Appends the names of the columns of rows.
-pub(crate) fn put_row_names(out: &mut Vec<u8>) -> Result<(), AllocError> {
+pub(crate) fn put_row_names(out: &mut Vec<u8>) -> Result<(), AllocError>
+    ensures { OnOk result (out.new.items ≡ out.old.items ++ head_text (table_names Rows)) }
+{
     put_head(
         out,
         &[
@@ -65,7 +76,9 @@ pub(crate) fn put_row_names(out: &mut Vec<u8>) -> Result<(), AllocError> {
 }
 
 /// Appends the names of the columns of packets.
-pub(crate) fn put_packet_names(out: &mut Vec<u8>) -> Result<(), AllocError> {
+pub(crate) fn put_packet_names(out: &mut Vec<u8>) -> Result<(), AllocError>
+    ensures { OnOk result (out.new.items ≡ out.old.items ++ head_text (table_names Packets)) }
+{
     put_head(
         out,
         &[

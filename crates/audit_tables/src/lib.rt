@@ -14,4 +14,4 @@ mod table;
 
 pub use kinds::node_field;
 pub use senders::run_noting;
-pub use table::{Left, Table, put_csv, put_json};
+pub use table::{Table, put_csv, put_json};

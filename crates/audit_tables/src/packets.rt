@@ -1,11 +1,11 @@
 //! The packets of a run.
 
-ghost use Rattle.std.specs.Prelude.{◌≡◌, ◌++◌, OnOk};
+ghost use Rattle.std.specs.Prelude.{◌≡◌, ◌++◌, map, slice_get, OnOk};
 ghost use Rattle.bin_routes.specs.Table.{RouteMaps};
 ghost use Rattle.claim_model.specs.Bytes.{bytes_with, envelope_in};
 ghost use Rattle.world_setup.specs.Seen.{packet_seen};
-ghost use Rattle.table_text.specs.Rows.{row_text};
-ghost use Rattle.audit_tables.specs.Packets.{packet_row, loaded_row, carried_seen, load_of, kind_word};
+ghost use Rattle.table_text.specs.Rows.{row_text, rows_text};
+ghost use Rattle.audit_tables.specs.Packets.{packet_rows, sent_row, packet_row, loaded_row, carried_seen, load_of, kind_word};
 
 use crate::kinds::node_field;
 use claim_model::envelopes_know_no_place;
@@ -20,11 +20,42 @@ pub(crate) fn put_packets(
     style: Style,
     packets: &[Packet],
     senders: &[u64],
-) -> Result<(), AllocError> {
-    for (place, (packet, event)) in packets.iter().zip(senders).enumerate() {
-        put_packet(out, style, (place as u64).saturating_add(1), *event, packet)?;
+) -> Result<(), AllocError>
+    ensures { (routes : RouteMaps) → OnOk result (out.new.items ≡ out.old.items ++ rows_text style (packet_rows (bytes_with routes) (map packet_seen packets.now) senders.now)) }
+{
+    for (place, packet) in packets.iter().enumerate() {
+        put_sent(
+            out,
+            style,
+            place as u64 + 1,
+            sender_at(senders, place),
+            packet,
+        )?;
     }
     Ok(())
+}
+
+/// The event that sent the packet at a place.
+fn sender_at(senders: &[u64], place: usize) -> Option<u64>
+    ensures { result ≡ slice_get senders.now place }
+{
+    senders.get(place).copied()
+}
+
+/// Appends the row of a packet, where the event that sent it is told.
+fn put_sent(
+    out: &mut Vec<u8>,
+    style: Style,
+    number: u64,
+    sender: Option<u64>,
+    packet: &Packet,
+) -> Result<(), AllocError>
+    ensures { (routes : RouteMaps) → OnOk result (out.new.items ≡ out.old.items ++ rows_text style (sent_row (bytes_with routes) number (packet_seen packet.now) sender)) }
+{
+    match sender {
+        Some(event) => put_packet(out, style, number, event, packet),
+        None => Ok(()),
+    }
 }
 
 /// Appends the row of a packet.

@@ -69,7 +69,7 @@ pub(crate) fn put_book_payments(
     book: &Book,
     counted: &BTreeSet<Auth>,
 ) -> Result<(), AllocError>
-    ensures { (routes : RouteMaps) → OnOk result (out.new.items ≡ out.old.items ++ rows_text style (book_payments (bytes_with routes) counted.now.keys book.now)) }
+    ensures { (routes : RouteMaps) → OnOk result (out.new.items ≡ out.old.items ++ rows_text style (book_payments (bytes_with routes) (has_auth counted.now.keys) book.now)) }
 {
     for row in book.rows() {
         put_row_payments(out, style, book, counted, row)?;
@@ -85,7 +85,7 @@ fn put_row_payments(
     counted: &BTreeSet<Auth>,
     row: &Row,
 ) -> Result<(), AllocError>
-    ensures { (routes : RouteMaps) → OnOk result (out.new.items ≡ out.old.items ++ rows_text style (row_payments (bytes_with routes) counted.now.keys book.now row.now)) }
+    ensures { (routes : RouteMaps) → OnOk result (out.new.items ≡ out.old.items ++ rows_text style (row_payments (bytes_with routes) (has_auth counted.now.keys) book.now row.now)) }
 {
     let rulings = row.rulings();
     for (passed, ruling) in rulings.iter().enumerate() {
@@ -104,7 +104,7 @@ fn put_ruling_payment(
     transaction: u64,
     ruling: &Ruling,
 ) -> Result<(), AllocError>
-    ensures { (routes : RouteMaps) → OnOk result (out.new.items ≡ out.old.items ++ rows_text style (ruling_payment (bytes_with routes) counted.now.keys book.now row.now transaction ruling.now)) }
+    ensures { (routes : RouteMaps) → OnOk result (out.new.items ≡ out.old.items ++ rows_text style (ruling_payment (bytes_with routes) (has_auth counted.now.keys) book.now row.now transaction ruling.now)) }
 {
     match *ruling {
         Ruling::Paid { auth, .. } => {
