@@ -4,3 +4,4 @@ pub mod Rulings
 pub mod Packets
 pub mod Entries
 pub mod Tables
+pub mod Senders
