@@ -1,8 +1,14 @@
 //! What a run left: as counts, as one table, or as all tables.
 
+ghost use Rattle.std.specs.Prelude.{◌≡◌, ◌++◌, map, IfOk, OnOk};
+ghost use Rattle.bin_routes.specs.Table.{routes_of};
+ghost use Rattle.claim_model.specs.Settings.{opening};
+ghost use Rattle.world_setup.specs.Seen.{event_seen, settings_seen};
+ghost use Rattle.log_audit.specs.Tabled.{run_csv};
+
 use crate::fault::AuditFault;
 use crate::ledger::put_ledger;
-use audit_tables::{Left, Table, put_csv, put_json, run_noting};
+use audit_tables::{Table, put_csv, put_json, run_noting};
 use std::alloc::Global;
 use world_core::World;
 use world_setup::{Event, WorldFault, WorldSettings};
@@ -29,14 +35,12 @@ pub(crate) fn put_left_table(
     settings: WorldSettings,
     events: &[Event],
     table: Table,
-) -> Result<(), AuditFault> {
+) -> Result<(), AuditFault>
+    ensures { OnOk result (text.new.items ≡ text.old.items ++ run_csv settings (map event_seen events.now) table) }
+{
     let mut world = opened(alloc, settings)?;
     let senders = run_noting(alloc, &mut world, events)?;
-    let left = Left {
-        world: &world,
-        senders: senders.as_slice(),
-    };
-    put_csv(alloc, text, &left, table)?;
+    put_csv(alloc, text, &world, senders.as_slice(), table)?;
     Ok(())
 }
 
@@ -49,16 +53,14 @@ pub(crate) fn put_left_tables(
 ) -> Result<(), AuditFault> {
     let mut world = opened(alloc, settings)?;
     let senders = run_noting(alloc, &mut world, events)?;
-    let left = Left {
-        world: &world,
-        senders: senders.as_slice(),
-    };
-    put_json(alloc, text, &left)?;
+    put_json(alloc, text, &world, senders.as_slice())?;
     Ok(())
 }
 
 /// The opening world of these settings.
-fn opened(alloc: Global, settings: WorldSettings) -> Result<World, AuditFault> {
+fn opened(alloc: Global, settings: WorldSettings) -> Result<World, AuditFault>
+    ensures { IfOk result (λ w. w ≡ record { routes = routes_of settings.routes.items; world = opening (settings_seen settings) }) }
+{
     match World::new(alloc, settings) {
         Ok(world) => Ok(world),
         Err(WorldFault::OutOfMemory) => Err(AuditFault::OutOfMemory),

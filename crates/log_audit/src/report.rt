@@ -1,8 +1,10 @@
 //! What is told of logs.
 
-ghost use Rattle.std.specs.Prelude.{◌≡◌, true, false, IfOk};
+ghost use Rattle.std.specs.Prelude.{◌≡◌, true, false, map, IfOk};
+ghost use Rattle.world_setup.specs.Seen.{event_seen};
 ghost use Rattle.run_merge.specs.LogSeen.{logs_seen};
 ghost use Rattle.log_audit.specs.Judged.{IsTold};
+ghost use Rattle.log_audit.specs.Tabled.{run_csv, IsTextOf, IsUntold, IsTabled};
 
 use crate::fault::AuditFault;
 use crate::judging::{Verdict, judge};
@@ -47,7 +49,9 @@ pub enum Form {
 /// `OutOfMemory`.
 pub fn report_on(alloc: Global, audited: Audited, form: Form) -> Result<Report, AuditFault>
     // It is said that there is a run exactly where some events are a legal interleaving of the logs.
-    ensures { IfOk result (λ report. IsTold audited.settings (logs_seen audited.logs.items) report.legal) }
+    ensures told { IfOk result (λ report. IsTold audited.settings (logs_seen audited.logs.items) report.legal) }
+    // A table is that of the world which these events leave.
+    ensures table { IfOk result (λ report. IsTabled audited.settings (logs_seen audited.logs.items) form report.legal report.text.items) }
 {
     match judge(alloc, &audited.settings, audited.logs.as_slice())? {
         Verdict::Legal(events) => legal(alloc, audited, events.as_slice(), form),
@@ -62,7 +66,8 @@ fn legal(
     events: &[Event],
     form: Form,
 ) -> Result<Report, AuditFault>
-    ensures { IfOk result (λ report. report.legal ≡ true) }
+    ensures legal { IfOk result (λ report. report.legal ≡ true) }
+    ensures table { IfOk result (λ report. IsTextOf audited.settings (map event_seen events.now) form report.text.items) }
 {
     match form {
         Form::Lines => lines_of(alloc, audited, events),
@@ -74,7 +79,8 @@ fn legal(
 
 /// What is told of logs of no legal run.
 fn tangled(alloc: Global, audited: &Audited, form: Form) -> Result<Report, AuditFault>
-    ensures { IfOk result (λ report. report.legal ≡ false) }
+    ensures legal { IfOk result (λ report. report.legal ≡ false) }
+    ensures table { IfOk result (λ report. IsUntold form report.text.items) }
 {
     match form {
         Form::Lines => tangled_lines(alloc, audited),
@@ -103,7 +109,8 @@ fn table_of(
     events: &[Event],
     table: Table,
 ) -> Result<Report, AuditFault>
-    ensures { IfOk result (λ report. report.legal ≡ true) }
+    ensures legal { IfOk result (λ report. report.legal ≡ true) }
+    ensures table { IfOk result (λ report. report.text.items ≡ run_csv audited.settings (map event_seen events.now) table) }
 {
     let mut text = Vec::new(alloc);
     put_left_table(alloc, &mut text, audited.settings, events, table)?;
