@@ -90,7 +90,7 @@ impl<'a> Field<'a> {
     }
 
     /// No value.
-    pub fn nothing(name: &'static [u8]) -> Field<'a>
+    fn nothing(name: &'static [u8]) -> Field<'a>
         ensures { field_seen result ≡ record { name = name.now; value = NothingSeen } }
     {
         Field {
