@@ -1,5 +1,5 @@
 -- Rows, the line of names before them, and lists of them.
-use Rattle.std.specs.Prelude.{ℕ, List, [], ◌∷◌, ◌++◌, ◌-◌, length, take, codes}
+use Rattle.std.specs.Prelude.{◌≡◌, ℕ, List, [], ◌∷◌, ◌++◌, ◌-◌, length, take, codes}
 use Rattle.std.specs.List.{flat_map}
 use Rattle.table_text.specs.Members.{Member, Row}
 use Rattle.table_text.specs.Quoting.{csv_text, json_text}
@@ -23,7 +23,11 @@ csv_row row = separated csv_member row ++ codes "\n"
 unfoldable pub json_member : Member → List ℕ
 json_member m = json_text m.name ++ (codes ":" ++ json_value m.value)
 
--- a row as an object of JSON, on a line of its own and with a comma behind it
+-- a row as an object of JSON, on a line of its own
+unfoldable pub json_object : Row → List ℕ
+json_object row = codes "\n{" ++ (separated json_member row ++ codes "}")
+
+-- the same with a comma behind it
 unfoldable pub json_row : Row → List ℕ
 json_row row = codes "\n{" ++ (separated json_member row ++ codes "},")
 
@@ -42,3 +46,7 @@ head_text names = separated csv_text names ++ codes "\n"
 -- rows that were written as JSON, as a list: without the comma behind the last of them
 unfoldable pub list_text : List ℕ → List ℕ
 list_text rows = codes "[" ++ (take (length rows - 1) rows ++ codes "\n]")
+
+-- a list of rows is their objects with commas between them
+abbrev pub ListsAreSeparated : Type 0
+ListsAreSeparated = (rows : List Row) → list_text (rows_text Json rows) ≡ codes "[" ++ (separated json_object rows ++ codes "\n]")

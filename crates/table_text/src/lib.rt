@@ -5,10 +5,12 @@
 #![tactic(auto)]
 
 mod fields;
+mod laws;
 mod layout;
 mod quoting;
 mod values;
 
 pub use fields::{Cell, Field};
+pub use laws::lists_are_separated;
 pub use layout::{Style, put_head, put_list, put_row};
 pub use quoting::put_json_text;
