@@ -11,10 +11,10 @@ use thiserror::Error;
 #[derive(Debug, Drop, Error)]
 pub(crate) enum End {
     /// The words are wrong, or ask for help or for the version.
-    #[error("usage: claimaudit [--schedule] SETTINGS LOG...")]
+    #[error("usage: claimaudit [--csv payments|entries|rows|packets | --json | --schedule] SETTINGS LOG...")]
     Words(ClapError),
     /// The words are wrong.
-    #[error("usage: claimaudit [--schedule] SETTINGS LOG...")]
+    #[error("usage: claimaudit [--csv payments|entries|rows|packets | --json | --schedule] SETTINGS LOG...")]
     Usage,
     /// Memory was refused.
     #[error("out of memory")]

@@ -6,7 +6,7 @@ mod words;
 
 use crate::end::End;
 use crate::words::{Words, words_of};
-use log_audit::{AuditFault, Report, read_audited, report_on};
+use log_audit::{AuditFault, Form, Report, read_audited, report_on};
 use std::alloc::Global;
 use std::io::Write;
 use std::process::ExitCode;
@@ -39,6 +39,9 @@ fn run(rt: &HostRuntime) -> Result<bool, End> {
     let mut writer = rt.stdout();
     writer.write_all(report.text.as_slice())?;
     writer.flush()?;
+    if !report.legal && matches!(words.form, Form::Csv(_)) {
+        let _ = eprintln!(rt; "claimaudit: no legal run; without --csv it says why");
+    }
     Ok(report.legal)
 }
 
@@ -51,7 +54,7 @@ fn audit(rt: &HostRuntime, words: &Words<'_>) -> Result<Report, End> {
         logs.push(read(rt, name)?)?;
     }
     match read_audited(alloc, text, logs.as_slice()) {
-        Ok(audited) => Ok(report_on(alloc, audited, words.schedule)?),
+        Ok(audited) => Ok(report_on(alloc, audited, words.form)?),
         Err(fault) => Err(named(alloc, words, fault)),
     }
 }

@@ -2,6 +2,7 @@
 
 use crate::end::End;
 use clap::{Arg, ArgAction, Command};
+use log_audit::{Form, Table};
 use std::alloc::Global;
 
 /// The version that `-V` tells: that of the repository's change log.
@@ -14,8 +15,8 @@ pub(crate) struct Words<'a> {
     pub(crate) settings: &'a str,
     /// The files of the logs.
     pub(crate) logs: Vec<&'a str>,
-    /// Whether the input of a replay is told in place of the counts.
-    pub(crate) schedule: bool,
+    /// How the logs are told of.
+    pub(crate) form: Form,
 }
 
 /// What the command line names; its first word is the program's own name.
@@ -24,6 +25,15 @@ pub(crate) fn words_of<'a>(alloc: Global, given: &'a [String]) -> Result<Words<'
         .long("schedule")
         .action(ArgAction::SetTrue)
         .help("writes the input of a replay of the run in place of the counts");
+    let json = Arg::new(alloc, "json")
+        .long("json")
+        .action(ArgAction::SetTrue)
+        .help("writes one JSON object, with all tables of what the run left");
+    let csv = Arg::new(alloc, "csv")
+        .long("csv")
+        .value_name("TABLE")
+        .action(ArgAction::Set)
+        .help("writes a table of what the run left as CSV: payments, entries, rows or packets");
     let settings = Arg::new(alloc, "SETTINGS")
         .required(true)
         .action(ArgAction::Set)
@@ -38,17 +48,48 @@ pub(crate) fn words_of<'a>(alloc: Global, given: &'a [String]) -> Result<Words<'
         .about(
             "Tells whether the logs of all nodes are those of one legal run, and what that run left.",
         )
+        .arg(csv)?
+        .arg(json)?
         .arg(schedule)?
         .arg(settings)?
         .arg(logs)?;
     let matches = command.try_get_matches_from(given)?;
-    let schedule = matches.get_flag("schedule");
+    let form = form_of(
+        matches.get_flag("schedule"),
+        matches.get_flag("json"),
+        matches.get_str("csv"),
+    )?;
     match (matches.get_str("SETTINGS"), matches.get_strs("LOG")) {
         (Some(settings), Some(logs)) => Ok(Words {
             settings,
             logs: Vec::from_slice(alloc, logs)?,
-            schedule,
+            form,
         }),
         _ => Err(End::Usage),
+    }
+}
+
+/// How the logs are told of; one way at most is asked for.
+fn form_of(schedule: bool, json: bool, csv: Option<&str>) -> Result<Form, End> {
+    match (schedule, json, csv) {
+        (false, false, None) => Ok(Form::Lines),
+        (true, false, None) => Ok(Form::Schedule),
+        (false, true, None) => Ok(Form::Json),
+        (false, false, Some(name)) => match table_named(name) {
+            Some(table) => Ok(Form::Csv(table)),
+            None => Err(End::Usage),
+        },
+        _ => Err(End::Usage),
+    }
+}
+
+/// The table of a name.
+fn table_named(name: &str) -> Option<Table> {
+    match name {
+        "payments" => Some(Table::Payments),
+        "entries" => Some(Table::Entries),
+        "rows" => Some(Table::Rows),
+        "packets" => Some(Table::Packets),
+        _ => None,
     }
 }

@@ -1,1 +1,4 @@
 pub mod Judged
+pub mod Tabled
+pub mod Lacks
+pub mod Misfits

@@ -5,16 +5,19 @@
 mod fault;
 mod judging;
 mod ledger;
+mod left;
 mod misfits;
 mod missing;
 mod names;
+mod object;
 mod packets;
 mod reading;
 mod replaying;
 mod report;
 mod waiting;
 
+pub use audit_tables::Table;
 pub use fault::AuditFault;
 pub use judging::{Verdict, judge};
 pub use reading::{Audited, read_audited};
-pub use report::{Report, report_on};
+pub use report::{Form, Report, report_on};

@@ -23,8 +23,8 @@ pub(crate) fn put_misfits(
 {
     let before = out.len();
     for log in logs {
-        if let Some((place, misfit)) = first_misfit(alloc, settings, routes, log)? {
-            put_misfit(out, log, place, misfit)?;
+        if let Some(first) = first_misfit(alloc, settings, routes, log)? {
+            put_misfit(out, log, first.place, first.misfit)?;
         }
     }
     Ok(out.len() > before)

@@ -1,5 +1,10 @@
 //! Logs that are not one for each node.
 
+ghost use Rattle.std.specs.Prelude.{◌≡◌};
+ghost use Rattle.world_setup.specs.Seen.{node_seen};
+ghost use Rattle.run_merge.specs.LogSeen.{logs_seen};
+ghost use Rattle.log_audit.specs.Lacks.{count_of, lack_of};
+
 use crate::names::{end, put, put_node};
 use run_merge::{NodeLog, is_there};
 use std::alloc::AllocError;
@@ -23,9 +28,7 @@ pub(crate) fn put_missing(
     }
     for log in logs {
         if !is_there(settings, log.node()) {
-            put_node(out, log.node())?;
-            put(out, " is no node of these settings")?;
-            end(out)?;
+            put_line(out, log.node(), " is no node of these settings")?;
         }
     }
     Ok(out.len() > before)
@@ -38,29 +41,43 @@ fn small(number: usize) -> u16 {
 
 /// Tells that a node has no log, or more than one.
 fn put_lack(out: &mut Vec<u8>, logs: &[NodeLog], node: Node) -> Result<(), AllocError> {
-    let count = logs_of(logs, node);
-    if count == 1 {
-        return Ok(());
+    match lack_of(logs, node) {
+        Some(Lack::NoLog) => put_line(out, node, " has no log"),
+        Some(Lack::SeveralLogs) => put_line(out, node, " has more than one log"),
+        None => Ok(()),
     }
+}
+
+/// Appends a node, and what is said of it.
+fn put_line(out: &mut Vec<u8>, node: Node, said: &str) -> Result<(), AllocError> {
     put_node(out, node)?;
-    put(
-        out,
-        if count == 0 {
-            " has no log"
-        } else {
-            " has more than one log"
-        },
-    )?;
+    put(out, said)?;
     end(out)
 }
 
-/// How many logs are of this node.
-fn logs_of(logs: &[NodeLog], node: Node) -> usize {
-    let mut count = 0usize;
-    for log in logs {
-        if log.is_of(node) {
-            count = count.saturating_add(1);
-        }
+/// What is wrong with the number of a node's logs.
+#[derive(Clone, Copy, Debug, PartialEq, Eq)]
+pub(crate) enum Lack {
+    /// There is none.
+    NoLog,
+    /// There is more than one.
+    SeveralLogs,
+}
+
+/// What is wrong with the number of a node's logs; nothing exactly where it is one.
+fn lack_of(logs: &[NodeLog], node: Node) -> Option<Lack>
+    ensures { result ≡ lack_of (logs_seen logs.now) (node_seen node) }
+{
+    match logs_of(logs, node) {
+        0 => Some(Lack::NoLog),
+        1 => None,
+        _ => Some(Lack::SeveralLogs),
     }
-    count
+}
+
+/// How many logs are of this node.
+fn logs_of(logs: &[NodeLog], node: Node) -> usize
+    ensures { result ≡ count_of (logs_seen logs.now) (node_seen node) }
+{
+    logs.iter().filter(|log| log.is_of(node)).count()
 }

@@ -1,8 +1,11 @@
 //! One log, replayed by itself.
 
-ghost use Rattle.std.specs.Prelude.{◌≡◌, None};
-ghost use Rattle.claim_model.specs.Settings.{settings_fault};
-ghost use Rattle.world_setup.specs.Seen.{settings_seen};
+ghost use Rattle.std.specs.Prelude.{◌≡◌, ◌↔◌, map, None, IfOk, IsTrue, MatchOption};
+ghost use Rattle.claim_model.specs.Bytes.{bytes_with};
+ghost use Rattle.claim_model.specs.Settings.{opening, settings_fault};
+ghost use Rattle.claim_logs.specs.Nodes.{node_at};
+ghost use Rattle.world_setup.specs.Seen.{node_seen, sent_seen, settings_seen};
+ghost use Rattle.log_audit.specs.Misfits.{Does, DoesNot, IsFirst, IsFirstOf};
 
 use bin_routes::Routes;
 use node_state::NodeState;
@@ -23,57 +26,112 @@ pub(crate) enum Misfit {
     Bytes(usize, usize),
 }
 
-/// The first record that a log's node does not make, by its place, and what is wrong with it. A log of a node that is
-/// not there has none.
+/// The first call of a log that its node does not make as the log has it.
+#[derive(Clone, Copy)]
+pub(crate) struct FirstMisfit {
+    /// The place of its record, from 0.
+    pub(crate) place: usize,
+    /// What is wrong with it.
+    pub(crate) misfit: Misfit,
+}
+
+/// The first call that a log's node does not make as the log has it. A log of a node that is not there has none.
 pub(crate) fn first_misfit(
     alloc: Global,
     settings: &WorldSettings,
     routes: &Routes,
     log: &NodeLog,
-) -> Result<Option<(usize, Misfit)>, AllocError>
+) -> Result<Option<FirstMisfit>, AllocError>
     requires { settings_fault (settings_seen settings.now) ≡ None }
+    ensures { IfOk result (λ found. IsFirstOf (bytes_with routes.now) (node_at (opening (settings_seen settings.now)) (node_seen log.now.node)) log.now.calls.items found) }
 {
     if !is_there(settings, log.node()) {
         return Ok(None);
     }
     let mut node = NodeState::opening(alloc, settings, log.node())?;
-    for (place, one) in log.records().iter().enumerate() {
-        if let Some(misfit) = misfit_of(alloc, routes, &mut node, one)? {
-            return Ok(Some((place, misfit)));
+    misfit_among(alloc, routes, &mut node, log.records())
+}
+
+/// The first of these calls that a node does not make as its record has it.
+fn misfit_among(
+    alloc: Global,
+    routes: &Routes,
+    node: &mut NodeState,
+    records: &[Record],
+) -> Result<Option<FirstMisfit>, AllocError>
+    ensures { IfOk result (λ found. IsFirst (bytes_with routes.now) node.old records.now found) }
+{
+    for (place, one) in records.iter().enumerate() {
+        if let Some(misfit) = misfit_of(alloc, routes, node, one)? {
+            return Ok(Some(FirstMisfit { place, misfit }));
         }
     }
     Ok(None)
 }
 
-/// What is wrong with the call of a record.
+/// What is wrong with the call of a record; nothing exactly where the node makes it and sends what the record has.
 fn misfit_of(
     alloc: Global,
     routes: &Routes,
     node: &mut NodeState,
     one: &Record,
-) -> Result<Option<Misfit>, AllocError> {
+) -> Result<Option<Misfit>, AllocError>
+    ensures { IfOk result (λ found. MatchOption found (Does (bytes_with routes.now) node.old one.now node.new) (λ misfit. DoesNot (bytes_with routes.now) node.old one.now)) }
+{
     match node.step(alloc, routes, one.call()) {
-        Ok(sent) => Ok(difference(sent.as_slice(), one.sent())),
+        Ok(sent) => Ok(misfit_in(sent.as_slice(), one.sent())),
         Err(StepFault::OutOfMemory) => Err(AllocError),
         Err(fault) => Ok(Some(Misfit::Refused(fault.name()))),
     }
 }
 
+/// What is wrong with what a node sends; nothing exactly where the log has the same.
+fn misfit_in(made: &[Sent], kept: &[Sent]) -> Option<Misfit>
+    ensures { MatchOption result (map sent_seen made.now ≡ map sent_seen kept.now) (λ misfit. map sent_seen made.now ≡ map sent_seen kept.now → ⊥) }
+{
+    if is_same_sent(made, kept) {
+        None
+    } else {
+        Some(difference(made, kept))
+    }
+}
+
+/// Whether the same was sent: to the same nodes in the same order, with the same bytes.
+fn is_same_sent(a: &[Sent], b: &[Sent]) -> bool
+    ensures { IsTrue result ↔ (map sent_seen a.now ≡ map sent_seen b.now) }
+{
+    if a.len() != b.len() {
+        return false;
+    }
+    for (place, one) in a.iter().enumerate() {
+        if !is_same(one, &b[place]) {
+            return false;
+        }
+    }
+    true
+}
+
+/// Whether one packet is another: the same addressee and the same bytes.
+fn is_same(a: &Sent, b: &Sent) -> bool
+    ensures { IsTrue result ↔ (sent_seen a.now ≡ sent_seen b.now) }
+{
+    a.to == b.to && a.bytes == b.bytes
+}
+
 /// Where what a node sends differs from what the log has.
-fn difference(made: &[Sent], kept: &[Sent]) -> Option<Misfit> {
-    if made.len() != kept.len() {
-        return Some(Misfit::Count(made.len()));
-    }
-    for (place, (one, other)) in made.iter().zip(kept).enumerate() {
-        if one.to != other.to {
-            return Some(Misfit::Addressee(place));
+fn difference(made: &[Sent], kept: &[Sent]) -> Misfit {
+    if made.len() == kept.len() {
+        for (place, (one, other)) in made.iter().zip(kept).enumerate() {
+            if one.to != other.to {
+                return Misfit::Addressee(place);
+            }
+            if one.bytes != other.bytes {
+                let byte = first_difference(one.bytes.as_slice(), other.bytes.as_slice());
+                return Misfit::Bytes(place, byte);
+            }
         }
-        if one.bytes != other.bytes {
-            let byte = first_difference(one.bytes.as_slice(), other.bytes.as_slice());
-            return Some(Misfit::Bytes(place, byte));
-        }
     }
-    None
+    Misfit::Count(made.len())
 }
 
 /// How many bytes are the same before the first that differs, or that only one of them has.

@@ -1,0 +1,4 @@
+pub mod Joining
+pub mod Running
+pub mod Entering
+pub mod Authorizations

@@ -1,0 +1,15 @@
+use Rattle.std.proofs.lemmas.Result.{on_ok_weaker}
+use Rattle.table_text.specs.Rows.{rows_text, head_text}
+use Rattle.table_text.specs.declared.layout.Style.TheVariants.{Csv}
+use Rattle.world_core.specs.Parts.{context_of}
+use Rattle.audit_tables.specs.Tables.{table_names, table_rows, table_csv}
+use Rattle.audit_tables.proofs.Joining.{texts_join}
+use Rattle.audit_tables.proofs.table.put_csv.Goals as goal
+
+pub returns : goal.returns
+unfolding table_csv
+returns c =
+    let w = c.args.world.now in
+    on_ok_weaker c.put_table.result
+    (λ last. texts_join c.args.out.now.items c.put_names.new.out.items c.put_table.new.out.items (head_text (table_names c.args.table)) (rows_text Csv (table_rows (context_of w) w.world c.args.senders.now c.args.table)) c.in_ok-put_names.ensures last)
+    c.put_table.ensures

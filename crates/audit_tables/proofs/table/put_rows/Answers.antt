@@ -1,0 +1,11 @@
+use Rattle.audit_tables.specs.Tables.{node_rulings}
+use Rattle.audit_tables.proofs.Joining.{blocks_go_on, blocks_are_done}
+use Rattle.audit_tables.proofs.table.put_rows.Goals as goal
+
+pub loop-node-preserved : goal.loop-node-preserved
+loop-node-preserved c =
+    blocks_go_on c.args.style node_rulings c.loop-node.out.items c.put_book_rulings.new.out.items _ c.args.nodes.now c.loop-node.node-index c.node-item.result c.loop-node-test.true c.node-item.is
+    (rw (c.book-in-loop-node.ensures, c.in_ok-reading.ensures) at c.in_ok-put_book_rulings.ensures) c.loop-node.invariant
+
+pub returns : goal.returns
+returns c = blocks_are_done c.args.style node_rulings c.loop-node.out.items _ c.args.nodes.now c.loop-node.node-index c.loop-node-test.false c.loop-node.invariant

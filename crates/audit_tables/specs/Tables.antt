@@ -1,0 +1,83 @@
+-- The tables of what a run left.
+use Rattle.std.specs.Prelude.{ℕ, Bool, List, [], ◌∷◌, ◌++◌, codes}
+use Rattle.std.specs.List.{flat_map, list_any}
+use Rattle.claim_model.specs.Words.{Auth}
+use Rattle.claim_model.specs.Context.{Context}
+use Rattle.claim_model.specs.Counted.{Counted, counted}
+use Rattle.claim_model.specs.Held.{journal_in, book_in}
+use Rattle.claim_model.specs.Journal.{Journal, JournalAtRest}
+use Rattle.claim_model.specs.Node.{Power}
+use Rattle.claim_model.specs.Payments.{same_auth}
+use Rattle.claim_model.specs.Rows.{Book}
+use Rattle.claim_model.specs.World.{World}
+use Rattle.pharmacy_journal.specs.Listing.{listed}
+use Rattle.table_text.specs.Members.{Row}
+use Rattle.table_text.specs.Rows.{rows_text, head_text, list_text}
+use Rattle.table_text.specs.declared.layout.Style.TheVariants.{Csv, Json}
+use Rattle.audit_tables.specs.Payments.{book_payments}
+use Rattle.audit_tables.specs.Entries.{entry_rows}
+use Rattle.audit_tables.specs.Rulings.{book_rulings}
+use Rattle.audit_tables.specs.Packets.{packet_rows}
+use Rattle.audit_tables.specs.declared.table.Table.{Table}
+use Rattle.audit_tables.specs.declared.table.Table.TheVariants.{Payments, Entries, Rows, Packets}
+
+-- one of these payments has this authorization
+abbrev pub names_auth : List Counted → Auth → Bool
+names_auth cs auth = list_any (λ (c : Counted). same_auth c.auth auth) cs
+
+abbrev pub node_counted : Context → Power Journal JournalAtRest → List Counted
+node_counted ctx node = counted ctx (journal_in node)
+
+-- a pharmacy of the world counts the payment of this authorization
+abbrev pub is_counted : Context → List (Power Journal JournalAtRest) → Auth → Bool
+is_counted ctx nodes auth = names_auth (flat_map (node_counted ctx) nodes) auth
+
+abbrev pub node_payments : Context → (Auth → Bool) → Power Book Book → List Row
+node_payments ctx counted node = book_payments ctx counted (book_in node)
+
+-- the payments of all books
+abbrev pub world_payments : Context → World → List Row
+world_payments ctx w = flat_map (node_payments ctx (is_counted ctx w.pharmacies)) w.payers
+
+abbrev pub journal_rows : Context → JournalAtRest → List Row
+journal_rows ctx j = entry_rows j.number (listed j) (counted ctx j)
+
+abbrev pub node_entries : Context → Power Journal JournalAtRest → List Row
+node_entries ctx node = journal_rows ctx (journal_in node)
+
+-- the entries of all journals
+abbrev pub world_entries : Context → World → List Row
+world_entries ctx w = flat_map (node_entries ctx) w.pharmacies
+
+abbrev pub node_rulings : Power Book Book → List Row
+node_rulings node = book_rulings (book_in node)
+
+-- the rows of all books, a transaction each
+abbrev pub world_rulings : World → List Row
+world_rulings w = flat_map node_rulings w.payers
+
+-- the rows of a table of a world, where these events sent its packets
+abbrev pub table_rows : Context → World → List ℕ → Table → List Row
+table_rows ctx w senders Payments = world_payments ctx w
+table_rows ctx w senders Entries = world_entries ctx w
+table_rows ctx w senders Rows = world_rulings w
+table_rows ctx w senders Packets = packet_rows ctx w.packets senders
+
+-- the names of the columns of a table
+abbrev pub table_names : Table → List (List ℕ)
+table_names Payments =
+    codes "payer" ∷ codes "pharmacy" ∷ codes "number" ∷ codes "transaction" ∷ codes "authorization" ∷ codes "state" ∷ codes "reversed_by" ∷ codes "counted" ∷
+    codes "bin" ∷ codes "processor_control_number" ∷ codes "provider_qualifier" ∷ codes "provider" ∷ codes "prescription" ∷ codes "fill" ∷ codes "date_of_service" ∷
+    codes "cost_cents" ∷ codes "fee_cents" ∷ codes "copay_cents" ∷ codes "paid_cents" ∷ []
+table_names Entries = codes "pharmacy" ∷ codes "number" ∷ codes "kind" ∷ codes "transactions" ∷ codes "state" ∷ codes "counted_payments" ∷ codes "counted_cents" ∷ []
+table_names Rows =
+    codes "payer" ∷ codes "pharmacy" ∷ codes "number" ∷ codes "kind" ∷ codes "transaction" ∷ codes "ruling" ∷ codes "authorization" ∷ codes "reject_codes" ∷ []
+table_names Packets = codes "packet" ∷ codes "event" ∷ codes "from" ∷ codes "to" ∷ codes "carries" ∷ codes "pharmacy" ∷ codes "number" ∷ codes "bytes" ∷ []
+
+-- a table as CSV: the line of its columns' names, and a line for each row
+unfoldable pub table_csv : Context → World → List ℕ → Table → List ℕ
+table_csv ctx w senders table = head_text (table_names table) ++ rows_text Csv (table_rows ctx w senders table)
+
+-- a table as a list of JSON
+abbrev pub table_json : Context → World → List ℕ → Table → List ℕ
+table_json ctx w senders table = list_text (rows_text Json (table_rows ctx w senders table))

@@ -1,0 +1,48 @@
+-- Calls that a node makes one after another, up to the first that it does not.
+use Rattle.std.proofs.Common.{◌≡◌, ℕ, zero, suc, ◌+◌, ◌<◌, List, [], ◌∷◌, drop, length, get_or, map, refl, sym, ap, ◌∙◌, subst, arith}
+use Rattle.std.proofs.lemmas.List.{at_drop_more}
+use Rattle.std.specs.Prelude.{Option, Some, None, MatchOption}
+use Rattle.claim_model.specs.Context.{Context}
+use Rattle.claim_model.specs.Node.{Outcome}
+use Rattle.claim_logs.specs.Nodes.{AnyNode}
+use Rattle.claim_logs.specs.Logs.{Logged}
+use Rattle.run_merge.specs.Order.{FitsBy, Fits}
+use Rattle.log_audit.specs.Misfits.{Does, DoesNot, BreaksAt}
+
+-- what these calls come to from this state, all calls come to from that one, so many calls before
+pub record Leads (ctx : Context) (s : AnyNode) (calls : List Logged) (t : AnyNode) (all : List Logged) (passed : ℕ) : Type 0 where
+  pub fits : Fits ctx s calls → Fits ctx t all
+  pub breaks : (p q : ℕ) → q ≡ passed + p → BreaksAt ctx s calls p → BreaksAt ctx t all q
+
+pub leads_self : (ctx : Context) (s : AnyNode) (calls : List Logged) → Leads ctx s calls s calls 0
+leads_self ctx s calls = record {
+  fits = λ h. h;
+  breaks = λ p q e h. let same : p ≡ q = omega arith in subst (λ (x : ℕ). BreaksAt ctx s calls x) same h;
+}
+
+pub leads_step : (ctx : Context) (s after t : AnyNode) (r : Logged) (calls all : List Logged) (passed : ℕ) → Does ctx s r after → Leads ctx s (r ∷ calls) t all passed → Leads ctx after calls t all (passed + 1)
+leads_step ctx s after t r calls all passed e f = record {
+  fits = λ h. f.fits (subst (λ (o : Outcome AnyNode). FitsBy (λ x. Fits ctx x calls) r.sent o) (sym e) (refl, h));
+  breaks = λ p q is h. f.breaks (suc p) q (omega arith) (subst (λ (o : Outcome AnyNode). FitsBy (λ x. BreaksAt ctx x calls p) r.sent o) (sym e) (refl, h));
+}
+
+pub breaks_here : (ctx : Context) (s t : AnyNode) (r : Logged) (calls all : List Logged) (passed : ℕ) → DoesNot ctx s r → Leads ctx s (r ∷ calls) t all passed → BreaksAt ctx t all passed
+breaks_here ctx s t r calls all passed n f = f.breaks 0 passed (omega arith) n
+
+pub all_fit : (ctx : Context) (s t : AnyNode) (all : List Logged) (passed : ℕ) → Leads ctx s [] t all passed → Fits ctx t all
+all_fit ctx s t all passed f = f.fits tt
+
+pub drop_at : (xs : List Logged) (k : ℕ) (r : Logged) → k < length xs → r ≡ get_or xs k r → drop k xs ≡ r ∷ drop (k + 1) xs
+drop_at xs k r h e = at_drop_more (λ (left : List Logged). left) xs k r h ∙ ap (λ (x : Logged). x ∷ drop (k + 1) xs) (sym e)
+
+-- what is said of no misfit, where there is none
+pub does_it : {A : Type 0} (found : Option A) (P : Type 0) (Q : A → Type 0) → ((x : A) → found ≡ Some x → ⊥) → MatchOption found P Q → P
+does_it None P Q n h = h
+does_it (Some x) P Q n h = absurd (n x refl)
+
+-- equal lists, seen, have equal elements, seen, at each place
+pub same_at : {A B : Type 0} (f : A → B) (a b : List A) (k : ℕ) (x y : A) → k < length a → k < length b → x ≡ get_or a k x → y ≡ get_or b k y → map f a ≡ map f b → f x ≡ f y
+same_at f [] b k x y h g p q e = absurd (omega arith)
+same_at f (p ∷ a) [] k x y h g s t e = absurd (omega arith)
+same_at f (p ∷ a) (q ∷ b) zero x y h g s t e = let u : f p ≡ f q = cc in ap f s ∙ (u ∙ ap f (sym t))
+same_at f (p ∷ a) (q ∷ b) (suc k) x y h g s t e = same_at f a b k x y (omega arith) (omega arith) s t cc

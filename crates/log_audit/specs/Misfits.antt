@@ -1,0 +1,32 @@
+-- The first call of a log that its node does not make.
+use Rattle.std.specs.Prelude.{◌≡◌, ℕ, zero, suc, List, [], ◌∷◌, Option, Some, None}
+use Rattle.claim_model.specs.Context.{Context}
+use Rattle.claim_model.specs.Node.{Done}
+use Rattle.claim_logs.specs.Nodes.{AnyNode, node_step}
+use Rattle.claim_logs.specs.Logs.{Logged}
+use Rattle.run_merge.specs.Order.{FitsBy, Fits}
+use Rattle.log_audit.specs.declared.replaying.FirstMisfit.{FirstMisfit}
+
+-- a node makes a call as the log has it, and is then in this state
+abbrev pub Does : Context → AnyNode → Logged → AnyNode → Type 0
+Does ctx s r after = node_step ctx s r.call ≡ Done after r.sent
+
+-- a node refuses a call, or sends with it what the log does not have
+abbrev pub DoesNot : Context → AnyNode → Logged → Type 0
+DoesNot ctx s r = (after : AnyNode) → Does ctx s r after → ⊥
+
+-- of these calls, the one at this place, from 0, is the first that a node in this state does not make as the log has it
+abbrev pub BreaksAt : Context → AnyNode → List Logged → ℕ → Type 0
+BreaksAt ctx s [] place = ⊥
+BreaksAt ctx s (r ∷ more) zero = DoesNot ctx s r
+BreaksAt ctx s (r ∷ more) (suc place) = FitsBy (λ after. BreaksAt ctx after more place) r.sent (node_step ctx s r.call)
+
+-- the first misfit of these calls, where there is one; else all of them fit
+abbrev pub IsFirst : Context → AnyNode → List Logged → Option FirstMisfit → Type 0
+IsFirst ctx s calls None = Fits ctx s calls
+IsFirst ctx s calls (Some first) = BreaksAt ctx s calls first.place
+
+-- the same of a node that may not be there: it has none then
+abbrev pub IsFirstOf : Context → Option AnyNode → List Logged → Option FirstMisfit → Type 0
+IsFirstOf ctx None calls found = found ≡ None
+IsFirstOf ctx (Some s) calls found = IsFirst ctx s calls found

@@ -1,0 +1,69 @@
+//! What a run left: as counts, as one table, or as all tables.
+
+ghost use Rattle.std.specs.Prelude.{◌≡◌, ◌++◌, map, IfOk, OnOk};
+ghost use Rattle.bin_routes.specs.Table.{routes_of};
+ghost use Rattle.claim_model.specs.Settings.{opening};
+ghost use Rattle.world_setup.specs.Seen.{event_seen, settings_seen};
+ghost use Rattle.log_audit.specs.Tabled.{run_csv};
+
+use crate::fault::AuditFault;
+use crate::ledger::put_ledger;
+use audit_tables::{Table, put_csv, put_json, run_noting};
+use std::alloc::Global;
+use world_core::World;
+use world_setup::{Event, WorldFault, WorldSettings};
+
+/// Appends the counts of what a run of these events left.
+pub(crate) fn put_left_counts(
+    alloc: Global,
+    text: &mut Vec<u8>,
+    settings: WorldSettings,
+    events: &[Event],
+) -> Result<(), AuditFault> {
+    let mut world = opened(alloc, settings)?;
+    if world.run(events).is_err() {
+        return Err(AuditFault::OutOfMemory);
+    }
+    put_ledger(alloc, text, &world)?;
+    Ok(())
+}
+
+/// Appends a table of what a run of these events left, as CSV.
+pub(crate) fn put_left_table(
+    alloc: Global,
+    text: &mut Vec<u8>,
+    settings: WorldSettings,
+    events: &[Event],
+    table: Table,
+) -> Result<(), AuditFault>
+    ensures { OnOk result (text.new.items ≡ text.old.items ++ run_csv settings (map event_seen events.now) table) }
+{
+    let mut world = opened(alloc, settings)?;
+    let senders = run_noting(alloc, &mut world, events)?;
+    put_csv(alloc, text, &world, senders.as_slice(), table)?;
+    Ok(())
+}
+
+/// Appends all tables of what a run of these events left, as members of an object of JSON, each behind a comma.
+pub(crate) fn put_left_tables(
+    alloc: Global,
+    text: &mut Vec<u8>,
+    settings: WorldSettings,
+    events: &[Event],
+) -> Result<(), AuditFault> {
+    let mut world = opened(alloc, settings)?;
+    let senders = run_noting(alloc, &mut world, events)?;
+    put_json(alloc, text, &world, senders.as_slice())?;
+    Ok(())
+}
+
+/// The opening world of these settings.
+fn opened(alloc: Global, settings: WorldSettings) -> Result<World, AuditFault>
+    ensures { IfOk result (λ w. w ≡ record { routes = routes_of settings.routes.items; world = opening (settings_seen settings) }) }
+{
+    match World::new(alloc, settings) {
+        Ok(world) => Ok(world),
+        Err(WorldFault::OutOfMemory) => Err(AuditFault::OutOfMemory),
+        Err(fault) => Err(AuditFault::World(fault)),
+    }
+}

@@ -1,0 +1,5 @@
+pub mod Members
+pub mod Seen
+pub mod Quoting
+pub mod Values
+pub mod Rows
