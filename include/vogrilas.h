@@ -26,6 +26,7 @@
 **     go from one thread to another, if a lock, or the start or the end of a thread, stands between its calls.
 **   - Pointers are never NULL, also where a size is 0, and lead to so much memory as the size says. What a call writes to does
 **     not overlap anything else that it is lent.
+**   - Who chooses prescription numbers can make a payer slow, and change no answer: the maps of the library have fixed keys.
 **   - malloc, realloc and free are one allocator's, and align as the C standard asks. No call is made in a signal handler, nor
 **     in the child that a process with threads has forked.
 */
