@@ -2,3 +2,4 @@ pub mod Joining
 pub mod Running
 pub mod Entering
 pub mod Authorizations
+pub mod Naming

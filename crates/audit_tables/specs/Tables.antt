@@ -1,5 +1,5 @@
 -- The tables of what a run left.
-use Rattle.std.specs.Prelude.{ℕ, Bool, List, [], ◌∷◌, ◌++◌, codes}
+use Rattle.std.specs.Prelude.{ℕ, Bool, List, [], ◌∷◌, ◌++◌, codes, map}
 use Rattle.std.specs.List.{flat_map, list_any}
 use Rattle.claim_model.specs.Words.{Auth}
 use Rattle.claim_model.specs.Context.{Context}
@@ -11,7 +11,7 @@ use Rattle.claim_model.specs.Payments.{same_auth}
 use Rattle.claim_model.specs.Rows.{Book}
 use Rattle.claim_model.specs.World.{World}
 use Rattle.pharmacy_journal.specs.Listing.{listed}
-use Rattle.table_text.specs.Members.{Row}
+use Rattle.table_text.specs.Members.{Member, Row}
 use Rattle.table_text.specs.Rows.{rows_text, head_text, list_text}
 use Rattle.table_text.specs.declared.layout.Style.TheVariants.{Csv, Json}
 use Rattle.audit_tables.specs.Payments.{book_payments}
@@ -74,6 +74,10 @@ table_names Rows =
     codes "payer" ∷ codes "pharmacy" ∷ codes "number" ∷ codes "kind" ∷ codes "transaction" ∷ codes "ruling" ∷ codes "authorization" ∷ codes "reject_codes" ∷ []
 table_names Packets = codes "packet" ∷ codes "event" ∷ codes "from" ∷ codes "to" ∷ codes "carries" ∷ codes "pharmacy" ∷ codes "number" ∷ codes "bytes" ∷ []
 
+-- the names of the columns of a row
+abbrev pub names_in : Row → List (List ℕ)
+names_in row = map (λ (m : Member). m.name) row
+
 -- a table as CSV: the line of its columns' names, and a line for each row
 unfoldable pub table_csv : Context → World → List ℕ → Table → List ℕ
 table_csv ctx w senders table = head_text (table_names table) ++ rows_text Csv (table_rows ctx w senders table)
@@ -81,3 +85,19 @@ table_csv ctx w senders table = head_text (table_names table) ++ rows_text Csv (
 -- a table as a list of JSON
 abbrev pub table_json : Context → World → List ℕ → Table → List ℕ
 table_json ctx w senders table = list_text (rows_text Json (table_rows ctx w senders table))
+
+-- its name there
+abbrev pub table_name : Table → List ℕ
+table_name Payments = codes "payments"
+table_name Entries = codes "entries"
+table_name Rows = codes "rows"
+table_name Packets = codes "packets"
+
+-- a table as a member of an object of JSON, behind a comma
+unfoldable pub table_member : Context → World → List ℕ → Table → List ℕ
+table_member ctx w senders table = codes ",\n\"" ++ (table_name table ++ (codes "\":" ++ table_json ctx w senders table))
+
+-- all tables as members
+unfoldable pub table_members : Context → World → List ℕ → List ℕ
+table_members ctx w senders =
+    table_member ctx w senders Payments ++ (table_member ctx w senders Entries ++ (table_member ctx w senders Rows ++ table_member ctx w senders Packets))

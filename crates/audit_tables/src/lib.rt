@@ -6,6 +6,7 @@ mod columns;
 mod counted;
 mod entries;
 mod kinds;
+mod laws;
 mod packets;
 mod payments;
 mod rows;
@@ -13,5 +14,6 @@ mod senders;
 mod table;
 
 pub use kinds::node_field;
+pub use laws::rows_have_their_columns;
 pub use senders::run_noting;
 pub use table::{Table, put_csv, put_json};

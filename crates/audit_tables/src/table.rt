@@ -7,7 +7,7 @@ ghost use Rattle.claim_model.specs.Bytes.{bytes_with};
 ghost use Rattle.world_core.specs.Parts.{context_of};
 ghost use Rattle.table_text.specs.Rows.{rows_text, head_text};
 ghost use Rattle.audit_tables.specs.Payments.{has_auth};
-ghost use Rattle.audit_tables.specs.Tables.{node_payments, node_entries, node_rulings, world_payments, table_rows, table_names, table_csv, table_json};
+ghost use Rattle.audit_tables.specs.Tables.{node_payments, node_entries, node_rulings, world_payments, table_rows, table_names, table_csv, table_json, table_name, table_member, table_members};
 
 use crate::columns::{put_entry_names, put_packet_names, put_payment_names, put_row_names};
 use crate::counted::counted_auths;
@@ -37,7 +37,9 @@ pub enum Table {
 
 impl Table {
     /// Its name in JSON.
-    fn name(self) -> &'static [u8] {
+    fn name(self) -> &'static [u8]
+        ensures { result.now ≡ table_name self }
+    {
         match self {
             Table::Payments => b"payments",
             Table::Entries => b"entries",
@@ -68,7 +70,9 @@ pub fn put_json(
     out: &mut Vec<u8>,
     world: &World,
     senders: &[u64],
-) -> Result<(), AllocError> {
+) -> Result<(), AllocError>
+    ensures { OnOk result (out.new.items ≡ out.old.items ++ table_members (context_of world.now) world.now.world senders.now) }
+{
     put_member(alloc, out, world, senders, Table::Payments)?;
     put_member(alloc, out, world, senders, Table::Entries)?;
     put_member(alloc, out, world, senders, Table::Rows)?;
@@ -82,7 +86,9 @@ fn put_member(
     world: &World,
     senders: &[u64],
     table: Table,
-) -> Result<(), AllocError> {
+) -> Result<(), AllocError>
+    ensures { OnOk result (out.new.items ≡ out.old.items ++ table_member (context_of world.now) world.now.world senders.now table) }
+{
     out.extend_from_slice(b",\n\"")?;
     out.extend_from_slice(table.name())?;
     out.extend_from_slice(b"\":")?;

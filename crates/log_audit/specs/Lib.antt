@@ -2,3 +2,4 @@ pub mod Judged
 pub mod Tabled
 pub mod Lacks
 pub mod Misfits
+pub mod Waits

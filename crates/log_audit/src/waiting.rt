@@ -1,9 +1,16 @@
 //! Logs of which each fits its node, and which no order of their calls brings together.
 
+ghost use Rattle.std.specs.Prelude.{◌≡◌, map};
+ghost use Rattle.std.specs.List.{list_any};
+ghost use Rattle.claim_logs.specs.Nodes.{same_node};
+ghost use Rattle.world_setup.specs.Seen.{node_seen, sent_seen};
+ghost use Rattle.run_merge.specs.LogSeen.{log_seen};
+ghost use Rattle.log_audit.specs.Waits.{sends, has_sent, is_packet};
+
 use crate::names::{end, put, put_call, put_node};
 use crate::packets::put_packet;
 use octets::Octets;
-use run_merge::NodeLog;
+use run_merge::{NodeLog, Record};
 use std::alloc::{AllocError, Global};
 use std::collections::BTreeSet;
 use world_setup::{Call, Node, Sent};
@@ -125,25 +132,68 @@ fn put_wait(
 }
 
 /// Whether some call of a node sent these bytes to that node.
-fn is_sent(logs: &[NodeLog], from: Node, to: Node, bytes: &Octets) -> bool {
-    for log in logs {
-        if log.is_of(from) && has_sent(log, to, bytes) {
-            return true;
-        }
-    }
-    false
+fn is_sent(logs: &[NodeLog], from: Node, to: Node, bytes: &Octets) -> bool
+    ensures { result ≡ list_any (λ log. sends (node_seen from) (node_seen to) bytes.now (log_seen log)) logs.now }
+{
+    logs.iter().any(|log| sends(log, from, to, bytes))
 }
 
-/// Whether some call of a log sent these bytes to that node.
-fn has_sent(log: &NodeLog, to: Node, bytes: &Octets) -> bool {
-    for one in log.records() {
-        for sent in one.sent() {
-            if sent.to == to && sent.bytes == *bytes {
-                return true;
-            }
-        }
+/// Whether a log is of a node, and some call of it sent these bytes to that node.
+fn sends(log: &NodeLog, from: Node, to: Node, bytes: &Octets) -> bool
+    ensures { result ≡ sends (node_seen from) (node_seen to) bytes.now (log_seen log.now) }
+{
+    log.is_of(from) && has_sent(log.records(), to, bytes)
+}
+
+/// Whether some of these calls sent these bytes to that node.
+fn has_sent(records: &[Record], to: Node, bytes: &Octets) -> bool
+    ensures { result ≡ list_any (has_sent (node_seen to) bytes.now) records.now }
+{
+    records.iter().any(|one| is_among(one.sent(), to, bytes))
+}
+
+/// Whether these bytes are among packets to that node.
+fn is_among(sent: &[Sent], to: Node, bytes: &Octets) -> bool
+    ensures { result ≡ list_any (is_packet (node_seen to) bytes.now) (map sent_seen sent.now) }
+{
+    is_any(sent, to, bytes)
+}
+
+/// Whether one of these packets is of these bytes, and to that node.
+fn is_any(sent: &[Sent], to: Node, bytes: &Octets) -> bool
+    ensures { result ≡ list_any (λ one. is_packet (node_seen to) bytes.now (sent_seen one)) sent.now }
+{
+    sent.iter().any(|one| is_packet(one, to, bytes))
+}
+
+/// Whether a packet is of these bytes, and to that node.
+fn is_packet(sent: &Sent, to: Node, bytes: &Octets) -> bool
+    ensures { result ≡ is_packet (node_seen to) bytes.now (sent_seen sent.now) }
+{
+    is_same_node(sent.to, to) && sent.bytes == *bytes
+}
+
+/// Whether two names are of one node.
+fn is_same_node(a: Node, b: Node) -> bool
+    ensures { result ≡ same_node (node_seen a) (node_seen b) }
+{
+    match a {
+        Node::Pharmacy(n) => match b {
+            Node::Pharmacy(m) => n == m,
+            Node::Switch(_) => false,
+            Node::Payer(_) => false,
+        },
+        Node::Switch(n) => match b {
+            Node::Pharmacy(_) => false,
+            Node::Switch(m) => n == m,
+            Node::Payer(_) => false,
+        },
+        Node::Payer(n) => match b {
+            Node::Pharmacy(_) => false,
+            Node::Switch(_) => false,
+            Node::Payer(m) => n == m,
+        },
     }
-    false
 }
 
 /// A packet as a key.
