@@ -188,6 +188,16 @@ vogrilas_code vogrilas_print(const void *bytes, size_t bytes_size, void *buffer,
 */
 vogrilas_code vogrilas_unprint(const void *text, size_t text_size, void *buffer, size_t room, size_t *size);
 
+/*
+** Copies a description of a message, as claimdecode writes it: each field with its place, number, name and value, and what it
+** means; the reasons for which a request is rejected; the rulings of an answer. A request, an answer, an envelope or a record
+** of a journal or a book is told by its first two bytes. `json` is 0 for lines for people, and anything else for one object of
+** JSON, whose members docs/FORMATS.md has. VOGRILAS_OK and VOGRILAS_SHORT_BUFFER are as of vogrilas_records(). Here it is
+** proved that nothing is written at any other code than VOGRILAS_OK; what is written is tested.
+*/
+vogrilas_code vogrilas_describe(const void *message, size_t message_size, uint32_t json, void *buffer, size_t room,
+                                size_t *size);
+
 #ifdef __cplusplus
 }
 #endif

@@ -167,6 +167,32 @@ static void try_texts(void) {
     check(vogrilas_print("", 0, text, 0, &size) == VOGRILAS_OK && size == 0, "no bytes");
 }
 
+/* Messages of any bytes are described, in lines and as JSON, and a buffer is enough or unchanged. */
+static void try_descriptions(void) {
+    static char message[MOST], lines[MOST], again[MOST];
+    size_t message_size = 0, size = 0, other = 0;
+    check(vogrilas_unprint(line + 7, line_size - 7, message, MOST, &message_size) == VOGRILAS_OK, "the bytes of the request");
+    for (uint32_t json = 0; json < 2; json++) {
+        check(vogrilas_describe(message, message_size, json, lines, MOST, &size) == VOGRILAS_OK && size > 0, "a description");
+        memset(again, 'x', sizeof again);
+        check(vogrilas_describe(message, message_size, json, again, size - 1, &other) == VOGRILAS_SHORT_BUFFER && other == size,
+              "a description too long");
+        check(again[0] == 'x' && memchr(again, '1', size) == NULL, "a buffer that is too short is unchanged");
+        check(vogrilas_describe(message, message_size, json, again, size, &other) == VOGRILAS_OK && memcmp(lines, again, size) == 0,
+              "the same description");
+        for (size_t cut = 0; cut < message_size; cut++)
+            check(vogrilas_describe(message, cut, json, lines, MOST, &size) == VOGRILAS_OK, "a message that is cut off");
+    }
+    for (long turn = 0;; turn++) {
+        left = turn;
+        vogrilas_code code = vogrilas_describe(message, message_size, 1, again, MOST, &size);
+        left = -1;
+        check(code == VOGRILAS_OK || code == VOGRILAS_NO_MEMORY, "memory refused while a message is described");
+        check(lent == 0, "memory is given back");
+        if (code == VOGRILAS_OK) break;
+    }
+}
+
 /* Bytes in place of lines: the same records, and the same is written. */
 static void try_typed(void) {
     vogrilas_node by_line = VOGRILAS_NODE_INIT, by_bytes = VOGRILAS_NODE_INIT;
@@ -242,6 +268,7 @@ int main(int count, char **words) {
     try_texts();
     try_typed();
     lent = 0;
+    try_descriptions();
     try_memory();
     for (vogrilas_code code = 0; code <= VOGRILAS_BAD_TEXT; code++)
         check(strcmp(vogrilas_code_text(code), vogrilas_code_text(99)) != 0, "a code has words");

@@ -116,6 +116,13 @@ class Trials(unittest.TestCase):
         self.assertEqual(vogrilas.printed(b""), b"")
         self.assertEqual(self.fails(Code.BAD_TEXT, vogrilas.unprinted, b"ab\\q").place, 2)
 
+    def test_descriptions(self):
+        self.assertTrue(vogrilas.described(REQUEST).startswith(f"line 1: request of {len(REQUEST)} bytes\n"))
+        told = vogrilas.decoded(REQUEST)
+        self.assertEqual((told["kind"], told["bytes"]), ("request", len(REQUEST)))
+        self.assertEqual(told["findings"][0]["transaction"], 1)
+        self.assertEqual(vogrilas.decoded(b"")["kind"], "request")
+
     def test_threads(self):
         pharmacy = self.opened("ph1")
         numbers = []

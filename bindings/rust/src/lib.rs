@@ -172,6 +172,27 @@ pub fn unprinted(text: &[u8]) -> Result<Vec<u8>, Error> {
     })
 }
 
+/// How a message is described.
+#[derive(Clone, Copy, Debug, PartialEq, Eq)]
+pub enum Style {
+    /// Lines for people.
+    Lines,
+    /// One object of JSON.
+    Json,
+}
+
+/// What is in a message, and why it is rejected, as `claimdecode` tells it.
+///
+/// # Errors
+/// `NoMemory`.
+pub fn described(message: &[u8], style: Style) -> Result<Vec<u8>, Error> {
+    let json = u32::from(style == Style::Json);
+    // SAFETY: the pointer leads to as many bytes as are said, and `copied` lends as many as it says.
+    copied(1 << 14, |at, room, size| unsafe {
+        sys::vogrilas_describe(message.as_ptr(), message.len(), json, at, room, size)
+    })
+}
+
 /// The bytes that a call copies into a buffer, which grows once where it is too short.
 fn copied(room: usize, mut call: impl FnMut(*mut u8, usize, &mut usize) -> u32) -> Result<Vec<u8>, Error> {
     let mut bytes = vec![0; room];

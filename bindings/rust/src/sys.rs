@@ -38,4 +38,12 @@ extern "C" {
     pub(crate) fn vogrilas_close(node: &mut Handle);
     pub(crate) fn vogrilas_print(bytes: *const u8, bytes_size: usize, buffer: *mut u8, room: usize, size: &mut usize) -> u32;
     pub(crate) fn vogrilas_unprint(text: *const u8, text_size: usize, buffer: *mut u8, room: usize, size: &mut usize) -> u32;
+    pub(crate) fn vogrilas_describe(
+        message: *const u8,
+        message_size: usize,
+        json: u32,
+        buffer: *mut u8,
+        room: usize,
+        size: &mut usize,
+    ) -> u32;
 }

@@ -1,6 +1,6 @@
 //! Trials of a node, with the settings and the request of examples/embed.
 
-use vogrilas::{printed, unprinted, Code, Error, Node, Opened};
+use vogrilas::{described, printed, unprinted, Code, Error, Node, Opened, Style};
 
 const SETTINGS: &[u8] = include_bytes!("../../../examples/embed/settings.toml");
 const REQUEST: &[u8] = include_bytes!("../../../examples/embed/request");
@@ -97,6 +97,14 @@ fn texts_spell_every_byte() {
     assert_eq!(unprinted(&printed(&every).unwrap()).unwrap(), every);
     assert_eq!(unprinted(b"ab\\q"), Err(Error { code: Code::BadText, place: Some(2) }));
     assert_eq!(printed(b""), Ok(Vec::new()));
+}
+
+#[test]
+fn messages_are_described() {
+    let request = unprinted(REQUEST.strip_suffix(b"\n").unwrap()).unwrap();
+    let lines = String::from_utf8(described(&request, Style::Lines).unwrap()).unwrap();
+    assert!(lines.starts_with("line 1: request of ") && lines.contains("101-A1  BIN number"), "{lines}");
+    assert!(described(&request, Style::Json).unwrap().starts_with(b"{\"line\":1,\"kind\":\"request\""));
 }
 
 #[test]

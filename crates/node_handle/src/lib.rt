@@ -4,13 +4,16 @@
 //! the box out, works on it, and puts it back.
 #![tactic(auto)]
 
+mod describing;
 mod handle;
 mod part;
 mod reading;
 mod refusal;
 mod typed;
 
+pub use describing::describe;
 pub use handle::NodeHandle;
+pub use message_words::Style;
 pub use part::Part;
 pub use reading::{print, unprint};
 pub use refusal::{Refusal, number_of};

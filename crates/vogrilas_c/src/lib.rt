@@ -5,7 +5,7 @@
 //! thread, waits, or reads or writes a file.
 #![tactic(auto)]
 
-ghost use Rattle.std.specs.Prelude.{◌≡◌};
+ghost use Rattle.std.specs.Prelude.{◌≡◌, IfErr};
 ghost use Rattle.std.specs.Option.{option_map};
 ghost use Rattle.std.specs.declared.option.Option.TheVariants.{None};
 ghost use Rattle.node_handle.specs.Numbers.{Says};
@@ -13,7 +13,7 @@ ghost use Rattle.node_handle.specs.Calls.{Clears, Copies, Counts, Opens, Serves,
 ghost use Rattle.node_handle.specs.Texts.{Prints, Unprints};
 ghost use Rattle.node_handle.specs.Typed.{Takes, submit_line};
 
-use node_handle::{NodeHandle, number_of, print, unprint};
+use node_handle::{NodeHandle, Style, describe, number_of, print, unprint};
 use std::alloc::Global;
 
 /// The version of the library: a million for the first number, a thousand for the second, one for the third.
@@ -148,4 +148,19 @@ pub extern "C" fn vogrilas_unprint(
     ensures { Says result (λ said. Unprints text.now said buffer.old buffer.new size.old size.new) }
 {
     number_of(unprint(alloc, text, buffer, size))
+}
+
+/// Copies the description of a message: an object of JSON where `json` is not 0, else lines for people.
+#[unsafe(no_mangle)]
+pub extern "C" fn vogrilas_describe(
+    alloc: Global,
+    message: &[u8],
+    json: u32,
+    buffer: &mut [u8],
+    size: &mut usize,
+) -> u32
+    ensures { Says result (λ said. IfErr said (λ _. buffer.new ≡ buffer.old)) }
+{
+    let style = if json == 0 { Style::Lines } else { Style::Json };
+    number_of(describe(alloc, style, message, buffer, size))
 }

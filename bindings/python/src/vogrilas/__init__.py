@@ -13,7 +13,20 @@ any thread: a lock lets one call in at a time.
 """
 
 from ._file_node import FileNode
-from ._node import Code, Node, Packet, Refused, Said, VogrilasError, printed, read_said, unprinted
+from ._node import Code, Node, Packet, Refused, Said, VogrilasError, decoded, described, printed, read_said, unprinted
 
-__all__ = ["Code", "FileNode", "Node", "Packet", "Refused", "Said", "VogrilasError", "printed", "read_said", "unprinted"]
+__all__ = [
+    "Code",
+    "FileNode",
+    "Node",
+    "Packet",
+    "Refused",
+    "Said",
+    "VogrilasError",
+    "decoded",
+    "described",
+    "printed",
+    "read_said",
+    "unprinted",
+]
 __version__ = "0.6.0"

@@ -34,6 +34,7 @@ _CALLS = {
     "close": [_NODE],
     "print": [*_BYTES, *_BUFFER],
     "unprint": [*_BYTES, *_BUFFER],
+    "describe": [*_BYTES, ctypes.c_uint32, *_BUFFER],
 }
 
 

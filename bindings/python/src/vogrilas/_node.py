@@ -4,6 +4,7 @@ from __future__ import annotations
 
 import ctypes
 import enum
+import json
 import threading
 from dataclasses import dataclass
 from typing import Any, Callable, Optional
@@ -98,6 +99,20 @@ def printed(data: bytes) -> bytes:
 def unprinted(text: bytes) -> bytes:
     """The bytes that a text spells. Raises VogrilasError with BAD_TEXT where it spells none."""
     return _copied(LIBRARY.vogrilas_unprint, text, len(text), room=len(text))
+
+
+def described(message: bytes) -> str:
+    """What is in a message, and why it is rejected, in lines for people, as claimdecode tells it."""
+    return _described(message, 0).decode("ascii")
+
+
+def decoded(message: bytes) -> dict[str, Any]:
+    """The same as claimdecode's object of JSON: `kind`, `parts`, `findings` and so on."""
+    return json.loads(_described(message, 1))
+
+
+def _described(message: bytes, style: int) -> bytes:
+    return _copied(LIBRARY.vogrilas_describe, message, len(message), style, room=1 << 14)
 
 
 class Node:
