@@ -26,7 +26,6 @@
 **     go from one thread to another, if a lock, or the start or the end of a thread, stands between its calls.
 **   - Pointers are never NULL, also where a size is 0, and lead to so much memory as the size says. What a call writes to does
 **     not overlap anything else that it is lent.
-**   - Who chooses prescription numbers can make a payer slow, and change no answer: the maps of the library have fixed keys.
 **   - malloc, realloc and free are one allocator's, and align as the C standard asks. No call is made in a signal handler, nor
 **     in the child that a process with threads has forked.
 */
@@ -111,7 +110,9 @@ uint32_t vogrilas_version(void);
 
 /*
 ** Opens a node: `settings` are the bytes of a settings file, `name` is as "ph1", `log` has all bytes of the log's file, none
-** where there is no file yet.
+** where there is no file yet. `seed` has 16 bytes that nobody can guess, as getentropy() draws them: the maps of a payer hash
+** with them, so that nobody can choose prescription numbers that make it slow. No answer hangs on them. Of fewer bytes, or
+** none, the hashes are the same in every process.
 **
 ** VOGRILAS_OK: the node is the one that wrote the log. *kept is how many bytes of the log stay: behind them stands a record
 ** that a crash has cut off, so cut the file there. vogrilas_records() has the head of a log that begins; append it before
@@ -121,7 +122,8 @@ uint32_t vogrilas_version(void);
 ** VOGRILAS_BAD_RECORD, and unchanged at the others. A damaged log is never cut: set it aside, and look at it.
 */
 vogrilas_code vogrilas_open(vogrilas_node *node, const void *settings, size_t settings_size, const void *name,
-                            size_t name_size, const void *log, size_t log_size, size_t *kept);
+                            size_t name_size, const void *log, size_t log_size, const void *seed, size_t seed_size,
+                            size_t *kept);
 
 /*
 ** Does what a line asks, and adds to the records and to what was written. A line has no newline at its end:

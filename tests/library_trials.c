@@ -58,7 +58,7 @@ static size_t read_file(const char *path, char *to) {
 }
 
 static vogrilas_code open_as(vogrilas_node *node, const char *name, const void *log, size_t size, size_t *kept) {
-    return vogrilas_open(node, settings, settings_size, name, strlen(name), log, size, kept);
+    return vogrilas_open(node, settings, settings_size, name, strlen(name), log, size, "0123456789abcdef", 16, kept);
 }
 
 /* Whether no call reaches a node, and none writes anything. */
@@ -89,7 +89,7 @@ static void try_handles(void) {
     check(is_closed(&node), "a closed handle is closed twice");
     check(open_as(&node, "ph", "", 0, &kept) == VOGRILAS_NAME, "a name");
     check(open_as(&node, "ph7", "", 0, &kept) == VOGRILAS_NO_SUCH_NODE, "a node that is not there");
-    check(vogrilas_open(&node, "again", 5, "ph1", 3, "", 0, &kept) == VOGRILAS_SETTINGS, "no settings");
+    check(vogrilas_open(&node, "again", 5, "ph1", 3, "", 0, "", 0, &kept) == VOGRILAS_SETTINGS, "no settings");
     check(kept == 77 && is_closed(&node), "nothing has changed");
     check(open_as(&node, "ph1", "", 0, &kept) == VOGRILAS_OK && kept == 0, "a log that begins");
     kept = 77;
@@ -148,7 +148,7 @@ static void try_logs(void) {
     vogrilas_node node = VOGRILAS_NODE_INIT;
     check(open_as(&node, "pr1", log_bytes, whole, &kept) == VOGRILAS_OTHER_NODE, "another node's log");
     settings[settings_size] = '\n';
-    check(vogrilas_open(&node, settings, settings_size + 1, "ph1", 3, log_bytes, whole, &kept) == VOGRILAS_OTHER_SETTINGS,
+    check(vogrilas_open(&node, settings, settings_size + 1, "ph1", 3, log_bytes, whole, "few", 3, &kept) == VOGRILAS_OTHER_SETTINGS,
           "a log of other settings");
     check(is_closed(&node), "a log that is refused");
     free(other);

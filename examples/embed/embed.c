@@ -113,6 +113,13 @@ static void sync_folder(const char *path) {
     close(folder);
 }
 
+/* Draws bytes that nobody can guess. */
+static void draw(char *to, size_t size) {
+    int source = open("/dev/urandom", O_RDONLY);
+    if (source < 0 || read(source, to, size) != (ssize_t)size) fail("/dev/urandom", "no random bytes");
+    close(source);
+}
+
 /* Opens a node from its log, and cuts off what a crash has left behind it. */
 static void open_node(struct served *one, struct bytes settings, const char *folder) {
     char path[4096];
@@ -122,8 +129,10 @@ static void open_node(struct served *one, struct bytes settings, const char *fol
     if (flock(one->log, LOCK_EX | LOCK_NB) != 0) fail(path, "another process has it");
     struct bytes log = whole(one->log, path);
     size_t kept = 0;
+    char seed[16];
+    draw(seed, sizeof seed);
     vogrilas_code code = vogrilas_open(&one->node, settings.at, settings.size, one->name, strlen(one->name), log.at, log.size,
-                                       &kept);
+                                       seed, sizeof seed, &kept);
     if (code != VOGRILAS_OK) fail(path, vogrilas_code_text(code));
     if (kept < log.size && (ftruncate(one->log, (off_t)kept) != 0 || fsync(one->log) != 0)) fail(path, "not cut");
     keep(one);

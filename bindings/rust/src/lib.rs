@@ -19,6 +19,9 @@ mod sys;
 
 pub use error::{Code, Error};
 
+use std::collections::hash_map::RandomState;
+use std::hash::{BuildHasher, Hasher};
+
 /// The version of the library that this crate belongs to.
 pub const VERSION: u32 = 6000;
 
@@ -53,6 +56,7 @@ impl Node {
     pub fn open(settings: &[u8], name: &str, log: &[u8]) -> Result<Opened, Error> {
         let mut node = Node { handle: sys::Handle::none() };
         let mut kept = 0;
+        let seed = seed();
         // SAFETY: the handle is none yet, and each pointer leads to as many bytes as are said; slices are never null.
         let code = unsafe {
             sys::vogrilas_open(
@@ -63,6 +67,8 @@ impl Node {
                 name.len(),
                 log.as_ptr(),
                 log.len(),
+                seed.as_ptr(),
+                seed.len(),
                 &mut kept,
             )
         };
@@ -148,6 +154,15 @@ impl Drop for Node {
         // SAFETY: the handle is lent whole. A closed one stays as it is.
         unsafe { sys::vogrilas_close(&mut self.handle) }
     }
+}
+
+/// Sixteen bytes that nobody can guess, of which the standard library makes the keys of its own maps.
+fn seed() -> [u8; 16] {
+    let half = || RandomState::new().build_hasher().finish().to_ne_bytes();
+    let mut seed = [0; 16];
+    seed[..8].copy_from_slice(&half());
+    seed[8..].copy_from_slice(&half());
+    seed
 }
 
 /// The text that spells bytes in lines.

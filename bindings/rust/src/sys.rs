@@ -26,6 +26,8 @@ extern "C" {
         name_size: usize,
         log: *const u8,
         log_size: usize,
+        seed: *const u8,
+        seed_size: usize,
         kept: &mut usize,
     ) -> u32;
     pub(crate) fn vogrilas_serve(node: &mut Handle, line: *const u8, line_size: usize) -> u32;

@@ -13,11 +13,11 @@ ghost use Rattle.node_handle.specs.Calls.{Opens, Serves, Clears, Counts, Copies,
 use crate::part::Part;
 use crate::reading::copy_out;
 use crate::refusal::{Refusal, refusal_of};
+use crate::seed::keys_of;
 use kept_logs::LogFault;
 use loose::Loose;
 use node_lines::node_in;
 use node_service::{Service, ServiceFault};
-use payer_book::HashKeys;
 use std::alloc::Global;
 use std::mem::replace;
 
@@ -58,7 +58,7 @@ impl NodeHandle {
         part.into_loose(alloc).into_box()
     }
 
-    /// Opens the node of this name, from its log.
+    /// Opens the node of this name, from its log. The maps of a payer's book hash with keys of this seed, sixteen bytes.
     ///
     /// # Errors
     /// `Open` where the handle has a node already, and what refuses the node. Then all is as it was.
@@ -68,6 +68,7 @@ impl NodeHandle {
         settings: &[u8],
         name: &[u8],
         log: &[u8],
+        seed: &[u8],
         kept: &mut usize,
     ) -> Result<(), Refusal>
         ensures { Opens self.old.part.node settings.now name.now log.now result kept.old kept.new self.new.part.node }
@@ -75,7 +76,7 @@ impl NodeHandle {
         if self.held {
             return Err(Refusal::Open);
         }
-        match opened(alloc, settings, name, log, kept) {
+        match opened(alloc, settings, name, log, seed, kept) {
             Ok(node) => {
                 self.put(node);
                 Ok(())
@@ -194,6 +195,7 @@ fn opened(
     settings: &[u8],
     name: &[u8],
     log: &[u8],
+    seed: &[u8],
     kept: &mut usize,
 ) -> Result<Box<Service>, Refusal>
     ensures opened { IfOk result (λ o. (node : Node) × ((node_in name.now ≡ Some node) × IsOpened settings.now (node_seen node) log.now kept.new o.value)) }
@@ -202,7 +204,7 @@ fn opened(
     let Some(node) = node_in(name) else {
         return Err(Refusal::Name);
     };
-    match Service::open(alloc, &HashKeys::fixed(), settings, node, log) {
+    match Service::open(alloc, &keys_of(seed), settings, node, log) {
         Ok((service, stay)) => boxed(alloc, service, stay, kept),
         Err(fault) => Err(told(fault, kept)),
     }

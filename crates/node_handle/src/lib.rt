@@ -9,6 +9,7 @@ mod handle;
 mod part;
 mod reading;
 mod refusal;
+mod seed;
 mod typed;
 
 pub use describing::describe;

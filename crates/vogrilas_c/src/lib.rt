@@ -35,11 +35,12 @@ pub extern "C" fn vogrilas_open(
     settings: &[u8],
     name: &[u8],
     log: &[u8],
+    seed: &[u8],
     kept: &mut usize,
 ) -> u32
     ensures { Says result (λ said. Opens node.old.part.node settings.now name.now log.now said kept.old kept.new node.new.part.node) }
 {
-    number_of(node.open(alloc, settings, name, log, kept))
+    number_of(node.open(alloc, settings, name, log, seed, kept))
 }
 
 /// Does what a line asks of the node.

@@ -23,7 +23,7 @@ _BYTES = [ctypes.c_char_p, ctypes.c_size_t]
 _BUFFER = [ctypes.c_void_p, ctypes.c_size_t, _PLACE]
 _CALLS = {
     "version": [],
-    "open": [_NODE, *_BYTES, *_BYTES, *_BYTES, _PLACE],
+    "open": [_NODE, *_BYTES, *_BYTES, *_BYTES, *_BYTES, _PLACE],
     "serve": [_NODE, *_BYTES],
     "submit": [_NODE, *_BYTES],
     "take": [_NODE, *_BYTES, *_BYTES],

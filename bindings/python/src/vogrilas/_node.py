@@ -5,6 +5,7 @@ from __future__ import annotations
 import ctypes
 import enum
 import json
+import os
 import threading
 from dataclasses import dataclass
 from typing import Any, Callable, Optional
@@ -127,7 +128,8 @@ class Node:
         self._lock = threading.Lock()
         kept = ctypes.c_size_t()
         word = name.encode()
-        given = (settings, len(settings), word, len(word), log, len(log))
+        seed = os.urandom(16)
+        given = (settings, len(settings), word, len(word), log, len(log), seed, len(seed))
         code = LIBRARY.vogrilas_open(ctypes.byref(self._handle), *given, ctypes.byref(kept))
         _check(code, kept.value)
         self.name = name
