@@ -88,11 +88,11 @@ async def main():
     names, program = nodes_of(given.settings), program_of(given.program)
     os.makedirs(given.folder, exist_ok=True)
     host, port = given.nats.rsplit(":", 1)
-    tasks = []
+    tasks, servers = [], []
     if given.server:
         check_free(host, int(port))
         server = ["nats-server", "-a", host, "-p", port, "-l", f"{given.folder}/server.txt"]
-        tasks.append(asyncio.create_task(keep("the server", server)))
+        servers.append(asyncio.create_task(keep("the server", server)))
     for name in names:
         words = [sys.executable, str(HERE / "node.py"), given.settings, name, f"{given.folder}/{name}.log"]
         words += ["--nats", given.nats, "--tick", given.tick, "--program", program]
@@ -101,9 +101,10 @@ async def main():
     for number in (signal.SIGINT, signal.SIGTERM):
         asyncio.get_running_loop().add_signal_handler(number, stop.set)
     await stop.wait()
-    for task in tasks:
-        task.cancel()
-    await asyncio.gather(*tasks, return_exceptions=True)
+    for kept in (tasks, servers):
+        for task in kept:
+            task.cancel()
+        await asyncio.gather(*kept, return_exceptions=True)
     return 0
 
 

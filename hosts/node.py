@@ -51,6 +51,12 @@ class Node:
         await self._process.stdin.drain()
         return await done
 
+    async def end(self):
+        """Lets the program end: nothing more is asked of it."""
+        if self._process.returncode is None:
+            self._process.stdin.close()
+            await self._process.wait()
+
     def said(self, line):
         """Hears the last line of a call, before who asked does."""
 
@@ -147,12 +153,16 @@ async def main():
     if given.v:
         tasks.append(asyncio.create_task(host.report()))
     print(f"{given.node} ready", flush=True)
+    stop = asyncio.Event()
+    asyncio.get_running_loop().add_signal_handler(signal.SIGTERM, stop.set)
+    tasks.append(asyncio.create_task(stop.wait()))
     done, _ = await asyncio.wait(tasks, return_when=asyncio.FIRST_COMPLETED)
-    for task in done:
-        task.result()
-    return 1
+    if not stop.is_set():
+        for task in done:
+            task.result()
+    await node.end()
+    return 0 if stop.is_set() else 1
 
 
 if __name__ == "__main__":
-    signal.signal(signal.SIGTERM, lambda *_: sys.exit(0))
     sys.exit(asyncio.run(main()))

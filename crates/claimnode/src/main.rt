@@ -48,8 +48,17 @@ fn run(rt: &HostRuntime) -> Result<(), End> {
     }
 }
 
+/// Refuses settings that have no such node, before a file is made for its log.
+fn check_settings(rt: &HostRuntime, words: &Words<'_>, text: &[u8]) -> Result<(), End> {
+    match Service::open(rt.alloc(), &HashKeys::fixed(), text, words.node, b"") {
+        Ok(_) => Ok(()),
+        Err(fault) => Err(End::from(fault)),
+    }
+}
+
 /// Serves a node under settings from its log.
 fn run_node(rt: &HostRuntime, words: &Words<'_>, text: &[u8]) -> Result<(), End> {
+    check_settings(rt, words, text)?;
     let mut log = LogFile::open(rt, words.log)?;
     let bytes = log.read(rt.alloc())?;
     match Service::open(
