@@ -63,7 +63,8 @@ async def keep(name, words):
     wait = AGAIN_SECONDS
     while True:
         started = time.monotonic()
-        process = await asyncio.create_subprocess_exec(*words)
+        # A session of its own: Ctrl-C ends this program, which ends the others in order.
+        process = await asyncio.create_subprocess_exec(*words, start_new_session=True)
         try:
             status = await process.wait()
         except asyncio.CancelledError:
