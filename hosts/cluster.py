@@ -1,7 +1,7 @@
 #!/usr/bin/env python3
 """A node each of a settings file, over one NATS server, on this machine.
 
-    hosts/cluster.py SETTINGS FOLDER [--server] [--nats HOST:PORT] [--tick SECONDS] [--program PATH] [-v]
+    hosts/cluster.py SETTINGS FOLDER [--server] [--nats HOST:PORT] [--jetstream] [--tick SECONDS] [--program PATH] [-v]
 
 SETTINGS is a file of settings alone, as examples/six-nodes.toml. Logs go to FOLDER, one a node. A host that dies is started
 again, at first at once, then ever later. With --server a server is started too; its program is `nats-server` (Debian: apt-get
@@ -82,6 +82,7 @@ async def main():
     parser.add_argument("folder")
     parser.add_argument("--server", action="store_true", help="start a server as well")
     parser.add_argument("--nats", default="127.0.0.1:4222", metavar="HOST:PORT")
+    parser.add_argument("--jetstream", action="store_true", help="the server keeps packets for nodes that are down")
     parser.add_argument("--tick", default="1.0", metavar="SECONDS")
     parser.add_argument("--program", metavar="PATH")
     parser.add_argument("-v", action="store_true")
@@ -93,11 +94,13 @@ async def main():
     if given.server:
         check_free(host, int(port))
         server = ["nats-server", "-a", host, "-p", port, "-l", f"{given.folder}/server.txt"]
+        server += ["-js", "-sd", f"{given.folder}/server"] if given.jetstream else []
         servers.append(asyncio.create_task(keep("the server", server)))
     for name in names:
         words = [sys.executable, str(HERE / "node.py"), given.settings, name, f"{given.folder}/{name}.log"]
         words += ["--nats", given.nats, "--tick", given.tick, "--program", program]
-        tasks.append(asyncio.create_task(keep(name, words + (["-v"] if given.v else []))))
+        words += ["--jetstream"] * given.jetstream + ["-v"] * given.v
+        tasks.append(asyncio.create_task(keep(name, words)))
     stop = asyncio.Event()
     for number in (signal.SIGINT, signal.SIGTERM):
         asyncio.get_running_loop().add_signal_handler(number, stop.set)

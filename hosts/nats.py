@@ -22,6 +22,8 @@ class Connection:
         self._replies = {}
         self._inbox = None
         self._task = None
+        self._at_open = []
+        self._opening = set()
         self.is_open = asyncio.Event()
 
     async def start(self):
@@ -34,6 +36,12 @@ class Connection:
         number = next(self._numbers)
         self._subscriptions[number] = (subject, handler)
         self._send(f"SUB {subject} {number}\r\n".encode())
+
+    async def at_open(self, make):
+        """Calls `make()` now and each time that the connection comes again."""
+        self._at_open.append(make)
+        if self.is_open.is_set():
+            await make()
 
     def publish(self, subject, payload, reply=""):
         """Sends a message. Without a connection it is lost, as a packet may be."""
@@ -89,6 +97,10 @@ class Connection:
             writer.write(f"SUB {subject} {number}\r\n".encode())
         self._writer = writer
         self.is_open.set()
+        for make in self._at_open:
+            task = asyncio.create_task(make())
+            self._opening.add(task)
+            task.add_done_callback(self._opening.discard)
         while True:
             line = await reader.readline()
             if not line:

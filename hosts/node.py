@@ -1,7 +1,7 @@
 #!/usr/bin/env python3
 """One node of a switch on a carrier: moves lines between `claimnode`, which is the node, and a NATS server.
 
-    hosts/node.py SETTINGS NODE LOG [--nats HOST:PORT] [--tick SECONDS] [--program PATH] [-v]
+    hosts/node.py SETTINGS NODE LOG [--nats HOST:PORT] [--jetstream] [--tick SECONDS] [--program PATH] [-v]
 
 The node's packets come on the subject `claims.NODE`, each as its sender's name, a space and the packet in printed bytes.
 Callers' lines come on `claims.NODE.call`: `submit` and `answer`, no others. An operator's come on `claims.NODE.operate`: any line
@@ -16,6 +16,7 @@ import collections
 import signal
 import sys
 
+import jetstream
 import nats
 
 CALLERS = (b"submit ", b"answer ")
@@ -97,6 +98,14 @@ class Host:
         """A packet for this node."""
         asyncio.create_task(self._make(b"take " + payload))
 
+    async def kept(self, payload, reply):
+        """A packet for this node that the server keeps until it is told that the node has it."""
+        asyncio.create_task(self._done(payload, reply))
+
+    async def _done(self, payload, reply):
+        await self._make(b"take " + payload)
+        jetstream.done(self._carrier, reply)
+
     async def called(self, payload, reply):
         """A line of a caller."""
         asyncio.create_task(self._answered(payload, reply, payload.startswith(CALLERS)))
@@ -132,6 +141,7 @@ def words():
     parser.add_argument("--nats", default="127.0.0.1:4222", metavar="HOST:PORT")
     parser.add_argument("--tick", type=float, default=1.0, metavar="SECONDS", help="how long a pharmacy's tick is")
     parser.add_argument("--program", default="claimnode", help="where claimnode is")
+    parser.add_argument("--jetstream", action="store_true", help="the server keeps packets: it runs with -js")
     parser.add_argument("-v", action="store_true", help="a line a second on standard error")
     return parser.parse_args()
 
@@ -144,7 +154,10 @@ async def main():
     await node.start()
     host = Host(node, carrier)
     await carrier.start()
-    await carrier.subscribe(f"claims.{given.node}", host.taken)
+    if given.jetstream:
+        await jetstream.keep(carrier, given.node, host.kept)
+    else:
+        await carrier.subscribe(f"claims.{given.node}", host.taken)
     await carrier.subscribe(f"claims.{given.node}.call", host.called)
     await carrier.subscribe(f"claims.{given.node}.operate", host.operated)
     tasks = [asyncio.create_task(node.listen())]
