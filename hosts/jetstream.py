@@ -38,4 +38,8 @@ def done(connection, reply):
 
 
 async def _ask(connection, subject, asked):
-    return await connection.request(f"$JS.API.{subject}", json.dumps(asked).encode(), SECONDS)
+    """Asks the server, and says what it refuses; without JetStream there is no reply."""
+    reply = await connection.request(f"$JS.API.{subject}", json.dumps(asked).encode(), SECONDS)
+    fault = "no reply: does the server run with -js?" if reply is None else json.loads(reply).get("error")
+    if fault:
+        connection.say(f"JetStream: {subject}: {fault}")

@@ -37,6 +37,11 @@ class Connection:
         self._subscriptions[number] = (subject, handler)
         self._send(f"SUB {subject} {number}\r\n".encode())
 
+    def say(self, what):
+        """Tells people what is not as it should be."""
+        if self._says:
+            print(f"{self._name}: {what}", file=sys.stderr, flush=True)
+
     async def at_open(self, make):
         """Calls `make()` now and each time that the connection comes again."""
         self._at_open.append(make)
@@ -81,8 +86,8 @@ class Connection:
             except (OSError, asyncio.IncompleteReadError, ValueError):
                 pass
             is_told = is_told and not self.is_open.is_set()
-            if self._says and not is_told:
-                print(f"{self._name}: no server at {self._at[0]}:{self._at[1]}, trying again", file=sys.stderr, flush=True)
+            if not is_told:
+                self.say(f"no server at {self._at[0]}:{self._at[1]}, trying again")
             is_told = True
             self._writer = None
             self.is_open.clear()

@@ -89,6 +89,9 @@ class Host:
         self._node, self._carrier = node, carrier
 
     async def _make(self, line):
+        """Makes the call of a line. What would be two lines is none: whoever may send packets may not operate the node."""
+        if b"\n" in line:
+            return b"refused Line"
         sent, last = await self._node.call(line)
         for to, text in sent:
             self._carrier.publish(f"claims.{to}", self._node.name.encode() + b" " + text)
@@ -115,8 +118,7 @@ class Host:
         asyncio.create_task(self._answered(payload, reply, not payload.startswith(b"take")))
 
     async def _answered(self, payload, reply, is_allowed):
-        is_line = is_allowed and b"\n" not in payload
-        last = await self._make(payload) if is_line else b"refused Line"
+        last = await self._make(payload) if is_allowed else b"refused Line"
         if reply:
             self._carrier.publish(reply, last)
 

@@ -4,6 +4,9 @@ use clap::{Arg, ArgAction, Command, Error};
 use message_words::{MessageKind, Spelling, Style};
 use std::alloc::Global;
 
+/// The version that `-V` tells: that of the repository's change log.
+const VERSION: &str = "0.6.0";
+
 /// What the program is asked to do.
 #[derive(Clone, Copy)]
 pub(crate) struct Asked {
@@ -71,7 +74,7 @@ fn command<'a>(alloc: Global) -> Result<Command<'a>, Error> {
         .conflicts_with("hex")?
         .help("Reads the whole input as one message, without 0x02 before it and 0x03 behind it");
     let command = Command::new(alloc, "claimdecode")
-        .version("1")
+        .version(VERSION)
         .about(ABOUT)
         .after_help(AFTER)
         .arg(kind)?
