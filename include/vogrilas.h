@@ -18,7 +18,7 @@
 **
 ** What is proved, of the code that the library is compiled from: each call does what stands here of its results, for every
 ** settings, log and line, and is safe: it never reads or writes outside what it is lent, never frees twice, and returns. What
-** is not: the compiler, that this header says the same as the exports of crates/vogrilas_c, and what the caller owes:
+** is not: which refusal vogrilas_open() tells (that a refused one changes nothing is), the compiler, that this header says the same as the exports of crates/vogrilas_c, and what the caller owes:
 **
 **   - A node begins as VOGRILAS_NODE_INIT (zeros), and from then on only the library changes it. It may be moved to another
 **     place by copying its bytes, if the old place is not used again.
