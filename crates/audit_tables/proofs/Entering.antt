@@ -3,8 +3,8 @@ use Rattle.std.proofs.Common.{◌≡◌, ℕ, ◌+◌, ◌<◌, ◌≤◌, List,
 use Rattle.std.proofs.lemmas.List.{at_drop_more, drop_all}
 use Rattle.claim_model.specs.Counted.{Counted}
 use Rattle.pharmacy_journal.specs.Listing.{Listed}
-use Rattle.table_text.specs.declared.layout.Style.{Style}
-use Rattle.table_text.specs.Rows.{row_text, rows_text}
+use Rattle.audit_tables.specs.declared.layout.Style.{Style}
+use Rattle.audit_tables.specs.Rows.{row_text, rows_text}
 use Rattle.audit_tables.specs.Entries.{count_named, entry_row, entry_rows}
 use Rattle.audit_tables.proofs.Joining.{one_row, block_goes_on, block_ends}
 

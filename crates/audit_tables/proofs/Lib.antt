@@ -1,3 +1,4 @@
+pub mod Separating
 pub mod Joining
 pub mod Running
 pub mod Entering

@@ -4,7 +4,7 @@ use Rattle.claim_model.specs.Words.{Auth, Ruling, Paid, Duplicate, Reversed, Rej
 use Rattle.claim_model.specs.Counted.{Counted}
 use Rattle.claim_model.specs.Payments.{same_auth}
 use Rattle.pharmacy_journal.specs.Listing.{Listed}
-use Rattle.table_text.specs.Members.{Row}
+use Rattle.audit_tables.specs.Members.{Row}
 use Rattle.audit_tables.specs.Kinds.{kind_word, number_member, text_member}
 use Rattle.audit_tables.specs.declared.entries.EntryShown.{EntryShown}
 

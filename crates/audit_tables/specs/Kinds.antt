@@ -2,7 +2,7 @@
 use Rattle.std.specs.Prelude.{ℕ, Bool, List, [], bytes_eq, codes, cond, Option, Some, None}
 use Rattle.claim_model.specs.Words.{RequestHeader}
 use Rattle.claim_model.specs.Node.{Node, Pharmacy, Switch, Payer}
-use Rattle.table_text.specs.Members.{Member, Number, Text, Named, Flag, number_or_nothing}
+use Rattle.audit_tables.specs.Members.{Member, Number, Text, Named, Flag, number_or_nothing}
 
 -- what a request of this code is
 abbrev pub kind_word : List ℕ → List ℕ

@@ -1,3 +1,8 @@
+pub mod Members
+pub mod Seen
+pub mod Quoting
+pub mod Values
+pub mod Rows
 pub mod Kinds
 pub mod Payments
 pub mod Rulings

@@ -4,7 +4,7 @@ use Rattle.claim_model.specs.Words.{Kind, Request, Response, Envelope, EnvelopeF
 use Rattle.claim_model.specs.Context.{Context}
 use Rattle.claim_model.specs.Numbered.{numbered}
 use Rattle.claim_model.specs.World.{Packet}
-use Rattle.table_text.specs.Members.{Row}
+use Rattle.audit_tables.specs.Members.{Row}
 use Rattle.audit_tables.specs.Kinds.{number_member, text_member, optional_member, node_member}
 use Rattle.audit_tables.specs.Payments.{told_from}
 use Rattle.audit_tables.specs.declared.packets.Carried.{Carried}

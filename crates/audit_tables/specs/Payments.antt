@@ -1,25 +1,21 @@
 -- The payments of a book, each as a row.
 use Rattle.std.specs.Prelude.{ℕ, ◌+◌, Bool, List, [], ◌∷◌, ◌++◌, codes, cond, Option, Some, None, option_map, is_some}
-use Rattle.std.specs.List.{flat_map, list_any}
+use Rattle.std.specs.List.{flat_map}
 use Rattle.claim_profile.specs.Authorization.{authorization_text}
 use Rattle.claim_profile.specs.Readable.{readable_header}
 use Rattle.claim_model.specs.Words.{TxnId, Auth, Amounts, Fill, Ruling, Paid, Duplicate, Reversed, Rejected}
 use Rattle.claim_model.specs.Context.{Context}
-use Rattle.claim_model.specs.Payments.{same_auth, payment_of}
+use Rattle.claim_model.specs.Payments.{payment_of}
 use Rattle.claim_model.specs.Rows as model
 use Rattle.claim_model.specs.Rows.{Book, ruled_rows}
 use Rattle.payer_book.specs.declared.book.PaymentView.{PaymentView}
 use Rattle.payer_book.specs.Views.{payment_view}
-use Rattle.table_text.specs.Members.{Row}
+use Rattle.audit_tables.specs.Members.{Row}
 use Rattle.audit_tables.specs.Kinds.{date_in, number_member, text_member, flag_member, optional_member}
 use Rattle.audit_tables.specs.declared.payments.PaidAt.{PaidAt}
 use Rattle.audit_tables.specs.declared.payments.Shown.{Shown}
 use Rattle.audit_tables.specs.declared.payments.FillTexts.{FillTexts}
 use Rattle.audit_tables.specs.declared.payments.Cents.{Cents}
-
--- the authorization is among these
-abbrev pub has_auth : List Auth → Auth → Bool
-has_auth auths auth = list_any (λ a. same_auth a auth) auths
 
 abbrev pub state_word : Bool → List ℕ
 state_word reversed = cond reversed (codes "reversed") (codes "standing")

@@ -7,7 +7,7 @@ use Rattle.claim_profile.specs.Reject.{code_text}
 use Rattle.claim_model.specs.Words.{Code, Ruling, Paid, Duplicate, Reversed, Rejected}
 use Rattle.claim_model.specs.Rows as model
 use Rattle.claim_model.specs.Rows.{Book}
-use Rattle.table_text.specs.Members.{Row}
+use Rattle.audit_tables.specs.Members.{Row}
 use Rattle.audit_tables.specs.Kinds.{kind_in, number_member, text_member}
 use Rattle.audit_tables.specs.Payments.{told_from}
 use Rattle.audit_tables.specs.declared.rows.RuledAt.{RuledAt}

@@ -11,9 +11,9 @@ use Rattle.claim_model.specs.Payments.{same_auth}
 use Rattle.claim_model.specs.Rows.{Book}
 use Rattle.claim_model.specs.World.{World}
 use Rattle.pharmacy_journal.specs.Listing.{listed}
-use Rattle.table_text.specs.Members.{Member, Row}
-use Rattle.table_text.specs.Rows.{rows_text, head_text, list_text}
-use Rattle.table_text.specs.declared.layout.Style.TheVariants.{Csv, Json}
+use Rattle.audit_tables.specs.Members.{Member, Row}
+use Rattle.audit_tables.specs.Rows.{rows_text, head_text, list_text}
+use Rattle.audit_tables.specs.declared.layout.Style.TheVariants.{Csv, Json}
 use Rattle.audit_tables.specs.Payments.{book_payments}
 use Rattle.audit_tables.specs.Entries.{entry_rows}
 use Rattle.audit_tables.specs.Rulings.{book_rulings}

@@ -1,12 +1,12 @@
 //! The names of the columns of each table.
 
 ghost use Rattle.std.specs.Prelude.{◌≡◌, ◌++◌, OnOk};
-ghost use Rattle.table_text.specs.Rows.{head_text};
+ghost use Rattle.audit_tables.specs.Rows.{head_text};
 ghost use Rattle.audit_tables.specs.Tables.{table_names};
 ghost use Rattle.audit_tables.specs.declared.table.Table.TheVariants.{Payments, Entries, Rows, Packets};
 
 use std::alloc::AllocError;
-use table_text::put_head;
+use crate::layout::put_head;
 
 /// Appends the names of the columns of payments.
 pub(crate) fn put_payment_names(out: &mut Vec<u8>) -> Result<(), AllocError>

@@ -6,7 +6,7 @@ ghost use Rattle.claim_model.specs.Words.{Auth as AuthSeen};
 ghost use Rattle.claim_model.specs.Bytes.{bytes_with};
 ghost use Rattle.claim_model.specs.Counted.{counted};
 ghost use Rattle.claim_model.specs.Payments.{same_auth};
-ghost use Rattle.audit_tables.specs.Payments.{has_auth};
+ghost use Rattle.pharmacy_journal.specs.Counting.{has_auth};
 ghost use Rattle.audit_tables.specs.Tables.{names_auth, is_counted};
 
 use claim_profile::Auth;

@@ -5,7 +5,7 @@ ghost use Rattle.bin_routes.specs.Table.{RouteMaps};
 ghost use Rattle.claim_model.specs.Bytes.{bytes_with};
 ghost use Rattle.claim_model.specs.Counted.{counted};
 ghost use Rattle.pharmacy_journal.specs.Listing.{listed};
-ghost use Rattle.table_text.specs.Rows.{row_text, rows_text};
+ghost use Rattle.audit_tables.specs.Rows.{row_text, rows_text};
 ghost use Rattle.audit_tables.specs.Entries.{names, count_named, cents_of, state_word, shown_seen, shown_row, entry_row, entry_rows};
 
 use crate::kinds::kind_word;
@@ -13,7 +13,8 @@ use claim_profile::{Auth, Ruling};
 use node_state::JournalReading;
 use pharmacy_journal::{CountedPayment, EntryView};
 use std::alloc::AllocError;
-use table_text::{Field, Style, put_row};
+use crate::fields::Field;
+use crate::layout::{Style, put_row};
 
 /// What is told of an entry.
 #[derive(Clone, Copy)]

@@ -3,12 +3,12 @@
 ghost use Rattle.std.specs.Prelude.{◌≡◌};
 ghost use Rattle.claim_profile.specs.Readable.{readable_header};
 ghost use Rattle.world_setup.specs.Seen.{node_seen};
-ghost use Rattle.table_text.specs.Seen.{field_seen};
+ghost use Rattle.audit_tables.specs.Seen.{field_seen};
 ghost use Rattle.audit_tables.specs.Kinds.{kind_word, kind_in, date_in, letters_of, number_of, node_member};
 
 use claim_profile::check_readable;
 use payer_book::Row;
-use table_text::Field;
+use crate::fields::Field;
 use world_setup::Node;
 
 /// What a request of this code (103-A3) is: a billing or a reversal.

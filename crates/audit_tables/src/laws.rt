@@ -13,6 +13,7 @@ ghost use Rattle.audit_tables.specs.Rulings.{At, ruling_row};
 ghost use Rattle.audit_tables.specs.Packets.{packet_row};
 ghost use Rattle.audit_tables.specs.Tables.{names_in, table_names};
 ghost use Rattle.audit_tables.specs.declared.payments.PaidAt.{PaidAt};
+ghost use Rattle.audit_tables.specs.Rows.{ListsAreSeparated};
 ghost use Rattle.audit_tables.specs.declared.table.Table.TheVariants.{Payments, Entries, Rows, Packets};
 
 /// Each row of a table has the columns that the line of names before the rows has, in its order.
@@ -21,4 +22,9 @@ pub fn rows_have_their_columns()
     ensures entries { (pharmacy : ℕ) (e : Listed) (own : List Counted) → names_in (entry_row pharmacy e own) ≡ table_names Entries }
     ensures rows { (at : At) (ruling : Ruling) → names_in (ruling_row at ruling) ≡ table_names Rows }
     ensures packets { (ctx : Context) (number event : ℕ) (p : Packet) → names_in (packet_row ctx number event p) ≡ table_names Packets }
+{}
+
+/// Rows that were written as JSON are, as a list, their objects with commas between them.
+pub fn lists_are_separated()
+    ensures { ListsAreSeparated }
 {}

@@ -3,7 +3,7 @@
 ghost use Rattle.std.specs.Prelude.{◌≡◌, ◌∷◌, [], ◌++◌, codes, OnOk, IfOk};
 ghost use Rattle.std.specs.List.{flat_map};
 ghost use Rattle.claim_profile.specs.Reject.{code_text};
-ghost use Rattle.table_text.specs.Rows.{row_text, rows_text};
+ghost use Rattle.audit_tables.specs.Rows.{row_text, rows_text};
 ghost use Rattle.audit_tables.specs.Rulings.{codes_text, at_seen, answered_row, ruling_row, row_rulings, book_rulings};
 
 use crate::kinds::kind_of;
@@ -11,7 +11,8 @@ use claim_profile::{Code, Ruling};
 use envelope::TxnId;
 use payer_book::{Book, Row};
 use std::alloc::{AllocError, Global};
-use table_text::{Field, Style, put_row};
+use crate::fields::Field;
+use crate::layout::{Style, put_row};
 
 /// Which transaction of which request a ruling is about.
 #[derive(Clone, Copy)]

@@ -5,8 +5,8 @@ ghost use Rattle.std.specs.List.{flat_map};
 ghost use Rattle.bin_routes.specs.Table.{RouteMaps};
 ghost use Rattle.claim_model.specs.Bytes.{bytes_with};
 ghost use Rattle.world_core.specs.Parts.{context_of};
-ghost use Rattle.table_text.specs.Rows.{rows_text, head_text};
-ghost use Rattle.audit_tables.specs.Payments.{has_auth};
+ghost use Rattle.audit_tables.specs.Rows.{rows_text, head_text};
+ghost use Rattle.pharmacy_journal.specs.Counting.{has_auth};
 ghost use Rattle.audit_tables.specs.Tables.{node_payments, node_entries, node_rulings, world_payments, table_rows, table_names, table_csv, table_json, table_name, table_member, table_members};
 
 use crate::columns::{put_entry_names, put_packet_names, put_payment_names, put_row_names};
@@ -19,7 +19,7 @@ use claim_profile::Auth;
 use node_state::{PayerNode, PharmacyNode};
 use std::alloc::{AllocError, Global};
 use std::collections::BTreeSet;
-use table_text::{Style, put_list};
+use crate::layout::{Style, put_list};
 use world_core::World;
 
 /// Which table.

@@ -18,7 +18,7 @@ marked_by x auth None = cond (reverses auth x) (Some x.id) None
 abbrev pub mark : Ruled → Payment → Payment
 mark x p = record { id = p.id; place = p.place; claim = p.claim; auth = p.auth; amounts = p.amounts; reversed_by = marked_by x p.auth p.reversed_by }
 
-reversed_by_more : (auth : Auth) (rs : List Ruled) (x : Ruled) → reversed_by auth (rs ++ x ∷ []) ≡ marked_by x auth (reversed_by auth rs)
+pub reversed_by_more : (auth : Auth) (rs : List Ruled) (x : Ruled) → reversed_by auth (rs ++ x ∷ []) ≡ marked_by x auth (reversed_by auth rs)
 reversed_by_more auth [] x = by_test (reverses auth x)
   where
     by_test : (b : Bool) → option_map (λ (r : Ruled). r.id) (cond b (Some x) None) ≡ cond b (Some x.id) None

@@ -15,6 +15,7 @@ pub mod PlainTexts
 pub mod WrittenGroups
 pub mod WrittenAnswers
 pub mod CarriedHeaders
+pub mod Headers
 pub mod BuildingTexts
 pub mod BuiltFrames
 pub mod BuiltOrders

@@ -29,6 +29,7 @@ pub use answer_writing::write_answer;
 pub use authorization::Auth;
 pub use building::{BillingParts, BuildFault, ReversalParts, billing, reversal};
 pub use building_laws::{billing_laws, reversal_laws};
+pub use found::trimmed;
 pub use laws::{answer_laws, readable_laws, unrouted_laws};
 pub use order::{Claim, Fill, Order, Reversal};
 pub use order_reading::{OrderFault, order_at, read_order};

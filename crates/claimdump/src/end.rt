@@ -1,7 +1,7 @@
 //! Why the program ends without having written all.
 
+use crate::fault::DumpFault;
 use clap::Error as ClapError;
-use log_dump::DumpFault;
 use std::alloc::{AllocError, AllocFailed};
 use std::io;
 use thiserror::Error;

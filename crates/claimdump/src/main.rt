@@ -1,12 +1,18 @@
-//! The program `claimdump`: the input of a replay on standard input, and what its nodes would have on disk in a folder.
+//! The program `claimdump`: the input of a replay on standard input, and what its nodes would have on disk in a folder: the
+//! settings, the log of each node, and the record of each journal and book.
 #![tactic(auto)]
 
 mod end;
+mod fault;
+mod file;
+mod files;
+mod names;
+mod recorded;
 mod words;
 
 use crate::end::End;
+use crate::files::dump;
 use crate::words::folder_of;
-use log_dump::dump;
 use std::io::Read;
 use std::process::ExitCode;
 use std::{env, fs};

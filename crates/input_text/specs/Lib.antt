@@ -1,3 +1,4 @@
+pub mod Options
 pub mod Decimals
 pub mod Lines
 pub mod Printing

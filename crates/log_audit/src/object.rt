@@ -8,7 +8,7 @@ use audit_tables::node_field;
 use input_text::Lines;
 use run_merge::NodeLog;
 use std::alloc::{AllocError, Global};
-use table_text::{Field, Style, put_json_text, put_list, put_row};
+use audit_tables::{Field, Style, put_json_text, put_list, put_row};
 use world_setup::Event;
 
 /// Appends the object of logs of a legal run of these events.

@@ -17,7 +17,7 @@ use crate::reading::Audited;
 use crate::waiting::put_waiting;
 use audit_tables::Table;
 use run_merge::NodeLog;
-use schedule_text::{TextFault, events_text};
+use schedule::{TextFault, events_text};
 use std::alloc::{AllocError, Global};
 use world_setup::{Event, WorldFault, WorldSettings};
 

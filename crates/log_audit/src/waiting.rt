@@ -2,7 +2,6 @@
 
 ghost use Rattle.std.specs.Prelude.{◌≡◌, map};
 ghost use Rattle.std.specs.List.{list_any};
-ghost use Rattle.claim_logs.specs.Nodes.{same_node};
 ghost use Rattle.world_setup.specs.Seen.{node_seen, sent_seen};
 ghost use Rattle.run_merge.specs.LogSeen.{log_seen};
 ghost use Rattle.log_audit.specs.Waits.{sends, has_sent, is_packet};
@@ -10,7 +9,7 @@ ghost use Rattle.log_audit.specs.Waits.{sends, has_sent, is_packet};
 use crate::names::{end, put, put_call, put_node};
 use crate::packets::put_packet;
 use octets::Octets;
-use run_merge::{NodeLog, Record};
+use run_merge::{NodeLog, Record, is_same_node};
 use std::alloc::{AllocError, Global};
 use std::collections::BTreeSet;
 use world_setup::{Call, Node, Sent};
@@ -171,29 +170,6 @@ fn is_packet(sent: &Sent, to: Node, bytes: &Octets) -> bool
     ensures { result ≡ is_packet (node_seen to) bytes.now (sent_seen sent.now) }
 {
     is_same_node(sent.to, to) && sent.bytes == *bytes
-}
-
-/// Whether two names are of one node.
-fn is_same_node(a: Node, b: Node) -> bool
-    ensures { result ≡ same_node (node_seen a) (node_seen b) }
-{
-    match a {
-        Node::Pharmacy(n) => match b {
-            Node::Pharmacy(m) => n == m,
-            Node::Switch(_) => false,
-            Node::Payer(_) => false,
-        },
-        Node::Switch(n) => match b {
-            Node::Pharmacy(_) => false,
-            Node::Switch(m) => n == m,
-            Node::Payer(_) => false,
-        },
-        Node::Payer(n) => match b {
-            Node::Pharmacy(_) => false,
-            Node::Switch(_) => false,
-            Node::Payer(m) => n == m,
-        },
-    }
 }
 
 /// A packet as a key.

@@ -4,10 +4,11 @@ ghost use Rattle.std.specs.Prelude.{◌≡◌, ◌≤◌, [], ◌∷◌, length,
 ghost use Rattle.d0_segments.specs.Views.{field_parts};
 ghost use Rattle.d0_segments.specs.Pieces.{shared_of};
 ghost use Rattle.d0_segments.specs.Inside.{fields_left};
-ghost use Rattle.claim_profile.specs.Fields.{trimmed, is_filled};
+ghost use Rattle.claim_profile.specs.Fields.{is_filled};
 ghost use Rattle.claim_profile.specs.Tally.{Absent, tallied};
 ghost use Rattle.message_words.specs.Found.{found_seen, reading, after_fields, after_segments, segment_seen};
 
+use claim_profile::trimmed;
 use d0_segments::{Cursor, Field, SegmentAt};
 
 /// What stands in the place of a field: nothing, one value or several. Empty values do not count.
@@ -104,15 +105,4 @@ fn read_as(is_text: bool, value: &[u8]) -> &[u8]
     ensures { result.now ≡ reading is_text value.now }
 {
     if is_text { trimmed(value) } else { value }
-}
-
-/// The bytes without the spaces at their end.
-pub(crate) fn trimmed(bytes: &[u8]) -> &[u8]
-    ensures { result.now ≡ trimmed bytes.now }
-{
-    let mut end = bytes.len();
-    while end > 0 && bytes[end - 1] == b' ' {
-        end -= 1;
-    }
-    &bytes[..end]
 }

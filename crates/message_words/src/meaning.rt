@@ -1,10 +1,9 @@
 //! What the value of a field means.
 
-use crate::found::trimmed;
 use crate::names::FieldName;
 use crate::records::number_of;
 use crate::text::Text;
-use claim_profile::{Auth, Code};
+use claim_profile::{Auth, Code, trimmed};
 use d0_header::is_date;
 use overpunch::{Amount, AmountFault, NumberFault, read_number};
 

@@ -1,11 +1,12 @@
 -- The call that a line asks of a node: words parted by exactly one space, and nothing is trimmed.
-use Rattle.std.specs.Prelude.{ℕ, ◌==◌, List, length, nat_le, codes, bytes_eq, Option, Some, None, if◌then◌else◌}
+use Rattle.std.specs.Prelude.{ℕ, List, codes, bytes_eq, Option, Some, None, if◌then◌else◌}
 use Rattle.std.specs.Option.{option_map}
 use Rattle.std.specs.Result.{result_ok}
-use Rattle.outcomes.specs.Options.{◌>>=◌}
+use Rattle.input_text.specs.Options.{◌>>=◌}
 use Rattle.input_text.specs.Words.{split_word}
 use Rattle.input_text.specs.Decimals.{decimal_number}
 use Rattle.input_text.specs.Printing.{unprinted}
+use Rattle.schedule.specs.Events.{product_in, price_in}
 use Rattle.world_setup.specs.declared.call.Call.{Call}
 use Rattle.world_setup.specs.declared.call.Call.TheVariants.{Submit, Tick, Take, Stop, Start, Plan}
 use Rattle.node_lines.specs.Names.{node_in}
@@ -23,16 +24,6 @@ taking rest = do
   from ← node_in parts.0
   bytes ← result_ok (unprinted parts.1)
   Some (Take from bytes)
-
--- a product: one or more printed bytes without a space; the bytes that they spell may have one
-abbrev pub product_in : List ℕ → Option (List ℕ)
-product_in word = if length word == 0 then None else result_ok (unprinted word)
-
--- a number of 32 bits, in at most 18 digits, or `none`
-abbrev pub price_in : List ℕ → Option (Option ℕ)
-price_in word =
-    if bytes_eq word (codes "none") then Some None
-    else decimal_number 18 word >>= (λ price. if nat_le price 4294967295 then Some (Some price) else None)
 
 -- a product and its price
 unfoldable pub plan_change : List ℕ → Option Call

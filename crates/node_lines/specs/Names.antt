@@ -1,7 +1,7 @@
 -- The names of nodes in lines: `ph1` a pharmacy, `sw1` a switch, `pr1` a payer.
 use Rattle.std.specs.Prelude.{ℕ, List, ◌++◌, take, drop, decimal, nat_le, codes, bytes_eq, Option, Some, None, if◌then◌else◌}
 use Rattle.std.specs.Option.{option_map}
-use Rattle.outcomes.specs.Options.{◌>>=◌}
+use Rattle.input_text.specs.Options.{◌>>=◌}
 use Rattle.input_text.specs.Decimals.{decimal_number}
 use Rattle.claim_model.specs.Node as model
 use Rattle.world_setup.specs.declared.node.Node.{Node}

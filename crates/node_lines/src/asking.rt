@@ -2,16 +2,14 @@
 
 ghost use Rattle.std.specs.Prelude.{◌≡◌, IfOk};
 ghost use Rattle.std.specs.Option.{option_map};
-ghost use Rattle.node_lines.specs.Asking.{answer_to, asked_of, asked_seen, call_of, call_with, plain_call, plan_change, price_in, product_in, submission, taking};
+ghost use Rattle.node_lines.specs.Asking.{answer_to, asked_of, asked_seen, call_of, call_with, plain_call, plan_change, submission, taking};
 
 use crate::names::node_in;
 use input_text::{PrintedFault, read_decimal, split_word, unprint};
 use octets::Octets;
+use schedule::{price_in, product_in};
 use std::alloc::{AllocError, Global};
 use world_setup::Call;
-
-/// The most digits of a price (own).
-const MOST_DIGITS: usize = 18;
 
 /// The most digits of an entry's number (own).
 const MOST_NUMBER_DIGITS: usize = 18;
@@ -148,33 +146,5 @@ fn plan_change(alloc: Global, rest: &[u8]) -> Result<Option<Call>, AllocError>
     match price_in(price) {
         Some(price) => Ok(Some(Call::Plan { product, price })),
         None => Ok(None),
-    }
-}
-
-/// The product that a word spells.
-fn product_in(alloc: Global, word: &[u8]) -> Result<Option<Octets>, AllocError>
-    ensures { IfOk result (λ product. product ≡ product_in word.now) }
-{
-    if word.is_empty() {
-        return Ok(None);
-    }
-    match unprint(alloc, word) {
-        Ok(product) => Ok(Some(Octets::from_vec(product))),
-        Err(PrintedFault::BadByte(_)) => Ok(None),
-        Err(PrintedFault::OutOfMemory) => Err(AllocError),
-    }
-}
-
-/// The price that a word spells; the inner `None` takes the product off the plan.
-fn price_in(word: &[u8]) -> Option<Option<u32>>
-    ensures { result ≡ price_in word.now }
-{
-    if word == b"none".as_slice() {
-        return Some(None);
-    }
-    let price = read_decimal(word, MOST_DIGITS)?;
-    match u32::try_from(price) {
-        Ok(price) => Some(Some(price)),
-        Err(_) => None,
     }
 }

@@ -23,7 +23,7 @@ use Rattle.payer_book.specs.Added.{KeptRow, answer_under, kept_answer, kept_row,
 use Rattle.payer_book.specs.Made.{IsTold, MadeByAdding, IsMade}
 use Rattle.payer_book.specs.Entries.{with_plan}
 use Rattle.payer_book.proofs.Readings.{readable_alike}
-use Rattle.payer_book.proofs.Sameness.{bytes_self}
+use Rattle.claim_model.proofs.Tests.{bytes_self}
 use Rattle.payer_book.proofs.KeptRows.{kept_stands, added_kept}
 use Rattle.payer_book.proofs.Tellable.{after_told}
 

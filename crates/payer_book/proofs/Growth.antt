@@ -9,6 +9,7 @@ use Rattle.claim_model.specs.Ruled.{Ruled}
 use Rattle.claim_model.specs.Payments as model
 use Rattle.claim_model.specs.Payments.{same_auth, auth_reversed, reverses, reversed_by, payment_by, payment_at, is_standing, standing}
 use Rattle.claim_model.specs.Judgement.{is_for, standing_for, only, payment_to_reverse, judged_claim, judged_reversal, judged}
+use Rattle.claim_model.proofs.Marks.{marked_by, reversed_by_more}
 use Rattle.payer_book.specs.declared.book.payment.Standing.{Standing}
 use Rattle.payer_book.specs.declared.book.payment.Payment.{Payment}
 use Rattle.payer_book.specs.declared.book.payment.Payment.TheVariants.{Standing as Stands, Reversed as WasReversed}
@@ -38,24 +39,6 @@ marked_none : (id : TxnId) (change : Change) → marked id change [] ≡ []
 marked_none id (Pays s) = refl
 marked_none id (ReversesPayment auth) = refl
 marked_none id Keeps = refl
-
--- with one more ruling behind
-abbrev marked_by : Ruled → Auth → Option TxnId → Option TxnId
-marked_by x auth (Some id) = Some id
-marked_by x auth None = cond (reverses auth x) (Some x.id) None
-
-reversed_by_more : (auth : Auth) (rs : List Ruled) (x : Ruled) → reversed_by auth (rs ++ x ∷ []) ≡ marked_by x auth (reversed_by auth rs)
-reversed_by_more auth [] x = by_test (reverses auth x)
-  where
-    by_test : (b : Bool) → option_map (λ (r : Ruled). r.id) (cond b (Some x) None) ≡ cond b (Some x.id) None
-    by_test true = refl
-    by_test false = refl
-reversed_by_more auth (r ∷ rs) x = by_test (reverses auth r) (reversed_by_more auth rs x)
-  where
-    by_test : (b : Bool) → reversed_by auth (rs ++ x ∷ []) ≡ marked_by x auth (reversed_by auth rs)
-        → option_map (λ (q : Ruled). q.id) (cond b (Some r) (find (reverses auth) (rs ++ x ∷ []))) ≡ marked_by x auth (option_map (λ (q : Ruled). q.id) (cond b (Some r) (find (reverses auth) rs)))
-    by_test true h = refl
-    by_test false h = h
 
 unpaid_marks : (auth : Auth) (amounts : Amounts) (id : TxnId) (order : Result Order (List Code)) (ps : List Payment) → ps ≡ marked id (paid_by auth amounts order) ps
 unpaid_marks auth amounts id (Ok (Bills c)) ps = refl

@@ -1,7 +1,5 @@
 pub mod Lists
-pub mod Sameness
 pub mod Readings
-pub mod Headers
 pub mod RowIndex
 pub mod Numbering
 pub mod PaymentIndex

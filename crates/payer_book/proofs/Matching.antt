@@ -14,7 +14,7 @@ use Rattle.payer_book.specs.Ledger.{is_of, standing_of, is_for_payment, IsOther,
 use Rattle.payer_book.specs.Changes.{is_reversed}
 use Rattle.payer_book.specs.Matches.{tally, with_one, fill_for, is_match, matched, is_between, matches_between}
 use Rattle.payer_book.proofs.Lists.{filter_same, filter_none, all_weaker, all_true}
-use Rattle.payer_book.proofs.Sameness.{fill_same}
+use Rattle.claim_model.proofs.Tests.{fill_same}
 
 pub tally_first : (s : Standing) (ss : List Standing) → tally (s ∷ ss) ≡ with_one (tally ss) s.auth
 tally_first s [] = refl

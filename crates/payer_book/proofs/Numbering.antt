@@ -9,7 +9,7 @@ use Rattle.payer_book.specs.declared.book.payment.Payment.{Payment}
 use Rattle.payer_book.specs.declared.book.payment.Payment.TheVariants.{Standing as Stands, Reversed as WasReversed}
 use Rattle.payer_book.specs.Ledger.{auth_of, has_auth, payment_with, still, standing_in, after_reversal, reversal_of, AreNumbered}
 use Rattle.payer_book.proofs.Lists.{same_some}
-use Rattle.payer_book.proofs.Sameness.{auth_same}
+use Rattle.claim_model.proofs.Tests.{auth_same}
 
 -- the authorization of a payer with a serial
 abbrev pub numbered : ℕ → ℕ → Auth

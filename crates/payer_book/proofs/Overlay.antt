@@ -16,7 +16,7 @@ use Rattle.payer_book.specs.Ledger.{is_of, standing_of, is_for_payment, IsOther,
 use Rattle.payer_book.specs.Changes.{is_reversed, left, left_by, standing_after}
 use Rattle.payer_book.specs.Matches.{tally, with_one, together, only_of, is_match}
 use Rattle.payer_book.proofs.Lists.{same_some, filter_same, all_true, find_append, find_beyond}
-use Rattle.payer_book.proofs.Sameness.{fill_same}
+use Rattle.claim_model.proofs.Tests.{fill_same}
 use Rattle.payer_book.proofs.Matching.{tally_first}
 
 filter_all : {A : Type 0} (xs : List A) → filter (λ _. true) xs ≡ xs

@@ -15,7 +15,7 @@ use Rattle.payer_book.specs.declared.book.payment.Payment.TheVariants.{Standing 
 use Rattle.payer_book.specs.Ledger.{has_auth, payment_with, is_of, still, standing_in, standing_of, after_reversal, reversal_of, AreNumbered, IsOther, NoFillTwice, IsNumbered, HasFillNumber, IsLedger}
 use Rattle.payer_book.specs.PaymentPlaces.{StandsAt, IsIndexed}
 use Rattle.payer_book.proofs.Lists.{same_some, find_passes, get_append, get_last, get_more, get_within, get_set, get_set_other, all_append}
-use Rattle.payer_book.proofs.Sameness.{fill_same, fill_self, auth_same}
+use Rattle.claim_model.proofs.Tests.{fill_same, fill_self, auth_same}
 use Rattle.payer_book.proofs.Numbering.{numbered, numbered_at, numbered_more, numbered_kept, after_reversal_at}
 
 -- the derived equality of fills is the model's, but for the order of the last two parts

@@ -14,7 +14,7 @@ use Rattle.claim_model.specs.Book.{serial_fits, row_of, new_row, entered_row, an
 use Rattle.payer_book.specs.Books.{reading}
 use Rattle.payer_book.specs.Added.{answer_under, kept_answer, with_row}
 use Rattle.payer_book.proofs.Readings.{readable_alike}
-use Rattle.payer_book.proofs.Sameness.{bytes_same}
+use Rattle.claim_model.proofs.Tests.{bytes_same}
 
 module _ (routes : RouteMaps) (b : Book) (id : TxnId) (request : List ℕ) where
   pub unreadable : readable_header request ≡ None → answered (bytes_with routes) b id request ≡ Err Refusal.Unreadable

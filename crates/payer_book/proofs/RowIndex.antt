@@ -9,7 +9,7 @@ use Rattle.claim_model.specs.Book.{row_of}
 use Rattle.payer_book.specs.RowPlaces.{IsPlaced}
 use Rattle.payer_book.proofs.Lists.{get_append, get_last, find_append, find_beyond, same_some}
 use Rattle.envelope.specs.contracts.txn.TxnIdPartialEq.TheImpl as id_eq
-use Rattle.payer_book.proofs.Sameness.{id_same}
+use Rattle.claim_model.proofs.Tests.{id_same}
 
 module _ (rows : List Row) (row : Row) (old new : TxnId → Option ℕ) (h : IsPlaced rows old) (fresh : row_of row.id rows ≡ None)
     (more : (id : TxnId) → new id ≡ cond (same_id row.id id) (Some (length rows)) (old id)) where

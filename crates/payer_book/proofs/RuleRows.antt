@@ -27,7 +27,7 @@ use Rattle.payer_book.specs.Entries.{with_plan}
 use Rattle.payer_book.specs.Following.{FollowsRules, AllFollow, RowStands, IsKeptBook, KeepsRows}
 use Rattle.payer_book.proofs.Lists.{same_some}
 use Rattle.payer_book.proofs.Readings.{readable_alike}
-use Rattle.payer_book.proofs.Sameness.{bytes_same}
+use Rattle.claim_model.proofs.Tests.{bytes_same}
 use Rattle.payer_book.proofs.Keeping.{rulings_by_on}
 use Rattle.payer_book.proofs.RulingLemmas.{length_rulings}
 use Rattle.payer_book.proofs.PaidAmounts.{AmountsInRange, PaysSo, at_place, said_pays}

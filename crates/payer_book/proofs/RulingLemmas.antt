@@ -27,7 +27,7 @@ use Rattle.payer_book.specs.Drafts.{claim_on, reversal_on, judged_on, Pricing, B
 use Rattle.payer_book.specs.Books.{payments_of, count_paid, Keeps, OrderNumbered}
 use Rattle.payer_book.proofs.Growth.{payments_more, standing_more, after_more, judged_same}
 use Rattle.payer_book.proofs.Lists.{same_some}
-use Rattle.payer_book.proofs.Sameness.{auth_self}
+use Rattle.claim_model.proofs.Tests.{auth_self}
 
 -- a ruling pays where its change does
 

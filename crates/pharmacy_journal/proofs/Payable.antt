@@ -26,7 +26,7 @@ use Rattle.pharmacy_journal.specs.Counting.{Outcome, fill_billed, fills_in, ruli
 
 -- ---- lists
 
-or_assoc : (a b c : Bool) → ((a || b) || c) ≡ (a || (b || c))
+pub or_assoc : (a b c : Bool) → ((a || b) || c) ≡ (a || (b || c))
 or_assoc true b c = refl
 or_assoc false b c = refl
 

@@ -1,17 +1,17 @@
 -- What is known of a readable request, and of an answer beside it.
-use Rattle.std.proofs.Common.{◌≡◌, ℕ, ◌≤◌, ◌<◌, arith, Bool, true, false, ◌&&◌, List, length, Option, Some, None, Ok, Err, option_map, refl, sym, ap, ◌∙◌}
+use Rattle.std.proofs.Common.{◌≡◌, ℕ, ◌≤◌, ◌<◌, arith, Bool, true, false, ◌&&◌, List, length, Option, Some, None, Ok, Err, refl, sym, ap, ◌∙◌}
 use Rattle.std.specs.Prelude.{nat_le, nat_lt, option_and_then, if◌then◌else◌, bytes_eq, ◌==◌, slice_index, IsSome}
-use Rattle.std.proofs.lemmas.Bool.{leb-true, ltb-false, and_parts}
-use Rattle.d0_header.specs.Request.{Request, request_of, request_fault}
+use Rattle.std.proofs.lemmas.Bool.{leb-true, and_parts}
+use Rattle.d0_header.specs.Request.{Request, request_fault}
 use Rattle.d0_header.specs.Field.{is_count}
 use Rattle.d0_header.specs.declared.fault.HeaderFault.{HeaderFault}
 use Rattle.d0_header.specs.declared.fault.HeaderFault.TheVariants.{Short, BadBin, BadCount}
 use Rattle.d0_segments.specs.declared.fault.FramingFault.{FramingFault}
-use Rattle.d0_segments.specs.Parts.{TransmissionParts}
-use Rattle.d0_segments.specs.Framing.{request_kind, transmission_of, framing_fault, after_header, unless}
+use Rattle.d0_segments.specs.Framing.{request_kind, transmission_of, framing_fault}
 use Rattle.claim_profile.specs.Readable.{readable_header, is_carried, if_carried, framed_header, longest_request}
 use Rattle.claim_profile.specs.Ruling.{AnswerParts, answer_of}
 use Rattle.claim_profile.specs.declared.answer_reading.AnswerFault.{AnswerFault}
+use Rattle.claim_profile.proofs.Headers.{found, readable_cut}
 use Rattle.claim_model.specs.Readable.{fits, has_version, has_code, longest}
 use Rattle.std.proofs.Common.{cond, not}
 use Rattle.claim_model.specs.Refusal.{Refusal, Unreadable, Version, CodeNotCarried, NotOwnProvider, TooLong, JournalFull}
@@ -49,21 +49,6 @@ readable_from text h r =
     let s : nat_le (length text) longest_request ≡ true = Rattle.std.proofs.lemmas.Bool.le-leb _ _ r.short in
     rw (s, r.framed, r.carried) refl
 
-no_header_fault : (a : Option HeaderFault) (b : Option FramingFault) → after_header a b ≡ None → a ≡ None
-no_header_fault None b e = refl
-no_header_fault (Some f) b e = absurd cc
-
-spelled : (o : Option FramingFault) (t : TransmissionParts Request) (h : Request) → option_map (λ (t : TransmissionParts Request). t.header) (unless o t) ≡ Some h → (o ≡ None) × (t.header ≡ h)
-spelled None t h e = (refl, cc)
-spelled (Some f) t h e = absurd cc
-
--- the header of a framed text is cut from its front
-pub header_cut : (text : List ℕ) (h : Request) → header_of text ≡ Some h → (request_fault text ≡ None) × (request_of text ≡ h)
-unfolding transmission_of framing_fault
-header_cut text h e =
-    let p = spelled (framing_fault request_kind text) _ h e in
-    (no_header_fault _ _ p.0, p.1)
-
 -- whether an answer settles a readable request
 pub settles_at : (request answer : List ℕ) (h : Request) (a : AnswerParts) → readable_header request ≡ Some h → answer_of answer ≡ Ok a → settles_with request answer ≡ (bytes_eq a.header.code h.code && (a.header.count == h.count))
 settles_at request answer h a e f = rw ((IsReadable-from request h e).framed, f) refl
@@ -74,18 +59,6 @@ none_fits (Some h) = refl
 
 pub settles_none : (request answer : List ℕ) (fault : AnswerFault) → answer_of answer ≡ Err fault → settles_with request answer ≡ false
 settles_none request answer fault f = rw f (none_fits (header_of request))
-
--- what a test for something finds
-pub found : {A : Type 0} (o : Option A) → IsSome o → (x : A) × (o ≡ Some x)
-found None e = absurd cc
-found (Some x) e = (x, refl)
-
--- the header that is cut from a readable request is its header
-pub readable_cut : (text : List ℕ) → IsSome (readable_header text) → (request_fault text ≡ None) × (readable_header text ≡ Some (request_of text))
-readable_cut text s =
-    let f = found (readable_header text) s in
-    let cut = header_cut text f.0 (IsReadable-from text f.0 f.1).framed in
-    (cut.0, f.1 ∙ ap (λ (h : Request). Some h) (sym cut.1))
 
 pub readable_short : (text : List ℕ) → IsSome (readable_header text) → length text ≤ 32768
 readable_short text s = let f = found (readable_header text) s in (IsReadable-from text f.0 f.1).short
@@ -134,19 +107,7 @@ admitted_at j text (Some h) is e =
 pub IsAdmitted-from : (j : Journal) (text : List ℕ) → submit_fault j text (header_of text) ≡ None → IsAdmitted j text
 IsAdmitted-from j text e = admitted_at j text (header_of text) refl e
 
--- a readable request is as long as a header
-not_short : (b : Bool) (later : Option HeaderFault) → (if b then Some Short else later) ≡ None → b ≡ false
-not_short false later e = refl
-not_short true later e = absurd cc
-
-long_enough : (text : List ℕ) → request_fault text ≡ None → 56 ≤ length text
-unfolding request_fault
-long_enough text e = ltb-false (length text) 56 (not_short (nat_lt (length text) 56) _ e)
-
-pub readable_long : (text : List ℕ) → IsSome (readable_header text) → 56 ≤ length text
-readable_long text s = long_enough text (readable_cut text s).0
-
--- and its count is a digit
+-- the count of a readable request is a digit
 counted : (short bin count : Bool) (later : Option HeaderFault) → (if short then Some Short else (if bin then Some BadBin else (if not count then Some BadCount else later))) ≡ None → count ≡ true
 counted true bin count later e = absurd cc
 counted false true count later e = absurd cc

@@ -217,7 +217,7 @@ fn fits(request: &[u8], response: &ResponseHeader) -> bool
 }
 
 /// The code (103-A3) of a readable request, as it stands in its header.
-#[tactic(auto, using(crate::proofs::ReadingLemmas::readable_long))]
+#[tactic(auto, using(claim_profile::proofs::Headers::readable_long))]
 pub(crate) fn code_of(request: &[u8]) -> [u8; 2]
     requires { IsSome (readable_header request.now) }
     ensures { result ≡ (request_of request.now).code }
@@ -228,7 +228,7 @@ pub(crate) fn code_of(request: &[u8]) -> [u8; 2]
 }
 
 /// The count (109-A9) of a readable request, as it stands in its header.
-#[tactic(auto, using(crate::proofs::ReadingLemmas::readable_long, crate::proofs::ReadingLemmas::readable_count))]
+#[tactic(auto, using(claim_profile::proofs::Headers::readable_long, crate::proofs::ReadingLemmas::readable_count))]
 pub(crate) fn count_of(request: &[u8]) -> u8
     requires { IsSome (readable_header request.now) }
     ensures { result ≡ (request_of request.now).count }

@@ -19,3 +19,4 @@ pub use history::{MergeFault, is_there, merge};
 pub use log::NodeLog;
 pub use record::Record;
 pub use replay::replay_log;
+pub use same::is_same_node;

@@ -6,8 +6,8 @@ ghost use Rattle.claim_logs.specs.Nodes.{same_node};
 
 use world_setup::{Node, Sent};
 
-/// Whether two names are of one node.
-pub(crate) fn is_same_node(a: Node, b: Node) -> bool
+/// Whether two names are of one node: the same kind and the same number.
+pub fn is_same_node(a: Node, b: Node) -> bool
     ensures { result ≡ same_node (node_seen a) (node_seen b) }
 {
     match a {
@@ -45,7 +45,6 @@ pub(crate) fn is_same_sent(a: &[Sent], b: &[Sent]) -> bool
 }
 
 /// Whether one packet is another: the same addressee and the same bytes.
-
 fn is_same(a: &Sent, b: &Sent) -> bool
     ensures { IsTrue result ↔ (sent_seen a.now ≡ sent_seen b.now) }
 {

@@ -1,4 +1,4 @@
-mod EventLists
+pub mod EventLists
 mod Fronts
 mod Commas
 mod RunLists

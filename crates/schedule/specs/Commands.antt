@@ -1,7 +1,7 @@
 -- The commands that the lines of `run` spell: words parted by exactly one space, and nothing is trimmed.
 use Rattle.std.specs.Prelude.{ℕ, List, codes, bytes_eq, Option, Some, None, if◌then◌else◌}
 use Rattle.std.specs.Option.{option_map}
-use Rattle.outcomes.specs.Options.{◌>>=◌}
+use Rattle.input_text.specs.Options.{◌>>=◌}
 use Rattle.input_text.specs.Words.{split_word}
 use Rattle.input_text.specs.Decimals.{decimal_number}
 use Rattle.world_setup.specs.declared.event.Event.{Event}

@@ -1,7 +1,7 @@
 -- The faults of links that lines of `run` spell.
 use Rattle.std.specs.Prelude.{ℕ, ◌==◌, Bool, List, [], ◌∷◌, codes, bytes_eq, Option, Some, None, if◌then◌else◌}
 use Rattle.std.specs.List.{slice_split}
-use Rattle.outcomes.specs.Options.{◌>>=◌}
+use Rattle.input_text.specs.Options.{◌>>=◌}
 use Rattle.input_text.specs.Words.{split_word}
 use Rattle.world_setup.specs.declared.link.Action.{Action}
 use Rattle.world_setup.specs.declared.link.Action.TheVariants.{Deliver, Lose, Twice, Hold}

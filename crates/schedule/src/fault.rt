@@ -1,7 +1,8 @@
-//! Why lines are no schedule.
+//! Why lines are no schedule, and why events have no lines.
 
 ghost use Rattle.std.specs.Prelude.{◌≡◌};
 ghost use Rattle.schedule.specs.declared.fault.ScheduleFault.TheVariants.{OutOfMemory};
+ghost use Rattle.schedule.specs.declared.fault.TextFault.TheVariants as text;
 
 use std::alloc::{AllocError, AllocFailed};
 use thiserror::Error;
@@ -30,5 +31,33 @@ impl<T: Drop> From<AllocFailed<T>> for ScheduleFault {
 
     fn from(_refused: AllocFailed<T>) -> ScheduleFault {
         ScheduleFault::OutOfMemory
+    }
+}
+
+/// Why events have no text.
+#[derive(Clone, Copy, Debug, PartialEq, Eq, Error)]
+pub enum TextFault {
+    /// Memory was refused.
+    #[error("out of memory")]
+    OutOfMemory,
+    /// An event has no line: it changes the plan for a product without a byte, or delivers a packet whose number has more
+    /// than 18 digits.
+    #[error("an event has no line in a schedule")]
+    NoLine,
+}
+
+impl From<AllocError> for TextFault {
+    ghost from_gives = { λ _ fault. fault ≡ text.OutOfMemory };
+
+    fn from(_refused: AllocError) -> TextFault {
+        TextFault::OutOfMemory
+    }
+}
+
+impl<T: Drop> From<AllocFailed<T>> for TextFault {
+    ghost from_gives = { λ _ fault. fault ≡ text.OutOfMemory };
+
+    fn from(_refused: AllocFailed<T>) -> TextFault {
+        TextFault::OutOfMemory
     }
 }

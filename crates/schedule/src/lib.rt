@@ -1,4 +1,4 @@
-//! The schedule of an input: where it begins, and the events that its lines spell.
+//! The schedule of an input: where it begins, the events that its lines spell, and the lines that spell events.
 //!
 //! An input is settings, a line `---`, and the schedule: one event a line, in printed text. What a line is, is std's
 //! `lines`; what an event spells stands in `specs/`.
@@ -14,10 +14,13 @@ mod plans;
 mod reading;
 mod runs;
 mod why;
+mod writing;
 
 pub use commands::Command;
 pub use division::{Division, divide};
-pub use fault::ScheduleFault;
+pub use fault::{ScheduleFault, TextFault};
+pub use plans::{price_in, product_in};
 pub use reading::read_schedule;
 pub use runs::{Run, read_run};
 pub use why::{LineFault, command_fault, event_fault};
+pub use writing::events_text;

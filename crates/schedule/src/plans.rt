@@ -41,8 +41,11 @@ pub(crate) fn plan_change(alloc: Global, rest: &[u8]) -> Result<Option<Event>, A
     }
 }
 
-/// The product that a word spells.
-pub(crate) fn product_in(alloc: Global, word: &[u8]) -> Result<Option<Octets>, AllocError>
+/// The product that a word of a line spells: printed bytes, at least one.
+///
+/// # Errors
+/// Memory was refused.
+pub fn product_in(alloc: Global, word: &[u8]) -> Result<Option<Octets>, AllocError>
     ensures { IfOk result (λ product. product ≡ product_in word.now) }
 {
     if word.is_empty() {
@@ -55,8 +58,9 @@ pub(crate) fn product_in(alloc: Global, word: &[u8]) -> Result<Option<Octets>, A
     }
 }
 
-/// The price that a word spells; the inner `None` takes the product off the plan.
-fn price_in(word: &[u8]) -> Option<Option<u32>>
+/// The price that a word of a line spells, in ten-thousandths of a dollar a unit; the inner `None`, spelled `none`, takes the
+/// product off the plan.
+pub fn price_in(word: &[u8]) -> Option<Option<u32>>
     ensures { result ≡ price_in word.now }
 {
     if word == b"none".as_slice() {

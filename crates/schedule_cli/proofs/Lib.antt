@@ -1,5 +1,4 @@
 pub mod KnownInput
 pub mod KnownOutput
-pub mod EntryLists
 pub mod SaidLines
 pub mod OpenedWorlds

@@ -1,7 +1,6 @@
 pub mod JoinedWords
 pub mod Payments
 pub mod Loops
-pub mod Headers
 pub mod Joining
 pub mod Making
 pub mod Blocks

@@ -42,7 +42,7 @@ fn code_of(row: &Row) -> [u8; 2]
 }
 
 /// The code of a readable request, as it stands in its header.
-#[tactic(auto, using(crate::proofs::Headers::readable_long))]
+#[tactic(auto, using(claim_profile::proofs::Headers::readable_long))]
 fn request_code(request: &[u8]) -> [u8; 2]
     requires { IsSome (readable_header request.now) }
     ensures { result ≡ code_in (readable_header request.now) }

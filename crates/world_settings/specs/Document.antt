@@ -1,7 +1,7 @@
 -- The settings of a world that a table and a text spell.
 use Rattle.std.specs.Prelude.{ℕ, ◌≡◌, List, [], ◌∷◌, map, codes, Option, Some, None, if◌then◌else◌}
 use Rattle.std.specs.Str.{is_utf8}
-use Rattle.outcomes.specs.Options.{◌>>=◌}
+use Rattle.input_text.specs.Options.{◌>>=◌}
 use Rattle.toml.specs.Data.{Members}
 use Rattle.toml.specs.Parse.{parse_document}
 use Rattle.bin_routes.specs.Row.{Row}

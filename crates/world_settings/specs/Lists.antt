@@ -1,6 +1,6 @@
 -- Arrays: the value of each item, in order.
 use Rattle.std.specs.Prelude.{ℕ, List, [], ◌∷◌, Option, Some, None}
-use Rattle.outcomes.specs.Options.{◌>>=◌}
+use Rattle.input_text.specs.Options.{◌>>=◌}
 use Rattle.toml.specs.Data.{Data, Items, no_items, item, Members, get_member, as_array}
 
 -- an item before those of a list

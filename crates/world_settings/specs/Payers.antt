@@ -1,7 +1,7 @@
 -- The settings of a switch and of a payer that tables of the arrays `switch` and `payer` spell.
 use Rattle.std.specs.Prelude.{ℕ, List, [], ◌∷◌, codes, Option, Some, None}
 use Rattle.std.specs.Result.{result_ok}
-use Rattle.outcomes.specs.Options.{◌>>=◌}
+use Rattle.input_text.specs.Options.{◌>>=◌}
 use Rattle.toml.specs.Data.{Data, Members, no_members, member, get_member, as_table}
 use Rattle.claim_model.specs.Words.{Plan}
 use Rattle.plan_rules.specs.Terms.{repriced, largest}

@@ -1,7 +1,7 @@
 -- The settings of a pharmacy that a table of the array `pharmacy` spells.
 use Rattle.std.specs.Prelude.{ℕ, nat_le, Bool, ◌&&◌, List, [], ◌∷◌, length, codes, Option, Some, None, if◌then◌else◌}
 use Rattle.std.specs.List.{list_all}
-use Rattle.outcomes.specs.Options.{◌>>=◌}
+use Rattle.input_text.specs.Options.{◌>>=◌}
 use Rattle.toml.specs.Data.{Data, Members, as_table}
 use Rattle.d0_header.specs.Field.{is_plain}
 use Rattle.claim_model.specs.Journal.{PharmacySettings}

@@ -2,7 +2,7 @@
 -- where a table of routes is made.
 use Rattle.std.specs.Prelude.{ℕ, List, [], ◌∷◌, codes, Option, Some, None}
 use Rattle.std.specs.Option.{option_map}
-use Rattle.outcomes.specs.Options.{◌>>=◌}
+use Rattle.input_text.specs.Options.{◌>>=◌}
 use Rattle.toml.specs.Data.{Data, Members, get_member, as_str, as_table}
 use Rattle.bin_routes.specs.Row.{Row}
 use Rattle.world_settings.specs.Values.{number_at, text_at}

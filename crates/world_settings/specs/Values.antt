@@ -1,6 +1,6 @@
 -- What the value at a key of a table is.
 use Rattle.std.specs.Prelude.{ℕ, ◌-◌, ℤ, pos, negsuc, nat_le, List, ◌++◌, length, replicate, Option, Some, None, if◌then◌else◌}
-use Rattle.outcomes.specs.Options.{◌>>=◌}
+use Rattle.input_text.specs.Options.{◌>>=◌}
 use Rattle.toml.specs.Data.{Data, Members, get_member, as_integer, as_str}
 
 -- a whole number from 0 to the most that its type or its rule allows

@@ -93,7 +93,7 @@ impl Row {
 }
 
 /// The BIN number and the processor control number of a readable request.
-#[tactic(auto, using(crate::proofs::Headers::readable_long))]
+#[tactic(auto, using(claim_profile::proofs::Headers::readable_long))]
 fn bin_and_pcn_of(request: &[u8]) -> ([u8; 6], [u8; 10])
     requires { IsSome (readable_header request.now) }
     ensures readable { readable_header request.now ≡ Some (request_of request.now) }

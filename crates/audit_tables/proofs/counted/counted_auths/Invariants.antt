@@ -3,7 +3,7 @@ use Rattle.std.specs.List.{flat_map}
 use Rattle.bin_routes.specs.Table.{RouteMaps}
 use Rattle.claim_model.specs.Words.{Auth}
 use Rattle.claim_model.specs.Bytes.{bytes_with}
-use Rattle.audit_tables.specs.Payments.{has_auth}
+use Rattle.pharmacy_journal.specs.Counting.{has_auth}
 use Rattle.audit_tables.specs.Tables.{names_auth, node_counted, is_counted}
 use Rattle.audit_tables.proofs.counted.counted_auths.Given as goal
 

@@ -1,6 +1,6 @@
 use Rattle.std.proofs.Common.{rules}
 use Rattle.claim_profile.specs.contracts.authorization.AuthOrd.TheImpl as order
-use Rattle.audit_tables.proofs.Authorizations.{has_more}
+use Rattle.pharmacy_journal.proofs.Payable.{has_more}
 use Rattle.audit_tables.proofs.counted.take_auth.Goals as goal
 
 pub returns : goal.returns

@@ -1,6 +1,6 @@
 use Rattle.std.proofs.Common.{◌≡◌, ◌||◌, drop}
 use Rattle.claim_model.specs.Words.{Auth}
-use Rattle.audit_tables.specs.Payments.{has_auth}
+use Rattle.pharmacy_journal.specs.Counting.{has_auth}
 use Rattle.audit_tables.specs.Tables.{names_auth}
 use Rattle.audit_tables.proofs.counted.take_payments.Given as goal
 

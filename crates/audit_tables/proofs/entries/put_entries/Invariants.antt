@@ -1,5 +1,5 @@
 use Rattle.std.proofs.Common.{◌≡◌, ◌++◌, drop}
-use Rattle.table_text.specs.Rows.{rows_text}
+use Rattle.audit_tables.specs.Rows.{rows_text}
 use Rattle.audit_tables.specs.Entries.{entry_rows}
 use Rattle.audit_tables.proofs.entries.put_entries.Given as goal
 

@@ -1,8 +1,8 @@
 use Rattle.std.proofs.Common.{◌++◌, List, ℕ, refl, ap, ◌∙◌}
 use Rattle.std.specs.Prelude.{codes}
 use Rattle.std.proofs.lemmas.Result.{on_ok_weaker}
-use Rattle.table_text.specs.Members.{Row}
-use Rattle.table_text.specs.Rows.{row_text}
+use Rattle.audit_tables.specs.Members.{Row}
+use Rattle.audit_tables.specs.Rows.{row_text}
 use Rattle.audit_tables.specs.Kinds.{text_member}
 use Rattle.audit_tables.specs.Packets.{loaded_row}
 use Rattle.audit_tables.proofs.Joining.{cons_alike}

@@ -2,7 +2,7 @@ use Rattle.std.proofs.Common.{◌≡◌, ◌+◌, ◌++◌, drop, map}
 use Rattle.bin_routes.specs.Table.{RouteMaps}
 use Rattle.claim_model.specs.Bytes.{bytes_with}
 use Rattle.world_setup.specs.Seen.{packet_seen}
-use Rattle.table_text.specs.Rows.{rows_text}
+use Rattle.audit_tables.specs.Rows.{rows_text}
 use Rattle.audit_tables.specs.Payments.{told_from}
 use Rattle.audit_tables.specs.Packets.{packet_told}
 use Rattle.audit_tables.proofs.packets.put_packets.Given as goal

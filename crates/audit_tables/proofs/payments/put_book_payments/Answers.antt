@@ -1,5 +1,6 @@
 use Rattle.claim_model.specs.Bytes.{bytes_with}
-use Rattle.audit_tables.specs.Payments.{row_payments, has_auth}
+use Rattle.pharmacy_journal.specs.Counting.{has_auth}
+use Rattle.audit_tables.specs.Payments.{row_payments}
 use Rattle.audit_tables.proofs.Joining.{blocks_go_on, blocks_are_done}
 use Rattle.std.proofs.Common.{◌∙◌}
 use Rattle.audit_tables.proofs.payments.put_book_payments.Goals as goal

@@ -2,8 +2,9 @@ use Rattle.std.proofs.Common.{◌≡◌, ◌++◌, drop}
 use Rattle.std.specs.List.{flat_map}
 use Rattle.bin_routes.specs.Table.{RouteMaps}
 use Rattle.claim_model.specs.Bytes.{bytes_with}
-use Rattle.table_text.specs.Rows.{rows_text}
-use Rattle.audit_tables.specs.Payments.{row_payments, has_auth}
+use Rattle.audit_tables.specs.Rows.{rows_text}
+use Rattle.pharmacy_journal.specs.Counting.{has_auth}
+use Rattle.audit_tables.specs.Payments.{row_payments}
 use Rattle.audit_tables.proofs.payments.put_book_payments.Given as goal
 
 -- the rows so far, and then those of what is left

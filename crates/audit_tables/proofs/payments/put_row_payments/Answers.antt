@@ -1,6 +1,7 @@
 use Rattle.std.proofs.Common.{◌∙◌}
 use Rattle.claim_model.specs.Bytes.{bytes_with}
-use Rattle.audit_tables.specs.Payments.{ruling_payment, has_auth}
+use Rattle.pharmacy_journal.specs.Counting.{has_auth}
+use Rattle.audit_tables.specs.Payments.{ruling_payment}
 use Rattle.audit_tables.proofs.Joining.{told_goes_on, told_is_done}
 use Rattle.audit_tables.proofs.payments.put_row_payments.Goals as goal
 

@@ -1,7 +1,7 @@
 use Rattle.std.proofs.Common.{◌++◌, refl, ap, ◌∙◌}
 use Rattle.std.proofs.lemmas.Result.{on_ok_weaker}
-use Rattle.table_text.specs.Members.{Row}
-use Rattle.table_text.specs.Rows.{row_text}
+use Rattle.audit_tables.specs.Members.{Row}
+use Rattle.audit_tables.specs.Rows.{row_text}
 use Rattle.audit_tables.specs.Rulings.{answered_row}
 use Rattle.audit_tables.proofs.Joining.{cons_alike}
 use Rattle.audit_tables.proofs.rows.put_answered.Goals as goal

@@ -1,6 +1,6 @@
 use Rattle.std.proofs.Common.{◌≡◌, ◌++◌, drop}
 use Rattle.std.specs.List.{flat_map}
-use Rattle.table_text.specs.Rows.{rows_text}
+use Rattle.audit_tables.specs.Rows.{rows_text}
 use Rattle.audit_tables.specs.Rulings.{row_rulings}
 use Rattle.audit_tables.proofs.rows.put_book_rulings.Given as goal
 

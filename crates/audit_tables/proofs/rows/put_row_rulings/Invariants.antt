@@ -1,5 +1,5 @@
 use Rattle.std.proofs.Common.{◌≡◌, ◌+◌, ◌++◌, drop}
-use Rattle.table_text.specs.Rows.{rows_text}
+use Rattle.audit_tables.specs.Rows.{rows_text}
 use Rattle.audit_tables.specs.Payments.{told_from}
 use Rattle.audit_tables.specs.Rulings.{ruling_rows}
 use Rattle.audit_tables.proofs.rows.put_row_rulings.Given as goal

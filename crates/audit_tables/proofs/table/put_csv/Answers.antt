@@ -1,6 +1,6 @@
 use Rattle.std.proofs.lemmas.Result.{on_ok_weaker}
-use Rattle.table_text.specs.Rows.{rows_text, head_text}
-use Rattle.table_text.specs.declared.layout.Style.TheVariants.{Csv}
+use Rattle.audit_tables.specs.Rows.{rows_text, head_text}
+use Rattle.audit_tables.specs.declared.layout.Style.TheVariants.{Csv}
 use Rattle.world_core.specs.Parts.{context_of}
 use Rattle.audit_tables.specs.Tables.{table_names, table_rows, table_csv}
 use Rattle.audit_tables.proofs.Joining.{texts_join}

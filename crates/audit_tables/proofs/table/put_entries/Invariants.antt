@@ -2,7 +2,7 @@ use Rattle.std.proofs.Common.{◌≡◌, ◌++◌, drop}
 use Rattle.std.specs.List.{flat_map}
 use Rattle.bin_routes.specs.Table.{RouteMaps}
 use Rattle.claim_model.specs.Bytes.{bytes_with}
-use Rattle.table_text.specs.Rows.{rows_text}
+use Rattle.audit_tables.specs.Rows.{rows_text}
 use Rattle.audit_tables.specs.Tables.{node_entries}
 use Rattle.audit_tables.proofs.table.put_entries.Given as goal
 

@@ -1,5 +1,5 @@
 use Rattle.claim_model.specs.Bytes.{bytes_with}
-use Rattle.audit_tables.specs.Payments.{has_auth}
+use Rattle.pharmacy_journal.specs.Counting.{has_auth}
 use Rattle.audit_tables.specs.Tables.{node_payments}
 use Rattle.audit_tables.proofs.Joining.{blocks_go_on, blocks_are_done}
 use Rattle.audit_tables.proofs.table.put_paid.Goals as goal

@@ -1,6 +1,6 @@
 use Rattle.std.proofs.Common.{sym, ap, ◌∙◌}
 use Rattle.world_report.specs.BookRows.{code_in}
-use Rattle.world_report.proofs.Headers.{readable_cut}
+use Rattle.claim_profile.proofs.Headers.{readable_cut}
 use Rattle.world_report.proofs.book_rows.request_code.Goals as goal
 
 pub returns : goal.returns

@@ -2,7 +2,7 @@ use Rattle.std.proofs.Common.{◌≡◌, ◌∙◌, Bool, sym}
 use Rattle.d0_header.specs.Request.{request_of}
 use Rattle.claim_model.specs.Bytes.{bytes_with}
 use Rattle.claim_model.specs.Readable.{is_payer, payer_for}
-use Rattle.payer_book.proofs.Sameness.{bytes_self}
+use Rattle.claim_model.proofs.Tests.{bytes_self}
 use Rattle.payer_book.proofs.Replies.{answered_again, not_ours}
 use Rattle.payer_book.proofs.book.Book.decide_again.Goals as goal
 use Rattle.payer_book.proofs.book.Book.decide_again.Goals.{After-is_routed}

@@ -1,4 +1,4 @@
-use Rattle.payer_book.proofs.Headers.{readable_cut}
+use Rattle.claim_profile.proofs.Headers.{readable_cut}
 use Rattle.payer_book.proofs.book.row.bin_and_pcn_of.Goals as goal
 
 pub returns-clause-readable : goal.returns-clause-readable

@@ -1,0 +1,51 @@
+//! Events as the lines of a schedule: the inverse of reading them.
+
+mod lines;
+mod same;
+
+ghost use Rattle.std.specs.Prelude.{◌≡◌, Ok, IfOk, IsTrue};
+ghost use Rattle.std.specs.Str.Lines.{lines};
+ghost use Rattle.schedule.specs.Reading.{events_of};
+
+use crate::fault::{ScheduleFault, TextFault};
+use crate::reading::read_schedule;
+use crate::writing::lines::put_event;
+use crate::writing::same::are_same;
+use std::alloc::{AllocError, Global};
+use world_setup::Event;
+
+/// The lines of a schedule that spell these events, one after another. What is written is read again, and given only
+/// where it is read as the same events.
+///
+/// # Errors
+/// `NoLine` where an event has none; `OutOfMemory`.
+pub fn events_text(alloc: Global, events: &[Event]) -> Result<Vec<u8>, TextFault>
+    ensures { IfOk result (λ text. events_of (lines text.items) ≡ Ok events.now) }
+{
+    let text = written(alloc, events)?;
+    if is_text_of(alloc, text.as_slice(), events)? {
+        Ok(text)
+    } else {
+        Err(TextFault::NoLine)
+    }
+}
+
+/// The line of each event.
+fn written(alloc: Global, events: &[Event]) -> Result<Vec<u8>, AllocError> {
+    let mut text = Vec::new(alloc);
+    for event in events {
+        put_event(&mut text, event)?;
+    }
+    Ok(text)
+}
+
+/// Whether a text is read as these events.
+fn is_text_of(alloc: Global, text: &[u8], events: &[Event]) -> Result<bool, AllocError>
+    ensures { IfOk result (λ yes. IsTrue yes → events_of (lines text.now) ≡ Ok events.now) }
+{
+    match read_schedule(alloc, text) {
+        Ok(read) => Ok(are_same(read.as_slice(), events)),
+        Err(ScheduleFault::OutOfMemory) => Err(AllocError),
+        Err(ScheduleFault::Line(_)) => Ok(false),
+    }
+}

@@ -1,0 +1,91 @@
+//! The line of an event.
+
+use input_text::{put_decimal, put_printed};
+use std::alloc::AllocError;
+use world_setup::{Event, Node};
+
+/// Appends the line of an event, and its end.
+pub(super) fn put_event(out: &mut Vec<u8>, event: &Event) -> Result<(), AllocError> {
+    match event {
+        Event::Submit { pharmacy, text } => {
+            put(out, b"submit ")?;
+            put_name(out, b"ph", *pharmacy)?;
+            put(out, b" ")?;
+            put_printed(out, text.as_slice())?;
+        }
+        Event::Tick { pharmacy } => {
+            put(out, b"tick ")?;
+            put_name(out, b"ph", *pharmacy)?;
+        }
+        Event::Deliver { packet } => {
+            put(out, b"deliver ")?;
+            put_decimal(out, *packet)?;
+        }
+        Event::Stop(node) => {
+            put(out, b"stop ")?;
+            put_node(out, *node)?;
+        }
+        Event::Start(node) => {
+            put(out, b"start ")?;
+            put_node(out, *node)?;
+        }
+        Event::Plan {
+            payer,
+            product,
+            price,
+        } => put_plan(out, *payer, product.as_slice(), *price)?,
+    }
+    put(out, b"\n")
+}
+
+/// Appends bytes.
+fn put(out: &mut Vec<u8>, bytes: &[u8]) -> Result<(), AllocError> {
+    out.extend_from_slice(bytes)
+}
+
+/// Appends a node by letters and its number.
+fn put_name(out: &mut Vec<u8>, letters: &[u8], number: u16) -> Result<(), AllocError> {
+    put(out, letters)?;
+    put_decimal(out, u64::from(number))
+}
+
+/// Appends a node of any kind.
+fn put_node(out: &mut Vec<u8>, node: Node) -> Result<(), AllocError> {
+    match node {
+        Node::Pharmacy(number) => put_name(out, b"ph", number),
+        Node::Switch(number) => put_name(out, b"sw", number),
+        Node::Payer(number) => put_name(out, b"pr", number),
+    }
+}
+
+/// Appends a change of a plan.
+fn put_plan(
+    out: &mut Vec<u8>,
+    payer: u16,
+    product: &[u8],
+    price: Option<u32>,
+) -> Result<(), AllocError> {
+    put(out, b"plan ")?;
+    put_name(out, b"pr", payer)?;
+    put(out, b" ")?;
+    put_product(out, product)?;
+    match price {
+        Some(price) => {
+            put(out, b" ")?;
+            put_decimal(out, u64::from(price))
+        }
+        None => put(out, b" none"),
+    }
+}
+
+/// Appends a product in printed bytes, a space as `\x20`.
+fn put_product(out: &mut Vec<u8>, product: &[u8]) -> Result<(), AllocError> {
+    for byte in product {
+        if *byte == b' ' {
+            put(out, b"\\x20")?;
+        } else {
+            put_printed(out, &[*byte])?;
+        }
+    }
+    Ok(())
+}

@@ -1,6 +1,0 @@
-use Rattle.std.proofs.Common.{◌≡◌, take}
-use Rattle.schedule_text.proofs.same.are_same.Given as goal
-
--- what was compared is the same
-abbrev pub invariant-loop-place : goal.invariant-loop-place
-invariant-loop-place l = take l.place l.events ≡ take l.place l.others

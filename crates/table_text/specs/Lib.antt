@@ -1,5 +1,0 @@
-pub mod Members
-pub mod Seen
-pub mod Quoting
-pub mod Values
-pub mod Rows
