@@ -1,7 +1,7 @@
 #!/usr/bin/env python3
 """A node each of a settings file, over one NATS server, on this machine.
 
-    hosts/cluster.py SETTINGS FOLDER [--server] [--nats HOST:PORT] [--jetstream] [--tick SECONDS] [--program PATH] [-v]
+    hosts/cluster.py SETTINGS FOLDER [--server] [--nats URL] [--ca FILE] [--jetstream] [--tick SECONDS] [--program PATH] [--host PATH] [-v]
 
 SETTINGS is a file of settings alone, as examples/six-nodes.toml. Logs go to FOLDER, one a node. A host that dies is started
 again, at first at once, then ever later. With --server a server is started too; its program is `nats-server` (Debian: apt-get
@@ -19,6 +19,8 @@ import subprocess
 import sys
 import time
 import tomllib
+
+import nats
 
 HERE = pathlib.Path(__file__).resolve().parent
 AGAIN_SECONDS = 0.2
@@ -81,25 +83,37 @@ async def main():
     parser.add_argument("settings")
     parser.add_argument("folder")
     parser.add_argument("--server", action="store_true", help="start a server as well")
-    parser.add_argument("--nats", default="127.0.0.1:4222", metavar="HOST:PORT")
+    parser.add_argument("--nats", default=nats.URL, metavar="URL", help="[tls://][USER:PASSWORD@]HOST:PORT; the default is NATS_URL")
+    parser.add_argument("--ca", metavar="FILE", help="the certificates to trust")
     parser.add_argument("--jetstream", action="store_true", help="the server keeps packets for nodes that are down")
     parser.add_argument("--tick", default="1.0", metavar="SECONDS")
-    parser.add_argument("--program", metavar="PATH")
+    parser.add_argument("--program", metavar="PATH", help="where claimnode is, for nodes of hosts/node.py")
+    parser.add_argument("--host", metavar="PATH", help="the program of hosts/c, which is host and node in one, in the place of hosts/node.py")
     parser.add_argument("-v", action="store_true")
     given = parser.parse_args()
-    names, program = nodes_of(given.settings), program_of(given.program)
+    names = nodes_of(given.settings)
+    if given.host and given.jetstream:
+        sys.exit("cluster: the host in C takes packets of plain NATS alone")
+    program = given.host or program_of(given.program)
     os.makedirs(given.folder, exist_ok=True)
-    host, port = given.nats.rsplit(":", 1)
+    at = nats.Server(given.nats, given.ca)
     tasks, servers = [], []
     if given.server:
-        check_free(host, int(port))
-        server = ["nats-server", "-a", host, "-p", port, "-l", f"{given.folder}/server.txt"]
+        if at.tls:
+            sys.exit("cluster: a server with TLS is started by its own settings: leave out --server")
+        check_free(at.host, at.port)
+        server = ["nats-server", "-a", at.host, "-p", str(at.port), "-l", f"{given.folder}/server.txt"]
+        server += ["--user", at.login["user"], "--pass", at.login["pass"]] if at.login else []
         server += ["-js", "-sd", f"{given.folder}/server"] if given.jetstream else []
         servers.append(asyncio.create_task(keep("the server", server)))
     for name in names:
-        words = [sys.executable, str(HERE / "node.py"), given.settings, name, f"{given.folder}/{name}.log"]
-        words += ["--nats", given.nats, "--tick", given.tick, "--program", program]
-        words += ["--jetstream"] * given.jetstream + ["-v"] * given.v
+        words = [given.settings, name, f"{given.folder}/{name}.log", "--nats", given.nats, "--tick", given.tick]
+        words += ["--ca", given.ca] if given.ca else []
+        words += ["-v"] * given.v
+        if given.host:
+            words = [program, *words]
+        else:
+            words = [sys.executable, str(HERE / "node.py"), *words, "--program", program] + ["--jetstream"] * given.jetstream
         tasks.append(asyncio.create_task(keep(name, words)))
     stop = asyncio.Event()
     for number in (signal.SIGINT, signal.SIGTERM):

@@ -7,14 +7,35 @@ up to a mebibyte, and a packet in printed bytes has at most 131,144.
 import asyncio
 import itertools
 import json
+import os
+import ssl
 import sys
+
+# Where the server is, where no word says so.
+URL = os.environ.get("NATS_URL", "127.0.0.1:4222")
+
+
+class Server:
+    """Where a server is, and what it wants to know: `[nats://|tls://][USER:PASSWORD@]HOST:PORT`, as NATS writes it. With `tls`, or a file
+    of certificates to trust, nothing goes in the clear but the server's greeting."""
+
+    def __init__(self, url, authorities=None):
+        scheme, _, rest = url.rpartition("://")
+        login, _, at = rest.rpartition("@")
+        self.host, _, port = at.rpartition(":")
+        if scheme not in ("", "nats", "tls") or not self.host or not port.isdigit():
+            sys.exit(f"{at}: a server is HOST:PORT, and before it nats:// or tls://, and USER:PASSWORD@")
+        self.port = int(port)
+        user, _, password = login.partition(":")
+        self.login = {"user": user, "pass": password} if login else {}
+        self.tls = ssl.create_default_context(cafile=authorities) if scheme == "tls" or authorities else None
 
 
 class Connection:
     """A connection that comes again by itself, with its subscriptions, when the server goes and comes back."""
 
-    def __init__(self, host, port, name, says=True):
-        self._at = (host, port)
+    def __init__(self, server, name, says=True):
+        self._server = server
         self._name, self._says = name, says
         self._subscriptions = {}
         self._numbers = itertools.count(1)
@@ -87,16 +108,19 @@ class Connection:
                 pass
             is_told = is_told and not self.is_open.is_set()
             if not is_told:
-                self.say(f"no server at {self._at[0]}:{self._at[1]}, trying again")
+                self.say(f"no server at {self._server.host}:{self._server.port}, trying again")
             is_told = True
             self._writer = None
             self.is_open.clear()
             await asyncio.sleep(0.1)
 
     async def _serve(self):
-        reader, writer = await asyncio.open_connection(*self._at, limit=1 << 21)
+        reader, writer = await asyncio.open_connection(self._server.host, self._server.port, limit=1 << 21)
         await reader.readline()  # INFO
+        if self._server.tls:
+            await writer.start_tls(self._server.tls, server_hostname=self._server.host)
         hello = {"verbose": False, "pedantic": False, "name": self._name, "lang": "python", "version": "0"}
+        hello |= {**self._server.login, "tls_required": self._server.tls is not None}
         writer.write(f"CONNECT {json.dumps(hello)}\r\n".encode())
         for number, (subject, _) in self._subscriptions.items():
             writer.write(f"SUB {subject} {number}\r\n".encode())
@@ -115,6 +139,8 @@ class Connection:
                 await self._message(reader, words)
             elif words[0] == b"PING":
                 writer.write(b"PONG\r\n")
+            elif words[0] == b"-ERR":
+                self.say(f"the server says {line[5:].decode(errors='replace').strip()}")
 
     async def _message(self, reader, words):
         payload = await reader.readexactly(int(words[-1]) + 2)

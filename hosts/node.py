@@ -1,7 +1,7 @@
 #!/usr/bin/env python3
 """One node of a switch on a carrier: moves lines between `claimnode`, which is the node, and a NATS server.
 
-    hosts/node.py SETTINGS NODE LOG [--nats HOST:PORT] [--jetstream] [--tick SECONDS] [--program PATH] [-v]
+    hosts/node.py SETTINGS NODE LOG [--nats URL] [--ca FILE] [--jetstream] [--tick SECONDS] [--program PATH] [-v]
 
 The node's packets come on the subject `claims.NODE`, each as its sender's name, a space and the packet in printed bytes.
 Callers' lines come on `claims.NODE.call`: `submit` and `answer`, no others. An operator's come on `claims.NODE.operate`: any line
@@ -140,7 +140,8 @@ def words():
     parser.add_argument("settings", help="the settings of a replay")
     parser.add_argument("node", help="ph1, sw1, pr1 ..")
     parser.add_argument("log", help="the node's log file")
-    parser.add_argument("--nats", default="127.0.0.1:4222", metavar="HOST:PORT")
+    parser.add_argument("--nats", default=nats.URL, metavar="URL", help="[tls://][USER:PASSWORD@]HOST:PORT; the default is NATS_URL")
+    parser.add_argument("--ca", metavar="FILE", help="the certificates to trust")
     parser.add_argument("--tick", type=float, default=1.0, metavar="SECONDS", help="how long a pharmacy's tick is")
     parser.add_argument("--program", default="claimnode", help="where claimnode is")
     parser.add_argument("--jetstream", action="store_true", help="the server keeps packets: it runs with -js")
@@ -150,8 +151,7 @@ def words():
 
 async def main():
     given = words()
-    address, port = given.nats.rsplit(":", 1)
-    carrier = nats.Connection(address, int(port), given.node)
+    carrier = nats.Connection(nats.Server(given.nats, given.ca), given.node)
     node = Node(given.program, given.settings, given.node, given.log)
     await node.start()
     host = Host(node, carrier)
