@@ -1,5 +1,6 @@
 pub mod Circle
 pub mod PlaceLemmas
+pub mod OpenPlaces
 pub mod Turning
 pub mod ReadingLemmas
 pub mod Entering

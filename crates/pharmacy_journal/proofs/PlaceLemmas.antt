@@ -1,18 +1,14 @@
 -- The places of a list at which a test holds, when the list changes.
-use Rattle.std.proofs.Common.{◌≡◌, ℕ, zero, suc, ◌+◌, ◌<◌, ◌≤◌, Bool, true, false, cond, eqb, ltb, List, [], ◌∷◌, ◌++◌, length, map, set, get_or, refl, sym, ap, ◌∙◌, arith, ⊎_elim}
-use Rattle.std.specs.List.{AllByRecursion}
-use Rattle.std.specs.Set.{remove_key}
-use Rattle.std.specs.BTreeSet.{insert_key}
-use Rattle.std.specs.BTreeMap.{is_at}
-use Rattle.std.specs.Ordering.{nat_cmp}
-use Rattle.std.proofs.lemmas.Bool.{eq-eqb, ne_eqb, le-ltb, lt-ltb, cases_lt, cases_eq}
+use Rattle.std.proofs.Common.{◌≡◌, ℕ, zero, suc, ◌+◌, ◌<◌, ◌≤◌, Bool, true, false, not, cond, eqb, List, [], ◌∷◌, ◌++◌, length, map, set, refl, sym, ap, ◌∙◌, arith}
+use Rattle.std.specs.List.{AllByRecursion, filter}
+use Rattle.std.proofs.lemmas.Bool.{eq-eqb, ne_eqb}
 use Rattle.pharmacy_journal.specs.Places.{places_from}
 
-AllByRecursion-weaker : {A : Type 0} (P Q : A → Type 0) → ((a : A) → P a → Q a) → (xs : List A) → AllByRecursion P xs → AllByRecursion Q xs
+pub AllByRecursion-weaker : {A : Type 0} (P Q : A → Type 0) → ((a : A) → P a → Q a) → (xs : List A) → AllByRecursion P xs → AllByRecursion Q xs
 AllByRecursion-weaker P Q f [] h = tt
 AllByRecursion-weaker P Q f (x ∷ xs) h = (f x h.0, AllByRecursion-weaker P Q f xs h.1)
 
-AllByRecursion-if : {A : Type 0} (P : A → Type 0) (b : Bool) (x : A) (xs : List A) → P x → AllByRecursion P xs → AllByRecursion P (cond b (x ∷ xs) xs)
+pub AllByRecursion-if : {A : Type 0} (P : A → Type 0) (b : Bool) (x : A) (xs : List A) → P x → AllByRecursion P xs → AllByRecursion P (cond b (x ∷ xs) xs)
 AllByRecursion-if P true x xs p h = (p, h)
 AllByRecursion-if P false x xs p h = h
 
@@ -22,13 +18,6 @@ places_from-start passes n [] = tt
 places_from-start passes n (x ∷ xs) =
     AllByRecursion-if (λ k. n ≤ k) (passes x) n (places_from passes (n + 1) xs) (omega arith)
     (AllByRecursion-weaker (λ k. n + 1 ≤ k) (λ k. n ≤ k) (λ k h. omega arith) _ (places_from-start passes (n + 1) xs))
-
--- and before the end
-pub places_from-end : {A : Type 0} (passes : A → Bool) (n : ℕ) (xs : List A) → AllByRecursion (λ k. k < n + length xs) (places_from passes n xs)
-places_from-end passes n [] = tt
-places_from-end passes n (x ∷ xs) =
-    AllByRecursion-if (λ k. k < n + suc (length xs)) (passes x) n (places_from passes (n + 1) xs) (omega arith)
-    (AllByRecursion-weaker (λ k. k < n + 1 + length xs) (λ k. k < n + suc (length xs)) (λ k h. omega arith) _ (places_from-end passes (n + 1) xs))
 
 -- one more element that passes
 pub places_from-push : {A : Type 0} (passes : A → Bool) (n : ℕ) (xs : List A) (y : A) → passes y ≡ true → places_from passes n (xs ++ y ∷ []) ≡ places_from passes n xs ++ (n + length xs) ∷ []
@@ -44,32 +33,30 @@ pub places_from-push_other : {A : Type 0} (passes : A → Bool) (n : ℕ) (xs : 
 places_from-push_other passes n [] y e = rw e refl
 places_from-push_other passes n (x ∷ xs) y e = rw (places_from-push_other passes (n + 1) xs y e) refl
 
+-- every place but one
+abbrev pub but : ℕ → ℕ → Bool
+but place k = not (eqb place k)
+
 -- where no place is k, nothing is taken out
-remove_key-past : (k n : ℕ) (ks : List ℕ) → k < n → AllByRecursion (λ j. n ≤ j) ks → remove_key (eqb k) ks ≡ ks
-remove_key-past k n [] lt h = refl
-remove_key-past k n (j ∷ ks) lt h = let e : eqb k j ≡ false = ne_eqb k j (λ e. omega (arith, e, h.0)) in rw e (ap (λ xs. j ∷ xs) (remove_key-past k n ks lt h.1))
+filter-but_past : (k n : ℕ) (ks : List ℕ) → k < n → AllByRecursion (λ j. n ≤ j) ks → filter (but k) ks ≡ ks
+filter-but_past k n [] lt h = refl
+filter-but_past k n (j ∷ ks) lt h = let e : eqb k j ≡ false = ne_eqb k j (λ e. omega (arith, e, h.0)) in rw e (ap (λ xs. j ∷ xs) (filter-but_past k n ks lt h.1))
 
 -- an element that passes no more
-pub places_from-unset : {A : Type 0} (passes : A → Bool) (n : ℕ) (xs : List A) (i : ℕ) (y : A) → i < length xs → passes y ≡ false → places_from passes n (set xs i y) ≡ remove_key (eqb (n + i)) (places_from passes n xs)
+pub places_from-unset : {A : Type 0} (passes : A → Bool) (n : ℕ) (xs : List A) (i : ℕ) (y : A) → i < length xs → passes y ≡ false → places_from passes n (set xs i y) ≡ filter (but (n + i)) (places_from passes n xs)
 places_from-unset passes n [] i y lt e = absurd (omega (arith, lt))
 places_from-unset passes n (x ∷ xs) zero y lt e =
-    let rest : remove_key (eqb (n + 0)) (places_from passes (n + 1) xs) ≡ places_from passes (n + 1) xs = remove_key-past (n + 0) (n + 1) _ (omega arith) (places_from-start passes (n + 1) xs) in
+    let rest : filter (but (n + 0)) (places_from passes (n + 1) xs) ≡ places_from passes (n + 1) xs = filter-but_past (n + 0) (n + 1) _ (omega arith) (places_from-start passes (n + 1) xs) in
     let here : eqb (n + 0) n ≡ true = eq-eqb _ _ (omega arith) in
     rw e
-    (elim (passes x) as (λ b. places_from passes (n + 1) xs ≡ remove_key (eqb (n + 0)) (cond b (n ∷ places_from passes (n + 1) xs) (places_from passes (n + 1) xs)))
-    [ true ↦ rw here refl | false ↦ sym rest ])
+    (elim (passes x) as (λ b. places_from passes (n + 1) xs ≡ filter (but (n + 0)) (cond b (n ∷ places_from passes (n + 1) xs) (places_from passes (n + 1) xs)))
+    [ true ↦ rw here (sym rest) | false ↦ sym rest ])
 places_from-unset passes n (x ∷ xs) (suc i) y lt e =
     let s : n + 1 + i ≡ n + suc i = omega arith in
-    let ih : places_from passes (n + 1) (set xs i y) ≡ remove_key (eqb (n + suc i)) (places_from passes (n + 1) xs) = places_from-unset passes (n + 1) xs i y (omega arith) e ∙ ap (λ k. remove_key (eqb k) (places_from passes (n + 1) xs)) s in
+    let ih : places_from passes (n + 1) (set xs i y) ≡ filter (but (n + suc i)) (places_from passes (n + 1) xs) = places_from-unset passes (n + 1) xs i y (omega arith) e ∙ ap (λ k. filter (but k) (places_from passes (n + 1) xs)) s in
     let there : eqb (n + suc i) n ≡ false = ne_eqb _ _ (λ q. omega (arith, q)) in
-    elim (passes x) as (λ b. cond b (n ∷ places_from passes (n + 1) (set xs i y)) (places_from passes (n + 1) (set xs i y)) ≡ remove_key (eqb (n + suc i)) (cond b (n ∷ places_from passes (n + 1) xs) (places_from passes (n + 1) xs)))
+    elim (passes x) as (λ b. cond b (n ∷ places_from passes (n + 1) (set xs i y)) (places_from passes (n + 1) (set xs i y)) ≡ filter (but (n + suc i)) (cond b (n ∷ places_from passes (n + 1) xs) (places_from passes (n + 1) xs)))
     [ true ↦ rw there (ap (λ ks. n ∷ ks) ih) | false ↦ ih ]
-
--- an element that neither passed nor passes
-pub places_from-set_other : {A : Type 0} (passes : A → Bool) (n : ℕ) (xs : List A) (i : ℕ) (y d : A) → passes (get_or xs i d) ≡ false → passes y ≡ false → places_from passes n (set xs i y) ≡ places_from passes n xs
-places_from-set_other passes n [] i y d p e = refl
-places_from-set_other passes n (x ∷ xs) zero y d p e = rw (e, p) refl
-places_from-set_other passes n (x ∷ xs) (suc i) y d p e = rw (places_from-set_other passes (n + 1) xs i y d p e) refl
 
 -- of elements that are changed before they are tested
 pub places_from-map : {A B : Type 0} (f : A → B) (passes : B → Bool) (n : ℕ) (xs : List A) → places_from passes n (map f xs) ≡ places_from (λ x. passes (f x)) n xs
@@ -80,24 +67,3 @@ places_from-map f passes n (x ∷ xs) = rw (places_from-map f passes (n + 1) xs)
 pub places_from-same : {A : Type 0} (p q : A → Bool) → ((x : A) → p x ≡ q x) → (n : ℕ) (xs : List A) → places_from p n xs ≡ places_from q n xs
 places_from-same p q e n [] = refl
 places_from-same p q e n (x ∷ xs) = rw (places_from-same p q e (n + 1) xs, e x) refl
-
--- a key above all others goes last
-pub insert_key-above : (ks : List ℕ) (k : ℕ) → AllByRecursion (λ j. j < k) ks → insert_key nat_cmp ks k ≡ ks ++ k ∷ []
-insert_key-above [] k h = refl
-insert_key-above (j ∷ ks) k h =
-    let past : ltb k j ≡ false = le-ltb k j (omega (arith, h.0)) in
-    let other : eqb k j ≡ false = ne_eqb k j (λ e. omega (arith, e, h.0)) in
-    rw (past, other) (ap (λ xs. j ∷ xs) (insert_key-above ks k h.1))
-
--- a place is taken out by comparing with it
-pub remove_key-compared : (k : ℕ) (ks : List ℕ) → remove_key (is_at (nat_cmp k)) ks ≡ remove_key (eqb k) ks
-remove_key-compared k [] = refl
-remove_key-compared k (j ∷ ks) =
-    let ih = remove_key-compared k ks in
-    ⊎_elim
-    (λ (e : k ≡ j). let here : eqb k j ≡ true = eq-eqb k j e in let past : ltb k j ≡ false = le-ltb k j (omega (arith, e)) in rw (past, here) refl)
-    (λ (n : k ≡ j → ⊥). let other : eqb k j ≡ false = ne_eqb k j n in ⊎_elim
-    (λ (lt : k < j). let less : ltb k j ≡ true = lt-ltb k j lt in rw (less, other) (ap (λ xs. j ∷ xs) ih))
-    (λ (ge : j ≤ k). let past : ltb k j ≡ false = le-ltb k j ge in rw (past, other) (ap (λ xs. j ∷ xs) ih))
-    (cases_lt k j))
-    (cases_eq k j)

@@ -1,6 +1,7 @@
 -- A journal that is up stays one.
-use Rattle.std.proofs.Common.{◌≡◌, ℕ, zero, suc, ◌+◌, ◌*◌, ◌/◌, ◌<◌, ◌≤◌, true, false, List, [], ◌∷◌, ◌++◌, length, map, set, get_or, Option, Some, None, option_map, is_some, refl, sym, ap, ◌∙◌, arith, subst, length-append}
-use Rattle.std.specs.List.{slice_get, AllByRecursion}
+use Rattle.std.proofs.Common.{◌≡◌, ℕ, zero, suc, ◌+◌, ◌*◌, ◌/◌, ◌<◌, ◌≤◌, true, false, List, [], ◌∷◌, ◌++◌, length, map, set, get_or, Option, Some, None, option_map, is_some, refl, sym, ap, ◌∙◌, arith, subst, length-append, ⊎_elim}
+use Rattle.std.specs.List.{slice_get, AllByRecursion, filter, flat_map}
+use Rattle.std.proofs.lemmas.Bool.{cases_Bool}
 use Rattle.std.proofs.lemmas.List.{length-map, map-append}
 use Rattle.std.proofs.lemmas.Option.{get_or_from_slice_get}
 use Rattle.std.specs.Prelude.{slice_index}
@@ -8,7 +9,7 @@ use Rattle.claim_model.specs.Words.{TxnId}
 use Rattle.claim_model.specs.Journal.{PharmacySettings, Journal, Entry, State, Waits, Has, Sending, ticked, circle}
 use Rattle.pharmacy_journal.specs.Retry.{Rule, phases_of, next_phase, node_of, is_due}
 use Rattle.pharmacy_journal.specs.Places.{places_from}
-use Rattle.pharmacy_journal.specs.Timetable.{Rounds, ticked_phases, ticked_rounds, due_next}
+use Rattle.pharmacy_journal.specs.Timetable.{Rounds, ticked_phases, ticked_rounds, due_next, is_open}
 use Rattle.pharmacy_journal.specs.Entries.{entry_of, entries_of, is_waiting, IsEntry, IsUp}
 use Rattle.pharmacy_journal.specs.Sendings.{packet_by, packet_at, is_due_entry, due_places}
 use Rattle.envelope.specs.Envelope.{envelope_text}
@@ -17,7 +18,6 @@ use Rattle.pharmacy_journal.specs.Transactions.{Submission}
 use Rattle.pharmacy_journal.specs.Hearing.{settled_at, IsAnsweredBy}
 use Rattle.pharmacy_journal.specs.declared.slot.Slot.{Slot}
 use Rattle.pharmacy_journal.specs.declared.slot.Slot.TheVariants.{Waiting, Settled}
-use Rattle.pharmacy_journal.proofs.PlaceLemmas.{places_from-end}
 use Rattle.pharmacy_journal.proofs.Entering.{length-phases, AreEntries-push, AreEntries-at, AreEntries-settled, phase-at, entries_of-at, length-settled_at, waiting-settled_at, entries_of-ticked, is_some-next, due-entries_of}
 
 -- how a journal's parts are seen
@@ -82,12 +82,6 @@ due_next-places number s t slots up =
     ∙ ap (λ (r : Rule). places_from (is_due_entry r.again) 0 (entries_of slots (ticked_phases t))) up.rule
     ∙ ap (λ (j : Journal). due_places j) (seen-ticked number s t slots up)
 
--- are places of entries
-pub due_next-within : (number : ℕ) (s : PharmacySettings) (t : Rounds) (slots : List Slot) → IsUp number s t slots → AllByRecursion (λ k. k < length slots) (due_next t)
-due_next-within number s t slots up =
-    let as_many : 0 + length (ticked_phases t) ≡ length slots = omega (arith, length-map t.phases (option_map (next_phase t.rule)), length-phases slots t.phases up.phases) in
-    subst (λ (n : ℕ). AllByRecursion (λ k. k < n) (due_next t)) as_many (places_from-end (is_due t.rule) 0 (ticked_phases t))
-
 -- what the entry at a place sends after a tick
 pub packet_at-ticked : (number : ℕ) (s : PharmacySettings) (t : Rounds) (slots : List Slot) (place : ℕ) (slot : Slot) → IsUp number s t slots → slice_get slots place ≡ Some slot →
     (p : Option ℕ) × (get_or (ticked_phases t) place None ≡ p) × (is_waiting slot ≡ is_some p) × (packet_at (ticked (seen number s t slots)) place ≡ packet_by (ticked (seen number s t slots)) (place + 1) (Some (entry_of slot p)))
@@ -144,3 +138,25 @@ pub exists_at : {A : Type 0} (xs : List A) (k : ℕ) → k < length xs → (x : 
 exists_at [] k lt = absurd (omega (arith, lt))
 exists_at (x ∷ xs) zero lt = (x, refl)
 exists_at (x ∷ xs) (suc k) lt = exists_at xs k (omega (arith, lt))
+
+-- places of phases are places of entries
+pub in_entries : (slots : List Slot) (phases : List (Option ℕ)) (ks : List ℕ) → map is_waiting slots ≡ map is_some phases → AllByRecursion (λ k. k < length phases) ks → AllByRecursion (λ k. k < length slots) ks
+in_entries slots phases ks e h = subst (λ (n : ℕ). AllByRecursion (λ k. k < n) ks) (length-phases slots phases e) h
+
+-- a hole sends nothing
+hole_sends : (number : ℕ) (s : PharmacySettings) (t : Rounds) (slots : List Slot) (k : ℕ) → IsUp number s t slots → k < length slots → is_open t.phases k ≡ false → packet_at (ticked (seen number s t slots)) k ≡ []
+hole_sends number s t slots k up lt closed =
+    let slot = exists_at slots k lt in
+    let at = phase-at slots t.phases k slot.0 up.phases slot.1 in
+    packet_at-settled number s t slots k slot.0 up slot.1 (at.2 ∙ ap is_some (sym (get_or_from_slice_get t.phases k at.0 None at.1)) ∙ closed)
+
+-- so a bucket sends what its open places send
+pub packets_of_open : (number : ℕ) (s : PharmacySettings) (t : Rounds) (slots : List Slot) (ks : List ℕ) → IsUp number s t slots → AllByRecursion (λ k. k < length slots) ks →
+    flat_map (packet_at (ticked (seen number s t slots))) ks ≡ flat_map (packet_at (ticked (seen number s t slots))) (filter (is_open t.phases) ks)
+packets_of_open number s t slots [] up h = refl
+packets_of_open number s t slots (k ∷ ks) up h =
+    let ih = packets_of_open number s t slots ks up h.1 in
+    ⊎_elim
+    (λ (e : is_open t.phases k ≡ true). rw e (ap (λ (ps : List Sending). packet_at (ticked (seen number s t slots)) k ++ ps) ih))
+    (λ (e : is_open t.phases k ≡ false). rw (e, hole_sends number s t slots k up h.0 e) ih)
+    (cases_Bool (is_open t.phases k))

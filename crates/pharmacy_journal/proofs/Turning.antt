@@ -1,16 +1,16 @@
 -- What a timetable keeps, when entries come, go and wait.
-use Rattle.std.proofs.Common.{◌≡◌, ℕ, ◌+◌, ◌<◌, ◌%◌, eqb, List, [], ◌∷◌, ◌++◌, length, map, set, get_or, Option, Some, None, option_map, Result, Ok, Err, refl, sym, ap, ◌∙◌, arith, subst, ⊎_elim, length-set, zero-add}
-use Rattle.std.specs.List.{AllByRecursion}
-use Rattle.std.specs.BTreeSet.{BTreeSet}
+use Rattle.std.proofs.Common.{◌≡◌, ℕ, ◌+◌, ◌<◌, ◌%◌, eqb, List, [], ◌∷◌, ◌++◌, length, map, set, get_or, Option, Some, None, option_map, Result, Ok, Err, refl, sym, ap, ◌∙◌, arith, subst, ⊎_elim, length-set, length-append, zero-add}
+use Rattle.std.specs.List.{AllByRecursion, filter}
 use Rattle.std.specs.Result.{OnErr}
-use Rattle.std.specs.Set.{remove_key}
 use Rattle.std.proofs.Math.Nat.{mod-add-mod}
 use Rattle.std.proofs.lemmas.Bool.{cases_eq, eq-eqb, ne_eqb}
+use Rattle.std.proofs.lemmas.List.Elements.{filter-append, filter_agree}
 use Rattle.std.proofs.lemmas.List.{length-map, get_or-set_same, get_or-set_other, get_or-map, set-get_or, map-set}
 use Rattle.pharmacy_journal.specs.Retry.{Rule, Dial, phases_of, next_phase, phase_at, turned, is_due}
 use Rattle.pharmacy_journal.specs.Places.{places_from}
-use Rattle.pharmacy_journal.specs.Timetable.{Rounds, IsKept, IsLead, in_bucket, bucket_keys, seen_phases}
-use Rattle.pharmacy_journal.proofs.PlaceLemmas.{places_from-end, places_from-push, places_from-push_other, places_from-unset, places_from-set_other, places_from-map, places_from-same}
+use Rattle.pharmacy_journal.specs.Timetable.{Rounds, IsKept, IsLead, in_bucket, is_open, seen_phases}
+use Rattle.pharmacy_journal.proofs.PlaceLemmas.{AllByRecursion-weaker, but, places_from-push, places_from-push_other, places_from-unset, places_from-map, places_from-same}
+use Rattle.pharmacy_journal.proofs.OpenPlaces.{filter-unset, filter-entered, is_open-last, is_open-map}
 
 -- an entry goes on by one phase with the clock
 pub phase_at-turned : (d : Dial) (lead : ℕ) → phase_at (turned d) lead ≡ next_phase d.rule (phase_at d lead)
@@ -72,83 +72,74 @@ AllByRecursion-set P [] i y h p = tt
 AllByRecursion-set P (x ∷ xs) Prim.Native.Nat.zero y h p = (p, h.1)
 AllByRecursion-set P (x ∷ xs) (Prim.Native.Nat.suc i) y h p = (h.0, AllByRecursion-set P xs i y h.1 p)
 
--- what a bucket has, by the list of all
-pub keys-at : (buckets : List (BTreeSet ℕ)) (b : ℕ) (s : BTreeSet ℕ) → b < length buckets → s ≡ get_or buckets b s → get_or (bucket_keys buckets) b [] ≡ s.keys
-keys-at buckets b s lt e = get_or-map (λ (s : BTreeSet ℕ). s.keys) buckets b s [] lt ∙ ap (λ (s : BTreeSet ℕ). s.keys) (sym e)
-
--- a bucket with other keys
-pub keys-set : (buckets : List (BTreeSet ℕ)) (b : ℕ) (s : BTreeSet ℕ) (ks : List ℕ) → s.keys ≡ ks → bucket_keys (set buckets b s) ≡ set (bucket_keys buckets) b ks
-keys-set buckets b s ks e = map-set (λ (s : BTreeSet ℕ). s.keys) buckets b s ∙ ap (set (bucket_keys buckets) b) e
-
--- and with the keys that it had
-pub keys-kept : (buckets : List (BTreeSet ℕ)) (b : ℕ) (s : BTreeSet ℕ) → s.keys ≡ get_or (bucket_keys buckets) b [] → bucket_keys (set buckets b s) ≡ bucket_keys buckets
-keys-kept buckets b s e = keys-set buckets b s _ e ∙ set-get_or (bucket_keys buckets) b []
-
 -- what holds at all holds at an error
 pub at_error : {T E P : Type 0} (r : Result T E) → P → OnErr r P
 at_error (Ok x) p = tt
 at_error (Err e) p = p
 
+-- places that were there are there when an entry comes
+in_longer : (leads : List (Option ℕ)) (lead : Option ℕ) (ks : List ℕ) → AllByRecursion (λ k. k < length leads) ks → AllByRecursion (λ k. k < length (leads ++ lead ∷ [])) ks
+in_longer leads lead ks h = AllByRecursion-weaker (λ k. k < length leads) (λ k. k < length (leads ++ lead ∷ [])) (λ k lt. omega (arith, lt, length-append leads (lead ∷ []))) ks h
+
 -- one settled entry more
-pub IsKept-settled : (r : Rule) (leads leads' : List (Option ℕ)) (buckets : List (BTreeSet ℕ)) → IsKept r leads buckets → leads' ≡ leads ++ None ∷ [] → IsKept r leads' buckets
+pub IsKept-settled : (r : Rule) (leads leads' : List (Option ℕ)) (buckets : List (List ℕ)) → IsKept r leads buckets → leads' ≡ leads ++ None ∷ [] → IsKept r leads' buckets
 IsKept-settled r leads leads' buckets k e = rw e (record {
   on_circle = AllByRecursion-push (IsLead r) leads None k.on_circle tt;
   as_many = k.as_many;
-  by_lead = λ b lt. k.by_lead b lt ∙ sym (places_from-push_other (in_bucket r b) 0 leads None refl);
+  in_range = λ b lt. in_longer leads None _ (k.in_range b lt);
+  by_lead = λ b lt. filter-entered leads None _ (k.in_range b lt) ∙ k.by_lead b lt ∙ sym (places_from-push_other (in_bucket r b) 0 leads None refl);
 })
-
-same_length : (buckets buckets' : List (BTreeSet ℕ)) (b : ℕ) (ks : List ℕ) → bucket_keys buckets' ≡ set (bucket_keys buckets) b ks → length buckets' ≡ length buckets
-same_length buckets buckets' b ks e =
-    sym (length-map buckets' (λ s. s.keys)) ∙ ap length e ∙ length-set (bucket_keys buckets) b ks ∙ length-map buckets (λ s. s.keys)
 
 -- one open entry more
-pub IsKept-open : (r : Rule) (leads leads' : List (Option ℕ)) (buckets buckets' : List (BTreeSet ℕ)) (lead b : ℕ) → IsKept r leads buckets → lead < phases_of r → b ≡ lead % r.again → b < r.again → leads' ≡ leads ++ Some lead ∷ [] →
-    bucket_keys buckets' ≡ set (bucket_keys buckets) b (get_or (bucket_keys buckets) b [] ++ length leads ∷ []) → IsKept r leads' buckets'
-IsKept-open r leads leads' buckets buckets' lead b k on_circle is_b lt e f = rw e (record {
-  on_circle = AllByRecursion-push (IsLead r) leads (Some lead) k.on_circle on_circle;
-  as_many = same_length buckets buckets' b _ f ∙ k.as_many;
-  by_lead = λ a below. ⊎_elim
-      (λ (same : a ≡ b).
-      let inside : b < length (bucket_keys buckets) = omega (arith, length-map buckets (λ s. s.keys), k.as_many) in
-      ap (λ ks. get_or ks a []) f
-      ∙ ap (λ n. get_or (set (bucket_keys buckets) b (get_or (bucket_keys buckets) b [] ++ length leads ∷ [])) n []) same
-      ∙ get_or-set_same (bucket_keys buckets) b _ [] inside
-      ∙ ap (λ ks. ks ++ length leads ∷ []) (k.by_lead b lt)
-      ∙ ap (λ n. places_from (in_bucket r b) 0 leads ++ n ∷ []) (sym (zero-add (length leads)))
-      ∙ sym (places_from-push (in_bucket r b) 0 leads (Some lead) (eq-eqb _ _ (sym is_b)))
-      ∙ ap (λ n. places_from (in_bucket r n) 0 (leads ++ Some lead ∷ [])) (sym same))
-      (λ (other : a ≡ b → ⊥).
-      ap (λ ks. get_or ks a []) f
-      ∙ get_or-set_other (bucket_keys buckets) b a _ [] other
-      ∙ k.by_lead a below
-      ∙ sym (places_from-push_other (in_bucket r a) 0 leads (Some lead) (ne_eqb _ _ (λ e. other (sym e ∙ sym is_b)))))
-      (cases_eq a b);
-})
+pub IsKept-open : (r : Rule) (leads leads' : List (Option ℕ)) (buckets buckets' : List (List ℕ)) (lead b : ℕ) → IsKept r leads buckets → lead < phases_of r → b ≡ lead % r.again → b < r.again → leads' ≡ leads ++ Some lead ∷ [] →
+    buckets' ≡ set buckets b (get_or buckets b [] ++ length leads ∷ []) → IsKept r leads' buckets'
+IsKept-open r leads leads' buckets buckets' lead b k on_circle is_b lt e f =
+    let inside : b < length buckets = omega (arith, k.as_many) in
+    let here : get_or buckets' b [] ≡ get_or buckets b [] ++ length leads ∷ [] = ap (λ ks. get_or ks b []) f ∙ get_or-set_same buckets b _ [] inside in
+    let there : (a : ℕ) → (a ≡ b → ⊥) → get_or buckets' a [] ≡ get_or buckets a [] = λ a other. ap (λ ks. get_or ks a []) f ∙ get_or-set_other buckets b a _ [] other in
+    let mine : AllByRecursion (λ n. n < length (leads ++ Some lead ∷ [])) (get_or buckets b [] ++ length leads ∷ []) =
+    AllByRecursion-push (λ n. n < length (leads ++ Some lead ∷ [])) (get_or buckets b []) (length leads) (in_longer leads (Some lead) _ (k.in_range b lt)) (omega (arith, length-append leads (Some lead ∷ []))) in
+    let there_open : filter (is_open (leads ++ Some lead ∷ [])) (length leads ∷ []) ≡ length leads ∷ [] = rw (is_open-last leads lead) refl in
+    let kept_here : filter (is_open (leads ++ Some lead ∷ [])) (get_or buckets b [] ++ length leads ∷ []) ≡ places_from (in_bucket r b) 0 (leads ++ Some lead ∷ []) =
+    filter-append (is_open (leads ++ Some lead ∷ [])) (get_or buckets b []) (length leads ∷ [])
+    ∙ ap (λ ks. filter (is_open (leads ++ Some lead ∷ [])) (get_or buckets b []) ++ ks) there_open
+    ∙ ap (λ ks. ks ++ length leads ∷ []) (filter-entered leads (Some lead) _ (k.in_range b lt) ∙ k.by_lead b lt)
+    ∙ ap (λ n. places_from (in_bucket r b) 0 leads ++ n ∷ []) (sym (zero-add (length leads)))
+    ∙ sym (places_from-push (in_bucket r b) 0 leads (Some lead) (eq-eqb _ _ (sym is_b))) in
+    rw e (record {
+      on_circle = AllByRecursion-push (IsLead r) leads (Some lead) k.on_circle on_circle;
+      as_many = ap length f ∙ length-set buckets b _ ∙ k.as_many;
+      in_range = λ a below. ⊎_elim
+          (λ (same : a ≡ b). subst (λ n. AllByRecursion (λ k. k < length (leads ++ Some lead ∷ [])) (get_or buckets' n [])) (sym same) (rw here mine))
+          (λ (other : a ≡ b → ⊥). rw (there a other) (in_longer leads (Some lead) _ (k.in_range a below)))
+          (cases_eq a b);
+      by_lead = λ a below. ⊎_elim
+          (λ (same : a ≡ b). subst (λ n. filter (is_open (leads ++ Some lead ∷ [])) (get_or buckets' n []) ≡ places_from (in_bucket r n) 0 (leads ++ Some lead ∷ [])) (sym same) (rw here kept_here))
+          (λ (other : a ≡ b → ⊥).
+          ap (filter (is_open (leads ++ Some lead ∷ []))) (there a other)
+          ∙ filter-entered leads (Some lead) _ (k.in_range a below)
+          ∙ k.by_lead a below
+          ∙ sym (places_from-push_other (in_bucket r a) 0 leads (Some lead) (ne_eqb _ _ (λ e. other (sym e ∙ sym is_b)))))
+          (cases_eq a b);
+    })
 
--- an entry is settled
-pub IsKept-unset : (r : Rule) (leads : List (Option ℕ)) (buckets buckets' : List (BTreeSet ℕ)) (place lead b : ℕ) → IsKept r leads buckets → place < length leads → get_or leads place None ≡ Some lead → b ≡ lead % r.again → b < r.again →
-    bucket_keys buckets' ≡ set (bucket_keys buckets) b (remove_key (eqb place) (get_or (bucket_keys buckets) b [])) → IsKept r (set leads place None) buckets'
-IsKept-unset r leads buckets buckets' place lead b k inside is is_b lt f = record {
-  on_circle = AllByRecursion-set (IsLead r) leads place None k.on_circle tt;
-  as_many = same_length buckets buckets' b _ f ∙ k.as_many;
-  by_lead = λ a below. ⊎_elim
-      (λ (same : a ≡ b).
-      let in_list : b < length (bucket_keys buckets) = omega (arith, length-map buckets (λ s. s.keys), k.as_many) in
-      ap (λ ks. get_or ks a []) f
-      ∙ ap (λ n. get_or (set (bucket_keys buckets) b (remove_key (eqb place) (get_or (bucket_keys buckets) b []))) n []) same
-      ∙ get_or-set_same (bucket_keys buckets) b _ [] in_list
-      ∙ ap (remove_key (eqb place)) (k.by_lead b lt)
-      ∙ ap (λ n. remove_key (eqb n) (places_from (in_bucket r b) 0 leads)) (sym (zero-add place))
-      ∙ sym (places_from-unset (in_bucket r b) 0 leads place None inside refl)
-      ∙ ap (λ n. places_from (in_bucket r n) 0 (set leads place None)) (sym same))
-      (λ (other : a ≡ b → ⊥).
-      ap (λ ks. get_or ks a []) f
-      ∙ get_or-set_other (bucket_keys buckets) b a _ [] other
-      ∙ k.by_lead a below
-      ∙ sym (places_from-set_other (in_bucket r a) 0 leads place None None
-      (ap (in_bucket r a) is ∙ ne_eqb _ _ (λ e. other (sym e ∙ sym is_b))) refl))
-      (cases_eq a b);
-}
+-- an entry is settled: of its place is left a hole at most
+pub IsKept-unset : (r : Rule) (leads : List (Option ℕ)) (buckets buckets' : List (List ℕ)) (place : ℕ) → IsKept r leads buckets → place < length leads → length buckets' ≡ length buckets →
+    ((b : ℕ) → filter (is_open (set leads place None)) (get_or buckets' b []) ≡ filter (is_open (set leads place None)) (get_or buckets b [])) →
+    ((b n : ℕ) → AllByRecursion (λ k. k < n) (get_or buckets b []) → AllByRecursion (λ k. k < n) (get_or buckets' b [])) → IsKept r (set leads place None) buckets'
+IsKept-unset r leads buckets buckets' place k inside as_many same in_range =
+    let long : length (set leads place None) ≡ length leads = length-set leads place None in
+    record {
+      on_circle = AllByRecursion-set (IsLead r) leads place None k.on_circle tt;
+      as_many = as_many ∙ k.as_many;
+      in_range = λ b lt. rw long (in_range b (length leads) (k.in_range b lt));
+      by_lead = λ b lt.
+          same b
+          ∙ filter-unset leads place (get_or buckets b [])
+          ∙ ap (filter (but place)) (k.by_lead b lt)
+          ∙ ap (λ n. filter (but n) (places_from (in_bucket r b) 0 leads)) (sym (zero-add place))
+          ∙ sym (places_from-unset (in_bucket r b) 0 leads place None inside refl);
+    }
 
 -- a place of an entry is one of a lead
 pub inside-place : (d : Dial) (leads : List (Option ℕ)) (t : Rounds) (place : ℕ) → (let seen : Rounds = record { rule = d.rule; phases = seen_phases d leads } in seen ≡ t) → place < length t.phases → place < length leads
@@ -156,8 +147,14 @@ inside-place d leads t place e lt =
     let same : length t.phases ≡ length leads = ap (λ (t : Rounds). length t.phases) (sym e) ∙ length-map leads (option_map (phase_at d)) in
     omega (arith, same)
 
--- the places of a bucket are those of entries that are there
-pub before_end : (r : Rule) (leads : List (Option ℕ)) (buckets : List (BTreeSet ℕ)) (b n : ℕ) → IsKept r leads buckets → b < r.again → n ≡ length leads → AllByRecursion (λ k. k < n) (get_or (bucket_keys buckets) b [])
-before_end r leads buckets b n k lt e =
-    let ends : AllByRecursion (λ k. k < 0 + length leads) (places_from (in_bucket r b) 0 leads) = places_from-end (in_bucket r b) 0 leads in
-    rw (k.by_lead b lt, e) (subst (λ (n : ℕ). AllByRecursion (λ k. k < n) (places_from (in_bucket r b) 0 leads)) (zero-add (length leads)) ends)
+-- the open places of a bucket, by the phases
+pub open_by_phase : (d : Dial) (leads : List (Option ℕ)) (ks : List ℕ) → filter (is_open (seen_phases d leads)) ks ≡ filter (is_open leads) ks
+open_by_phase d leads ks = filter_agree (is_open (seen_phases d leads)) (is_open leads) (is_open-map (phase_at d) leads) ks
+
+-- a bucket that was changed, and what holds of every bucket alike
+pub each-set : {A : Type 0} (P : A → A → Type 0) → ((x : A) → P x x) → (xs : List A) (b : ℕ) (y d : A) → b < length xs → P (get_or xs b d) y → (a : ℕ) → P (get_or xs a d) (get_or (set xs b y) a d)
+each-set P same xs b y d lt p a =
+    ⊎_elim
+    (λ (e : a ≡ b). subst (λ n. P (get_or xs n d) (get_or (set xs b y) n d)) (sym e) (rw (get_or-set_same xs b y d lt) p))
+    (λ (other : a ≡ b → ⊥). rw (get_or-set_other xs b a y d other) (same (get_or xs a d)))
+    (cases_eq a b)

@@ -1,7 +1,6 @@
 -- The phases of a journal's entries, and which entries a tick sends.
-use Rattle.std.specs.Prelude.{◌≡◌, ℕ, ◌%◌, ◌<◌, Bool, false, ◌==◌, List, [], map, length, Option, Some, None, option_map, slice_index_or}
-use Rattle.std.specs.List.{AllByRecursion}
-use Rattle.std.specs.BTreeSet.{BTreeSet}
+use Rattle.std.specs.Prelude.{◌≡◌, ℕ, ◌%◌, ◌<◌, Bool, false, ◌==◌, List, [], map, length, Option, Some, None, is_some, option_map, slice_index_or}
+use Rattle.std.specs.List.{AllByRecursion, filter}
 use Rattle.pharmacy_journal.specs.Retry.{Rule, Dial, phases_of, next_phase, phase_at, is_due}
 use Rattle.pharmacy_journal.specs.Places.{places_from}
 
@@ -30,13 +29,16 @@ abbrev pub IsLead : Rule → Option ℕ → Type 0
 IsLead r None = Unit {0}
 IsLead r (Some lead) = lead < phases_of r
 
-abbrev pub bucket_keys : List (BTreeSet ℕ) → List (List ℕ)
-bucket_keys buckets = map (λ s. s.keys) buckets
+-- the entry of a place is open: it has a phase, or a lead
+abbrev pub is_open : List (Option ℕ) → ℕ → Bool
+is_open phases place = is_some (slice_index_or phases place None)
 
-pub record IsKept (r : Rule) (leads : List (Option ℕ)) (buckets : List (BTreeSet ℕ)) : Type 0 where
+-- a bucket has places of settled entries too: its open ones are those of its remainder, in order
+pub record IsKept (r : Rule) (leads : List (Option ℕ)) (buckets : List (List ℕ)) : Type 0 where
   pub on_circle : AllByRecursion (IsLead r) leads
   pub as_many : length buckets ≡ r.again
-  pub by_lead : (b : ℕ) → b < r.again → slice_index_or (bucket_keys buckets) b [] ≡ places_from (in_bucket r b) 0 leads
+  pub in_range : (b : ℕ) → b < r.again → AllByRecursion (λ k. k < length leads) (slice_index_or buckets b [])
+  pub by_lead : (b : ℕ) → b < r.again → filter (is_open leads) (slice_index_or buckets b []) ≡ places_from (in_bucket r b) 0 leads
 
 abbrev pub seen_phases : Dial → List (Option ℕ) → List (Option ℕ)
 seen_phases d leads = map (option_map (phase_at d)) leads

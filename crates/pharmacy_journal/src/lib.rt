@@ -4,6 +4,7 @@
 #![tactic(auto)]
 
 mod at_rest;
+mod bucket;
 mod counting;
 mod fault;
 mod hearing;

@@ -108,9 +108,9 @@ impl Pharmacy {
     fn due_packets(&self) -> Result<Vec<Sent>, AllocError>
         ensures { IfOk result (λ sent. sent.items ≡ due_packets (ticked self.now)) }
     {
-        let due = self.timetable.due_next();
-        let mut sent = Vec::with_capacity(*self.slots.allocator(), due.len())?;
-        for place in due {
+        let places = self.timetable.due_next();
+        let mut sent = Vec::with_capacity(*self.slots.allocator(), places.len())?;
+        for place in places {
             self.push_packet(&mut sent, *place)?;
         }
         Ok(sent)

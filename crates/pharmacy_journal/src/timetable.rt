@@ -1,23 +1,23 @@
 //! Which entries the next tick sends, without a look at the others.
 
-ghost use Rattle.std.specs.Prelude.{◌≡◌, ◌<◌, ◌-◌, ◌++◌, ◌∷◌, [], ℕ, length, None, Some, OnOk, OnErr, IfOk, IfSome, option_map, slice_set, slice_index_or, ◌==◌};
-ghost use Rattle.std.specs.List.{AllByRecursion};
-ghost use Rattle.std.specs.Set.{remove_key};
+ghost use Rattle.std.specs.Prelude.{◌≡◌, ◌<◌, ◌-◌, ◌++◌, ◌∷◌, [], ℕ, length, None, Some, OnOk, OnErr, IfOk, IfSome, option_map, slice_set, slice_index_or};
+ghost use Rattle.std.specs.List.{AllByRecursion, filter};
 ghost use Rattle.pharmacy_journal.specs.Retry.{IsRule, phases_of, node_of};
-ghost use Rattle.pharmacy_journal.specs.Timetable.{ticked_phases, ticked_rounds, due_next, bucket_keys};
+ghost use Rattle.pharmacy_journal.specs.Timetable.{ticked_phases, ticked_rounds, due_next, is_open};
 
+use crate::bucket::Bucket;
 use crate::retry::Retry;
 use std::alloc::{AllocError, Global};
-use std::collections::BTreeSet;
 use std::marker::Model;
 
 /// The phases of a journal's entries, by place from 0. One clock turns for all of them, and the open
-/// entries stand in buckets by their lead's remainder, so that a tick finds those that it sends.
+/// entries stand in buckets by their lead's remainder, so that a tick finds those that it sends. An entry's lead never
+/// changes, so it stays in one bucket for good.
 #[derive(Drop)]
 pub(crate) struct Timetable {
     retry: Retry,
     leads: Vec<Option<u64>>,
-    buckets: Vec<BTreeSet<usize>>,
+    buckets: Vec<Bucket>,
 }
 
 impl Model for Timetable {
@@ -89,17 +89,19 @@ impl Timetable {
     {
         if let Some(lead) = self.leads[place] {
             let bucket = self.retry.bucket_of(lead);
-            take_out(&mut self.buckets, bucket, place);
             self.leads[place] = None;
+            leave_hole(&mut self.buckets, bucket, self.leads.as_slice());
         }
     }
 
-    /// The places of the entries that the next tick sends, in order.
-    pub(crate) fn due_next(&self) -> &BTreeSet<usize>
-        ensures { result.now.keys ≡ due_next self.now }
+    /// Places among which are those of the entries that the next tick sends, in order. The others are of settled
+    /// entries, and no more than those.
+    pub(crate) fn due_next(&self) -> &[usize]
+        ensures due { filter (is_open self.now.phases) result.now ≡ due_next self.now }
+        ensures in_range { AllByRecursion (λ k. k < length self.now.phases) result.now }
     {
         let bucket = self.retry.next_bucket();
-        &self.buckets[bucket]
+        self.buckets[bucket].places()
     }
 
     /// The switch, by its place in the list, at which an entry is after the next tick; none where it is settled.
@@ -123,32 +125,33 @@ impl Timetable {
 }
 
 /// As many empty buckets.
-fn empty_buckets(alloc: Global, count: u32) -> Result<Vec<BTreeSet<usize>>, AllocError>
+fn empty_buckets(alloc: Global, count: u32) -> Result<Vec<Bucket>, AllocError>
     ensures count { IfOk result (λ buckets. length buckets.items ≡ count) }
-    ensures empty { IfOk result (λ buckets. (b : ℕ) → slice_index_or (bucket_keys buckets.items) b [] ≡ []) }
+    ensures empty { IfOk result (λ buckets. (b : ℕ) → slice_index_or buckets.items b [] ≡ []) }
 {
     let mut buckets = Vec::with_capacity(alloc, count as usize)?;
     for _ in 0..count {
-        buckets.push(BTreeSet::new(alloc))?;
+        buckets.push(Bucket::new(alloc))?;
     }
     Ok(buckets)
 }
 
 /// Puts a place into a bucket, behind the places that are there.
-fn put(buckets: &mut Vec<BTreeSet<usize>>, bucket: usize, place: usize) -> Result<(), AllocError>
-    requires in_range { bucket < length buckets.old.items }
-    requires behind { AllByRecursion (λ k. k < place) (slice_index_or (bucket_keys buckets.old.items) bucket []) }
-    ensures ok { OnOk result (bucket_keys buckets.new.items ≡ slice_set (bucket_keys buckets.old.items) bucket (slice_index_or (bucket_keys buckets.old.items) bucket [] ++ place ∷ [])) }
-    ensures err { OnErr result (bucket_keys buckets.new.items ≡ bucket_keys buckets.old.items) }
+fn put(buckets: &mut Vec<Bucket>, bucket: usize, place: usize) -> Result<(), AllocError>
+    requires { bucket < length buckets.old.items }
+    ensures ok { OnOk result (buckets.new.items ≡ slice_set buckets.old.items bucket (slice_index_or buckets.old.items bucket [] ++ place ∷ [])) }
+    ensures err { OnErr result (buckets.new.items ≡ buckets.old.items) }
 {
-    buckets[bucket].insert(place)?;
+    buckets[bucket].push(place)?;
     Ok(())
 }
 
-/// Takes a place out of a bucket.
-fn take_out(buckets: &mut Vec<BTreeSet<usize>>, bucket: usize, place: usize)
+/// A place of a bucket has become a hole. Open entries stay where they are, in every bucket.
+fn leave_hole(buckets: &mut Vec<Bucket>, bucket: usize, leads: &[Option<u64>])
     requires { bucket < length buckets.old.items }
-    ensures { bucket_keys buckets.new.items ≡ slice_set (bucket_keys buckets.old.items) bucket (remove_key (λ k. place == k) (slice_index_or (bucket_keys buckets.old.items) bucket [])) }
+    ensures as_many { length buckets.new.items ≡ length buckets.old.items }
+    ensures same_open { (b : ℕ) → filter (is_open leads.now) (slice_index_or buckets.new.items b []) ≡ filter (is_open leads.now) (slice_index_or buckets.old.items b []) }
+    ensures in_range { (b n : ℕ) → AllByRecursion (λ k. k < n) (slice_index_or buckets.old.items b []) → AllByRecursion (λ k. k < n) (slice_index_or buckets.new.items b []) }
 {
-    buckets[bucket].remove(&place);
+    buckets[bucket].leave_hole(leads);
 }

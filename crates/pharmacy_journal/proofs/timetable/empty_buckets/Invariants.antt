@@ -1,6 +1,5 @@
 use Rattle.std.proofs.Common.{◌≡◌, ℕ, [], length, slice_index_or}
-use Rattle.pharmacy_journal.specs.Timetable.{bucket_keys}
 use Rattle.pharmacy_journal.proofs.timetable.empty_buckets.Given as goal
 
 abbrev pub invariant-loop : goal.invariant-loop
-invariant-loop l = record { as_many : length l.buckets.items ≡ l.counter; empty : (b : ℕ) → slice_index_or (bucket_keys l.buckets.items) b [] ≡ [] }
+invariant-loop l = record { as_many : length l.buckets.items ≡ l.counter; empty : (b : ℕ) → slice_index_or l.buckets.items b [] ≡ [] }

@@ -1,19 +1,23 @@
-use Rattle.std.proofs.Common.{◌≡◌, ◌++◌, List, length, sym, ap, ◌∙◌}
-use Rattle.std.specs.List.{flat_map}
+use Rattle.std.proofs.Common.{◌≡◌, ◌<◌, ◌++◌, List, length, sym, ap, ◌∙◌}
+use Rattle.std.specs.List.{AllByRecursion, flat_map}
+use Rattle.std.proofs.lemmas.List.Elements.{All-from_recursion}
 use Rattle.claim_model.specs.Journal.{Journal, Sending, ticked}
 use Rattle.pharmacy_journal.specs.Sendings.{packet_at, due_places, due_packets}
-use Rattle.pharmacy_journal.proofs.Entering.{length-entries_of}
-use Rattle.pharmacy_journal.proofs.Standing.{due_next-places, due_next-within}
+use Rattle.pharmacy_journal.proofs.Entering.{length-entries_of, length-phases}
+use Rattle.pharmacy_journal.proofs.Standing.{due_next-places, packets_of_open, in_entries}
 use Rattle.pharmacy_journal.proofs.pharmacy.Pharmacy.due_packets.Goals as goal
 
 pub loop-place-init : goal.loop-place-init
 unfolding due_packets
 loop-place-init c =
     let p = c.self.inside in
-    let keys = c.into_iter-place-iterator.ensures.into_iter_gives.0 ∙ c.due_next-due.ensures in
-    let due = keys ∙ due_next-places p.number p.settings p.timetable p.slots.items c.self.invariant ∙ ap (λ (j : Journal). due_places (ticked j)) c.self.view_is in
+    let ps = c.due_next-places.result.now in
     let entries : length p.slots.items ≡ length c.args.self.now.entries = sym (length-entries_of p.slots.items p.timetable.phases) ∙ ap (λ (j : Journal). length j.entries) c.self.view_is in
+    let within = in_entries p.slots.items p.timetable.phases ps c.self.invariant.phases c.due_next-places.ensures.in_range in
+    let opened = packets_of_open p.number p.settings p.timetable p.slots.items ps c.self.invariant within in
+    let due = c.due_next-places.ensures.due ∙ due_next-places p.number p.settings p.timetable p.slots.items c.self.invariant in
     record {
-      sent = ap (λ (xs : List Sending). xs ++ flat_map (packet_at (ticked c.args.self.now)) c.into_iter-place-iterator.result) c.in_ok-sent.ensures.items ∙ ap (flat_map (packet_at (ticked c.args.self.now))) due;
-      places = rw (keys, ← entries) (due_next-within p.number p.settings p.timetable p.slots.items c.self.invariant);
+      sent = ap (λ (xs : List Sending). xs ++ flat_map (packet_at (ticked c.args.self.now)) ps) c.in_ok-sent.ensures.items
+          ∙ rw (← c.self.view_is) (opened ∙ ap (flat_map (packet_at (ticked (Rattle.pharmacy_journal.proofs.Standing.seen p.number p.settings p.timetable p.slots.items)))) due);
+      places = rw (← entries) (All-from_recursion (λ k. k < length p.slots.items) ps within);
     }

@@ -6,8 +6,7 @@ use Rattle.pharmacy_journal.proofs.timetable.Timetable.settle.Goals as goal
 pub invariant_of-self : goal.invariant_of-self
 invariant_of-self c =
     let in_list = inside-place _ _ _ _ c.self.view_is c.requires in
-    let is = sym (get_or_read c.self.inside.leads.items c.args.place _ in_list c.index.ensures None) ∙ c.in-Some.is in
-    IsKept-unset _ c.self.inside.leads.items c.self.inside.buckets.items _ c.args.place c.in-Some.lead c.bucket_of-bucket.result c.self.invariant in_list is c.bucket_of-bucket.ensures.value c.bucket_of-bucket.ensures.in_range c.take_out.ensures
+    IsKept-unset _ c.self.inside.leads.items c.self.inside.buckets.items _ c.args.place c.self.invariant in_list c.leave_hole.ensures.as_many (rw c.as_slice.ensures.value at c.leave_hole.ensures.same_open) c.leave_hole.ensures.in_range
 
 pub returns-in-Some : goal.returns-in-Some
 returns-in-Some c = rw (← c.self.view_is, seen_phases-set c.self.inside.retry c.self.inside.leads.items c.args.place)
