@@ -14,6 +14,7 @@ ghost use Rattle.claim_profile.specs.declared.answer_reading.AnswerFault.TheVari
 use crate::answer_values::{AnswerValues, FoundCodes};
 use crate::authorization::Auth;
 use crate::found::Found;
+use crate::names::is_same;
 use crate::paid::Amounts;
 use crate::ruling::Ruling;
 use crate::values::{cents, is_exactly, number};
@@ -263,7 +264,7 @@ fn status_of(text: &[u8]) -> Option<Status>
 fn stands_beside(header: &ResponseHeader, status: Status) -> bool
     ensures { result ≡ stands_beside header.now status }
 {
-    header.version() == *b"D0" && stands_under(header.status(), status)
+    is_same(header.version(), *b"D0") && stands_under(header.status(), status)
 }
 
 // Whether a status may stand under this header response status (501-F1).

@@ -6,6 +6,7 @@ ghost use Rattle.d0_segments.specs.Pieces.{shared_of};
 ghost use Rattle.d0_segments.specs.Inside.{fields_left};
 
 use crate::found::Found;
+use crate::names::is_same;
 use crate::reject::{Code, FewCodes, Rejects};
 use d0_segments::{Cursor, Field};
 
@@ -50,7 +51,7 @@ impl FoundCodes {
         ensures segments { shared_of inside.entry.bytes.now ≡ shared_of result.bytes.now }
         ensures shorter { length result.bytes.now ≤ length inside.entry.bytes.now }
     {
-        if id == *b"21" {
+        if is_same(id, *b"21") {
             return self.count_status_from(inside);
         }
         inside
@@ -76,7 +77,7 @@ impl FoundCodes {
         ensures { codes_seen self.new ≡ codes_counted (codes_seen self.old) (values untrimmed (codes "FB") (field_parts field.now ∷ [])) }
     {
         let value = field.value();
-        if field.id() == *b"FB" && !value.is_empty() {
+        if is_same(field.id(), *b"FB") && !value.is_empty() {
             self.add(value);
         }
     }
@@ -170,13 +171,13 @@ impl<'a> AnswerValues<'a> {
         ensures segments { shared_of inside.entry.bytes.now ≡ shared_of result.bytes.now }
         ensures shorter { length result.bytes.now ≤ length inside.entry.bytes.now }
     {
-        if id == *b"21" {
+        if is_same(id, *b"21") {
             return self.count_status_from(inside);
         }
-        if id == *b"22" {
+        if is_same(id, *b"22") {
             return self.count_claim_from(inside);
         }
-        if id == *b"23" {
+        if is_same(id, *b"23") {
             return self.count_pricing_from(inside);
         }
         inside

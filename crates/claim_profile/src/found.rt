@@ -5,6 +5,7 @@ ghost use Rattle.d0_segments.specs.Views.{field_parts};
 ghost use Rattle.claim_profile.specs.Fields.{trimmed, untrimmed, is_filled, values};
 ghost use Rattle.claim_profile.specs.Tally.{seen, tallied, the_one};
 
+use crate::names::is_same;
 use d0_segments::Field;
 
 /// What stands in the place of a field: nothing, one value or several. Empty values don't count.
@@ -21,7 +22,7 @@ impl<'a> Found<'a> {
     pub fn count(&mut self, name: &[u8; 2], field: &Field<'a>)
         ensures { seen self.new ≡ tallied (seen self.old) (values untrimmed name.now (field_parts field.now ∷ [])) }
     {
-        if field.id() == *name {
+        if is_same(field.id(), *name) {
             self.add(field.value());
         }
     }
@@ -31,7 +32,7 @@ impl<'a> Found<'a> {
     pub fn count_text(&mut self, name: &[u8; 2], field: &Field<'a>)
         ensures { seen self.new ≡ tallied (seen self.old) (values trimmed name.now (field_parts field.now ∷ [])) }
     {
-        if field.id() == *name {
+        if is_same(field.id(), *name) {
             self.add(trimmed(field.value()));
         }
     }

@@ -11,6 +11,7 @@ mod building_laws;
 mod building_writing;
 mod found;
 mod laws;
+mod names;
 mod order;
 mod order_cursor;
 mod order_fields;

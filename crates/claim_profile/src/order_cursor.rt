@@ -6,6 +6,7 @@ ghost use Rattle.d0_segments.specs.Inside.{fields_left};
 ghost use Rattle.claim_profile.specs.OrderTally.{order_seen, nothing_seen, fields_counted, segments_counted};
 ghost use Rattle.claim_profile.specs.declared.order_values.Level.TheVariants.{Shared, Group};
 
+use crate::names::is_same;
 use crate::order_values::{Level, OrderValues};
 use d0_header::RequestHeader;
 use d0_segments::{Cursor, Framed};
@@ -63,7 +64,7 @@ impl<'a> OrderValues<'a> {
         ensures segments { shared_of inside.entry.bytes.now ≡ shared_of result.bytes.now }
         ensures shorter { length result.bytes.now ≤ length inside.entry.bytes.now }
     {
-        if id == *b"04" {
+        if is_same(id, *b"04") {
             return self.count_insurance_from(inside);
         }
         inside
@@ -76,10 +77,10 @@ impl<'a> OrderValues<'a> {
         ensures segments { shared_of inside.entry.bytes.now ≡ shared_of result.bytes.now }
         ensures shorter { length result.bytes.now ≤ length inside.entry.bytes.now }
     {
-        if id == *b"07" {
+        if is_same(id, *b"07") {
             return self.count_claim_from(inside);
         }
-        if id == *b"11" {
+        if is_same(id, *b"11") {
             return self.count_pricing_from(inside);
         }
         inside

@@ -8,6 +8,7 @@ ghost use Rattle.claim_profile.specs.Order.{claim_order, reversal_order, order_o
 ghost use Rattle.claim_profile.specs.OrderTally.{order_seen, nothing_seen, segments_counted};
 ghost use Rattle.claim_profile.specs.declared.order_values.Level.TheVariants.{Shared, Group};
 
+use crate::names::is_same;
 use crate::order::Order;
 use crate::order_fields::{ClaimFields, ReversalFields};
 use crate::order_values::OrderValues;
@@ -53,7 +54,7 @@ fn read_group_order(
 ) -> Result<Order, OrderFault>
     ensures { result ≡ order_of header.now (segments_parts shared.now) (segments_parts group.now) }
 {
-    if header.code() == *b"B1" {
+    if is_same(header.code(), *b"B1") {
         claim(header, shared, group)
     } else {
         reversal(header, group)
@@ -83,7 +84,7 @@ pub fn order_at(framed: &Framed<'_, RequestHeader>, place: usize) -> Result<Orde
     requires { place < length (groups_of framed.now.body.bytes.now) }
     ensures { result ≡ order_of framed.now.header (shared_of framed.now.body.bytes.now) (slice_index_or (groups_of framed.now.body.bytes.now) place []) }
 {
-    if framed.header().code() == *b"B1" {
+    if is_same(framed.header().code(), *b"B1") {
         claim_at(framed, place)
     } else {
         reversal_at(framed, place)

@@ -6,6 +6,7 @@ ghost use Rattle.d0_segments.specs.FramedParts.{framed_parts};
 ghost use Rattle.d0_segments.specs.Transmissions.{transmission_parts};
 ghost use Rattle.claim_profile.specs.Readable.{RefusesFor, fault_of_framing, is_carried, readable_header};
 
+use crate::names::is_same;
 use d0_header::RequestHeader;
 use d0_segments::{Framed, FramingFault, Transmission, check_request, read_request};
 use std::alloc::Global;
@@ -92,5 +93,5 @@ fn is_carried(header: &RequestHeader) -> bool
     ensures { result ≡ is_carried header.now }
 {
     let code = header.code();
-    header.version() == *b"D0" && (code == *b"B1" || code == *b"B2")
+    is_same(header.version(), *b"D0") && (is_same(code, *b"B1") || is_same(code, *b"B2"))
 }
