@@ -1,6 +1,6 @@
 //! Reading answers.
 
-ghost use Rattle.std.specs.Prelude.{◌≡◌, List, [], Some, Ok, Err, IfOk, IfErr, OnOk, codes};
+ghost use Rattle.std.specs.Prelude.{◌≡◌, ◌<◌, List, [], ◌∷◌, length, Some, Ok, Err, IfOk, IfErr, OnOk, IfSome, MatchOption, codes};
 ghost use Rattle.d0_segments.specs.Pieces.{shared_of, groups_of};
 ghost use Rattle.claim_profile.specs.Fields.{values_in};
 ghost use Rattle.claim_profile.specs.Tally.{seen};
@@ -123,7 +123,7 @@ pub fn read_answer(alloc: Global, bytes: &[u8]) -> Result<Answer, AnswerFault>
         Err(_) => return Err(AnswerFault::Framing),
     };
     let header = *framed.header();
-    let rulings = rulings_of(alloc, &header, framed.body())?;
+    let rulings = rulings_of(alloc, &header, framed.body(), framed.group_count())?;
     Ok(Answer { header, rulings })
 }
 
@@ -138,40 +138,60 @@ pub fn check_answer(bytes: &[u8]) -> Result<ResponseHeader, AnswerFault>
         Err(_) => return Err(AnswerFault::Framing),
     };
     let header = *framed.header();
-    check_rulings(&header, framed.body())?;
+    check_rulings(&header, framed.body(), framed.group_count())?;
     Ok(header)
 }
 
-// Tests the rulings of the groups behind a place, in order.
-fn check_rulings(header: &ResponseHeader, from: Cursor<'_>) -> Result<(), AnswerFault>
+// Tests the rulings of the groups behind a place, so many, in order.
+fn check_rulings(header: &ResponseHeader, from: Cursor<'_>, count: usize) -> Result<(), AnswerFault>
+    requires { count ≡ length (groups_of from.bytes.now) }
     ensures read { OnOk result ((rulings : List Ruling) × (rulings_in header.now (groups_of from.entry.bytes.now) ≡ Ok rulings)) }
     ensures fault { IfErr result (λ fault. rulings_in header.now (groups_of from.entry.bytes.now) ≡ Err fault) }
 {
     let mut rest = from;
-    while let Some(group) = rest.group() {
+    let mut left = count;
+    while let Some(group) = next_group(rest, left) {
         let _ruling = ruling(header, group)?;
         rest = group;
+        left -= 1;
     }
     Ok(())
 }
 
-// The rulings of the groups behind a place, in order.
+// The rulings of the groups behind a place, so many, in order.
 fn rulings_of(
     alloc: Global,
     header: &ResponseHeader,
     from: Cursor<'_>,
+    count: usize,
 ) -> Result<Vec<Ruling>, AnswerFault>
+    requires { count ≡ length (groups_of from.bytes.now) }
     ensures read { IfOk result (λ rulings. rulings_in header.now (groups_of from.entry.bytes.now) ≡ Ok rulings.items) }
     ensures fault { IfErr result (λ fault. FailsAs fault (rulings_in header.now (groups_of from.entry.bytes.now))) }
 {
     let mut rulings = Vec::new(alloc);
     let mut rest = from;
-    while let Some(group) = rest.group() {
+    let mut left = count;
+    while let Some(group) = next_group(rest, left) {
         let ruling = ruling(header, group)?;
         rulings.push(ruling)?;
         rest = group;
+        left -= 1;
     }
     Ok(rulings)
+}
+
+// The place where the next group begins, of so many that are left: behind the last one none is looked for.
+#[inline(always)]
+fn next_group(rest: Cursor<'_>, left: usize) -> Option<Cursor<'_>>
+    requires { left ≡ length (groups_of rest.bytes.now) }
+    ensures groups { MatchOption result (groups_of rest.entry.bytes.now ≡ []) (λ x. groups_of rest.entry.bytes.now ≡ shared_of x.bytes.now ∷ groups_of x.bytes.now) }
+    ensures shorter { IfSome result (λ x. length x.bytes.now < length rest.entry.bytes.now) }
+{
+    if left == 0 {
+        return None;
+    }
+    rest.group()
 }
 
 // The status of a transaction (112-AN).

@@ -1,12 +1,16 @@
-use Rattle.std.proofs.Common.{[], ◌∷◌, ◌++◌}
+use Rattle.std.proofs.Common.{List, [], ◌∷◌, ◌++◌, length, ap, arith}
 use Rattle.std.proofs.lemmas.Result.{err_from_is_err_and}
+use Rattle.d0_segments.specs.Parts.{SegmentParts}
 use Rattle.d0_segments.specs.Pieces.{shared_of, groups_of}
 use Rattle.claim_profile.specs.Ruling.{rulings_in}
 use Rattle.claim_profile.proofs.RulingList.{begins, goes_on, ends, is_done}
 use Rattle.claim_profile.proofs.answer_reading.check_rulings.Goals as goal
 
 pub loop-group-init : goal.loop-group-init
-loop-group-init c = ([], begins (rulings_in c.args.header.now (groups_of c.args.from.bytes.now)))
+loop-group-init c = record {
+  read = ([], begins (rulings_in c.args.header.now (groups_of c.args.from.bytes.now)));
+  left = c.requires;
+}
 
 pub returns-in_err-_ruling-clause-fault : goal.returns-in_err-_ruling-clause-fault
 returns-in_err-_ruling-clause-fault c =
@@ -14,16 +18,18 @@ returns-in_err-_ruling-clause-fault c =
     let l = c.loop-group in
     let group = c.in-Some.group.bytes.now in
     let p = err_from_is_err_and c.from_residual.result c.from_residual.ensures.1 in
-    rw (p.1, p.2) (ends h l.invariant.0 (groups_of l.rest.bytes.now) (groups_of group) (shared_of group) c.in_err-_ruling.field-0.0 (rulings_in h (groups_of c.args.from.bytes.now)) c.in-Some.ensures.groups c.in_err-_ruling.ensures l.invariant.1)
+    rw (p.1, p.2) (ends h l.invariant.read.0 (groups_of l.rest.bytes.now) (groups_of group) (shared_of group) c.in_err-_ruling.field-0.0 (rulings_in h (groups_of c.args.from.bytes.now)) c.in-Some.ensures.groups c.in_err-_ruling.ensures l.invariant.read.1)
 
 pub loop-group-preserved : goal.loop-group-preserved
 loop-group-preserved c =
     let h = c.args.header.now in
     let l = c.loop-group in
     let group = c.in-Some.group.bytes.now in
-    let r = c.in_ok-_ruling._ruling in
-    (l.invariant.0 ++ r ∷ [], goes_on h l.invariant.0 (groups_of l.rest.bytes.now) (groups_of group) (shared_of group) r (rulings_in h (groups_of c.args.from.bytes.now)) c.in-Some.ensures.groups c.in_ok-_ruling.ensures l.invariant.1)
+    let r = c.in_ok-_ruling._ruling in record {
+      read = (l.invariant.read.0 ++ r ∷ [], goes_on h l.invariant.read.0 (groups_of l.rest.bytes.now) (groups_of group) (shared_of group) r (rulings_in h (groups_of c.args.from.bytes.now)) c.in-Some.ensures.groups c.in_ok-_ruling.ensures l.invariant.read.1);
+      left = omega (arith, l.invariant.left, ap (λ (gs : List (List SegmentParts)). length gs) c.in-Some.ensures.groups);
+    }
 
 pub returns-clause-read : goal.returns-clause-read
 returns-clause-read c =
-    (c.loop-group.invariant.0, is_done c.args.header.now c.loop-group.invariant.0 (groups_of c.loop-group.rest.bytes.now) (rulings_in c.args.header.now (groups_of c.args.from.bytes.now)) c.in_default.ensures.groups c.loop-group.invariant.1)
+    (c.loop-group.invariant.read.0, is_done c.args.header.now c.loop-group.invariant.read.0 (groups_of c.loop-group.rest.bytes.now) (rulings_in c.args.header.now (groups_of c.args.from.bytes.now)) c.in_default.ensures.groups c.loop-group.invariant.read.1)

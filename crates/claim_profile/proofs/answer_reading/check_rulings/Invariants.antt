@@ -7,7 +7,10 @@ use Rattle.claim_profile.proofs.answer_reading.check_rulings.Given as goal
 
 -- some rulings were read before
 abbrev pub invariant-loop-group : goal.invariant-loop-group
-invariant-loop-group l = (front : List Ruling) × (with_front front (rulings_in l.header (groups_of l.rest.bytes.now)) ≡ rulings_in l.header (groups_of l.fn.from.bytes.now))
+invariant-loop-group l = record {
+  read : (front : List Ruling) × (with_front front (rulings_in l.header (groups_of l.rest.bytes.now)) ≡ rulings_in l.header (groups_of l.fn.from.bytes.now));
+  left : l.left ≡ length (groups_of l.rest.bytes.now);
+}
 
 abbrev pub decreases-loop-group : goal.decreases-loop-group
 decreases-loop-group l = length l.rest.bytes.now
