@@ -103,7 +103,7 @@ unfolding order_of claim_of
 billing_order numbers amounts b is =
     let billed : bytes_eq b.header.code (codes "B1") ≡ true = ap (λ c. bytes_eq c (codes "B1")) is.header.code in
     ap (λ t. cond t (claim_order b.header (billing_parts b).shared (billing_group b)) (reversal_order b.header (billing_group b))) billed
-    ∙ sym (claim_order_ok b.header (billing_parts b).shared (billing_group b) _ (claim_billed b) (claim_fields_are numbers amounts b is) refl)
+    ∙ sym (claim_order_ok b.header (billing_parts b).shared (billing_group b) _ (order.Claim (claim_billed b)) (claim_fields_are numbers amounts b is) refl)
 
 fill_passes : NumbersReadBack → (fill : ℕ) → has_more_digits 2 fill ≡ false → option_map (λ (n : ℕ). Some n) (number_up_to 2 (number_text fill)) ≡ Some (Some fill)
 fill_passes numbers fill few = ap (option_map (λ (n : ℕ). Some n)) (number_passes numbers 2 fill (omega arith) few)

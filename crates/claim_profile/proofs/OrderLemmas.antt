@@ -2,8 +2,8 @@
 use Rattle.std.proofs.Common.{◌≡◌, ℕ, ◌≤◌, List, [], ◌∷◌, Option, Some, None, length, is_some, option_map, if◌then◌else◌, codes, refl, ap, ◌∙◌, arith}
 use Rattle.d0_header.specs.Request.{Request}
 use Rattle.d0_segments.specs.Parts.{SegmentParts}
-use Rattle.claim_profile.specs.declared.order.Claim.{Claim}
 use Rattle.claim_profile.specs.declared.order.Reversal.{Reversal}
+use Rattle.claim_profile.specs.declared.order.Order.{Order}
 use Rattle.claim_profile.specs.declared.order.Order.TheVariants as order
 use Rattle.claim_profile.specs.declared.order_fields.ClaimFields.{ClaimFields}
 use Rattle.claim_profile.specs.declared.order_fields.ReversalFields.{ReversalFields}
@@ -101,17 +101,17 @@ pub reversal_fields_are : (h : Request) (shared group : List SegmentParts) (t : 
 reversal_fields_are h shared group t f e1 e2 = e1 ∙ ap (reversal_seen h) (e2 ∙ is_all_counted shared group) ∙ fields_of_reversal h shared group
 
 -- the order of valid fields, and the codes of others
-pub claim_order_ok : (h : Request) (shared group : List SegmentParts) (f : ClaimFields) (claim : Claim) → f ≡ claim_fields h shared group → Some claim ≡ claim_of h f
-    → or_rejected (Some (order.Claim claim)) (claim_codes f) ≡ claim_order h shared group
+pub claim_order_ok : (h : Request) (shared group : List SegmentParts) (f : ClaimFields) (o : Order) → f ≡ claim_fields h shared group → Some o ≡ option_map order.Claim (claim_of h f)
+    → or_rejected (Some o) (claim_codes f) ≡ claim_order h shared group
 unfolding claim_order
-claim_order_ok h shared group f claim e some =
-    ap (λ o. or_rejected (option_map order.Claim o) (claim_codes f)) some ∙ ap (λ g. or_rejected (option_map order.Claim (claim_of h g)) (claim_codes g)) e
+claim_order_ok h shared group f o e some =
+    ap (λ p. or_rejected p (claim_codes f)) some ∙ ap (λ g. or_rejected (option_map order.Claim (claim_of h g)) (claim_codes g)) e
 
-pub claim_order_rejected : (h : Request) (shared group : List SegmentParts) (f : ClaimFields) → f ≡ claim_fields h shared group → None ≡ claim_of h f
+pub claim_order_rejected : (h : Request) (shared group : List SegmentParts) (f : ClaimFields) → f ≡ claim_fields h shared group → None ≡ option_map order.Claim (claim_of h f)
     → or_rejected None (claim_codes f) ≡ claim_order h shared group
 unfolding claim_order
 claim_order_rejected h shared group f e none =
-    ap (λ o. or_rejected (option_map order.Claim o) (claim_codes f)) none ∙ ap (λ g. or_rejected (option_map order.Claim (claim_of h g)) (claim_codes g)) e
+    ap (λ p. or_rejected p (claim_codes f)) none ∙ ap (λ g. or_rejected (option_map order.Claim (claim_of h g)) (claim_codes g)) e
 
 pub reversal_order_ok : (h : Request) (group : List SegmentParts) (f : ReversalFields) (reversal : Reversal) → f ≡ reversal_fields h group → Some reversal ≡ reversal_of h f
     → or_rejected (Some (order.Reversal reversal)) (reversal_codes f) ≡ reversal_order h group
@@ -127,7 +127,7 @@ reversal_order_rejected h group f e none =
 
 -- a field that is not valid has a code
 pub claim_code : (h : Request) (c d : Option (List ℕ)) (r n : Option ℕ) (p : Option (List ℕ)) (q i e : Option ℕ)
-    → None ≡ claim_of h (record { cardholder = c; date = d; prescription = r; fill = n; product = p; quantity = q; cost = i; fee = e })
+    → None ≡ option_map order.Claim (claim_of h (record { cardholder = c; date = d; prescription = r; fill = n; product = p; quantity = q; cost = i; fee = e }))
     → 1 ≤ length (claim_codes (record { cardholder = c; date = d; prescription = r; fill = n; product = p; quantity = q; cost = i; fee = e }))
 unfolding claim_of claim_codes
 claim_code h None d r n p q i e none = omega arith

@@ -1,13 +1,14 @@
 //! The fields of an order that passed their tests.
 
-ghost use Rattle.std.specs.Prelude.{◌≡◌, ◌≤◌, length, is_some};
-ghost use Rattle.claim_profile.specs.Order.{day_of_service};
+ghost use Rattle.std.specs.Prelude.{◌≡◌, ◌≤◌, length, is_some, option_map};
+ghost use Rattle.claim_profile.specs.Order.{day_of_service, claim_of};
+ghost use Rattle.claim_profile.specs.declared.order.Order.TheVariants as orders;
 ghost use Rattle.claim_profile.specs.OrderTally.{order_seen};
 ghost use Rattle.claim_profile.specs.Tally.{seen};
-ghost use Rattle.claim_profile.specs.OrderSeen.{prescription_seen, product_seen, fee_seen, fill_seen};
+ghost use Rattle.claim_profile.specs.OrderSeen.{claim_seen, prescription_seen, product_seen, fee_seen, fill_seen};
 
 use crate::found::Found;
-use crate::order::{Claim, Fill, Reversal};
+use crate::order::{Claim, Fill, Order, Reversal};
 use crate::order_values::OrderValues;
 use crate::reject::{Code, Rejects, first_five};
 use crate::texts::Text;
@@ -36,7 +37,7 @@ pub struct ReversalFields {
 }
 
 impl ClaimFields {
-    ghost use Rattle.claim_profile.specs.Order.{claim_of, claim_codes};
+    ghost use Rattle.claim_profile.specs.Order.{claim_codes};
     ghost use Rattle.claim_profile.specs.OrderSeen.{claim_seen};
 
     /// The fields that these values spell.
@@ -53,37 +54,6 @@ impl ClaimFields {
             cost: cents(values.cost),
             fee: fee(values.fee),
         }
-    }
-
-    /// The claim, where each field is valid.
-    #[tactic(auto, unfolding(crate::specs::Order::claim_of))]
-    pub fn whole(&self, header: &RequestHeader) -> Option<Claim>
-        ensures { result ≡ claim_of header.now self.now }
-    {
-        let cardholder = self.cardholder?;
-        let date = self.date?;
-        let prescription = self.prescription?;
-        let fill = self.fill?;
-        let product = self.product?;
-        let quantity = self.quantity?;
-        let cost = self.cost?;
-        let fee = self.fee?;
-        Some(Claim {
-            fill: Fill {
-                bin: header.bin(),
-                pcn: header.pcn(),
-                qualifier: header.qualifier(),
-                provider: header.provider(),
-                prescription,
-                fill,
-            },
-            date,
-            cardholder,
-            product,
-            quantity,
-            cost,
-            fee,
-        })
     }
 
     /// The codes of the fields that are not valid, the first five.
@@ -104,6 +74,39 @@ impl ClaimFields {
         ])
         .unwrap()
     }
+}
+
+/// The claim that these values spell, where each of its fields is valid. It is built where it is returned, with no
+/// record of its fields.
+#[inline(always)]
+#[tactic(auto, unfolding(crate::specs::Order::claim_of))]
+pub fn claim_spelled(header: &RequestHeader, values: &OrderValues<'_>) -> Option<Order>
+    ensures { result ≡ option_map orders.Claim (claim_of header.now (claim_seen header.now (order_seen values.now))) }
+{
+    let cardholder = text(values.cardholder)?;
+    let date = date_of_service(header)?;
+    let prescription = prescription(values)?;
+    let fill = fill_number(values.fill)?;
+    let product = product(values)?;
+    let quantity = number(values.quantity, 10)?;
+    let cost = cents(values.cost)?;
+    let fee = fee(values.fee)?;
+    Some(Order::Claim(Claim {
+        fill: Fill {
+            bin: header.bin(),
+            pcn: header.pcn(),
+            qualifier: header.qualifier(),
+            provider: header.provider(),
+            prescription,
+            fill,
+        },
+        date,
+        cardholder,
+        product,
+        quantity,
+        cost,
+        fee,
+    }))
 }
 
 impl ReversalFields {

@@ -1,16 +1,17 @@
 //! Reading what a transaction asks for.
 
-ghost use Rattle.std.specs.Prelude.{◌≡◌, ◌<◌, List, [], length, slice_index_or};
+ghost use Rattle.std.specs.Prelude.{◌≡◌, ◌<◌, ◌≤◌, List, [], length, slice_index_or};
 ghost use Rattle.d0_segments.specs.Parts.{SegmentParts};
 ghost use Rattle.d0_segments.specs.Pieces.{shared_of, groups_of};
 ghost use Rattle.d0_segments.specs.Views.{segments_parts, groups_parts};
-ghost use Rattle.claim_profile.specs.Order.{claim_order, reversal_order, order_of};
+ghost use Rattle.claim_profile.specs.Order.{claim_codes, claim_order, reversal_order, order_of};
+ghost use Rattle.claim_profile.specs.OrderSeen.{claim_seen};
 ghost use Rattle.claim_profile.specs.OrderTally.{order_seen, nothing_seen, segments_counted};
 ghost use Rattle.claim_profile.specs.declared.order_values.Level.TheVariants.{Shared, Group};
 
 use crate::names::is_same;
 use crate::order::Order;
-use crate::order_fields::{ClaimFields, ReversalFields};
+use crate::order_fields::{ClaimFields, ReversalFields, claim_spelled};
 use crate::order_values::OrderValues;
 use crate::reject::Rejects;
 use d0_header::RequestHeader;
@@ -106,14 +107,23 @@ fn reversal_at(framed: &Framed<'_, RequestHeader>, place: usize) -> Result<Order
 }
 
 // The claim of these values.
+#[inline(always)]
 fn claim_of(header: &RequestHeader, values: &OrderValues<'_>) -> Result<Order, OrderFault>
     ensures { (shared group : List SegmentParts) → order_seen values.now ≡ segments_counted Group (segments_counted Shared nothing_seen shared) group → result ≡ claim_order header.now shared group }
 {
-    let fields = ClaimFields::of(header, values);
-    match fields.whole(header) {
-        Some(claim) => Ok(Order::Claim(claim)),
-        None => Err(OrderFault::Rejected(fields.rejects())),
+    match claim_spelled(header, values) {
+        Some(order) => Ok(order),
+        None => Err(OrderFault::Rejected(claim_rejects(header, values))),
     }
+}
+
+// The reject codes of a claim that has fields that are not valid. They are read once more for it.
+#[inline(never)]
+fn claim_rejects(header: &RequestHeader, values: &OrderValues<'_>) -> Rejects
+    requires { 1 ≤ length (claim_codes (claim_seen header.now (order_seen values.now))) }
+    ensures { result ≡ claim_codes (claim_seen header.now (order_seen values.now)) }
+{
+    ClaimFields::of(header, values).rejects()
 }
 
 // The reversal of these values.
