@@ -51,10 +51,24 @@ fn print(out: &mut [u8], from: usize, bytes: &[u8]) -> usize
         if run == LANES {
             continue;
         }
-        end += put_byte(out, end, bytes[place]);
+        let byte = bytes[place];
+        end += put_byte(out, end, byte);
         place += 1;
+        if is_followed(byte, bytes, place) {
+            end += put_byte(out, end, bytes[place]);
+            place += 1;
+        }
     }
     print_rest(out, end, &bytes[place..])
+}
+
+/// Whether another separator stands at a place behind a byte. Behind that of fields, which stands most often and before a
+/// field, none is looked for.
+#[inline(always)]
+fn is_followed(byte: u8, bytes: &[u8], place: usize) -> bool
+    ensures { IsTrue result → place < length bytes.now }
+{
+    byte != 0x1C && place < bytes.len() && is_separator(bytes[place])
 }
 
 /// The same one byte after another.

@@ -1,4 +1,4 @@
-ghost use Rattle.std.specs.Prelude.{◌≡◌, ◌<◌, ◌≤◌, ◌+◌, ◌^◌, ℕ, All, IfSome, List, MatchResult, Some, Ok, Err, ◌∷◌, length, take};
+ghost use Rattle.std.specs.Prelude.{◌≡◌, ◌<◌, ◌≤◌, ◌+◌, ◌^◌, ℕ, All, IfSome, List, MatchResult, Some, Ok, Err, ◌∷◌, length, take, drop};
 ghost use Rattle.input_text.specs.declared.unprinting.PrintedFault.TheVariants.{OutOfMemory};
 ghost use Rattle.input_text.specs.Printing.{escaped, first_spelling, hex_value, printed, spelling_behind_x, unprinted};
 ghost use Rattle.input_text.specs.Unprinting.{FailsFor};
@@ -80,6 +80,12 @@ fn unprint_over(out: &mut [u8], text: &[u8]) -> Result<usize, usize>
             }
             None => return Err(place),
         }
+        // A separator of segments stands before one of fields.
+        if let Some(separator) = separator_at(text, place) {
+            out[end] = separator;
+            end += 1;
+            place += 2;
+        }
     }
     while place < text.len() {
         match first_spelling(&text[place..]) {
@@ -92,6 +98,19 @@ fn unprint_over(out: &mut [u8], text: &[u8]) -> Result<usize, usize>
         }
     }
     Ok(end)
+}
+
+/// The separator of fields or of groups, where the two bytes at a place spell one of these.
+#[inline(always)]
+fn separator_at(text: &[u8], place: usize) -> Option<u8>
+    requires { place ≤ length text.now }
+    ensures spelled { IfSome result (λ separator. first_spelling (drop place text.now) ≡ Some (separator, 2)) }
+    ensures within { IfSome result (λ _. place + 2 ≤ length text.now) }
+{
+    match &text[place..] {
+        [byte, letter, ..] => frequent_separator(*byte, *letter),
+        _ => None,
+    }
 }
 
 /// The separator of fields or of groups, where two bytes spell one of these, the two that stand most often.

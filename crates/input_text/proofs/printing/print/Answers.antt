@@ -25,6 +25,25 @@ loop-place-preserved-then-run-eq-LANES c =
       len = c.copy_run-run.ensures.len ∙ c.loop-place.invariant.len;
     }
 
+pub loop-place-preserved-then-is_followed : goal.loop-place-preserved-then-is_followed
+loop-place-preserved-then-is_followed c =
+    let d = (goal.at.loop-place-preserved-then-is_followed c).After-copy_run-run in
+    let text = c.args.bytes.now in
+    let before = take c.args.from c.args.out.now in
+    let place = c.loop-place.place + c.copy_run-run.result in
+    let inside : place < length text = omega (arith, c.copy_run-run.ensures.within, c.if-run-eq-LANES.false) in
+    let next : place + 1 < length text = c.is_followed.ensures c.if-is_followed.true in
+    let first =
+    c.put_byte-end.ensures.text
+    ∙ (ap (λ (front : List ℕ). front ++ printed_byte (slice_index text place)) (run_put d) ∙ prints_byte before text place inside) in record {
+      within = omega arith;
+      put =
+          c.put_byte-end-then-is_followed.ensures.text
+          ∙ (ap (λ (front : List ℕ). front ++ printed_byte (slice_index text (place + 1))) first ∙ prints_byte before text (place + 1) next);
+      room = omega (arith, c.put_byte-end.ensures.most, c.put_byte-end-then-is_followed.ensures.most);
+      len = c.put_byte-end-then-is_followed.ensures.len ∙ (c.put_byte-end.ensures.len ∙ (c.copy_run-run.ensures.len ∙ c.loop-place.invariant.len));
+    }
+
 pub loop-place-preserved : goal.loop-place-preserved
 loop-place-preserved c =
     let d = (goal.at.loop-place-preserved c).After-copy_run-run in

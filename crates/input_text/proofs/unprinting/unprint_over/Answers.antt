@@ -1,4 +1,4 @@
-use Rattle.std.proofs.Common.{◌≡◌, ◌+◌, ◌-◌, ◌≤◌, ◌++◌, length, take, drop, ◌∷◌, slice_index, Some, None, sym, ap, ◌∙◌, arith}
+use Rattle.std.proofs.Common.{◌≡◌, ◌+◌, ◌-◌, ◌<◌, ◌≤◌, ◌++◌, [], length, take, drop, ◌∷◌, slice_index, slice_set, Some, None, sym, ap, ◌∙◌, arith}
 use Rattle.std.proofs.lemmas.List.{length-drop, take_more_set, length-set}
 use Rattle.std.proofs.lemmas.Slice.{between_to_end}
 use Rattle.input_text.specs.Printing.{first_spelling, unprinted, unprinted_from}
@@ -66,6 +66,33 @@ loop-place-preserved c =
       read = rw written (goes_on (take end out) text place c.in-Some-first_spelling.byte c.in-Some-first_spelling.size (unprinted text) spelled c.in-Some-first_spelling.ensures.size.0 fits (run_read d));
       behind = omega (arith, c.in-Some-first_spelling.ensures.size.0);
       len = length-set out end c.in-Some-first_spelling.byte ∙ len;
+    }
+
+pub loop-place-preserved-in-Some-separator_at : goal.loop-place-preserved-in-Some-separator_at
+loop-place-preserved-in-Some-separator_at c =
+    let d = (goal.at.loop-place-preserved-in-Some-separator_at c).After-copy_run-run in
+    let text = c.args.text.now in
+    let place = c.loop-place.place + c.copy_run-run.result in
+    let end = c.loop-place.end + c.copy_run-run.result in
+    let out = c.copy_run-run.new.out in
+    let byte = c.in-Some-first_spelling.byte in
+    let size = c.in-Some-first_spelling.size in
+    let separator = c.in-Some-separator_at.separator in
+    let len = c.copy_run-run.ensures.len ∙ c.loop-place.invariant.len in
+    let rest : take (length text - place) (drop place text) ≡ drop place text = between_to_end text place (length text) (omega arith) in
+    let spelled : first_spelling (drop place text) ≡ Some (byte, size) = ap first_spelling (sym rest) ∙ sym c.in-Some-first_spelling.ensures.value in
+    let fits : size ≤ length (drop place text) = rw rest at c.in-Some-first_spelling.ensures.size.1 in
+    let inside : end < length out = omega (arith, len, c.copy_run-run.ensures.within, c.if-run-eq-LANES.false) in
+    let so_far : onto_all (take end out ++ byte ∷ []) (unprinted_from (place + size) 0 (drop (place + size) text)) ≡ unprinted text = goes_on (take end out) text place byte size (unprinted text) spelled c.in-Some-first_spelling.ensures.size.0 fits (run_read d) in
+    let first : onto_all (take (end + 1) (slice_set out end byte)) (unprinted_from (place + size) 0 (drop (place + size) text)) ≡ unprinted text = rw (take_more_set out end byte inside) so_far in
+    let next = slice_set out end byte in
+    let next_len : length next ≡ length out = length-set out end byte in
+    let within = c.in-Some-separator_at.ensures.within in
+    let written = take_more_set next (end + 1) separator (omega (arith, len, next_len, within, c.in-Some-first_spelling.ensures.size.0)) in record {
+      within = within;
+      read = rw written (goes_on (take (end + 1) next) text (place + size) separator 2 (unprinted text) c.in-Some-separator_at.ensures.spelled (omega arith) (omega (arith, length-drop (place + size) text, within)) first);
+      behind = omega (arith, c.in-Some-first_spelling.ensures.size.0);
+      len = length-set next (end + 1) separator ∙ next_len ∙ len;
     }
 
 pub returns-in-None : goal.returns-in-None
