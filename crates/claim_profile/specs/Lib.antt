@@ -6,6 +6,7 @@ pub mod Authorization
 pub mod Money
 pub mod Reject
 pub mod Order
+pub mod FillBytes
 pub mod Readable
 pub mod OrderSeen
 pub mod Answer

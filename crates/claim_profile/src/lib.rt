@@ -9,6 +9,7 @@ mod authorization;
 mod building;
 mod building_laws;
 mod building_writing;
+mod fill_hash;
 mod found;
 mod laws;
 mod names;

@@ -5,7 +5,7 @@ use crate::texts::Text;
 /// One dispensing of a prescription, as the transmission names it: the header's BIN (101-A1),
 /// processor control number (104-A4), service provider qualifier and ID (202-B2, 201-B1), all
 /// padded, the prescription number (402-D2) and the fill number (403-D3).
-#[derive(Clone, Copy, Debug, PartialEq, Eq, PartialOrd, Ord, Hash)]
+#[derive(Clone, Copy, Debug, PartialEq, Eq, PartialOrd, Ord)]
 pub struct Fill {
     pub bin: [u8; 6],
     pub pcn: [u8; 10],

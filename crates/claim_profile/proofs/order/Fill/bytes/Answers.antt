@@ -1,0 +1,27 @@
+use Rattle.std.proofs.Common.{◌≡◌, ℕ, ◌+◌, List, [], ◌∷◌, ◌++◌, length, take, sym, ap, ◌∙◌, arith}
+use Rattle.std.proofs.lemmas.List.{take_all}
+use Rattle.claim_profile.specs.FillBytes.{joined, fill_bytes}
+use Rattle.claim_profile.proofs.order.Fill.bytes.Goals as goal
+
+-- a field that is put behind a text makes the longer text
+put_behind : (old new field before : List ℕ) (place end : ℕ) → end ≡ place + length field → take (place + length field) new ≡ take place old ++ field → take place old ≡ before → take end new ≡ before ++ field
+put_behind old new field before place end e f g =
+    ap (λ (n : ℕ). take n new) e ∙ (f ∙ ap (λ (xs : List ℕ). xs ++ field) g)
+
+-- the first field of a text
+put_first : (new field : List ℕ) (end : ℕ) → end ≡ 0 + length field → take (0 + length field) new ≡ field → take end new ≡ field
+put_first new field end e f = ap (λ (n : ℕ). take n new) e ∙ f
+
+pub returns : goal.returns
+unfolding fill_bytes
+returns c =
+    let f = c.args.self.now in
+    let whole : take c.put-end.result c.put-end.new.bytes ≡ c.put-end.new.bytes = take_all c.put-end.result c.put-end.new.bytes (omega arith) in
+    sym whole
+    ∙ (put_behind _ _ _ _ _ _ c.put-end.ensures.end c.put-end.ensures.front
+    (put_behind _ _ _ _ _ _ c.put-place-5.ensures.end c.put-place-5.ensures.front
+    (put_behind _ _ _ _ _ _ c.put-place-4.ensures.end c.put-place-4.ensures.front
+    (put_behind _ _ _ _ _ _ c.put-place-3.ensures.end c.put-place-3.ensures.front
+    (put_behind _ _ _ _ _ _ c.put-place-2.ensures.end c.put-place-2.ensures.front
+    (put_first _ _ _ c.put-place.ensures.end c.put-place.ensures.front)))))
+    ∙ ap (joined f.bin f.pcn f.qualifier f.provider (f.fill ∷ [])) c.to_le_bytes.ensures)

@@ -1,0 +1,48 @@
+//! What a fill is hashed by: one write, which costs half of what a write for each field does.
+
+ghost use Rattle.std.specs.Prelude.{◌≡◌, ◌+◌, ◌≤◌, [], ◌∷◌, ◌++◌, length, take};
+ghost use Rattle.std.specs.Cmp.Rules.{hashing};
+ghost use Rattle.std.proofs.Common.{rules};
+ghost use Rattle.claim_profile.specs.FillBytes.{fill_bytes};
+
+use crate::order::Fill;
+use std::hash::{Hash, Hasher};
+
+impl Hash for Fill {
+    ghost hash_input = { λ fill. fill_bytes fill ∷ [] };
+
+    ghost respects_eq = { Prim.search (hashing, rules) };
+
+    /// Hashes the fields of the fill together.
+    fn hash<H: Hasher>(&self, state: &mut H) {
+        state.write(&self.bytes());
+    }
+}
+
+impl Fill {
+    /// The fields one after another.
+    fn bytes(&self) -> [u8; 42]
+        ensures { result ≡ fill_bytes self.now }
+    {
+        let mut bytes = [0; 42];
+        let place = put(&mut bytes, 0, &self.bin);
+        let place = put(&mut bytes, place, &self.pcn);
+        let place = put(&mut bytes, place, &self.qualifier);
+        let place = put(&mut bytes, place, &self.provider);
+        let place = put(&mut bytes, place, &[self.fill]);
+        let _end = put(&mut bytes, place, &self.prescription.to_le_bytes());
+        bytes
+    }
+}
+
+/// Writes a field at `place`, and answers the place behind it.
+#[inline(always)]
+fn put(bytes: &mut [u8], place: usize, field: &[u8]) -> usize
+    requires { place + length field.now ≤ length bytes.old }
+    ensures end { result ≡ place + length field.now }
+    ensures front { take (place + length field.now) bytes.new ≡ take place bytes.old ++ field.now }
+{
+    let end = place + field.len();
+    bytes[place..end].copy_from_slice(field);
+    end
+}
