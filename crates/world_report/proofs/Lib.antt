@@ -4,3 +4,4 @@ pub mod Loops
 pub mod Joining
 pub mod Making
 pub mod Blocks
+pub mod Lines

@@ -2,11 +2,11 @@
 use Rattle.std.proofs.Common.{◌≡◌, ℕ, suc, ◌+◌, ◌-◌, ◌<◌, ◌≤◌, List, [], ◌∷◌, ◌++◌, length, drop, get_or, map, replicate, refl, sym, ap, ◌∙◌, append-nil, arith}
 use Rattle.std.specs.Prelude.{codes, decimal}
 use Rattle.std.proofs.lemmas.List.{at_drop_more, drop_all}
-use Rattle.claim_model.specs.Words.{TxnId, Ruling}
+use Rattle.claim_model.specs.Words.{Ruling}
 use Rattle.world_report.specs.Words.{Line, line_text, lines_text, behind_spaces}
 use Rattle.world_report.specs.Heads.{numbers_from}
-use Rattle.world_report.specs.Places.{place_line, place_lines, txn_name}
-use Rattle.world_report.proofs.JoinedWords.{texts_join, words_join, lines_join, behind_spaces-nil, lines_text-nil}
+use Rattle.world_report.specs.Places.{place_line, place_lines}
+use Rattle.world_report.proofs.JoinedWords.{words_join, lines_join, behind_spaces-nil, lines_text-nil}
 
 -- numbers
 
@@ -68,10 +68,3 @@ pub told_is_done : (told : Ruling → Line) (a whole name : List ℕ) (count : �
 told_is_done told a whole name count code rulings i le so_far =
     places_are_done a whole name count code (i + 1)
     (sym (ap (λ (rs : List Ruling). a ++ lines_text (place_lines name count code (i + 1) (map told rs))) (drop_all i rulings le)) ∙ so_far)
-
--- a transaction
-
-pub txn_joins : (a b c d : List ℕ) (id : TxnId) (pharmacy number : ℕ) → pharmacy ≡ id.pharmacy → number ≡ id.number → b ≡ a ++ decimal pharmacy → c ≡ b ++ codes "." → d ≡ c ++ decimal number → d ≡ a ++ txn_name id
-txn_joins a b c d id pharmacy number p n one two three =
-    texts_join a b d (decimal pharmacy) (codes "." ++ decimal number) one (texts_join b c d (codes ".") (decimal number) two three)
-    ∙ (ap (λ (k : ℕ). a ++ (decimal k ++ (codes "." ++ decimal number))) p ∙ ap (λ (k : ℕ). a ++ (decimal id.pharmacy ++ (codes "." ++ decimal k))) n)

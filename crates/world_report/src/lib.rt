@@ -5,6 +5,7 @@
 //! it may have been appended. A line is a list of words with one space between them.
 #![tactic(auto)]
 
+mod backwards;
 mod book_rows;
 mod entries;
 mod events;

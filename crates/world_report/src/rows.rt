@@ -1,15 +1,15 @@
 //! The lines of a switch's table and of a payer's book.
 
-ghost use Rattle.std.specs.Prelude.{◌≡◌, ◌∷◌, [], ◌++◌, OnOk};
+ghost use Rattle.std.specs.Prelude.{◌≡◌, ◌≤◌, ◌∷◌, [], ◌++◌, drop, OnOk};
 ghost use Rattle.world_report.specs.Words.{behind_spaces, line_text};
 ghost use Rattle.world_report.specs.Places.{place_line, txn_name, flight_word, flight_line, standing_word, standing_words, row_words};
 
+use crate::backwards::{LINE, byte_before, digits_before};
 use crate::places::{Place, put_mark};
 use crate::rulings::put_ruling;
 use crate::words::{end_line, put_word};
 use claim_profile::Ruling;
 use envelope::TxnId;
-use input_text::put_decimal;
 use std::alloc::AllocError;
 use switch_node::InFlight;
 
@@ -77,7 +77,18 @@ fn standing_word(reversed: bool) -> &'static [u8]
 fn put_txn(out: &mut Vec<u8>, id: TxnId) -> Result<(), AllocError>
     ensures { OnOk result (out.new.items ≡ out.old.items ++ txn_name id) }
 {
-    put_decimal(out, u64::from(id.pharmacy()))?;
-    out.push(b'.')?;
-    put_decimal(out, id.number())
+    let mut text = [0; LINE];
+    let start = write_txn(id, &mut text);
+    out.extend_from_slice(&text[start..])?;
+    Ok(())
+}
+
+/// Writes a transaction at the end of a text, and gives the place where it begins.
+fn write_txn(id: TxnId, text: &mut [u8; LINE]) -> usize
+    ensures within { result ≤ 45 }
+    ensures written { drop result text.new ≡ txn_name id }
+{
+    let number = digits_before(id.number(), text, LINE);
+    let point = byte_before(b'.', text, number);
+    digits_before(u64::from(id.pharmacy()), text, point)
 }
