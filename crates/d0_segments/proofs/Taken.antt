@@ -1,10 +1,10 @@
 -- What readers take, one after the other.
-use Rattle.std.proofs.Common.{◌≡◌, ℕ, ◌+◌, ◌-◌, Bool, true, false, not, eqb, List, [], ◌∷◌, ◌++◌, ◌&&◌, map, length, drop, Option, Some, refl, sym, ap, subst, ◌∙◌, arith, append_assoc, length-append}
+use Rattle.std.proofs.Common.{◌≡◌, ℕ, ◌+◌, ◌-◌, ◌<◌, Bool, true, false, not, eqb, List, [], ◌∷◌, ◌++◌, ◌&&◌, map, length, drop, Option, Some, refl, sym, ap, subst, ◌∙◌, arith, append_assoc, length-append}
 use Rattle.std.proofs.lemmas.List.{append-nil, map_push}
 use Rattle.std.proofs.lemmas.Bool.{eqb-true}
 use Rattle.std.specs.Global.{Vec}
 use Rattle.d0_segments.specs.declared.fault.FramingFault.{FramingFault}
-use Rattle.d0_segments.specs.declared.fault.FramingFault.TheVariants.{OutOfMemory, NoSegmentId}
+use Rattle.d0_segments.specs.declared.fault.FramingFault.TheVariants.{OutOfMemory, NoSegmentId, BadFieldId}
 use Rattle.d0_segments.specs.declared.field.Field.{Field}
 use Rattle.d0_segments.specs.declared.segment.Segment.{Segment}
 use Rattle.d0_segments.specs.declared.rest.Rest.{Rest}
@@ -12,7 +12,7 @@ use Rattle.d0_segments.specs.Separators.{is_separator, is_id, ends_here, ends_se
 use Rattle.d0_segments.specs.Parts.{FieldParts, SegmentParts, is_group, are_groups}
 use Rattle.d0_segments.specs.Texts.{field_text, fields_text, segment_text, segments_text, group_text, groups_text}
 use Rattle.d0_segments.specs.Views.{field_parts, segment_parts, segments_parts, groups_parts}
-use Rattle.d0_segments.specs.Faults.{first_fault, Fails, has_segment_id}
+use Rattle.d0_segments.specs.Faults.{first_fault, Fails, has_segment_id, has_field_id}
 use Rattle.d0_segments.specs.Address.{beyond}
 use Rattle.d0_segments.specs.Lending.{FieldsLie, SegmentsLie, GroupsLie}
 use Rattle.d0_segments.specs.Taking.{Takes, IsIdentified, fault_in, fault_behind_header}
@@ -176,6 +176,31 @@ unnamed_in (b ∷ bs) p begins e = unnamed_at b p bs (eqb-true b 30 begins) e
 
 pub unnamed : (r : Rest) (p : ℕ) → p ≡ r.end - length r.bytes.now → begins_with 30 r.bytes.now ≡ true → (has_segment_id (drop 1 r.bytes.now) ≡ true → ⊥) → fault_in r ≡ Some (NoSegmentId p)
 unnamed r p place begins never = rw place (unnamed_in r.bytes.now (r.end - length r.bytes.now) begins (is_false (has_segment_id (drop 1 r.bytes.now)) never))
+
+-- fewer than two bytes before the next separator name no field
+no_name : (plain rest : List ℕ) → length plain < 2 → ends_here rest ≡ true → has_field_id (plain ++ rest) ≡ false
+no_name [] [] few ends = refl
+no_name [] (r ∷ []) few ends = refl
+no_name [] (r ∷ s ∷ rest) few ends = ap (λ t. not t && not (is_separator s)) ends
+no_name (a ∷ []) [] few ends = refl
+no_name (a ∷ []) (r ∷ rest) few ends = ap (λ t. not (is_separator a) && not t) ends ∙ never (not (is_separator a))
+  where
+    never : (t : Bool) → (t && false) ≡ false
+    never true = refl
+    never false = refl
+no_name (a ∷ b ∷ plain) rest few ends = absurd (omega (arith, few))
+
+nameless_at : (b p : ℕ) (bs : List ℕ) → b ≡ 28 → has_field_id bs ≡ false → first_fault 0 p (b ∷ bs) ≡ Some (BadFieldId p)
+nameless_at b p bs is e = simp (is, e)
+
+nameless_in : (bs : List ℕ) (p : ℕ) → begins_with 28 bs ≡ true → has_field_id (drop 1 bs) ≡ false → first_fault 0 p bs ≡ Some (BadFieldId p)
+nameless_in [] p begins e = absurd cc
+nameless_in (b ∷ bs) p begins e = nameless_at b p bs (eqb-true b 28 begins) e
+
+pub nameless : (r : Rest) (p : ℕ) (plain rest : List ℕ) → p ≡ r.end - length r.bytes.now → begins_with 28 r.bytes.now ≡ true → drop 1 r.bytes.now ≡ plain ++ rest → length plain < 2 → ends_here rest ≡ true
+    → fault_in r ≡ Some (BadFieldId p)
+nameless r p plain rest place begins parts few ends =
+    rw place (nameless_in r.bytes.now (r.end - length r.bytes.now) begins (ap has_field_id parts ∙ no_name plain rest few ends))
 
 -- the fault of what is inside a segment or a group
 pub entered_segment : (a b : Rest) (x y : ℕ) → Takes a (30 ∷ 28 ∷ 65 ∷ 77 ∷ x ∷ y ∷ []) b → is_id (x ∷ y ∷ []) ≡ true → ends_here b.bytes.now ≡ true → fault_in a ≡ fault_in b

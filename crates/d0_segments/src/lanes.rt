@@ -1,6 +1,6 @@
 //! Sixteen bytes at once.
 
-ghost use Rattle.std.specs.Prelude.{◌≡◌, ◌≤◌, map, length};
+ghost use Rattle.std.specs.Prelude.{◌≡◌, ◌≤◌, map, length, IfSome};
 ghost use Rattle.std.specs.Simd.Lanes.{mask_l};
 ghost use Rattle.d0_segments.specs.Separators.{is_separator, plain_length};
 
@@ -50,13 +50,32 @@ fn plain_length_of_few(bytes: &[u8]) -> usize
     place
 }
 
-/// The same for bytes whose next separator is not near.
+/// The same for bytes whose next separator is not near. It is looked for near by once more, since an authorization has
+/// sixteen digits.
 #[inline(never)]
 fn plain_length_of_many(bytes: &[u8]) -> usize
     ensures { result ≡ plain_length bytes.now }
 {
+    if let Some(place) = near_separator(bytes) {
+        return place;
+    }
     match separator_in(bytes) {
         Some(place) => place,
         None => bytes.len(),
     }
+}
+
+/// How many bytes stand in front of the next separator, where it is one of the next sixteen.
+#[inline(always)]
+fn near_separator(bytes: &[u8]) -> Option<usize>
+    ensures { IfSome result (λ place. place ≡ plain_length bytes.now) }
+{
+    if bytes.len() < LANES {
+        return None;
+    }
+    let found = separators(u8x16::from_slice(bytes));
+    if found == 0 {
+        return None;
+    }
+    Some(found.trailing_zeros() as usize)
 }

@@ -265,9 +265,9 @@ pub(crate) fn read_field<'a>(from: Rest<'a>) -> Result<(Field<'a>, Rest<'a>), Fr
     ensures lent { IfOk result (λ x. x.0.value.ref_ptr ≡ beyond from.entry.bytes.ref_ptr 3) }
     ensures fault { IfErr result (λ e. fault_in from.entry ≡ Some e) }
 {
-    match from.bytes {
-        [_, first, second, ..] if !is_separator(*first) && !is_separator(*second) => {
-            let (value, behind) = split(&from.bytes[3..]);
+    let (plain, behind) = split(&from.bytes[1..]);
+    match plain {
+        [first, second, value @ ..] => {
             let field = Field::of_plain([*first, *second], value);
             Ok((
                 field,
