@@ -62,8 +62,8 @@ fn print(out: &mut [u8], from: usize, bytes: &[u8]) -> usize
     print_rest(out, end, &bytes[place..])
 }
 
-/// Whether another separator stands at a place behind a byte. Behind that of fields, which stands most often and before a
-/// field, none is looked for.
+/// Whether a separator stands at a place behind a byte. None is looked for behind that of fields, which stands most often
+/// and before a name.
 #[inline(always)]
 fn is_followed(byte: u8, bytes: &[u8], place: usize) -> bool
     ensures { IsTrue result → place < length bytes.now }
