@@ -16,9 +16,21 @@
 ** docs/DEPLOYING.md says what a host owes, docs/FORMATS.md has the lines, and examples/embed a whole host. bindings/make lays
 ** out the library: link lib/libvogrilas.a, or -lvogrilas.
 **
+** The calls, by what they are for:
+**
+**     a node        vogrilas_open, vogrilas_serve, vogrilas_submit, vogrilas_take, vogrilas_records, vogrilas_written,
+**                   vogrilas_clear, vogrilas_close
+**     what it has   vogrilas_calls, vogrilas_count, vogrilas_request, vogrilas_answer, vogrilas_payments
+**     no node       vogrilas_print, vogrilas_unprint, vogrilas_describe, vogrilas_audit, vogrilas_version
+**
+** All memory is the caller's, apart from a node's own, which vogrilas_close() gives back: what a call tells it copies into a
+** buffer that is lent for the call alone. Where the buffer is too short, it says VOGRILAS_SHORT_BUFFER and how much is wanted.
+**
 ** What is proved, of the code that the library is compiled from: each call does what stands here of its results, for every
 ** settings, log and line, and is safe: it never reads or writes outside what it is lent, never frees twice, and returns. What
-** is not: which refusal vogrilas_open() tells (that a refused one changes nothing is), the compiler, that this header says the same as the exports of crates/vogrilas_c, and what the caller owes:
+** is not: which refusal vogrilas_open() tells (that a refused one changes nothing is), what vogrilas_describe() and
+** vogrilas_audit() write, the compiler, that this header says the same as the exports of crates/vogrilas_c (tests/library
+** compares them), and what the caller owes:
 **
 **   - A node begins as VOGRILAS_NODE_INIT (zeros), and from then on only the library changes it. It may be moved to another
 **     place by copying its bytes, if the old place is not used again.
@@ -66,7 +78,10 @@ enum {
     VOGRILAS_OTHER_SETTINGS = 13, /* the log is of other settings */
     VOGRILAS_DAMAGED = 14,        /* a record of the log is damaged; its place is told */
     VOGRILAS_BAD_RECORD = 15,     /* a record of the log is no call of the node; its place is told */
-    VOGRILAS_BAD_TEXT = 16        /* a text spells no bytes; the place is told */
+    VOGRILAS_BAD_TEXT = 16,       /* a text spells no bytes; the place is told */
+    VOGRILAS_UNANSWERED = 17,     /* the entry is open: it has no answer yet */
+    VOGRILAS_NOT_FOUND = 18,      /* there is no such entry, slot or row */
+    VOGRILAS_NO_RUN = 19          /* the logs are those of no legal run */
 };
 
 /* The words for a code, for people. */
@@ -89,6 +104,9 @@ static inline const char *vogrilas_code_text(vogrilas_code code) {
     case VOGRILAS_DAMAGED: return "a record of the log is damaged";
     case VOGRILAS_BAD_RECORD: return "a record of the log is no call of the node";
     case VOGRILAS_BAD_TEXT: return "the text spells no bytes";
+    case VOGRILAS_UNANSWERED: return "the entry has no answer yet";
+    case VOGRILAS_NOT_FOUND: return "there is no such entry";
+    case VOGRILAS_NO_RUN: return "no legal run";
     default: return "no code of this version";
     }
 }
@@ -171,6 +189,67 @@ vogrilas_code vogrilas_written(vogrilas_node *node, void *buffer, size_t room, s
 /* Tells how many calls the node's log has, those included that are to be appended. */
 vogrilas_code vogrilas_calls(vogrilas_node *node, uint64_t *calls);
 
+/*
+** Tells how many entries the journal of a pharmacy has (their numbers go from 1 to this), how many slots the table of a switch,
+** or how many rows the book of a payer. A stopped pharmacy or payer has what it keeps, a stopped switch none.
+**
+** VOGRILAS_OK: *count is told. VOGRILAS_CLOSED, VOGRILAS_NO_MEMORY: *count is as it was, and the node too.
+*/
+vogrilas_code vogrilas_count(vogrilas_node *node, uint64_t *count);
+
+/*
+** Copies the request of a pharmacy's entry, by its number from 1: the bytes that were submitted.
+**
+** VOGRILAS_OK and VOGRILAS_SHORT_BUFFER are as of vogrilas_records(). VOGRILAS_NOT_FOUND: the node has no such entry, or is no
+** pharmacy. VOGRILAS_CLOSED, VOGRILAS_NO_MEMORY. Buffer and *size are as they were at these three, and the node at each code.
+*/
+vogrilas_code vogrilas_request(vogrilas_node *node, uint64_t number, void *buffer, size_t room, size_t *size);
+
+/*
+** Copies the answer that the node holds for a request, by its pharmacy and its number there: a pharmacy has those to its own
+** entries (give its own number), a switch those in its table, a payer those of its book.
+**
+** VOGRILAS_OK: the entry is settled, and the answer's bytes stand in the buffer; VOGRILAS_SHORT_BUFFER as of
+** vogrilas_records(). VOGRILAS_UNANSWERED: it is an open entry of this pharmacy. VOGRILAS_NOT_FOUND: this node has no answer
+** for it, and no entry. VOGRILAS_CLOSED, VOGRILAS_NO_MEMORY. Buffer and *size are as they were at these four, and the node at
+** each code. So with no room the code alone says whether an entry is settled (VOGRILAS_SHORT_BUFFER), open, or not there.
+*/
+vogrilas_code vogrilas_answer(vogrilas_node *node, uint16_t pharmacy, uint64_t number, void *buffer, size_t room, size_t *size);
+
+/* A payment. Texts are bytes with spaces at their ends and no 0 behind them; amounts are cents. */
+typedef struct vogrilas_payment {
+    uint64_t serial;            /* the authorization (503-F3): its last twelve digits, behind four of the payer */
+    uint64_t prescription;      /* 402-D2 */
+    uint64_t reversed_number;   /* the request that reversed it, by its pharmacy and its number there: 0 and 0 where it stands */
+    uint32_t cost;              /* ingredient cost paid, 506-F6 */
+    uint32_t fee;               /* dispensing fee paid, 507-F7 */
+    uint32_t copay;             /* what the patient pays, 505-F5 */
+    uint32_t total;             /* what the plan pays, 509-F9: cost + fee - copay */
+    uint16_t payer;             /* the payer that gave the authorization */
+    uint16_t reversed_pharmacy;
+    uint8_t bin[6];             /* 101-A1 */
+    uint8_t pcn[10];            /* processor control number, 104-A4 */
+    uint8_t qualifier[2];       /* of the service provider, 202-B2 */
+    uint8_t provider[15];       /* the service provider, 201-B1 */
+    uint8_t fill_number;        /* 403-D3 */
+} vogrilas_payment;
+
+/*
+** Copies the payments of a node as one list, for a caller that walks them:
+**
+**   - of a pharmacy those that it counts: which an answer to one of its claims names as paid, or as paid before, and no answer
+**     as reversed; each once, in the order in which they were named, and none with a reversal;
+**   - of a payer those of its book, standing and reversed, in the order in which they were made;
+**   - of a switch none.
+**
+** The list is made anew by each call, in the time of one walk over the journal or the book, so keep it as long as the node
+** makes no call. `room` is how many payments the array holds.
+**
+** VOGRILAS_OK: they stand at the start of the array, and *count is how many. VOGRILAS_SHORT_BUFFER: *count is how many there
+** are, and the array is unchanged. VOGRILAS_CLOSED, VOGRILAS_NO_MEMORY: both are as they were. The node is as it was at each.
+*/
+vogrilas_code vogrilas_payments(vogrilas_node *node, vogrilas_payment *payments, size_t room, size_t *count);
+
 /* Notes that the records are on disk and the rest was used: both are empty from here on. */
 vogrilas_code vogrilas_clear(vogrilas_node *node);
 
@@ -199,6 +278,22 @@ vogrilas_code vogrilas_unprint(const void *text, size_t text_size, void *buffer,
 */
 vogrilas_code vogrilas_describe(const void *message, size_t message_size, uint32_t json, void *buffer, size_t room,
                                 size_t *size);
+
+/*
+** Judges logs: whether they are one of each node of the settings, and all of them those of one legal run, packets compared byte
+** for byte. The logs stand in `logs` one behind another, in any order, and `sizes` has the size of each, `count` of them. A torn
+** end of a log is let pass. What is told is what claimaudit writes: a line for each log, then `one legal run of N events` and
+** what it left, or `no legal run` and why; `json` is 0 for these lines, and anything else for one object of JSON.
+**
+** VOGRILAS_OK: there is such a run, VOGRILAS_NO_RUN: there is none; what is told stands in the buffer at both, *size bytes.
+** VOGRILAS_SHORT_BUFFER: *size is how many bytes are told, and nothing is said of the run; ask again with more room (64 KiB do
+** for lines of a hundred nodes). VOGRILAS_SETTINGS: the settings are none. VOGRILAS_NOT_A_LOG, VOGRILAS_LOG_VERSION,
+** VOGRILAS_DAMAGED_HEAD, VOGRILAS_NO_KIND, VOGRILAS_OTHER_SETTINGS, VOGRILAS_DAMAGED and VOGRILAS_BAD_RECORD: a log is none of
+** these settings, and *size is which one, from 0; VOGRILAS_NOT_A_LOG also where the sizes do not add up to `logs_size`. The
+** buffer is unchanged at all codes but the first two, which is what is proved here; what is said and told is tested.
+*/
+vogrilas_code vogrilas_audit(const void *settings, size_t settings_size, const void *logs, size_t logs_size,
+                             const size_t *sizes, size_t count, uint32_t json, void *buffer, size_t room, size_t *size);
 
 #ifdef __cplusplus
 }

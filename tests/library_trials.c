@@ -61,13 +61,25 @@ static vogrilas_code open_as(vogrilas_node *node, const char *name, const void *
     return vogrilas_open(node, settings, settings_size, name, strlen(name), log, size, "0123456789abcdef", 16, kept);
 }
 
+/* Whether a text stands in bytes. */
+static bool memmem_text(const char *bytes, size_t size, const char *text) {
+    for (size_t at = 0; at + strlen(text) <= size; at++)
+        if (memcmp(bytes + at, text, strlen(text)) == 0) return true;
+    return false;
+}
+
 /* Whether no call reaches a node, and none writes anything. */
 static bool is_closed(vogrilas_node *node) {
     size_t size = 77;
     uint64_t calls = 77;
     char byte = 'x';
+    vogrilas_payment payment;
+    memset(&payment, 'x', sizeof payment);
     return vogrilas_serve(node, "tick", 4) == VOGRILAS_CLOSED && vogrilas_records(node, &byte, 1, &size) == VOGRILAS_CLOSED &&
            vogrilas_written(node, &byte, 1, &size) == VOGRILAS_CLOSED && vogrilas_calls(node, &calls) == VOGRILAS_CLOSED &&
+           vogrilas_count(node, &calls) == VOGRILAS_CLOSED && vogrilas_request(node, 1, &byte, 1, &size) == VOGRILAS_CLOSED &&
+           vogrilas_answer(node, 1, 1, &byte, 1, &size) == VOGRILAS_CLOSED &&
+           vogrilas_payments(node, &payment, 1, &size) == VOGRILAS_CLOSED && payment.fill_number == 'x' &&
            vogrilas_clear(node) == VOGRILAS_CLOSED && size == 77 && calls == 77 && byte == 'x' && !node->held;
 }
 
@@ -218,6 +230,244 @@ static void try_typed(void) {
     vogrilas_close(&by_bytes);
 }
 
+/* A network in this process: a pharmacy, a switch and a payer, each with the bytes of its log. */
+struct one {
+    const char *name;
+    vogrilas_node node;
+    char log[MOST];
+    size_t size;
+};
+
+enum { NODES = 3 };
+static struct one network[NODES] = {
+    { "ph1", VOGRILAS_NODE_INIT, "", 0 }, { "sw1", VOGRILAS_NODE_INIT, "", 0 }, { "pr1", VOGRILAS_NODE_INIT, "", 0 }
+};
+
+/* Keeps the records of a node in its log, and gives what was written, with a 0 behind it. */
+static const char *kept(struct one *one) {
+    size_t size = 0;
+    check(vogrilas_records(&one->node, one->log + one->size, MOST - one->size, &size) == VOGRILAS_OK, "records");
+    one->size += size;
+    check(vogrilas_written(&one->node, said, MOST - 1, &said_size) == VOGRILAS_OK, "what was written");
+    said[said_size] = '\0';
+    check(vogrilas_clear(&one->node) == VOGRILAS_OK, "clear");
+    return said;
+}
+
+/* Serves a line, and gives what is written. */
+static const char *asked(struct one *one, const char *text) {
+    check(vogrilas_serve(&one->node, text, strlen(text)) == VOGRILAS_OK, "a line");
+    return kept(one);
+}
+
+/* Carries what a node has just sent, and all that is sent then, until nobody sends. */
+static void carry(struct one *from, const char *written) {
+    static char next[MOST];
+    while (strncmp(written, "send ", 5) == 0) {
+        struct one *to = NULL;
+        for (size_t one = 0; one < NODES; one++)
+            if (strncmp(network[one].name, written + 5, 3) == 0) to = &network[one];
+        const char *end = strchr(written, '\n');
+        snprintf(next, MOST, "take %s %.*s", from->name, (int)(end - written - 9), written + 9);
+        written = asked(to, next);
+        from = to;
+    }
+}
+
+/* How many there are, by the count. */
+static uint64_t counted(struct one *one) {
+    uint64_t count = 77;
+    check(vogrilas_count(&one->node, &count) == VOGRILAS_OK, "a count");
+    return count;
+}
+
+/* A handle's state as bytes of its log and of what is to be written: calls that only read change none of it. */
+static bool is_silent(struct one *one) {
+    size_t records = 77, written = 77;
+    return vogrilas_records(&one->node, said, MOST, &records) == VOGRILAS_OK && records == 0 &&
+           vogrilas_written(&one->node, said, MOST, &written) == VOGRILAS_OK && written == 0;
+}
+
+/* An answer that a node holds is that of the line `answer NUMBER` of the pharmacy, and every shorter buffer is unchanged. */
+static void try_answer(struct one *one, uint64_t number, const char *wanted) {
+    static char bytes[MOST], text[MOST], copy[MOST];
+    size_t size = 0, again = 0, text_size = 0;
+    check(vogrilas_answer(&one->node, 1, number, bytes, MOST, &size) == VOGRILAS_OK, "an answer");
+    check(vogrilas_print(bytes, size, text, MOST, &text_size) == VOGRILAS_OK && text_size == strlen(wanted), "the answer's text");
+    check(memcmp(text, wanted, text_size) == 0, "the answer of the line");
+    memset(copy, 'x', MOST);
+    for (size_t room = 0; room < size; room++)
+        check(vogrilas_answer(&one->node, 1, number, copy, room, &again) == VOGRILAS_SHORT_BUFFER && again == size && copy[0] == 'x',
+              "an answer too long");
+    check(vogrilas_answer(&one->node, 1, number, copy, size, &again) == VOGRILAS_OK && again == size && copy[size] == 'x' &&
+          memcmp(copy, bytes, size) == 0, "room enough for an answer");
+    check(is_silent(one), "an answer changes nothing");
+}
+
+/* What a node does not have: each code, and neither the buffer nor the size is changed. */
+static void try_nothing(struct one *one, uint16_t pharmacy, uint64_t number, vogrilas_code code) {
+    char bytes[8] = "xxxxxxx";
+    size_t size = 77;
+    check(vogrilas_answer(&one->node, pharmacy, number, bytes, 7, &size) == code, "no answer");
+    check(size == 77 && strcmp(bytes, "xxxxxxx") == 0, "no answer changes nothing");
+    if (code == VOGRILAS_UNANSWERED) return;
+    check(vogrilas_request(&one->node, number, bytes, 7, &size) == VOGRILAS_NOT_FOUND || pharmacy != 1, "no request");
+    check(size == 77 && strcmp(bytes, "xxxxxxx") == 0, "no request changes nothing");
+}
+
+/* The payments of a node, of which there are so many. */
+static void try_payments(struct one *one, size_t wanted, vogrilas_payment *payments) {
+    size_t count = 77;
+    vogrilas_payment none[2];
+    memset(none, 'x', sizeof none);
+    if (wanted > 0) {
+        check(vogrilas_payments(&one->node, none, wanted - 1, &count) == VOGRILAS_SHORT_BUFFER && count == wanted, "payments too many");
+        check(none[0].fill_number == 'x' && none[0].serial == none[1].serial, "payments that have no room change nothing");
+    }
+    check(vogrilas_payments(&one->node, payments, 2, &count) == VOGRILAS_OK && count == wanted, "so many payments");
+    check(is_silent(one), "payments change nothing");
+}
+
+static bool is_text(const uint8_t *bytes, const char *text) { return memcmp(bytes, text, strlen(text)) == 0; }
+
+/* Whether a payment is the one of the request, standing or reversed by its second one. */
+static bool is_paid(const vogrilas_payment *payment, bool is_reversed) {
+    return payment->serial == 1 && payment->payer == 1 && payment->prescription == 123456 && payment->fill_number == 0 &&
+           payment->cost == 5570 && payment->fee == 150 && payment->copay == 1000 && payment->total == 4720 &&
+           is_text(payment->bin, "610455") && is_text(payment->pcn, "A1        ") && is_text(payment->qualifier, "01") &&
+           is_text(payment->provider, "1234567893     ") && payment->reversed_pharmacy == (is_reversed ? 1 : 0) &&
+           payment->reversed_number == (is_reversed ? 2u : 0u);
+}
+
+/* Counts, requests, answers and payments as a claim goes there and back, and is reversed, against what lines say. */
+static void try_readers(void) {
+    static char bytes[MOST], copy[MOST], text[MOST], reversal[MOST];
+    static vogrilas_payment payments[2], booked[2];
+    struct one *pharmacy = &network[0], *network_switch = &network[1], *payer = &network[2];
+    size_t kept_size, size = 0, again = 0;
+    uint64_t none = 77;
+    check(is_closed(&pharmacy->node) && vogrilas_count(&pharmacy->node, &none) == VOGRILAS_CLOSED && none == 77, "a closed handle has nothing");
+    for (size_t one = 0; one < NODES; one++) {
+        check(open_as(&network[one].node, network[one].name, "", 0, &kept_size) == VOGRILAS_OK, "a network");
+        kept(&network[one]);
+        check(counted(&network[one]) == 0, "nothing is counted at first");
+        try_nothing(&network[one], 1, 1, VOGRILAS_NOT_FOUND);
+        try_payments(&network[one], 0, payments);
+    }
+    check(vogrilas_unprint(line + 7, line_size - 7, bytes, MOST, &size) == VOGRILAS_OK, "the bytes of the request");
+    check(vogrilas_submit(&pharmacy->node, bytes, size) == VOGRILAS_OK, "a submission");
+    check(vogrilas_request(&pharmacy->node, 1, copy, MOST, &again) == VOGRILAS_OK && again == size && memcmp(copy, bytes, size) == 0, "the request");
+    memset(copy, 'x', MOST);
+    for (size_t room = 0; room < size; room++)
+        check(vogrilas_request(&pharmacy->node, 1, copy, room, &again) == VOGRILAS_SHORT_BUFFER && again == size && copy[0] == 'x', "a request too long");
+    const char *written = kept(pharmacy);
+    memcpy(text, written, said_size + 1);
+    check(counted(pharmacy) == 1, "an entry");
+    check(strcmp(asked(pharmacy, "answer 1"), "open\n") == 0, "an open entry by a line");
+    try_nothing(pharmacy, 1, 1, VOGRILAS_UNANSWERED);
+    try_nothing(pharmacy, 2, 1, VOGRILAS_NOT_FOUND);
+    try_nothing(pharmacy, 1, 2, VOGRILAS_NOT_FOUND);
+    try_nothing(pharmacy, 1, 0, VOGRILAS_NOT_FOUND);
+    try_nothing(pharmacy, 0, 1, VOGRILAS_NOT_FOUND);
+    carry(pharmacy, text);
+    snprintf(text, MOST, "%s", asked(pharmacy, "answer 1"));
+    check(strncmp(text, "answer ", 7) == 0, "an answer by a line");
+    text[strlen(text) - 1] = '\0';
+    for (size_t one = 0; one < NODES; one++) {
+        check(counted(&network[one]) == 1, "an entry, a slot, a row");
+        try_answer(&network[one], 1, text + 7);
+        try_nothing(&network[one], 2, 1, VOGRILAS_NOT_FOUND);
+        try_nothing(&network[one], 1, 2, VOGRILAS_NOT_FOUND);
+    }
+    check(vogrilas_request(&payer->node, 1, copy, MOST, &again) == VOGRILAS_NOT_FOUND, "a payer has no entries");
+    try_payments(pharmacy, 1, payments);
+    try_payments(payer, 1, booked);
+    try_payments(network_switch, 0, payments + 1);
+    check(is_paid(payments, false) && is_paid(booked, false), "a payment that stands");
+    snprintf(reversal, MOST, "submit %.6sD0B2A1        1011234567893     20240115SW00000001\\G\\S\\FAM07\\FEM1\\FD2123456\\FD30", line + 7);
+    snprintf(text, MOST, "%s", asked(pharmacy, reversal));
+    check(strstr(text, "\nnumber 2\n") != NULL, "a reversal");
+    carry(pharmacy, text);
+    try_payments(pharmacy, 0, payments);
+    try_payments(payer, 1, booked);
+    check(is_paid(booked, true), "a payment that was reversed");
+    for (size_t one = 0; one < NODES; one++) check(counted(&network[one]) == 2, "two entries, slots, rows");
+    snprintf(text, MOST, "%s", asked(pharmacy, "answer 2"));
+    text[strlen(text) - 1] = '\0';
+    for (size_t one = 0; one < NODES; one++) check(strcmp(asked(&network[one], "stop"), "ok\n") == 0, "a stop");
+    check(counted(pharmacy) == 2 && counted(payer) == 2 && counted(network_switch) == 0, "nodes at rest");
+    try_answer(pharmacy, 2, text + 7);
+    try_answer(payer, 2, text + 7);
+    try_nothing(network_switch, 1, 2, VOGRILAS_NOT_FOUND);
+    try_payments(payer, 1, booked);
+    check(is_paid(booked, true), "a payment of a book at rest");
+    for (size_t one = 0; one < NODES; one++) check(strcmp(asked(&network[one], "start"), "ok\n") == 0, "a start");
+}
+
+/* Each request for memory refused in turn while a node is read: the node is as it was. */
+static void try_reading_memory(void) {
+    static char bytes[MOST];
+    static vogrilas_payment payments[2];
+    for (size_t one = 0; one < NODES; one++) {
+        for (int call = 0; call < 4; call++) {
+            long before = lent;
+            for (long turn = 0;; turn++) {
+                size_t size = 77;
+                uint64_t count = 77;
+                left = turn;
+                vogrilas_code code = call == 0   ? vogrilas_count(&network[one].node, &count)
+                                     : call == 1 ? vogrilas_request(&network[one].node, 1, bytes, MOST, &size)
+                                     : call == 2 ? vogrilas_answer(&network[one].node, 1, 1, bytes, MOST, &size)
+                                                 : vogrilas_payments(&network[one].node, payments, 2, &size);
+                left = -1;
+                check(code != VOGRILAS_NO_MEMORY || (size == 77 && count == 77), "memory refused while a node is read");
+                check(lent == before, "memory is given back");
+                if (code != VOGRILAS_NO_MEMORY) break;
+            }
+            check(is_silent(&network[one]), "a node is as it was");
+        }
+    }
+}
+
+/* Logs of the network are those of one legal run; without one, or with one damaged, they are not. */
+static void try_audits(void) {
+    static char logs[NODES * MOST], told[MOST];
+    size_t sizes[NODES], all = 0, size = 0, again = 0;
+    for (size_t one = 0; one < NODES; one++) {
+        memcpy(logs + all, network[one].log, network[one].size);
+        sizes[one] = network[one].size;
+        all += sizes[one];
+    }
+    check(vogrilas_audit(settings, settings_size, logs, all, sizes, NODES, 0, told, MOST, &size) == VOGRILAS_OK, "a legal run");
+    check(memmem_text(told, size, "\none legal run of ") && memmem_text(told, size, "\npr1 rows 2 standing 0 cents 0 reversed 1 cents 4720\n"), "what is told of a run");
+    memset(told, 'x', MOST);
+    for (size_t room = 0; room < size; room += 17)
+        check(vogrilas_audit(settings, settings_size, logs, all, sizes, NODES, 0, told, room, &again) == VOGRILAS_SHORT_BUFFER &&
+              again == size && told[0] == 'x', "an audit without room");
+    check(vogrilas_audit(settings, settings_size, logs, all, sizes, NODES, 1, told, MOST, &size) == VOGRILAS_OK && told[0] == '{', "an audit as JSON");
+    check(vogrilas_audit(settings, settings_size, logs, all - sizes[2], sizes, 2, 0, told, MOST, &size) == VOGRILAS_NO_RUN, "a log that is not there");
+    check(size > 13 && memmem_text(told, size, "no legal run\n"), "why there is no run");
+    size_t torn = sizes[0] - 1;
+    memset(told, 'x', MOST);
+    size = 77;
+    check(vogrilas_audit(settings, settings_size, logs, torn, &torn, 1, 0, told, MOST, &size) == VOGRILAS_NO_RUN, "a torn log");
+    logs[sizes[0] + sizes[1] - 1] ^= 1;
+    memset(told, 'x', MOST);
+    check(vogrilas_audit(settings, settings_size, logs, all, sizes, NODES, 0, told, MOST, &size) == VOGRILAS_DAMAGED && size == 1, "a damaged log, and which");
+    check(vogrilas_audit(settings, settings_size, logs, all - 1, sizes, NODES, 0, told, MOST, &size) == VOGRILAS_NOT_A_LOG && size == 2, "sizes of more bytes");
+    check(vogrilas_audit(settings, settings_size, logs, all, sizes, 2, 0, told, MOST, &size) == VOGRILAS_NOT_A_LOG && size == 2, "sizes of fewer bytes");
+    check(vogrilas_audit("again", 5, logs, all, sizes, NODES, 0, told, MOST, &size) == VOGRILAS_SETTINGS, "an audit under no settings");
+    check(told[0] == 'x' && told[100] == 'x', "an audit that is not made writes nothing");
+    logs[sizes[0] + sizes[1] - 1] ^= 1;
+    for (long turn = 0;; turn++) {
+        left = turn;
+        vogrilas_code code = vogrilas_audit(settings, settings_size, logs, all, sizes, NODES, 0, told, MOST, &size);
+        left = -1;
+        check(code == VOGRILAS_OK || code == VOGRILAS_NO_MEMORY, "memory refused while logs are judged");
+        if (code == VOGRILAS_OK) break;
+    }
+}
+
 /* Each request for memory refused in turn: the node is closed then, nothing is lost, and its log opens it again. */
 static void try_memory(void) {
     size_t kept, size;
@@ -268,9 +518,14 @@ int main(int count, char **words) {
     try_texts();
     try_typed();
     lent = 0;
+    try_readers();
+    try_reading_memory();
+    try_audits();
+    for (size_t one = 0; one < NODES; one++) vogrilas_close(&network[one].node);
+    check(lent == 0, "all memory is given back");
     try_descriptions();
     try_memory();
-    for (vogrilas_code code = 0; code <= VOGRILAS_BAD_TEXT; code++)
+    for (vogrilas_code code = 0; code <= VOGRILAS_NO_RUN; code++)
         check(strcmp(vogrilas_code_text(code), vogrilas_code_text(99)) != 0, "a code has words");
     printf("%d trials of the library, %d faults\n", tried, faults);
     return faults != 0;

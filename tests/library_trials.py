@@ -49,6 +49,49 @@ class Trials(unittest.TestCase):
         again = self.opened("ph1")
         self.assertEqual((again.answer(1), again.calls), (answer, 2))
 
+    def test_readers(self):
+        pharmacy, switch, payer = nodes = [self.opened(name) for name in ("ph1", "sw1", "pr1")]
+        self.assertEqual([(node.count, node.payments()) for node in nodes], [(0, [])] * 3)
+        said = pharmacy.submit(REQUEST)
+        self.assertEqual((pharmacy.count, pharmacy.request(1)), (1, REQUEST))
+        self.assertIsNone(pharmacy.held(1, 1))
+        for number in (0, 2, -1, 1 << 64, (1 << 64) + 1):
+            with self.assertRaises(KeyError):
+                pharmacy.held(1, number)
+            with self.assertRaises(KeyError):
+                pharmacy.request(number)
+        for node, key in ((pharmacy, (2, 1)), (pharmacy, (65537, 1)), (payer, (1, 1)), (switch, (1, 1))):
+            with self.assertRaises(KeyError):
+                node.held(*key)
+        self.carry(nodes, "ph1", said)
+        answer = pharmacy.answer(1)
+        self.assertEqual([node.held(1, 1) for node in nodes], [answer] * 3)
+        self.assertEqual([node.count for node in nodes], [1, 1, 1])
+        (counted,) = pharmacy.payments()
+        self.assertEqual(payer.payments(), [counted])
+        self.assertEqual((counted.authorization, counted.cost, counted.fee, counted.copay, counted.total), ("0001000000000001", 5570, 150, 1000, 4720))
+        self.assertEqual((counted.bin, counted.pcn, counted.qualifier, counted.provider), (b"610455", b"A1        ", b"01", b"1234567893     "))
+        self.assertEqual((counted.prescription, counted.fill_number, counted.reversed_by), (123456, 0, None))
+        reversal = REQUEST[:8] + b"B2" + REQUEST[10:56] + b"\x1d\x1e\x1cAM07\x1cEM1\x1cD2123456\x1cD30"
+        self.carry(nodes, "ph1", pharmacy.submit(reversal))
+        self.assertEqual((pharmacy.payments(), [one.reversed_by for one in payer.payments()], switch.payments()), ([], [(1, 2)], []))
+        logs = [(self.folder / f"{name}.log").read_bytes() for name in ("ph1", "sw1", "pr1")]
+        told = vogrilas.audited(SETTINGS, logs)
+        self.assertTrue(told.legal and "\none legal run of " in told.text, told)
+        self.assertEqual(vogrilas.audited_tables(SETTINGS, logs)["payments"][0]["authorization"], "0001000000000001")
+        self.assertFalse(vogrilas.audited(SETTINGS, logs[:2]).legal)
+        self.assertFalse(vogrilas.audited(SETTINGS, []).legal)
+        damaged = logs[1][:-1] + bytes([logs[1][-1] ^ 1])
+        self.assertEqual(self.fails(Code.DAMAGED, vogrilas.audited, SETTINGS, [logs[0], damaged, logs[2]]).log, 1)
+        self.assertIsNone(self.fails(Code.SETTINGS, vogrilas.audited, b"", logs).log)
+
+    def carry(self, nodes, sender, said):
+        there = {node.name: node for node in nodes}
+        packets = [(sender, packet) for packet in said.sent]
+        while packets:
+            sender, packet = packets.pop(0)
+            packets += [(packet.to, one) for one in there[packet.to].take(sender, packet.data).sent]
+
     def test_refusals_change_nothing(self):
         pharmacy = self.opened("ph1")
         size = (self.folder / "ph1.log").stat().st_size
@@ -109,6 +152,10 @@ class Trials(unittest.TestCase):
         self.fails(Code.CLOSED, node.serve, b"tick")
         self.fails(Code.CLOSED, node.records)
         self.fails(Code.CLOSED, node.clear)
+        self.fails(Code.CLOSED, node.request, 1)
+        self.fails(Code.CLOSED, node.answer, 1, 1)
+        self.fails(Code.CLOSED, node.payments)
+        self.fails(Code.CLOSED, lambda: node.count)
 
     def test_texts(self):
         every = bytes(range(256))

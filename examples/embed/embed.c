@@ -5,12 +5,13 @@
 **
 ** SETTINGS is a settings file, FOLDER is where the logs of ph1, sw1 and pr1 go (or stand already, from an earlier time), and
 ** REQUEST is a file with one line, a request in printed bytes. The number of the entry is printed, then its answer, each as
-** the pharmacy writes it.
+** the pharmacy writes it, and then each payment that the pharmacy counts: its authorization, and what the plan pays in cents.
 **
 ** This is a whole host, but for the carrier: here packets go from hand to hand. POSIX, for fsync, and flock.
 */
 #define _POSIX_C_SOURCE 200809L
 #include <fcntl.h>
+#include <inttypes.h>
 #include <stdio.h>
 #include <stdlib.h>
 #include <string.h>
@@ -197,6 +198,19 @@ static void carry(void) {
     }
 }
 
+/* Prints what a pharmacy counts as paid. */
+static void print_payments(struct served *pharmacy) {
+    size_t count = 0;
+    vogrilas_payment none;
+    vogrilas_code code = vogrilas_payments(&pharmacy->node, &none, 0, &count);
+    vogrilas_payment *paid = room(count * sizeof *paid);
+    if (code == VOGRILAS_SHORT_BUFFER) code = vogrilas_payments(&pharmacy->node, paid, count, &count);
+    if (code != VOGRILAS_OK) fail(pharmacy->name, vogrilas_code_text(code));
+    for (size_t one = 0; one < count; one++)
+        printf("paid %04" PRIu16 "%012" PRIu64 " %" PRIu32 "\n", paid[one].payer, paid[one].serial, paid[one].total);
+    free(paid);
+}
+
 int main(int count, char **words) {
     if (count != 4) {
         fprintf(stderr, "usage: embed SETTINGS FOLDER REQUEST\n");
@@ -212,6 +226,7 @@ int main(int count, char **words) {
         struct bytes answer = serve(&nodes[0], line_of("answer", "", number.at + 7));
         puts(answer.at);
         free(answer.at);
+        print_payments(&nodes[0]);
     }
     for (size_t one = 0; one < NODES; one++) {
         vogrilas_close(&nodes[one].node);

@@ -30,6 +30,8 @@ def main() -> int:
             packets.extend((packet.to, one) for one in nodes[packet.to].take(sender, packet.data).sent)
     answer = nodes["ph1"].answer(said.number)
     print("open" if answer is None else "answer " + vogrilas.printed(answer).decode())
+    for paid in nodes["ph1"].payments():
+        print("paid", paid.authorization, paid.total)
     for node in nodes.values():
         node.close()
     return 0

@@ -77,5 +77,8 @@ fn main() -> Result<(), Box<dyn Error>> {
     }
     nodes[0].node.serve(b"answer 1")?;
     print!("{}", nodes[0].settle()?);
+    for paid in nodes[0].node.payments()? {
+        println!("paid {} {}", paid.authorization(), paid.total);
+    }
     Ok(())
 }

@@ -39,10 +39,16 @@ pub enum Code {
     BadRecord = 15,
     /// A text spells no bytes.
     BadText = 16,
+    /// The entry is open: it has no answer yet.
+    Unanswered = 17,
+    /// There is no such entry, slot or row.
+    NotFound = 18,
+    /// The logs are those of no legal run.
+    NoRun = 19,
 }
 
 /// Each code, at the place of its number less one.
-const CODES: [Code; 16] = [
+const CODES: [Code; 19] = [
     Code::NoMemory,
     Code::Closed,
     Code::Open,
@@ -59,6 +65,9 @@ const CODES: [Code; 16] = [
     Code::Damaged,
     Code::BadRecord,
     Code::BadText,
+    Code::Unanswered,
+    Code::NotFound,
+    Code::NoRun,
 ];
 
 /// A call that was not made, and why.
@@ -68,17 +77,32 @@ pub struct Error {
     pub code: Code,
     /// Where: the first byte of a faulty record, or of a text that spells nothing.
     pub place: Option<usize>,
+    /// Of an audit: which of the logs, from 0.
+    pub log: Option<usize>,
+}
+
+impl Code {
+    /// The code of a number; none of a call that was made.
+    pub(crate) fn of(number: u32) -> Option<Code> {
+        let at = (number as usize).checked_sub(1)?;
+        Some(*CODES.get(at).expect("a library of the version of this crate"))
+    }
 }
 
 impl Error {
     /// What a code says, and the place where it has one.
     pub(crate) fn of(code: u32, place: usize) -> Result<(), Error> {
-        let Some(at) = (code as usize).checked_sub(1) else {
+        let Some(code) = Code::of(code) else {
             return Ok(());
         };
-        let code = *CODES.get(at).expect("a library of the version of this crate");
         let is_placed = matches!(code, Code::Damaged | Code::BadRecord | Code::BadText);
-        Err(Error { code, place: is_placed.then_some(place) })
+        Err(Error { code, place: is_placed.then_some(place), log: None })
+    }
+
+    /// What a code of an audit says, which was not made, and which log it is about.
+    pub(crate) fn of_log(code: Code, log: usize) -> Error {
+        let is_none = matches!(code, Code::NoMemory | Code::Settings);
+        Error { code, place: None, log: (!is_none).then_some(log) }
     }
 }
 
@@ -101,9 +125,15 @@ impl fmt::Display for Error {
             Code::Damaged => "a record of the log is damaged",
             Code::BadRecord => "a record of the log is no call of the node",
             Code::BadText => "the text spells no bytes",
+            Code::Unanswered => "the entry has no answer yet",
+            Code::NotFound => "there is no such entry",
+            Code::NoRun => "no legal run",
         })?;
-        match self.place {
-            Some(place) => write!(to, ", at byte {place}"),
+        if let Some(place) = self.place {
+            write!(to, ", at byte {place}")?;
+        }
+        match self.log {
+            Some(log) => write!(to, ", log {log}"),
             None => Ok(()),
         }
     }

@@ -15,9 +15,11 @@
 #![warn(missing_docs)]
 
 mod error;
+mod payment;
 mod sys;
 
 pub use error::{Code, Error};
+pub use payment::Payment;
 
 use std::collections::hash_map::RandomState;
 use std::hash::{BuildHasher, Hasher};
@@ -138,6 +140,66 @@ impl Node {
         Ok(calls)
     }
 
+    /// How many entries a pharmacy's journal has, slots a switch's table, or rows a payer's book.
+    ///
+    /// # Errors
+    /// `Closed`, `NoMemory`. The node is as it was.
+    pub fn count(&mut self) -> Result<u64, Error> {
+        let mut count = 0;
+        // SAFETY: both are lent whole.
+        let code = unsafe { sys::vogrilas_count(&mut self.handle, &mut count) };
+        Error::of(code, 0)?;
+        Ok(count)
+    }
+
+    /// The request of a pharmacy's entry, by its number from 1.
+    ///
+    /// # Errors
+    /// `NotFound` where there is no such entry; `Closed`, `NoMemory`. The node is as it was.
+    pub fn request(&mut self, number: u64) -> Result<Vec<u8>, Error> {
+        // SAFETY: `copied` lends as many bytes as it says.
+        copied(1 << 10, |at, room, size| unsafe { sys::vogrilas_request(&mut self.handle, number, at, room, size) })
+    }
+
+    /// The answer that the node holds for a request, by its pharmacy and its number there: a pharmacy those to its own entries,
+    /// a switch those in its table, a payer those of its book. None where it is an open entry of this pharmacy.
+    ///
+    /// # Errors
+    /// `NotFound` where there is nothing; `Closed`, `NoMemory`. The node is as it was.
+    pub fn answer(&mut self, pharmacy: u16, number: u64) -> Result<Option<Vec<u8>>, Error> {
+        // SAFETY: `copied` lends as many bytes as it says.
+        let answer = copied(1 << 10, |at, room, size| unsafe {
+            sys::vogrilas_answer(&mut self.handle, pharmacy, number, at, room, size)
+        });
+        match answer {
+            Ok(bytes) => Ok(Some(bytes)),
+            Err(Error { code: Code::Unanswered, .. }) => Ok(None),
+            Err(error) => Err(error),
+        }
+    }
+
+    /// The payments that a pharmacy counts, or those of a payer's book with what reversed them, in the order in which they were
+    /// made. The list is made by one walk over the journal or the book.
+    ///
+    /// # Errors
+    /// `Closed`, `NoMemory`. The node is as it was.
+    pub fn payments(&mut self) -> Result<Vec<Payment>, Error> {
+        let mut payments = Vec::new();
+        let mut count = 0;
+        loop {
+            // SAFETY: the list is lent whole, and the handle too.
+            let code = unsafe {
+                sys::vogrilas_payments(&mut self.handle, payments.as_mut_ptr(), payments.len(), &mut count)
+            };
+            if code != Code::ShortBuffer as u32 {
+                Error::of(code, 0)?;
+                payments.truncate(count);
+                return Ok(payments);
+            }
+            payments.resize(count, Payment::default());
+        }
+    }
+
     /// Notes that the records are on disk and the rest was used.
     ///
     /// # Errors
@@ -206,6 +268,53 @@ pub fn described(message: &[u8], style: Style) -> Result<Vec<u8>, Error> {
     copied(1 << 14, |at, room, size| unsafe {
         sys::vogrilas_describe(message.as_ptr(), message.len(), json, at, room, size)
     })
+}
+
+/// What is told of logs.
+#[derive(Clone, Debug, PartialEq, Eq)]
+pub struct Audit {
+    /// Whether they are those of one legal run.
+    pub legal: bool,
+    /// What `claimaudit` writes of them.
+    pub text: Vec<u8>,
+}
+
+/// Whether logs, one of each node of the settings, are those of one legal run, and what it left, or why there is none: lines, or
+/// one object of JSON.
+///
+/// # Errors
+/// `Settings`; what is wrong with a log, and which log it is; `NoMemory`.
+pub fn audited(settings: &[u8], logs: &[&[u8]], style: Style) -> Result<Audit, Error> {
+    let json = u32::from(style == Style::Json);
+    let sizes: Vec<usize> = logs.iter().map(|log| log.len()).collect();
+    let joined = logs.concat();
+    let mut text = vec![0; 1 << 14];
+    let mut size = 0;
+    loop {
+        // SAFETY: each pointer leads to as many bytes, or sizes, as are said; those of slices and vectors are never null.
+        let number = unsafe {
+            sys::vogrilas_audit(
+                settings.as_ptr(),
+                settings.len(),
+                joined.as_ptr(),
+                joined.len(),
+                sizes.as_ptr(),
+                sizes.len(),
+                json,
+                text.as_mut_ptr(),
+                text.len(),
+                &mut size,
+            )
+        };
+        match Code::of(number) {
+            None | Some(Code::NoRun) => {
+                text.truncate(size);
+                return Ok(Audit { legal: number == 0, text });
+            }
+            Some(Code::ShortBuffer) => text.resize(size, 0),
+            Some(code) => return Err(Error::of_log(code, size)),
+        }
+    }
 }
 
 /// The bytes that a call copies into a buffer, which grows once where it is too short.

@@ -1,5 +1,6 @@
 //! The library's calls, as `include/vogrilas.h` has them.
 
+use crate::payment::Payment;
 use std::ptr::null_mut;
 
 /// A node, or none; its fields are the library's own.
@@ -36,6 +37,17 @@ extern "C" {
     pub(crate) fn vogrilas_records(node: &mut Handle, buffer: *mut u8, room: usize, size: &mut usize) -> u32;
     pub(crate) fn vogrilas_written(node: &mut Handle, buffer: *mut u8, room: usize, size: &mut usize) -> u32;
     pub(crate) fn vogrilas_calls(node: &mut Handle, calls: &mut u64) -> u32;
+    pub(crate) fn vogrilas_count(node: &mut Handle, count: &mut u64) -> u32;
+    pub(crate) fn vogrilas_request(node: &mut Handle, number: u64, buffer: *mut u8, room: usize, size: &mut usize) -> u32;
+    pub(crate) fn vogrilas_answer(
+        node: &mut Handle,
+        pharmacy: u16,
+        number: u64,
+        buffer: *mut u8,
+        room: usize,
+        size: &mut usize,
+    ) -> u32;
+    pub(crate) fn vogrilas_payments(node: &mut Handle, payments: *mut Payment, room: usize, count: &mut usize) -> u32;
     pub(crate) fn vogrilas_clear(node: &mut Handle) -> u32;
     pub(crate) fn vogrilas_close(node: &mut Handle);
     pub(crate) fn vogrilas_print(bytes: *const u8, bytes_size: usize, buffer: *mut u8, room: usize, size: &mut usize) -> u32;
@@ -43,6 +55,18 @@ extern "C" {
     pub(crate) fn vogrilas_describe(
         message: *const u8,
         message_size: usize,
+        json: u32,
+        buffer: *mut u8,
+        room: usize,
+        size: &mut usize,
+    ) -> u32;
+    pub(crate) fn vogrilas_audit(
+        settings: *const u8,
+        settings_size: usize,
+        logs: *const u8,
+        logs_size: usize,
+        sizes: *const usize,
+        count: usize,
         json: u32,
         buffer: *mut u8,
         room: usize,

@@ -1,6 +1,6 @@
 //! Trials of a node, with the settings and the request of examples/embed.
 
-use vogrilas::{described, printed, unprinted, Code, Error, Node, Opened, Style};
+use vogrilas::{audited, described, printed, unprinted, Code, Error, Node, Opened, Style};
 
 const SETTINGS: &[u8] = include_bytes!("../../../examples/embed/settings.toml");
 const REQUEST: &[u8] = include_bytes!("../../../examples/embed/request");
@@ -62,6 +62,61 @@ fn a_claim_goes_there_and_back() {
     assert_eq!(again.serve(b"answer 1"), answer);
 }
 
+/// Carries what a node has said until nobody sends.
+fn carry(nodes: &mut [(&str, Kept)], from: &str, said: &str) {
+    let (mut from, mut said) = (from.to_string(), said.to_string());
+    while let Some(sent) = said.strip_prefix("send ") {
+        let (to, text) = sent.split_once('\n').unwrap().0.split_once(' ').unwrap();
+        let (_, node) = nodes.iter_mut().find(|(name, _)| *name == to).unwrap();
+        let next = node.serve(format!("take {from} {text}").as_bytes());
+        from = to.to_string();
+        said = next;
+    }
+}
+
+#[test]
+fn what_nodes_have_is_read() {
+    let mut nodes = ["ph1", "sw1", "pr1"].map(|name| (name, Kept::open(name, Vec::new())));
+    let missing = Error { code: Code::NotFound, place: None, log: None };
+    let said = nodes[0].1.serve(&submission());
+    let request = unprinted(REQUEST.strip_suffix(b"\n").unwrap()).unwrap();
+    assert_eq!(nodes[0].1.node.request(1), Ok(request.clone()));
+    assert_eq!(nodes[0].1.node.request(2), Err(missing));
+    assert_eq!(nodes[0].1.node.answer(1, 1), Ok(None));
+    assert_eq!(nodes[0].1.node.answer(2, 1), Err(missing));
+    assert_eq!(nodes[2].1.node.answer(1, 1), Err(missing));
+    carry(&mut nodes, "ph1", &said);
+    let answer = nodes[0].1.node.answer(1, 1).unwrap().unwrap();
+    let line = format!("answer {}\n", String::from_utf8(printed(&answer).unwrap()).unwrap());
+    assert_eq!(nodes[0].1.serve(b"answer 1"), line);
+    for (_, node) in &mut nodes {
+        assert_eq!((node.node.count(), node.node.answer(1, 1)), (Ok(1), Ok(Some(answer.clone()))));
+    }
+    let counted = nodes[0].1.node.payments().unwrap();
+    assert_eq!(nodes[2].1.node.payments(), Ok(counted.clone()));
+    assert_eq!(nodes[1].1.node.payments(), Ok(Vec::new()));
+    let [paid] = counted[..] else { panic!("{counted:?}") };
+    assert_eq!((paid.authorization().as_str(), paid.total, paid.reversed_by()), ("0001000000000001", 4720, None));
+    assert_eq!((&paid.bin, &paid.pcn, &paid.provider), (b"610455", b"A1        ", b"1234567893     "));
+    let reversal = [&request[..8], b"B2", &request[10..56], b"\x1d\x1e\x1cAM07\x1cEM1\x1cD2123456\x1cD30"].concat();
+    nodes[0].1.node.submit(&reversal).unwrap();
+    let said = nodes[0].1.settle();
+    carry(&mut nodes, "ph1", &said);
+    assert_eq!(nodes[0].1.node.payments(), Ok(Vec::new()));
+    assert_eq!(nodes[2].1.node.payments().unwrap()[0].reversed_by(), Some((1, 2)));
+    let mut logs: Vec<&[u8]> = nodes.iter().map(|(_, node)| &node.log[..]).collect();
+    let told = audited(SETTINGS, &logs, Style::Lines).unwrap();
+    assert!(told.legal && String::from_utf8(told.text).unwrap().contains("\none legal run of "));
+    assert!(audited(SETTINGS, &logs, Style::Json).unwrap().text.starts_with(b"{"));
+    assert!(!audited(SETTINGS, &logs[..2], Style::Lines).unwrap().legal);
+    let mut damaged = logs[1].to_vec();
+    *damaged.last_mut().unwrap() ^= 1;
+    logs[1] = &damaged;
+    let fault = audited(SETTINGS, &logs, Style::Lines).unwrap_err();
+    assert_eq!(fault, Error { code: Code::Damaged, place: None, log: Some(1) });
+    assert_eq!(fault.to_string(), "a record of the log is damaged, log 1");
+}
+
 #[test]
 fn bytes_are_as_lines() {
     let (mut by_line, mut by_bytes) = (Kept::open("ph1", Vec::new()), Kept::open("ph1", Vec::new()));
@@ -71,7 +126,7 @@ fn bytes_are_as_lines() {
     by_bytes.node.take("sw1", b"\0 \xff").unwrap();
     assert_eq!(by_bytes.settle(), by_line.serve(b"take sw1 \\x00 \\xff"));
     assert_eq!(by_bytes.log, by_line.log);
-    assert_eq!(by_bytes.node.take("sw1 ", b""), Err(Error { code: Code::Name, place: None }));
+    assert_eq!(by_bytes.node.take("sw1 ", b""), Err(Error { code: Code::Name, place: None, log: None }));
 }
 
 #[test]
@@ -83,7 +138,7 @@ fn logs_are_refused() {
     let mut damaged = log.clone();
     *damaged.last_mut().unwrap() ^= 1;
     let fault = code_of(SETTINGS, "ph1", &damaged);
-    assert_eq!(fault, Error { code: Code::Damaged, place: Some(46) });
+    assert_eq!(fault, Error { code: Code::Damaged, place: Some(46), log: None });
     assert_eq!(fault.to_string(), "a record of the log is damaged, at byte 46");
     assert_eq!(code_of(SETTINGS, "pr1", log).code, Code::OtherNode);
     assert_eq!(code_of(b"", "ph1", b"").code, Code::Settings);
@@ -95,7 +150,7 @@ fn logs_are_refused() {
 fn texts_spell_every_byte() {
     let every: Vec<u8> = (0..=255).collect();
     assert_eq!(unprinted(&printed(&every).unwrap()).unwrap(), every);
-    assert_eq!(unprinted(b"ab\\q"), Err(Error { code: Code::BadText, place: Some(2) }));
+    assert_eq!(unprinted(b"ab\\q"), Err(Error { code: Code::BadText, place: Some(2), log: None }));
     assert_eq!(printed(b""), Ok(Vec::new()));
 }
 

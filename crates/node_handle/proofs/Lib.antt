@@ -1,3 +1,4 @@
 pub mod Values
 pub mod Crosses
 pub mod Lines
+pub mod Appending

@@ -49,12 +49,12 @@ records_of s = s.records
 abbrev pub written_of : Serving → List ℕ
 written_of s = s.out
 
--- these bytes stand at the start of a buffer, and how many they are is told
-abbrev pub Stands : List ℕ → List ℕ → List ℕ → ℕ → Type 0
+-- these bytes, or elements, stand at the start of a buffer, and how many they are is told
+abbrev pub Stands : {A : Type 0} → List A → List A → List A → ℕ → Type 0
 Stands bytes buffer after size = (after ≡ bytes ++ drop (length bytes) buffer) × (size ≡ length bytes)
 
 -- a buffer has no room for these bytes, and is as it was; how many they are is told
-abbrev pub Lacks : List ℕ → List ℕ → List ℕ → ℕ → Type 0
+abbrev pub Lacks : {A : Type 0} → List A → List A → List A → ℕ → Type 0
 Lacks bytes buffer after size = (length buffer < length bytes) × ((after ≡ buffer) × (size ≡ length bytes))
 
 -- the bytes that a node has are copied into a buffer; where there is no node, nothing changes

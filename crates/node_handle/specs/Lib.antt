@@ -3,3 +3,5 @@ pub mod Numbers
 pub mod Calls
 pub mod Texts
 pub mod Typed
+pub mod Asked
+pub mod Payments

@@ -1,7 +1,7 @@
 -- The numbers of what calls say.
 use Rattle.std.specs.Prelude.{◌≡◌, ℕ, Result, Ok, Err}
 use Rattle.node_handle.specs.declared.refusal.Refusal.{Refusal}
-use Rattle.node_handle.specs.declared.refusal.Refusal.TheVariants.{OutOfMemory, Closed, Open, ShortBuffer, Name, Settings, NoSuchNode, OtherNode, NotALog, LogVersion, DamagedHead, NoKind, OtherSettings, Damaged, BadRecord, BadText}
+use Rattle.node_handle.specs.declared.refusal.Refusal.TheVariants.{OutOfMemory, Closed, Open, ShortBuffer, Name, Settings, NoSuchNode, OtherNode, NotALog, LogVersion, DamagedHead, NoKind, OtherSettings, Damaged, BadRecord, BadText, Unanswered, NotFound, NoRun}
 
 -- the number of what a call says: 0 of one that was made
 abbrev pub number_of : Result (Unit {0}) Refusal → ℕ
@@ -22,6 +22,9 @@ number_of (Err OtherSettings) = 13
 number_of (Err Damaged) = 14
 number_of (Err BadRecord) = 15
 number_of (Err BadText) = 16
+number_of (Err Unanswered) = 17
+number_of (Err NotFound) = 18
+number_of (Err NoRun) = 19
 
 -- a number is that of a call's outcome, of which this holds
 abbrev pub Says : ℕ → (Result (Unit {0}) Refusal → Type 0) → Type 0

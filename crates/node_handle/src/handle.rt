@@ -86,7 +86,7 @@ impl NodeHandle {
     }
 
     /// Puts a node where there is none.
-    fn put(&mut self, node: Box<Service>)
+    pub(crate) fn put(&mut self, node: Box<Service>)
         requires { self.old.part.node ≡ None }
         ensures { self.new.part.node ≡ Some node.value }
     {

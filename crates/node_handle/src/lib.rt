@@ -4,18 +4,23 @@
 //! the box out, works on it, and puts it back.
 #![tactic(auto)]
 
+mod asking;
+mod auditing;
 mod describing;
 mod handle;
 mod part;
+mod payments;
 mod reading;
 mod refusal;
 mod seed;
 mod typed;
 
+pub use auditing::audit;
 pub use describing::describe;
 pub use handle::NodeHandle;
 pub use message_words::Style;
 pub use part::Part;
+pub use payments::PlainPayment;
 pub use reading::{print, unprint};
 pub use refusal::{Refusal, number_of};
 pub use typed::{packets_are_asked, requests_are_asked};

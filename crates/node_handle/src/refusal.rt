@@ -41,6 +41,12 @@ pub enum Refusal {
     BadRecord,
     /// The text spells no bytes.
     BadText,
+    /// The entry is open: it has no answer yet.
+    Unanswered,
+    /// There is no such entry, row or slot.
+    NotFound,
+    /// The logs are those of no legal run. What is told of them was copied.
+    NoRun,
 }
 
 /// The number of what a call says: 0 of one that was made.
@@ -65,6 +71,9 @@ pub fn number_of(said: Result<(), Refusal>) -> u32
         Err(Refusal::Damaged) => 14,
         Err(Refusal::BadRecord) => 15,
         Err(Refusal::BadText) => 16,
+        Err(Refusal::Unanswered) => 17,
+        Err(Refusal::NotFound) => 18,
+        Err(Refusal::NoRun) => 19,
     }
 }
 
@@ -80,7 +89,7 @@ pub(crate) fn refusal_of(fault: ServiceFault) -> Refusal {
 }
 
 /// The refusal of a log.
-fn refusal_of_log(fault: LogFault) -> Refusal {
+pub(crate) fn refusal_of_log(fault: LogFault) -> Refusal {
     match fault {
         LogFault::OutOfMemory => Refusal::OutOfMemory,
         LogFault::Short => Refusal::NotALog,

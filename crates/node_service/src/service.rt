@@ -99,6 +99,20 @@ impl Service {
         Ok(())
     }
 
+    /// The node as it stands, to be read.
+    pub fn state(&self) -> &NodeState
+        ensures { result.now ≡ self.now.state }
+    {
+        &self.state
+    }
+
+    /// The node's name.
+    pub fn name(&self) -> Node
+        ensures { node_seen result ≡ self.now.node }
+    {
+        self.name
+    }
+
     /// How many calls the node's log has, those included that are to be appended.
     pub fn calls(&self) -> u64
         ensures { result ≡ self.now.calls }

@@ -7,6 +7,7 @@ use Rattle.claim_model.specs.Journal.{PharmacySettings, Journal, JournalAtRest, 
 use Rattle.claim_model.specs.Table.{Table}
 use Rattle.claim_model.specs.Rows.{Book}
 use Rattle.claim_model.specs.Book.{row_of}
+use Rattle.claim_model.specs.Node.{Power, Up, AtRest}
 use Rattle.claim_model.specs.Held.{journal_in, book_in, held_in_table, row_answer}
 pub use Rattle.claim_logs.specs.Nodes.{AnyNode, OfPharmacy, OfSwitch, OfPayer, as_node, node_step, node_at}
 use Rattle.claim_model.specs.Settings.{is_empty}
@@ -16,6 +17,23 @@ abbrev pub entries_of : AnyNode → ℕ
 entries_of (OfPharmacy node) = length (journal_in node).entries
 entries_of (OfSwitch node) = 0
 entries_of (OfPayer node) = 0
+
+-- how many slots the table of a switch has; a stopped one has none
+abbrev pub slots_in : Power Table ℕ → ℕ
+slots_in (Up t) = length t.entries
+slots_in (AtRest cap) = 0
+
+-- how many entries a pharmacy's journal has, slots a switch's table, or rows a payer's book
+abbrev pub size_of : AnyNode → ℕ
+size_of (OfPharmacy node) = length (journal_in node).entries
+size_of (OfSwitch node) = slots_in node
+size_of (OfPayer node) = length (book_in node).rows
+
+-- the book of a payer; none of another node
+abbrev pub book_of : AnyNode → Option Book
+book_of (OfPharmacy node) = None
+book_of (OfSwitch node) = None
+book_of (OfPayer node) = Some (book_in node)
 
 -- the journal of a pharmacy; none of another node
 abbrev pub journal_of : AnyNode → Option JournalAtRest

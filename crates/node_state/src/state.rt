@@ -6,9 +6,11 @@ ghost use Rattle.claim_model.specs.Bytes.{bytes_with};
 ghost use Rattle.claim_model.specs.Node.{Done};
 ghost use Rattle.world_setup.specs.Seen.{sent_seen, call_seen};
 ghost use Rattle.world_setup.specs.Refused.{refusal_of, RefusedAs};
-ghost use Rattle.node_state.specs.Nodes.{OfPharmacy, OfSwitch, OfPayer, node_step, entries_of, journal_of, request_of, held_of};
+ghost use Rattle.node_state.specs.Nodes.{OfPharmacy, OfSwitch, OfPayer, node_step, entries_of, size_of, journal_of, book_of, request_of, held_of};
 
+use crate::book_reading::BookReading;
 use crate::held::copied;
+use crate::journal_reading::JournalReading;
 use crate::payer::PayerNode;
 use crate::pharmacy::PharmacyNode;
 use crate::switch::SwitchNode;
@@ -115,6 +117,43 @@ impl NodeState {
             StateKind::Pharmacy(node) => Ok(node.journal(alloc)?.entries()),
             StateKind::Switch(_) => Ok(0),
             StateKind::Payer(_) => Ok(0),
+        }
+    }
+
+    /// How many entries a pharmacy's journal has, slots a switch's table, or rows a payer's book. At rest the record is
+    /// read; a stopped switch has none.
+    pub fn size(&self, alloc: Global) -> Result<usize, AllocError>
+        ensures { IfOk result (λ count. count ≡ size_of self.now) }
+    {
+        match &self.kind {
+            StateKind::Pharmacy(node) => Ok(node.journal(alloc)?.entries()),
+            StateKind::Switch(node) => Ok(node.slots()),
+            StateKind::Payer(node) => {
+                let reading = node.book(alloc)?;
+                Ok(reading.book().rows().len())
+            }
+        }
+    }
+
+    /// A pharmacy's journal to be read: as it stands, or at rest read once from the record. Another node has none.
+    pub fn journal(&self, alloc: Global) -> Result<Option<JournalReading<'_>>, AllocError>
+        ensures { IfOk result (λ journal. journal ≡ journal_of self.now) }
+    {
+        match &self.kind {
+            StateKind::Pharmacy(node) => Ok(Some(node.journal(alloc)?)),
+            StateKind::Switch(_) => Ok(None),
+            StateKind::Payer(_) => Ok(None),
+        }
+    }
+
+    /// A payer's book to be read: as it stands, or at rest read once from the record. Another node has none.
+    pub fn book(&self, alloc: Global) -> Result<Option<BookReading<'_>>, AllocError>
+        ensures { IfOk result (λ book. book ≡ book_of self.now) }
+    {
+        match &self.kind {
+            StateKind::Pharmacy(_) => Ok(None),
+            StateKind::Switch(_) => Ok(None),
+            StateKind::Payer(node) => Ok(Some(node.book(alloc)?)),
         }
     }
 

@@ -9,6 +9,7 @@ ghost use Rattle.claim_model.specs.Held.{held_in_table};
 ghost use Rattle.world_setup.specs.Seen.{sent_seen, call_seen};
 ghost use Rattle.world_setup.specs.Refused.{refusal_of, RefusedAs};
 ghost use Rattle.node_state.specs.Sends.{is_up, in_flight_at};
+ghost use Rattle.node_state.specs.Nodes.{slots_in};
 
 use crate::switch_calls;
 use bin_routes::Routes;
@@ -165,6 +166,16 @@ impl SwitchNode {
         match &self.state {
             SwitchState::Up(switch) => switch.list(),
             SwitchState::AtRest(_) => Ok(Vec::new(alloc)),
+        }
+    }
+
+    /// How many requests stand in its table. A stopped switch has none.
+    pub fn slots(&self) -> usize
+        ensures { result ≡ slots_in self.now }
+    {
+        match &self.state {
+            SwitchState::Up(switch) => switch.len(),
+            SwitchState::AtRest(_) => 0,
         }
     }
 }

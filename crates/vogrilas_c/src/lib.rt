@@ -5,15 +5,18 @@
 //! thread, waits, or reads or writes a file.
 #![tactic(auto)]
 
-ghost use Rattle.std.specs.Prelude.{◌≡◌, IfErr};
+ghost use Rattle.std.specs.Prelude.{◌≡◌, ◌⊎◌, IfErr};
 ghost use Rattle.std.specs.Option.{option_map};
 ghost use Rattle.std.specs.declared.option.Option.TheVariants.{None};
 ghost use Rattle.node_handle.specs.Numbers.{Says};
+ghost use Rattle.node_handle.specs.declared.refusal.Refusal.TheVariants.{NoRun};
 ghost use Rattle.node_handle.specs.Calls.{Clears, Copies, Counts, Opens, Serves, records_of, written_of};
 ghost use Rattle.node_handle.specs.Texts.{Prints, Unprints};
 ghost use Rattle.node_handle.specs.Typed.{Takes, submit_line};
+ghost use Rattle.node_handle.specs.Asked.{Gives, Sizes, answer_in, request_in};
+ghost use Rattle.node_handle.specs.Payments.{Lists, payments_in};
 
-use node_handle::{NodeHandle, Style, describe, number_of, print, unprint};
+use node_handle::{NodeHandle, PlainPayment, Style, audit, describe, number_of, print, unprint};
 use std::alloc::Global;
 
 /// The version of the library: a million for the first number, a thousand for the second, one for the third.
@@ -109,6 +112,60 @@ pub extern "C" fn vogrilas_calls(alloc: Global, node: &mut NodeHandle, calls: &m
     number_of(node.calls(alloc, calls))
 }
 
+/// Tells how many entries a pharmacy's journal has, slots a switch's table, or rows a payer's book.
+#[unsafe(no_mangle)]
+pub extern "C" fn vogrilas_count(alloc: Global, node: &mut NodeHandle, count: &mut u64) -> u32
+    ensures kept { node.new.part.node ≡ node.old.part.node }
+    ensures counted { Says result (λ said. Sizes node.old.part.node said count.old count.new) }
+{
+    number_of(node.count(alloc, count))
+}
+
+/// Copies the request of a pharmacy's entry.
+#[unsafe(no_mangle)]
+pub extern "C" fn vogrilas_request(
+    alloc: Global,
+    node: &mut NodeHandle,
+    number: u64,
+    buffer: &mut [u8],
+    size: &mut usize,
+) -> u32
+    ensures kept { node.new.part.node ≡ node.old.part.node }
+    ensures copied { Says result (λ said. Gives (option_map (request_in number) node.old.part.node) said buffer.old buffer.new size.old size.new) }
+{
+    number_of(node.request(alloc, number, buffer, size))
+}
+
+/// Copies the answer that the node holds for a request, by its pharmacy and its number there.
+#[unsafe(no_mangle)]
+pub extern "C" fn vogrilas_answer(
+    alloc: Global,
+    node: &mut NodeHandle,
+    pharmacy: u16,
+    number: u64,
+    buffer: &mut [u8],
+    size: &mut usize,
+) -> u32
+    ensures kept { node.new.part.node ≡ node.old.part.node }
+    ensures copied { Says result (λ said. Gives (option_map (answer_in pharmacy number) node.old.part.node) said buffer.old buffer.new size.old size.new) }
+{
+    number_of(node.answer(alloc, pharmacy, number, buffer, size))
+}
+
+/// Copies the payments that a pharmacy counts, or those of a payer's book with what reversed them.
+#[unsafe(no_mangle)]
+pub extern "C" fn vogrilas_payments(
+    alloc: Global,
+    node: &mut NodeHandle,
+    payments: &mut [PlainPayment],
+    count: &mut usize,
+) -> u32
+    ensures kept { node.new.part.node ≡ node.old.part.node }
+    ensures copied { Says result (λ said. Lists (option_map payments_in node.old.part.node) said payments.old payments.new count.old count.new) }
+{
+    number_of(node.payments(alloc, payments, count))
+}
+
 /// Notes that the records are on disk and the rest was used: both are empty from here on.
 #[unsafe(no_mangle)]
 pub extern "C" fn vogrilas_clear(alloc: Global, node: &mut NodeHandle) -> u32
@@ -164,4 +221,22 @@ pub extern "C" fn vogrilas_describe(
 {
     let style = if json == 0 { Style::Lines } else { Style::Json };
     number_of(describe(alloc, style, message, buffer, size))
+}
+
+/// Judges whether logs are those of one legal run, and copies what claimaudit tells of them: an object of JSON where `json` is
+/// not 0, else lines. The logs stand one behind another, each of its size.
+#[unsafe(no_mangle)]
+pub extern "C" fn vogrilas_audit(
+    alloc: Global,
+    settings: &[u8],
+    logs: &[u8],
+    sizes: &[usize],
+    json: u32,
+    buffer: &mut [u8],
+    size: &mut usize,
+) -> u32
+    ensures { Says result (λ said. IfErr said (λ why. (why ≡ NoRun) ⊎ (buffer.new ≡ buffer.old))) }
+{
+    let style = if json == 0 { Style::Lines } else { Style::Json };
+    number_of(audit(alloc, style, settings, logs, sizes, buffer, size))
 }

@@ -7,22 +7,43 @@
         for packet in said.sent:             # packet.to, packet.data: your carrier's from here on
             ...
         pharmacy.answer(said.number)         # None until the answer has come
+        pharmacy.payments()                  # what it counts as paid
 
 The node is the proved library `libvogrilas`; these modules are its caller, and are tested, not proved. A node may be used from
 any thread: a lock lets one call in at a time.
 """
 
 from ._file_node import FileNode
-from ._node import Code, Node, Packet, Refused, Said, VogrilasError, decoded, described, printed, read_said, unprinted
+from ._node import (
+    Audit,
+    Code,
+    Node,
+    Packet,
+    Payment,
+    Refused,
+    Said,
+    VogrilasError,
+    audited,
+    audited_tables,
+    decoded,
+    described,
+    printed,
+    read_said,
+    unprinted,
+)
 
 __all__ = [
+    "Audit",
     "Code",
     "FileNode",
     "Node",
     "Packet",
+    "Payment",
     "Refused",
     "Said",
     "VogrilasError",
+    "audited",
+    "audited_tables",
     "decoded",
     "described",
     "printed",

@@ -6,9 +6,12 @@ import fcntl
 import os
 import pathlib
 import threading
-from typing import Callable, Optional, Union
+from typing import Callable, Optional, TypeVar, Union
 
-from ._node import Node, Refused, Said, VogrilasError, printed, read_said, unprinted
+from ._node import Code, Node, Payment, Refused, Said, VogrilasError, printed, read_said
+
+
+_Read = TypeVar("_Read")
 
 
 class FileNode:
@@ -64,20 +67,35 @@ class FileNode:
         return self._call(_line(b"start"))
 
     def answer(self, number: int) -> Optional[bytes]:
-        """The answer to an entry, or None where there is none yet. Raises KeyError where there is no such entry."""
-        word, _, text = self._turn(_line(b"answer %d" % number)).rstrip(b"\n").partition(b" ")
-        if word == b"answer":
-            return unprinted(text)
-        if word == b"refused":
-            raise Refused(text.decode())
-        if word == b"none":
+        """The answer to an entry of this pharmacy, or None where there is none yet. Raises KeyError where there is no such
+        entry."""
+        if not self.name.startswith("ph"):
             raise KeyError(number)
-        return None
+        return self.held(int(self.name[2:]), number)
+
+    def held(self, pharmacy: int, number: int) -> Optional[bytes]:
+        """The answer that the node holds for a request, by its pharmacy and its number there: a pharmacy those to its own
+        entries, a switch those in its table, a payer those of its book. None where it is an open entry of this pharmacy. Raises
+        KeyError where there is nothing."""
+        return self._found((pharmacy, number), lambda node: node.answer(pharmacy, number))
+
+    def request(self, number: int) -> bytes:
+        """The request of an entry of this pharmacy. Raises KeyError where there is no such entry."""
+        return self._found(number, lambda node: node.request(number))
+
+    def payments(self) -> list[Payment]:
+        """The payments that a pharmacy counts, or those of a payer's book with what reversed them."""
+        return self._read(lambda node: node.payments())
+
+    @property
+    def count(self) -> int:
+        """How many entries a pharmacy's journal has, slots a switch's table, or rows a payer's book."""
+        return self._read(lambda node: node.count)
 
     @property
     def calls(self) -> int:
         """How many calls the log has."""
-        return self._open_node().calls
+        return self._read(lambda node: node.calls)
 
     def close(self) -> None:
         """Lets the node and its file go. A second close does nothing."""
@@ -96,6 +114,20 @@ class FileNode:
         if self._node is None:
             raise ValueError("the node is closed")
         return self._node
+
+    def _read(self, call: Callable[[Node], _Read]) -> _Read:
+        """What a call says that changes nothing. What it tells is on disk."""
+        with self._lock:
+            return call(self._open_node())
+
+    def _found(self, key: object, call: Callable[[Node], _Read]) -> _Read:
+        """The same, of something that may not be there."""
+        try:
+            return self._read(call)
+        except VogrilasError as refused:
+            if refused.code is Code.NOT_FOUND:
+                raise KeyError(key) from None
+            raise
 
     def _call(self, call: Callable[[Node], None]) -> Said:
         return read_said(self._turn(call))

@@ -18,6 +18,27 @@ class Handle(ctypes.Structure):
     _fields_ = [("at", ctypes.c_void_p), ("held", ctypes.c_bool)]
 
 
+class RawPayment(ctypes.Structure):
+    """A payment, as the library writes it into a list."""
+
+    _fields_ = [
+        ("serial", ctypes.c_uint64),
+        ("prescription", ctypes.c_uint64),
+        ("reversed_number", ctypes.c_uint64),
+        ("cost", ctypes.c_uint32),
+        ("fee", ctypes.c_uint32),
+        ("copay", ctypes.c_uint32),
+        ("total", ctypes.c_uint32),
+        ("payer", ctypes.c_uint16),
+        ("reversed_pharmacy", ctypes.c_uint16),
+        ("bin", ctypes.c_uint8 * 6),
+        ("pcn", ctypes.c_uint8 * 10),
+        ("qualifier", ctypes.c_uint8 * 2),
+        ("provider", ctypes.c_uint8 * 15),
+        ("fill_number", ctypes.c_uint8),
+    ]
+
+
 _NODE = ctypes.POINTER(Handle)
 _BYTES = [ctypes.c_char_p, ctypes.c_size_t]
 _BUFFER = [ctypes.c_void_p, ctypes.c_size_t, _PLACE]
@@ -30,11 +51,16 @@ _CALLS = {
     "records": [_NODE, *_BUFFER],
     "written": [_NODE, *_BUFFER],
     "calls": [_NODE, ctypes.POINTER(ctypes.c_uint64)],
+    "count": [_NODE, ctypes.POINTER(ctypes.c_uint64)],
+    "request": [_NODE, ctypes.c_uint64, *_BUFFER],
+    "answer": [_NODE, ctypes.c_uint16, ctypes.c_uint64, *_BUFFER],
+    "payments": [_NODE, ctypes.POINTER(RawPayment), ctypes.c_size_t, _PLACE],
     "clear": [_NODE],
     "close": [_NODE],
     "print": [*_BYTES, *_BUFFER],
     "unprint": [*_BYTES, *_BUFFER],
     "describe": [*_BYTES, ctypes.c_uint32, *_BUFFER],
+    "audit": [*_BYTES, *_BYTES, _PLACE, ctypes.c_size_t, ctypes.c_uint32, *_BUFFER],
 }
 
 

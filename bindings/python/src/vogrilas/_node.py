@@ -8,9 +8,9 @@ import json
 import os
 import threading
 from dataclasses import dataclass
-from typing import Any, Callable, Optional
+from typing import Any, Callable, Optional, Sequence
 
-from ._library import LIBRARY, Handle
+from ._library import LIBRARY, Handle, RawPayment
 
 
 class Code(enum.IntEnum):
@@ -33,16 +33,22 @@ class Code(enum.IntEnum):
     DAMAGED = 14
     BAD_RECORD = 15
     BAD_TEXT = 16
+    UNANSWERED = 17
+    NOT_FOUND = 18
+    NO_RUN = 19
 
 
 class VogrilasError(Exception):
-    """A call on the library that was not made. `code` says why, and `place` where, of a damaged log or a bad text."""
+    """A call on the library that was not made. `code` says why, and `place` where, of a damaged log or a bad text; of an audit
+    `log` is which of the logs it is, from 0."""
 
-    def __init__(self, code: Code, place: Optional[int] = None) -> None:
+    def __init__(self, code: Code, place: Optional[int] = None, log: Optional[int] = None) -> None:
         words = code.name.lower().replace("_", " ")
-        super().__init__(words if place is None else f"{words} at byte {place}")
+        words += "" if place is None else f" at byte {place}"
+        super().__init__(words if log is None else f"{words}, log {log}")
         self.code = code
         self.place = place
+        self.log = log
 
 
 class Refused(Exception):
@@ -67,6 +73,31 @@ class Said:
 
     sent: tuple[Packet, ...]
     number: Optional[int] = None
+
+
+@dataclass(frozen=True)
+class Payment:
+    """A payment, in cents: its authorization by the payer and its serial there, what it was paid for, and the request that
+    reversed it, by its pharmacy and its number there; None where it stands. Texts have spaces at their ends."""
+
+    payer: int
+    serial: int
+    bin: bytes
+    pcn: bytes
+    qualifier: bytes
+    provider: bytes
+    prescription: int
+    fill_number: int
+    cost: int
+    fee: int
+    copay: int
+    total: int
+    reversed_by: Optional[tuple[int, int]] = None
+
+    @property
+    def authorization(self) -> str:
+        """The authorization number (503-F3), sixteen digits."""
+        return f"{self.payer:04}{self.serial:012}"
 
 
 _PLACED = (Code.DAMAGED, Code.BAD_RECORD, Code.BAD_TEXT)
@@ -112,8 +143,59 @@ def decoded(message: bytes) -> dict[str, Any]:
     return json.loads(_described(message, 1))
 
 
+@dataclass(frozen=True)
+class Audit:
+    """What is told of logs: whether they are those of one legal run, and what claimaudit writes of them."""
+
+    legal: bool
+    text: str
+
+
+def audited(settings: bytes, logs: Sequence[bytes]) -> Audit:
+    """Whether logs, one of each node of the settings, are those of one legal run: a line for each log, then what the run left,
+    or why there is none. Raises VogrilasError where the settings are none, or a log is none of them: `log` is which one."""
+    return _audited(settings, logs, 0)
+
+
+def audited_tables(settings: bytes, logs: Sequence[bytes]) -> dict[str, Any]:
+    """The same as claimaudit's object of JSON, with all tables of what the run left."""
+    return json.loads(_audited(settings, logs, 1).text)
+
+
+def _audited(settings: bytes, logs: Sequence[bytes], style: int) -> Audit:
+    joined = b"".join(logs)
+    sizes = (ctypes.c_size_t * max(len(logs), 1))(*map(len, logs))
+    given = (settings, len(settings), joined, len(joined), sizes, len(logs), style)
+    size = ctypes.c_size_t()
+    room = 1 << 14
+    while True:
+        buffer = ctypes.create_string_buffer(room)
+        code = LIBRARY.vogrilas_audit(*given, buffer, room, ctypes.byref(size))
+        if code in (Code.OK, Code.NO_RUN):
+            return Audit(code == Code.OK, ctypes.string_at(buffer, size.value).decode("ascii"))
+        if code == Code.NO_MEMORY:
+            raise MemoryError("vogrilas: no memory for an audit")
+        if code != Code.SHORT_BUFFER:
+            raise VogrilasError(Code(code), log=None if code == Code.SETTINGS else size.value)
+        room = size.value
+
+
 def _described(message: bytes, style: int) -> bytes:
     return _copied(LIBRARY.vogrilas_describe, message, len(message), style, room=1 << 14)
+
+
+def _expect_id(number: int, pharmacy: int = 1) -> None:
+    """Refuses numbers that no id has, which would be cut to others on their way to the library."""
+    if not (0 < number < 1 << 64 and 0 < pharmacy < 1 << 16):
+        raise VogrilasError(Code.NOT_FOUND)
+
+
+def _payment(raw: RawPayment) -> Payment:
+    """A payment of a list that the library has written."""
+    texts = {name: bytes(getattr(raw, name)) for name in ("bin", "pcn", "qualifier", "provider")}
+    numbers = ("payer", "serial", "prescription", "fill_number", "cost", "fee", "copay", "total")
+    by = (raw.reversed_pharmacy, raw.reversed_number) if raw.reversed_number else None
+    return Payment(**texts, **{name: getattr(raw, name) for name in numbers}, reversed_by=by)
 
 
 class Node:
@@ -173,6 +255,47 @@ class Node:
         with self._lock:
             _check(LIBRARY.vogrilas_calls(ctypes.byref(self._handle), ctypes.byref(calls)))
         return calls.value
+
+    @property
+    def count(self) -> int:
+        """How many entries a pharmacy's journal has, slots a switch's table, or rows a payer's book."""
+        count = ctypes.c_uint64()
+        with self._lock:
+            _check(LIBRARY.vogrilas_count(ctypes.byref(self._handle), ctypes.byref(count)))
+        return count.value
+
+    def request(self, number: int) -> bytes:
+        """The request of a pharmacy's entry, by its number from 1. Raises VogrilasError with NOT_FOUND where there is none."""
+        _expect_id(number)
+        with self._lock:
+            return _copied(LIBRARY.vogrilas_request, ctypes.byref(self._handle), number, room=1 << 10)
+
+    def answer(self, pharmacy: int, number: int) -> Optional[bytes]:
+        """The answer that the node holds for a request, by its pharmacy and its number there: a pharmacy those to its own
+        entries, a switch those in its table, a payer those of its book. None where it is an open entry of this pharmacy; raises
+        VogrilasError with NOT_FOUND where there is nothing."""
+        _expect_id(number, pharmacy)
+        try:
+            with self._lock:
+                return _copied(LIBRARY.vogrilas_answer, ctypes.byref(self._handle), pharmacy, number, room=1 << 10)
+        except VogrilasError as refused:
+            if refused.code is Code.UNANSWERED:
+                return None
+            raise
+
+    def payments(self) -> list[Payment]:
+        """The payments that a pharmacy counts, or those of a payer's book with what reversed them, in the order in which they
+        were made. The list is made by one walk over the journal or the book."""
+        count = ctypes.c_size_t()
+        room = 0
+        with self._lock:
+            while True:
+                raw = (RawPayment * max(room, 1))()
+                code = LIBRARY.vogrilas_payments(ctypes.byref(self._handle), raw, room, ctypes.byref(count))
+                if code != Code.SHORT_BUFFER:
+                    _check(code)
+                    return [_payment(one) for one in raw[: count.value]]
+                room = count.value
 
     def close(self) -> None:
         """Lets the node go, with what is not on disk. A second close does nothing."""
