@@ -40,7 +40,7 @@ impl<'a> Field<'a> {
     }
 
     /// A number, where there is one.
-    pub fn number_or_nothing(name: &'static [u8], number: Option<u64>) -> Field<'a>
+    pub(crate) fn number_or_nothing(name: &'static [u8], number: Option<u64>) -> Field<'a>
         ensures { field_seen result ≡ record { name = name.now; value = number_or_nothing number } }
     {
         match number {
@@ -50,7 +50,7 @@ impl<'a> Field<'a> {
     }
 
     /// Bytes, as they are printed.
-    pub fn text(name: &'static [u8], bytes: &'a [u8]) -> Field<'a>
+    pub(crate) fn text(name: &'static [u8], bytes: &'a [u8]) -> Field<'a>
         ensures { field_seen result ≡ record { name = name.now; value = TextSeen bytes.now } }
     {
         Field {
@@ -60,7 +60,7 @@ impl<'a> Field<'a> {
     }
 
     /// A word, as it is printed.
-    pub fn word(name: &'static [u8], word: &'static [u8]) -> Field<'a>
+    pub(crate) fn word(name: &'static [u8], word: &'static [u8]) -> Field<'a>
         ensures { field_seen result ≡ record { name = name.now; value = TextSeen word.now } }
     {
         Field {
@@ -70,7 +70,7 @@ impl<'a> Field<'a> {
     }
 
     /// Letters, and a number behind them.
-    pub fn named(name: &'static [u8], letters: &'static [u8], number: u64) -> Field<'a>
+    pub(crate) fn named(name: &'static [u8], letters: &'static [u8], number: u64) -> Field<'a>
         ensures { field_seen result ≡ record { name = name.now; value = NamedSeen letters.now number } }
     {
         Field {
@@ -80,7 +80,7 @@ impl<'a> Field<'a> {
     }
 
     /// Whether something holds.
-    pub fn flag(name: &'static [u8], holds: bool) -> Field<'a>
+    pub(crate) fn flag(name: &'static [u8], holds: bool) -> Field<'a>
         ensures { field_seen result ≡ record { name = name.now; value = FlagSeen holds } }
     {
         Field {

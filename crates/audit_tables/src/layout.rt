@@ -33,7 +33,7 @@ pub fn put_row(out: &mut Vec<u8>, style: Style, fields: &[Field<'_>]) -> Result<
 
 /// Appends the line of the names of columns that stands before the rows in CSV.
 #[tactic(auto, unfolding(crate::specs::Rows::head_text))]
-pub fn put_head(out: &mut Vec<u8>, names: &[&[u8]]) -> Result<(), AllocError>
+pub(crate) fn put_head(out: &mut Vec<u8>, names: &[&[u8]]) -> Result<(), AllocError>
     ensures { OnOk result (out.new.items ≡ out.old.items ++ head_text (map (λ name. name.now) names.now)) }
 {
     put_names(out, names)?;

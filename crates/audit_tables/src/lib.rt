@@ -20,10 +20,10 @@ mod senders;
 mod table;
 mod values;
 
-pub use fields::{Cell, Field};
+pub use fields::Field;
 pub use kinds::node_field;
 pub use laws::{lists_are_separated, rows_have_their_columns};
-pub use layout::{Style, put_head, put_list, put_row};
+pub use layout::{Style, put_list, put_row};
 pub use quoting::put_json_text;
 pub use senders::run_noting;
 pub use table::{Table, put_csv, put_json};
