@@ -53,7 +53,7 @@ extern "C" {
 #endif
 
 /* The version of this header, as vogrilas_version() tells that of the library. */
-#define VOGRILAS_VERSION 6000
+#define VOGRILAS_VERSION 7000
 
 /*
 ** What a call says: VOGRILAS_OK, or why it was not made. A call that was not made has changed nothing, apart from what its

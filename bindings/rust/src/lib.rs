@@ -25,7 +25,7 @@ use std::collections::hash_map::RandomState;
 use std::hash::{BuildHasher, Hasher};
 
 /// The version of the library that this crate belongs to.
-pub const VERSION: u32 = 6000;
+pub const VERSION: u32 = 7000;
 
 /// The version of the library that is linked.
 pub fn version() -> u32 {

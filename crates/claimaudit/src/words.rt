@@ -6,7 +6,7 @@ use log_audit::{Form, Table};
 use std::alloc::Global;
 
 /// The version that `-V` tells: that of the repository's change log.
-const VERSION: &str = "0.6.0";
+const VERSION: &str = "0.7.0";
 
 /// What the command line names.
 #[derive(Drop)]

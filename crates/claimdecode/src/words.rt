@@ -5,7 +5,7 @@ use message_words::{MessageKind, Spelling, Style};
 use std::alloc::Global;
 
 /// The version that `-V` tells: that of the repository's change log.
-const VERSION: &str = "0.6.0";
+const VERSION: &str = "0.7.0";
 
 /// What the program is asked to do.
 #[derive(Clone, Copy)]

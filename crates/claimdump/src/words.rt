@@ -5,7 +5,7 @@ use clap::{Arg, ArgAction, Command};
 use std::alloc::Global;
 
 /// The version that `-V` tells: that of the repository's change log.
-const VERSION: &str = "0.6.0";
+const VERSION: &str = "0.7.0";
 
 /// The folder that the command line names; its first word is the program's own name.
 pub(crate) fn folder_of<'a>(alloc: Global, given: &'a [String]) -> Result<&'a str, End> {

@@ -7,7 +7,7 @@ use std::alloc::Global;
 use world_setup::Node;
 
 /// The version that `-V` tells: that of the repository's change log.
-const VERSION: &str = "0.6.0";
+const VERSION: &str = "0.7.0";
 
 /// What the command line names.
 #[derive(Drop)]

@@ -8,7 +8,7 @@ use input_text::read_decimal;
 use std::alloc::Global;
 
 /// The version that `-V` tells: that of the repository's change log.
-const VERSION: &str = "0.6.0";
+const VERSION: &str = "0.7.0";
 /// The most digits of an event's number.
 const MOST_DIGITS: usize = 18;
 

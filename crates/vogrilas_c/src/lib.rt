@@ -20,12 +20,12 @@ use node_handle::{NodeHandle, PlainPayment, Style, audit, describe, number_of, p
 use std::alloc::Global;
 
 /// The version of the library: a million for the first number, a thousand for the second, one for the third.
-const VERSION: u32 = 6_000;
+const VERSION: u32 = 7_000;
 
 /// The version of the library.
 #[unsafe(no_mangle)]
 pub extern "C" fn vogrilas_version() -> u32
-    ensures { result ≡ 6000 }
+    ensures { result ≡ 7000 }
 {
     VERSION
 }

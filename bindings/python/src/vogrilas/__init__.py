@@ -50,4 +50,4 @@ __all__ = [
     "read_said",
     "unprinted",
 ]
-__version__ = "0.6.0"
+__version__ = "0.7.0"

@@ -7,7 +7,7 @@ import ctypes.util
 import os
 import pathlib
 
-VERSION = 6000
+VERSION = 7000
 _HERE = pathlib.Path(__file__).resolve().parent
 _PLACE = ctypes.POINTER(ctypes.c_size_t)
 
