@@ -3,3 +3,4 @@ pub mod Tabled
 pub mod Lacks
 pub mod Misfits
 pub mod Waits
+pub mod Given

@@ -1,9 +1,16 @@
 //! What is read before anything is judged: the settings, and the logs.
 
+ghost use Rattle.std.specs.Prelude.{◌≡◌, ◌++◌, ◌∷◌, [], map, Some, Ok, IfOk, OnOk};
+ghost use Rattle.world_settings.specs.Document.{document_seen, settings_in};
+ghost use Rattle.run_merge.specs.LogSeen.{logs_seen};
+ghost use Rattle.kept_logs.specs.Logs.{log_in};
+ghost use Rattle.kept_logs.specs.LogSeen.{reading_seen};
+ghost use Rattle.log_audit.specs.Given.{AreLogs, IsRead};
+
 use crate::fault::AuditFault;
-use kept_logs::{LogFault, SettingsDigest, read_log};
+use kept_logs::{LogFault, ReadLog, SettingsDigest, read_log};
 use run_merge::NodeLog;
-use std::alloc::Global;
+use std::alloc::{AllocError, Global};
 use world_settings::{SettingsFault, read_settings};
 use world_setup::{WorldFault, WorldSettings};
 
@@ -20,45 +27,79 @@ pub struct Audited {
 ///
 /// # Errors
 /// `Settings`, then `World`, then `Log` for the first log that is none under these settings; `OutOfMemory`.
-pub fn read_audited(alloc: Global, text: Vec<u8>, logs: &[Vec<u8>]) -> Result<Audited, AuditFault> {
+pub fn read_audited(alloc: Global, text: Vec<u8>, logs: &[Vec<u8>]) -> Result<Audited, AuditFault>
+    // What is judged is what the text spells and the bytes are.
+    ensures { IfOk result (λ audited. IsRead text.items (map (λ bytes. bytes.items) logs.now) audited.settings (logs_seen audited.logs.items)) }
+{
     let settings = settings_of(alloc, text.as_slice())?;
     check_world(alloc, &settings)?;
     let digest = SettingsDigest::of(text.as_slice());
-    let mut audited = Audited {
+    let ReadLogs { logs, torn } = read_logs(alloc, &digest, logs)?;
+    Ok(Audited {
         text,
         settings,
+        logs,
+        torn,
+    })
+}
+
+/// Logs that were read, and how many bytes of a torn end each has.
+#[derive(Drop)]
+struct ReadLogs {
+    logs: Vec<NodeLog>,
+    torn: Vec<usize>,
+}
+
+impl ReadLogs {
+    /// One log more.
+    fn push(&mut self, log: NodeLog, torn: usize) -> Result<(), AllocError>
+        ensures { OnOk result (self.new.logs.items ≡ self.old.logs.items ++ log ∷ []) }
+    {
+        self.torn.push(torn)?;
+        self.logs.push(log)?;
+        Ok(())
+    }
+}
+
+/// Reads each of the logs, in order.
+fn read_logs(
+    alloc: Global,
+    digest: &SettingsDigest,
+    logs: &[Vec<u8>],
+) -> Result<ReadLogs, AuditFault>
+    ensures { IfOk result (λ read. AreLogs digest.now (map (λ bytes. bytes.items) logs.now) (logs_seen read.logs.items)) }
+{
+    let mut read = ReadLogs {
         logs: Vec::new(alloc),
         torn: Vec::new(alloc),
     };
     for (place, bytes) in logs.iter().enumerate() {
-        audited.add(alloc, &digest, place, bytes.as_slice())?;
+        let ReadLog { log, whole } = read_one(alloc, digest, place, bytes.as_slice())?;
+        read.push(log, bytes.len().saturating_sub(whole))?;
     }
-    Ok(audited)
+    Ok(read)
 }
 
-impl Audited {
-    /// Reads one log more.
-    fn add(
-        &mut self,
-        alloc: Global,
-        digest: &SettingsDigest,
-        place: usize,
-        bytes: &[u8],
-    ) -> Result<(), AuditFault> {
-        match read_log(alloc, digest, bytes) {
-            Ok(read) => {
-                self.torn.push(bytes.len().saturating_sub(read.whole))?;
-                self.logs.push(read.log)?;
-                Ok(())
-            }
-            Err(LogFault::OutOfMemory) => Err(AuditFault::OutOfMemory),
-            Err(fault) => Err(AuditFault::Log { place, fault }),
-        }
+/// Reads one log, which stands at this place among those handed in.
+fn read_one(
+    alloc: Global,
+    digest: &SettingsDigest,
+    place: usize,
+    bytes: &[u8],
+) -> Result<ReadLog, AuditFault>
+    ensures { IfOk result (λ read. log_in digest.now bytes.now ≡ Ok (reading_seen read)) }
+{
+    match read_log(alloc, digest, bytes) {
+        Ok(read) => Ok(read),
+        Err(LogFault::OutOfMemory) => Err(AuditFault::OutOfMemory),
+        Err(fault) => Err(AuditFault::Log { place, fault }),
     }
 }
 
 /// The settings that a text spells.
-fn settings_of(alloc: Global, text: &[u8]) -> Result<WorldSettings, AuditFault> {
+fn settings_of(alloc: Global, text: &[u8]) -> Result<WorldSettings, AuditFault>
+    ensures { IfOk result (λ settings. settings_in text.now ≡ Some (document_seen settings)) }
+{
     match read_settings(alloc, text) {
         Ok(settings) => Ok(settings),
         Err(SettingsFault::OutOfMemory) => Err(AuditFault::OutOfMemory),

@@ -159,7 +159,7 @@ fn held(alloc: Global, node: &Service, id: TxnId) -> Result<Option<Octets>, Allo
 fn lacking(alloc: Global, node: &Service, id: TxnId) -> Refusal
     ensures { (result ≡ OutOfMemory) ⊎ (result ≡ lacking_in id node.now) }
 {
-    if !is_pharmacy(node.name(), id.pharmacy()) {
+    if !is_pharmacy(node.own_name(), id.pharmacy()) {
         return Refusal::NotFound;
     }
     match node.state().request(alloc, id.number()) {

@@ -215,8 +215,10 @@ fn put_booked(
 fn plain(auth: Auth, of: &Fill, amounts: Amounts, by: Option<TxnId>) -> PlainPayment
     ensures { result ≡ plain auth of.now amounts by }
 {
-    let (bin, pcn) = (of.bin, of.pcn);
-    let (qualifier, provider) = (of.qualifier, of.provider);
+    let bin = of.bin;
+    let pcn = of.pcn;
+    let qualifier = of.qualifier;
+    let provider = of.provider;
     PlainPayment {
         serial: auth.serial(),
         prescription: of.prescription,

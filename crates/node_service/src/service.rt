@@ -107,7 +107,7 @@ impl Service {
     }
 
     /// The node's name.
-    pub fn name(&self) -> Node
+    pub fn own_name(&self) -> Node
         ensures { node_seen result ≡ self.now.node }
     {
         self.name

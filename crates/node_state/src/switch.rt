@@ -170,7 +170,7 @@ impl SwitchNode {
     }
 
     /// How many requests stand in its table. A stopped switch has none.
-    pub fn slots(&self) -> usize
+    pub(crate) fn slots(&self) -> usize
         ensures { result ≡ slots_in self.now }
     {
         match &self.state {

@@ -1,0 +1,24 @@
+-- How logs are read, one after another.
+use Rattle.std.proofs.Common.{◌≡◌, ℕ, ◌+◌, ◌<◌, List, [], ◌∷◌, ◌++◌, length, take, get_or, map, sym, ap, ◌∙◌, subst}
+use Rattle.std.proofs.lemmas.List.{take_more, map-append}
+use Rattle.claim_logs.specs.Logs.{NodeLog}
+use Rattle.run_merge.specs.LogSeen.{log_seen, logs_seen}
+use Rattle.run_merge.specs.declared.log.NodeLog.{NodeLog as Kept}
+use Rattle.log_audit.specs.Given.{IsLog, AreLogs}
+
+are_more : (digest : List ℕ) (bytes : List (List ℕ)) (logs : List NodeLog) (b : List ℕ) (log : NodeLog) → AreLogs digest bytes logs → IsLog digest b log → AreLogs digest (bytes ++ b ∷ []) (logs ++ log ∷ [])
+are_more digest [] [] b log are reads = (reads, tt)
+are_more digest [] (l ∷ logs) b log are reads = absurd are
+are_more digest (c ∷ bytes) [] b log are reads = absurd are
+are_more digest (c ∷ bytes) (l ∷ logs) b log are reads = (are.0, are_more digest bytes logs b log are.1 reads)
+
+-- one log more
+pub reads_on : {A : Type 0} (see : A → List ℕ) (digest : List ℕ) (xs : List A) (i : ℕ) (x : A) (old new : List Kept) (log : Kept) → i < length xs → x ≡ get_or xs i x → new ≡ old ++ log ∷ []
+    → IsLog digest (see x) (log_seen log) → AreLogs digest (map see (take i xs)) (logs_seen old) → AreLogs digest (map see (take (i + 1) xs)) (logs_seen new)
+reads_on {A} see digest xs i x old new log lt is one reads so_far =
+    let first : map see (take (i + 1) xs) ≡ map see (take i xs) ++ see x ∷ [] =
+    ap (map see) (take_more xs i x lt ∙ ap (λ (y : A). take i xs ++ y ∷ []) (sym is)) ∙ map-append see (take i xs) (x ∷ []) in
+    let second : logs_seen new ≡ logs_seen old ++ log_seen log ∷ [] = ap logs_seen one ∙ map-append log_seen old (log ∷ []) in
+    subst (λ (bs : List (List ℕ)). AreLogs digest bs (logs_seen new)) (sym first)
+    (subst (λ (ls : List NodeLog). AreLogs digest (map see (take i xs) ++ see x ∷ []) ls) (sym second)
+    (are_more digest (map see (take i xs)) (logs_seen old) (see x) (log_seen log) so_far reads))

@@ -1,0 +1,8 @@
+use Rattle.log_audit.proofs.Reading.{reads_on}
+use Rattle.log_audit.proofs.reading.read_logs.Goals as goal
+
+pub loop-place-preserved : goal.loop-place-preserved
+loop-place-preserved c =
+    let read = c.in_ok-read_one.read_one in
+    reads_on (λ bytes. bytes.items) c.args.digest.now c.args.logs.now c.loop-place.place c.index-logs-place.result c.loop-place.read.logs.items c.push.new.self.logs.items read.log
+    c.loop-place-test.true c.index-logs-place.is c.in_ok-push.ensures (record { whole = read.whole; reads = c.in_ok-read_one.ensures }) c.loop-place.invariant

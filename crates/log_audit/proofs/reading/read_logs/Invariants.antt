@@ -1,0 +1,8 @@
+use Rattle.std.proofs.Common.{map, take}
+use Rattle.run_merge.specs.LogSeen.{logs_seen}
+use Rattle.log_audit.specs.Given.{AreLogs}
+use Rattle.log_audit.proofs.reading.read_logs.Given as goal
+
+-- the bytes so far are the logs so far
+abbrev pub invariant-loop-place : goal.invariant-loop-place
+invariant-loop-place l = AreLogs l.digest (map (λ bytes. bytes.items) (take l.place l.logs)) (logs_seen l.read.logs.items)

@@ -1,0 +1,24 @@
+-- The settings and the logs that bytes are, before anything is judged.
+use Rattle.std.specs.Prelude.{◌≡◌, ℕ, List, [], ◌∷◌, Some, Ok, ⊤}
+use Rattle.sha2.specs.Sha256.{sha256}
+use Rattle.claim_logs.specs.Logs.{NodeLog}
+use Rattle.world_setup.specs.declared.settings.WorldSettings.{WorldSettings}
+use Rattle.world_settings.specs.Document.{document_seen, settings_in}
+use Rattle.kept_logs.specs.Logs.{log_in}
+
+-- bytes are a log under settings of this digest, up to a record that is cut off
+pub record IsLog (digest bytes : List ℕ) (log : NodeLog) : Type 0 where
+  pub whole : ℕ
+  pub reads : log_in digest bytes ≡ Ok (record { log = log; whole = whole })
+
+-- each of some bytes is a log, in order
+abbrev pub AreLogs : List ℕ → List (List ℕ) → List NodeLog → Type 0
+AreLogs digest [] [] = ⊤
+AreLogs digest [] (log ∷ logs) = ⊥
+AreLogs digest (bytes ∷ more) [] = ⊥
+AreLogs digest (bytes ∷ more) (log ∷ logs) = IsLog digest bytes log × AreLogs digest more logs
+
+-- the settings are those that a text spells, and the logs are those that bytes are under its digest
+pub record IsRead (text : List ℕ) (bytes : List (List ℕ)) (settings : WorldSettings) (logs : List NodeLog) : Type 0 where
+  pub spelled : settings_in text ≡ Some (document_seen settings)
+  pub read : AreLogs (sha256 text) bytes logs

@@ -1,0 +1,29 @@
+-- What is said of logs that stand one behind another.
+use Rattle.std.specs.Prelude.{◌≡◌, ◌≢◌, ◌⊎◌, ℕ, nat_lt, Bool, true, false, List, [], ◌∷◌, ◌++◌, length, take, drop, Result, Ok, Err, Option, Some, None, if◌then◌else◌}
+use Rattle.std.specs.Option.{option_map}
+use Rattle.claim_logs.specs.Logs.{NodeLog}
+use Rattle.world_setup.specs.declared.settings.WorldSettings.{WorldSettings}
+use Rattle.log_audit.specs.Judged.{IsTold}
+use Rattle.log_audit.specs.Given.{IsRead}
+use Rattle.node_handle.specs.declared.refusal.Refusal.TheVariants.{NoRun}
+use Rattle.node_handle.specs.Calls.{Said}
+
+-- bytes cut into pieces of these sizes, where the sizes are those of all bytes
+abbrev pub cut_at : List ℕ → List ℕ → Option (List (List ℕ))
+cut_at [] [] = Some []
+cut_at [] (byte ∷ more) = None
+cut_at (size ∷ sizes) bytes = if nat_lt (length bytes) size then None else option_map (λ pieces. take size bytes ∷ pieces) (cut_at sizes (drop size bytes))
+
+-- bytes are logs of these sizes under the settings that a text spells, of one legal run or of none
+pub record IsJudged (text bytes sizes : List ℕ) (legal : Bool) : Type 0 where
+  pub pieces : List (List ℕ)
+  pub cut : cut_at sizes bytes ≡ Some pieces
+  pub settings : WorldSettings
+  pub logs : List NodeLog
+  pub read : IsRead text pieces settings logs
+  pub told : IsTold settings logs legal
+
+-- there is a legal run, or it is said that there is none; at any other outcome the buffer is as it was
+abbrev pub Audits : List ℕ → List ℕ → List ℕ → Said → List ℕ → List ℕ → Type 0
+Audits text bytes sizes (Ok made) buffer after = IsJudged text bytes sizes true
+Audits text bytes sizes (Err why) buffer after = ((why ≡ NoRun) × IsJudged text bytes sizes false) ⊎ ((why ≢ NoRun) × (after ≡ buffer))
