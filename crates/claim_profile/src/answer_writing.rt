@@ -22,7 +22,6 @@ const LONGEST: usize = 31 + 4 * 105;
 ///
 /// There are as many rulings as the header counts, their prescription numbers have at most twelve
 /// digits, and status `R` goes with rejected rulings alone.
-#[tactic(auto, unfolding(crate::specs::Answer::answer_text))]
 pub fn write_answer(
     alloc: Global,
     header: &RequestHeader,
@@ -33,13 +32,30 @@ pub fn write_answer(
     requires writable { AreWritable status rulings.now }
     ensures text { IfOk result (λ v. v.items ≡ answer_text header.now status rulings.now) }
 {
-    let mut text = Vec::with_capacity(alloc, LONGEST)?;
+    let mut text = Vec::new(alloc);
+    put_answer(&mut text, header, status, rulings)?;
+    Ok(text)
+}
+
+/// Appends the answer that [`write_answer`] writes. Where memory is refused, a part of it may stand there.
+#[tactic(auto, unfolding(crate::specs::Answer::answer_text))]
+pub fn put_answer(
+    text: &mut Vec<u8>,
+    header: &RequestHeader,
+    status: HeaderStatus,
+    rulings: &[Ruling],
+) -> Result<(), AllocError>
+    requires count { length rulings.now ≡ header.now.count }
+    requires writable { AreWritable status rulings.now }
+    ensures text { OnOk result (text.new.items ≡ text.old.items ++ answer_text header.now status rulings.now) }
+{
+    text.reserve(LONGEST)?;
     let response = ResponseHeader::answering(header, status_byte(status));
     text.extend_from_slice(&response.to_bytes())?;
     for ruling in rulings {
-        put_ruling(&mut text, ruling)?;
+        put_ruling(text, ruling)?;
     }
-    Ok(text)
+    Ok(())
 }
 
 // The header response status (501-F1).

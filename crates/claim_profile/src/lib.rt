@@ -27,7 +27,7 @@ mod texts;
 mod values;
 
 pub use answer_reading::{Answer, AnswerFault, check_answer, read_answer};
-pub use answer_writing::write_answer;
+pub use answer_writing::{put_answer, write_answer};
 pub use authorization::Auth;
 pub use building::{BillingParts, BuildFault, ReversalParts, billing, reversal};
 pub use building_laws::{billing_laws, reversal_laws};
