@@ -1,5 +1,5 @@
 -- Texts that are written from their end.
-use Rattle.std.proofs.Common.{◌≡◌, ℕ, List, [], ◌∷◌, ◌++◌, refl, sym, ap, ◌∙◌, append-nil}
+use Rattle.std.proofs.Common.{◌≡◌, ℕ, List, [], ◌∷◌, ◌++◌, sym, ap, ◌∙◌, append-nil}
 use Rattle.std.specs.Prelude.{codes, decimal}
 use Rattle.claim_model.specs.Words.{TxnId}
 use Rattle.world_report.specs.Words.{line_text, behind_spaces}

@@ -3,26 +3,14 @@ use Rattle.std.proofs.Common.{◌≡◌, ℕ, ◌-◌, ◌<◌, ◌≤◌, List,
 use Rattle.std.proofs.lemmas.List.{take_all}
 use Rattle.std.specs.Prelude.{decimal}
 use Rattle.std.specs.List.{flat_map}
+use Rattle.claim_profile.specs.Authorization.{authorization_text}
 use Rattle.claim_profile.specs.Reject.{code_text}
 use Rattle.claim_profile.specs.declared.reject.Code.{Code}
 use Rattle.claim_profile.specs.declared.reject.Code.TheVariants.{Bin}
-use Rattle.claim_model.specs.Words.{Amounts}
+use Rattle.claim_model.specs.Words.{Auth, Amounts}
 use Rattle.world_report.specs.Words.{behind_spaces}
-use Rattle.world_report.specs.Rulings.{amount_words, codes_word}
-use Rattle.world_report.proofs.JoinedWords.{words_join, join_with_byte-cons}
-
-pub amounts_join : (a b c d e : List ℕ) (m : Amounts) (cost fee copay total : ℕ) → cost ≡ m.cost → fee ≡ m.fee → copay ≡ m.copay → total ≡ m.total
-    → b ≡ a ++ behind_spaces (decimal cost ∷ []) → c ≡ b ++ behind_spaces (decimal fee ∷ []) → d ≡ c ++ behind_spaces (decimal copay ∷ []) → e ≡ d ++ behind_spaces (decimal total ∷ [])
-    → e ≡ a ++ behind_spaces (amount_words m)
-amounts_join a b c d e m cost fee copay total w x y z one two three four =
-    let joined : e ≡ a ++ behind_spaces (decimal cost ∷ decimal fee ∷ decimal copay ∷ decimal total ∷ []) =
-    words_join a d e (decimal cost ∷ decimal fee ∷ decimal copay ∷ []) (decimal total ∷ [])
-    (words_join a c d (decimal cost ∷ decimal fee ∷ []) (decimal copay ∷ [])
-    (words_join a b c (decimal cost ∷ []) (decimal fee ∷ []) one two) three) four in
-    joined ∙ (ap (λ (n : ℕ). a ++ behind_spaces (decimal n ∷ decimal fee ∷ decimal copay ∷ decimal total ∷ [])) w
-    ∙ (ap (λ (n : ℕ). a ++ behind_spaces (decimal m.cost ∷ decimal n ∷ decimal copay ∷ decimal total ∷ [])) x
-    ∙ (ap (λ (n : ℕ). a ++ behind_spaces (decimal m.cost ∷ decimal m.fee ∷ decimal n ∷ decimal total ∷ [])) y
-    ∙ ap (λ (n : ℕ). a ++ behind_spaces (decimal m.cost ∷ decimal m.fee ∷ decimal m.copay ∷ decimal n ∷ [])) z)))
+use Rattle.world_report.specs.Rulings.{amount_words, payment_words, codes_word}
+use Rattle.world_report.proofs.JoinedWords.{join_with_byte-cons}
 
 -- a word that is written on
 pub word_goes_on : (word more : List ℕ) → behind_spaces (word ∷ []) ++ more ≡ behind_spaces ((word ++ more) ∷ [])
@@ -63,8 +51,8 @@ no_codes_join a b [] none one = one ∙ ap (λ (w : List ℕ). a ++ behind_space
 no_codes_join a b (first ∷ more) none one = absurd (omega (arith, none))
 
 -- amounts that were written from the last to the first
-pub amounts_text : (t0 t1 t2 t3 t4 : List ℕ) (r1 r2 r3 r4 : ℕ) (m : Amounts) (cost fee copay total : ℕ) → cost ≡ m.cost → fee ≡ m.fee → copay ≡ m.copay → total ≡ m.total → drop 44 t0 ≡ [] →
-    drop r1 t1 ≡ 32 ∷ (decimal total ++ drop 44 t0) → drop r2 t2 ≡ 32 ∷ (decimal copay ++ drop r1 t1) → drop r3 t3 ≡ 32 ∷ (decimal fee ++ drop r2 t2) → drop r4 t4 ≡ 32 ∷ (decimal cost ++ drop r3 t3) → drop r4 t4 ≡ behind_spaces (amount_words m)
+pub amounts_text : (t0 t1 t2 t3 t4 : List ℕ) (r1 r2 r3 r4 : ℕ) (m : Amounts) (cost fee copay total : ℕ) → cost ≡ m.cost → fee ≡ m.fee → copay ≡ m.copay → total ≡ m.total → drop 61 t0 ≡ [] →
+    drop r1 t1 ≡ 32 ∷ (decimal total ++ drop 61 t0) → drop r2 t2 ≡ 32 ∷ (decimal copay ++ drop r1 t1) → drop r3 t3 ≡ 32 ∷ (decimal fee ++ drop r2 t2) → drop r4 t4 ≡ 32 ∷ (decimal cost ++ drop r3 t3) → drop r4 t4 ≡ behind_spaces (amount_words m)
 unfolding behind_spaces
 amounts_text t0 t1 t2 t3 t4 r1 r2 r3 r4 m cost fee copay total w x y z none one two three four =
     four
@@ -73,3 +61,8 @@ amounts_text t0 t1 t2 t3 t4 r1 r2 r3 r4 m cost fee copay total w x y z none one 
     ∙ ap (λ (n : ℕ). flat_map (λ (word : List ℕ). 32 ∷ word) (decimal m.cost ∷ decimal n ∷ decimal copay ∷ decimal total ∷ [])) x
     ∙ ap (λ (n : ℕ). flat_map (λ (word : List ℕ). 32 ∷ word) (decimal m.cost ∷ decimal m.fee ∷ decimal n ∷ decimal total ∷ [])) y
     ∙ ap (λ (n : ℕ). flat_map (λ (word : List ℕ). 32 ∷ word) (decimal m.cost ∷ decimal m.fee ∷ decimal m.copay ∷ decimal n ∷ [])) z
+
+-- an authorization that was written before amounts
+pub payment_text : (d1 d2 : List ℕ) (auth : Auth) (m : Amounts) → d1 ≡ behind_spaces (amount_words m) → d2 ≡ 32 ∷ (authorization_text auth ++ d1) → d2 ≡ behind_spaces (payment_words auth m)
+unfolding behind_spaces
+payment_text d1 d2 auth m one two = two ∙ ap (λ (t : List ℕ). 32 ∷ (authorization_text auth ++ t)) one

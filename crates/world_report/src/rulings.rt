@@ -2,6 +2,7 @@
 
 ghost use Rattle.std.specs.Prelude.{◌≡◌, ◌+◌, ◌≤◌, ◌∷◌, [], ◌++◌, drop, decimal, OnOk};
 ghost use Rattle.std.specs.List.{flat_map};
+ghost use Rattle.claim_profile.specs.Authorization.{authorization_text};
 ghost use Rattle.claim_profile.specs.Reject.{code_text};
 ghost use Rattle.claim_model.specs.Counted.{Counted};
 ghost use Rattle.world_report.specs.Words.{behind_spaces, line_text};
@@ -13,8 +14,9 @@ use itoa::write_digits;
 use pharmacy_journal::CountedPayment;
 use std::alloc::AllocError;
 
-/// The room for the longest words of four amounts: each a space and at most ten digits.
-const AMOUNTS: usize = 44;
+/// The room for the longest words of a payment: an authorization of sixteen digits and four amounts of at most ten, each
+/// behind a space.
+const PAYMENT: usize = 61;
 
 /// Appends the words of a ruling: `P` or `D` with the authorization and the amounts of the payment, `A` with the
 /// authorization that was reversed, `R` with the reject codes.
@@ -54,37 +56,54 @@ pub fn put_paid(out: &mut Vec<u8>, payment: &CountedPayment) -> Result<(), Alloc
 fn put_payment(out: &mut Vec<u8>, auth: Auth, amounts: Amounts) -> Result<(), AllocError>
     ensures { OnOk result (out.new.items ≡ out.old.items ++ behind_spaces (payment_words auth amounts)) }
 {
-    put_word(out, &auth.digits())?;
-    put_amounts(out, amounts)
-}
-
-/// Appends amounts in cents: cost (506-F6), fee (507-F7), the patient's part (505-F5), total (509-F9).
-fn put_amounts(out: &mut Vec<u8>, amounts: Amounts) -> Result<(), AllocError>
-    ensures { OnOk result (out.new.items ≡ out.old.items ++ behind_spaces (amount_words amounts)) }
-{
-    let mut text = [0; AMOUNTS];
-    let start = write_amounts(amounts, &mut text);
+    let mut text = [0; PAYMENT];
+    let start = write_payment(auth, amounts, &mut text);
     out.extend_from_slice(&text[start..])?;
     Ok(())
 }
 
-/// Writes amounts in cents at the end of a text, each behind a space, and gives the place where they begin.
-fn write_amounts(amounts: Amounts, text: &mut [u8; AMOUNTS]) -> usize
-    ensures within { result ≤ 44 }
+/// Writes an authorization and amounts at the end of a text, each behind a space, and gives the place where they begin.
+fn write_payment(auth: Auth, amounts: Amounts, text: &mut [u8; PAYMENT]) -> usize
+    ensures within { result ≤ 61 }
+    ensures written { drop result text.new ≡ behind_spaces (payment_words auth amounts) }
+{
+    let behind = write_amounts(amounts, text);
+    write_digits_of(auth, text, behind)
+}
+
+/// Writes a space and the digits of an authorization so that they end at a place of a text, and gives the place where they
+/// begin.
+fn write_digits_of(auth: Auth, text: &mut [u8; PAYMENT], end: usize) -> usize
+    requires room { 17 ≤ end }
+    requires within { end ≤ 61 }
+    ensures front { result ≤ 61 }
+    ensures written { drop result text.new ≡ 32 ∷ (authorization_text auth ++ drop end text.old) }
+{
+    let first = end - 16;
+    text[first..end].copy_from_slice(&auth.digits());
+    text[first - 1] = b' ';
+    first - 1
+}
+
+/// Writes amounts in cents at the end of a text, each behind a space, and gives the place where they begin: cost (506-F6),
+/// fee (507-F7), the patient's part (505-F5), total (509-F9).
+fn write_amounts(amounts: Amounts, text: &mut [u8; PAYMENT]) -> usize
+    ensures room { 17 ≤ result }
+    ensures within { result ≤ 61 }
     ensures written { drop result text.new ≡ behind_spaces (amount_words amounts) }
 {
-    let total = write_number(amounts.total(), text, AMOUNTS);
+    let total = write_number(amounts.total(), text, PAYMENT);
     let copay = write_number(amounts.copay(), text, total);
     let fee = write_number(amounts.fee(), text, copay);
     write_number(amounts.cost(), text, fee)
 }
 
 /// Writes a space and a number so that they end at a place of a text, and gives the place where they begin.
-fn write_number(number: u32, text: &mut [u8; AMOUNTS], end: usize) -> usize
+fn write_number(number: u32, text: &mut [u8; PAYMENT], end: usize) -> usize
     requires room { 11 ≤ end }
-    requires within { end ≤ 44 }
+    requires within { end ≤ 61 }
     ensures start { end ≤ result + 11 }
-    ensures front { result ≤ 44 }
+    ensures front { result ≤ 61 }
     ensures written { drop result text.new ≡ 32 ∷ (decimal number ++ drop end text.old) }
 {
     let first = write_digits(u64::from(number), text, end);

@@ -1,4 +1,4 @@
-use Rattle.std.proofs.Common.{◌≡◌, arith, rules}
+use Rattle.std.proofs.Common.{arith, rules}
 use Rattle.std.proofs.lemmas.Fmt.{length-decimal-le}
 use Rattle.world_report.proofs.backwards.digits_before.Goals as goal
 
