@@ -222,13 +222,13 @@ fn plain(auth: Auth, of: &Fill, amounts: Amounts, by: Option<TxnId>) -> PlainPay
     PlainPayment {
         serial: auth.serial(),
         prescription: of.prescription,
-        reversed_number: number_by(by),
+        reversed_number: number_by(&by),
         cost: amounts.cost(),
         fee: amounts.fee(),
         copay: amounts.copay(),
         total: amounts.total(),
         payer: auth.payer(),
-        reversed_pharmacy: pharmacy_by(by),
+        reversed_pharmacy: pharmacy_by(&by),
         bin,
         pcn,
         qualifier,
@@ -238,8 +238,8 @@ fn plain(auth: Auth, of: &Fill, amounts: Amounts, by: Option<TxnId>) -> PlainPay
 }
 
 /// The number of the request that reversed a payment, or 0.
-fn number_by(by: Option<TxnId>) -> u64
-    ensures { result ≡ number_by by }
+fn number_by(by: &Option<TxnId>) -> u64
+    ensures { result ≡ number_by by.now }
 {
     match by {
         Some(id) => id.number(),
@@ -248,8 +248,8 @@ fn number_by(by: Option<TxnId>) -> u64
 }
 
 /// The pharmacy of the request that reversed a payment, or 0.
-fn pharmacy_by(by: Option<TxnId>) -> u16
-    ensures { result ≡ pharmacy_by by }
+fn pharmacy_by(by: &Option<TxnId>) -> u16
+    ensures { result ≡ pharmacy_by by.now }
 {
     match by {
         Some(id) => id.pharmacy(),
