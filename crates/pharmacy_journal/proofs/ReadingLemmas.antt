@@ -16,7 +16,6 @@ use Rattle.claim_model.specs.Readable.{fits, has_version, has_code, longest}
 use Rattle.std.proofs.Common.{cond, not}
 use Rattle.claim_model.specs.Refusal.{Refusal, Unreadable, Version, CodeNotCarried, NotOwnProvider, TooLong, JournalFull}
 use Rattle.claim_model.specs.Journal.{Journal, submit_fault, is_own}
-use Rattle.pharmacy_journal.specs.Refusing.{IsCause, refusal_to_submit}
 use Rattle.pharmacy_journal.specs.Reading.{header_of, settles_with, is_own_request}
 
 -- what a readable request is

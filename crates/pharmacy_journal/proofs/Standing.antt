@@ -2,12 +2,12 @@
 use Rattle.std.proofs.Common.{◌≡◌, ℕ, zero, suc, ◌+◌, ◌*◌, ◌/◌, ◌<◌, ◌≤◌, true, false, List, [], ◌∷◌, ◌++◌, length, map, set, get_or, Option, Some, None, option_map, is_some, refl, sym, ap, ◌∙◌, arith, subst, length-append, ⊎_elim}
 use Rattle.std.specs.List.{slice_get, AllByRecursion, filter, flat_map}
 use Rattle.std.proofs.lemmas.Bool.{cases_Bool}
-use Rattle.std.proofs.lemmas.List.{length-map, map-append}
+use Rattle.std.proofs.lemmas.List.{map-append}
 use Rattle.std.proofs.lemmas.Option.{get_or_from_slice_get}
 use Rattle.std.specs.Prelude.{slice_index}
 use Rattle.claim_model.specs.Words.{TxnId}
 use Rattle.claim_model.specs.Journal.{PharmacySettings, Journal, Entry, State, Waits, Has, Sending, ticked, circle}
-use Rattle.pharmacy_journal.specs.Retry.{Rule, phases_of, next_phase, node_of, is_due}
+use Rattle.pharmacy_journal.specs.Retry.{Rule, phases_of, next_phase, node_of}
 use Rattle.pharmacy_journal.specs.Places.{places_from}
 use Rattle.pharmacy_journal.specs.Timetable.{Rounds, ticked_phases, ticked_rounds, due_next, is_open}
 use Rattle.pharmacy_journal.specs.Entries.{entry_of, entries_of, is_waiting, IsEntry, IsUp}

@@ -1,9 +1,9 @@
 use Rattle.std.proofs.Common.{◌≡◌, ◌<◌, ◌++◌, List, length, sym, ap, ◌∙◌}
-use Rattle.std.specs.List.{AllByRecursion, flat_map}
+use Rattle.std.specs.List.{flat_map}
 use Rattle.std.proofs.lemmas.List.Elements.{All-from_recursion}
 use Rattle.claim_model.specs.Journal.{Journal, Sending, ticked}
-use Rattle.pharmacy_journal.specs.Sendings.{packet_at, due_places, due_packets}
-use Rattle.pharmacy_journal.proofs.Entering.{length-entries_of, length-phases}
+use Rattle.pharmacy_journal.specs.Sendings.{packet_at, due_packets}
+use Rattle.pharmacy_journal.proofs.Entering.{length-entries_of}
 use Rattle.pharmacy_journal.proofs.Standing.{due_next-places, packets_of_open, in_entries}
 use Rattle.pharmacy_journal.proofs.pharmacy.Pharmacy.due_packets.Goals as goal
 

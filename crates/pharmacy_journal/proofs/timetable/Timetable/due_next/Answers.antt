@@ -1,4 +1,4 @@
-use Rattle.std.proofs.Common.{◌≡◌, [], get_or, length, sym, ◌∙◌, arith}
+use Rattle.std.proofs.Common.{◌≡◌, [], get_or, sym, ◌∙◌, arith}
 use Rattle.std.proofs.lemmas.List.{length-map, get_or_read}
 use Rattle.pharmacy_journal.proofs.Turning.{due_next-bucket, open_by_phase}
 use Rattle.pharmacy_journal.proofs.timetable.Timetable.due_next.Goals as goal
