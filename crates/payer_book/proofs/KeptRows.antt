@@ -1,10 +1,10 @@
 -- Which kept rows stand in a book, by what the code finds.
-use Rattle.std.proofs.Common.{◌≡◌, ℕ, ◌<◌, ◌≤◌, Bool, true, false, not, List, length, Option, Some, None, ◌⊎◌, inl, inr, refl, sym, ap, ◌∙◌, subst}
-use Rattle.std.specs.Prelude.{bytes_eq, nat_lt, is_none, is_some}
+use Rattle.std.proofs.Common.{◌≡◌, ℕ, ◌<◌, Bool, true, false, not, List, length, Option, Some, None, ◌⊎◌, inl, inr, refl, sym, ap, ◌∙◌, subst}
+use Rattle.std.specs.Prelude.{bytes_eq, nat_lt, is_none, ◌&&◌}
 use Rattle.std.specs.List.{list_all}
 use Rattle.std.specs.Borrow.{Bor}
 use Rattle.std.specs.Option.{option_copied}
-use Rattle.std.proofs.lemmas.Bool.{cond-true, cond-false, and_from, and_left, and_right, le-ltb, lt-ltb}
+use Rattle.std.proofs.lemmas.Bool.{cond-true, cond-false, and_from, and_left, and_right, lt-ltb, false≢true}
 use Rattle.claim_profile.specs.Readable.{readable_header}
 use Rattle.claim_profile.specs.Answer.{answer_text}
 use Rattle.claim_model.specs.Words.{TxnId, RequestHeader, AcceptedStatus, Ruling, Answer}
@@ -48,19 +48,24 @@ module _ (b : Book) (id : TxnId) (request answer : List ℕ) where
         let text : bytes_eq (answer_text h AcceptedStatus (kept_rulings b id request said.rulings)) answer ≡ true = subst (λ (q : Row). bytes_eq (answer_text h AcceptedStatus q.rulings) answer ≡ true) is same in
         by_rulings ∙ (cond-true _ _ None (and_from _ _ fits text) ∙ ap (λ (q : Row). Some (with_row b q)) (sym is))
 
-  -- where there is no room, or the id is there already
-  pub full_none : b.settings.cap ≤ length b.rows → added b id request answer ≡ None
-  unfolding added
-  full_none full = cond-false _ _ None (and_left _ (is_none (row_of id b.rows)) (le-ltb (length b.rows) b.settings.cap full))
-
-  pub known_none : is_none (row_of id b.rows) ≡ false → added b id request answer ≡ None
-  unfolding added
-  known_none known = cond-false _ _ None (and_right (nat_lt (length b.rows) b.settings.cap) _ known)
-
-  -- and where there is room for a new one
+  -- where there is room for a new one
   pub added_kept : length b.rows < b.settings.cap → is_none (row_of id b.rows) ≡ true → added b id request answer ≡ with_kept b id request answer
   unfolding added
   added_kept room fresh = cond-true _ _ None (and_from _ _ (lt-ltb (length b.rows) b.settings.cap room) fresh)
+
+  -- by the test that the code makes
+  pub not_taken : (nat_lt (length b.rows) b.settings.cap && is_none (row_of id b.rows)) ≡ false → added b id request answer ≡ None
+  unfolding added
+  not_taken e = cond-false _ _ None e
+
+  pub taken : (nat_lt (length b.rows) b.settings.cap && is_none (row_of id b.rows)) ≡ true → added b id request answer ≡ with_kept b id request answer
+  unfolding added
+  taken e = cond-true _ _ None e
+
+-- what the test says
+pub nothing_there : {A : Type 0} (o : Option A) → is_none o ≡ true → o ≡ None
+nothing_there None e = refl
+nothing_there (Some x) e = absurd (false≢true e)
 
 pub negated : (b : Bool) → not b ≡ true → b ≡ false
 negated true e = sym e
@@ -78,9 +83,9 @@ unruled_none b id request answer h reads said says rulings same f (inr unfit) ot
     kept_unfit b id request answer h reads said says (subst (λ (rs : List Ruling). list_all serial_fits (kept_rulings b id request rs) ≡ false) same unfit.1)
 
 -- what a look-up found
-pub found_none : {A : Type 0} (o : Option (Bor A)) (r : Option A) → option_copied o ≡ r → is_none r ≡ not (is_some o)
-found_none o r e = ap (λ x. is_none x) (sym e) ∙ by_case o
+pub found_none : {A : Type 0} (o : Option (Bor A)) (r : Option A) → option_copied o ≡ r → is_none o ≡ is_none r
+found_none o r e = by_case o ∙ ap (λ x. is_none x) e
   where
-    by_case : {A : Type 0} (o : Option (Bor A)) → is_none (option_copied o) ≡ not (is_some o)
+    by_case : {A : Type 0} (o : Option (Bor A)) → is_none o ≡ is_none (option_copied o)
     by_case None = refl
     by_case (Some x) = refl

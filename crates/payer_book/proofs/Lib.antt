@@ -13,6 +13,7 @@ pub mod PaidAmounts
 pub mod Tellable
 pub mod Numbers
 pub mod Replies
+pub mod AnsweredAt
 pub mod Told
 pub mod Entered
 pub mod KeptRows

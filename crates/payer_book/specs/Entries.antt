@@ -3,10 +3,10 @@ use Rattle.std.specs.Prelude.{◌≡◌, true, ℕ, List, Some}
 use Rattle.std.specs.List.{list_all, AllByRecursion}
 use Rattle.claim_model.specs.Words.{TxnId, Ruling, Plan}
 use Rattle.claim_model.specs.Laws.{IsRuling}
-use Rattle.claim_model.specs.Rows.{Book, ruled_rows}
+use Rattle.claim_model.specs.Rows.{Row, Book, ruled_rows}
 use Rattle.claim_model.specs.Judgement.{rulings_from}
 use Rattle.claim_model.specs.Book.{serial_fits}
-use Rattle.payer_book.specs.declared.book.entry.Entry.{Entry}
+use Rattle.payer_book.specs.declared.ruling.changes.Change.{Change}
 use Rattle.payer_book.specs.Changes.{changes_by}
 use Rattle.payer_book.specs.Drafts.{Pricing, ByPlan, AsKept}
 use Rattle.payer_book.specs.Books.{reading}
@@ -23,9 +23,9 @@ rulings_by (AsKept said) b id request = kept_rulings b id request said
 
 -- the row has the rulings that the rules give where it pays what it says, each payment with a serial that there is; these are the row's
 -- changes, an answer can tell of each ruling, and the row can be added from what is kept of it, whatever the plan is
-pub record IsEntry (b : Book) (e : Entry) : Type 0 where
-  pub ruled : e.row.rulings ≡ kept_rulings b e.row.id e.row.request e.row.rulings
-  pub fit : list_all serial_fits e.row.rulings ≡ true
-  pub changed : e.changes.items ≡ changes_by (reading.orders e.row.request) e.row.rulings
-  pub told : AllByRecursion IsRuling e.row.rulings
-  pub stands : (plan : Plan) → with_kept (with_plan b plan) e.row.id e.row.request (kept_answer e.row) ≡ Some (with_row (with_plan b plan) e.row)
+pub record IsEntry (b : Book) (row : Row) (changes : List Change) : Type 0 where
+  pub ruled : row.rulings ≡ kept_rulings b row.id row.request row.rulings
+  pub fit : list_all serial_fits row.rulings ≡ true
+  pub changed : changes ≡ changes_by (reading.orders row.request) row.rulings
+  pub told : AllByRecursion IsRuling row.rulings
+  pub stands : (plan : Plan) → with_kept (with_plan b plan) row.id row.request (kept_answer row) ≡ Some (with_row (with_plan b plan) row)

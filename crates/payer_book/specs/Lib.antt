@@ -15,4 +15,5 @@ pub mod Added
 pub mod Made
 pub mod Following
 pub mod Entries
+pub mod Placing
 pub mod Deciding

@@ -5,14 +5,17 @@ pub(crate) mod answering;
 pub(crate) mod deciding;
 pub(crate) mod entering;
 pub(crate) mod entry;
+pub(crate) mod held_rulings;
 pub(crate) mod payment;
 pub(crate) mod payments;
+pub(crate) mod placing;
 pub(crate) mod posting;
 pub(crate) mod rest;
 pub(crate) mod row;
 pub(crate) mod rows;
+pub(crate) mod texts;
 
-ghost use Rattle.std.specs.Prelude.{◌≡◌, ◌≤◌, [], map, length, slice_get, Some, Ok, OnOk, OnErr, IfErr};
+ghost use Rattle.std.specs.Prelude.{◌≡◌, ◌<◌, ◌≤◌, [], map, length, slice_get, Some, Ok, OnOk, OnErr, IfErr};
 ghost use Rattle.std.specs.Option.{option_map, option_copied, option_and_then};
 ghost use Rattle.bin_routes.specs.Table.{RouteMaps};
 ghost use Rattle.plan_rules.specs.Terms.{RefusedFor};
@@ -23,12 +26,14 @@ ghost use Rattle.claim_model.specs.Book.{row_of};
 ghost use Rattle.claim_model.specs.Held.{row_answer};
 ghost use Rattle.payer_book.specs.Views.{payment_view, view_of};
 ghost use Rattle.payer_book.specs.Added.{kept_row, added_all};
+ghost use Rattle.payer_book.specs.RowPlaces.{IsPlaceOf};
 
 use crate::book::payment::Payment;
 use crate::book::payments::Payments;
 use crate::book::row::Row;
 use crate::book::rows::Rows;
 use crate::keys::HashKeys;
+use crate::ruling::drafting::Draft;
 use crate::settings::BookSettings;
 use bin_routes::PayerNo;
 use claim_profile::{Amounts, Auth, Fill};
@@ -45,6 +50,8 @@ pub struct Book {
     pub(crate) plan: Plan,
     pub(crate) rows: Rows,
     pub(crate) payments: Payments,
+    /// Lists that one request after another is ruled in. No contract sees them.
+    pub(crate) draft: Draft,
 }
 
 impl Model for Book {
@@ -105,6 +112,7 @@ impl Book {
             plan,
             rows: Rows::new(alloc, keys),
             payments: Payments::new(alloc, payer, settings.serial(), keys),
+            draft: Draft::new(alloc),
         }
     }
 
@@ -184,6 +192,21 @@ impl Book {
             Some(row) => Some(row.answer()),
             None => None,
         }
+    }
+
+    /// The place of the row of an id.
+    pub(crate) fn place_of(&self, id: TxnId) -> Option<usize>
+        ensures { IsPlaceOf id self.now.rows result }
+    {
+        self.rows.place_of(id)
+    }
+
+    /// The row at a place.
+    pub(crate) fn row_at(&self, place: usize) -> &Row
+        requires { place < length self.now.rows }
+        ensures { slice_get self.now.rows place ≡ Some result.now }
+    {
+        self.rows.at(place)
     }
 
     /// The row of an id.

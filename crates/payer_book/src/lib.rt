@@ -12,6 +12,7 @@ mod settings;
 
 pub use bin_routes::PayerNo;
 pub use book::payment::{Payment, Reversed, Standing};
+pub use book::placing::Placed;
 pub use book::rest::BookAtRest;
 pub use book::row::Row;
 pub use book::{Book, PaymentView, Reply};

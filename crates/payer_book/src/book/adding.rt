@@ -1,6 +1,7 @@
 //! Adding a row that was kept, to a book that is made again.
 
-ghost use Rattle.std.specs.Prelude.{◌≡◌, ◌≢◌, Some, None, IfOk, IfErr, OnOk, OnErr};
+ghost use Rattle.std.specs.Prelude.{◌≡◌, ◌≢◌, true, ◌&&◌, nat_lt, is_none, length, Some, None, IfOk, IfErr, OnOk, OnErr};
+ghost use Rattle.claim_model.specs.Book.{row_of};
 ghost use Rattle.payer_book.specs.declared.fault.RowFault.TheVariants.{OutOfMemory};
 ghost use Rattle.payer_book.specs.Books.{reading};
 ghost use Rattle.payer_book.specs.Added.{with_row, with_kept, added};
@@ -8,8 +9,9 @@ ghost use Rattle.payer_book.specs.Made.{PaysAmounts};
 ghost use Rattle.payer_book.specs.Entries.{IsEntry};
 
 use crate::book::Book;
-use crate::book::entry::Entry;
+use crate::book::row::Row;
 use crate::fault::RowFault;
+use crate::ruling::drafting::Draft;
 use crate::ruling::pricing::Prices;
 use claim_profile::{Answer, AnswerFault, check_readable, read_answer};
 use envelope::TxnId;
@@ -27,36 +29,68 @@ impl Book {
         ensures err { OnErr result (self.new ≡ self.old) }
         ensures fault { IfErr result (λ e. e ≢ OutOfMemory → added self.old id request.now answer.now ≡ None) }
     {
-        if self.rows.len() >= self.settings.cap() as usize {
+        if !self.takes(id) {
             return Err(RowFault::BadRow);
         }
-        if self.rows.find(id).is_some() {
-            return Err(RowFault::BadRow);
-        }
-        let entry = self.kept_entry(id, request, answer)?;
-        self.enter(entry)?;
+        let alloc = self.allocator();
+        let mut draft = self.lend_draft(alloc);
+        let result = self.add_new(alloc, &mut draft, id, request, answer);
+        self.keep_draft(draft);
+        result
+    }
+
+    /// Whether there is room for a row of that id, which no row has.
+    fn takes(&self, id: TxnId) -> bool
+        ensures { result ≡ (nat_lt (length self.now.rows) self.now.settings.cap && is_none (row_of id self.now.rows)) }
+    {
+        self.rows().len() < self.settings().cap() as usize && self.row_for(id).is_none()
+    }
+
+    /// Adds a row that there is room for.
+    fn add_new(
+        &mut self,
+        alloc: Global,
+        draft: &mut Draft,
+        id: TxnId,
+        request: &[u8],
+        answer: &[u8],
+    ) -> Result<(), RowFault>
+        requires { (nat_lt (length self.old.rows) self.old.settings.cap && is_none (row_of id self.old.rows)) ≡ true }
+        ensures ok { OnOk result (with_kept self.old id request.now answer.now ≡ Some self.new) }
+        ensures err { OnErr result (self.new ≡ self.old) }
+        ensures fault { IfErr result (λ e. e ≢ OutOfMemory → with_kept self.old id request.now answer.now ≡ None) }
+    {
+        let row = self.kept_row(alloc, draft, id, request, answer)?;
+        self.enter(row, draft.changes.as_slice())?;
         Ok(())
     }
 
-    /// The row of a request and its answer, which is the one that the rules give for what it says.
-    fn kept_entry(&self, id: TxnId, request: &[u8], answer: &[u8]) -> Result<Entry, RowFault>
-        ensures made { IfOk result (λ e. IsEntry self.now e) }
-        ensures id { IfOk result (λ e. e.row.id ≡ id) }
-        ensures row { IfOk result (λ e. with_kept self.now id request.now answer.now ≡ Some (with_row self.now e.row)) }
+    /// The row of a request and its answer, which is the one that the rules give for what it says; the draft then has
+    /// what the row changes.
+    fn kept_row(
+        &self,
+        alloc: Global,
+        draft: &mut Draft,
+        id: TxnId,
+        request: &[u8],
+        answer: &[u8],
+    ) -> Result<Row, RowFault>
+        ensures made { IfOk result (λ row. IsEntry self.now row draft.new.changes.items) }
+        ensures id { IfOk result (λ row. row.id ≡ id) }
+        ensures row { IfOk result (λ row. with_kept self.now id request.now answer.now ≡ Some (with_row self.now row)) }
         ensures fault { IfErr result (λ e. e ≢ OutOfMemory → with_kept self.now id request.now answer.now ≡ None) }
     {
-        let alloc = self.rows.allocator();
         let framed = match check_readable(request) {
             Some(framed) => framed,
             None => return Err(RowFault::BadRow),
         };
         let said = said(alloc, answer)?;
         let prices = Prices::Kept(said.rulings());
-        let entry = self.prepare(alloc, id, &framed, request, prices)?;
-        if entry.bytes() != answer {
+        let row = self.prepare(alloc, draft, id, &framed, request, prices)?;
+        if row.answer() != answer {
             return Err(RowFault::BadRow);
         }
-        Ok(entry)
+        Ok(row)
     }
 }
 

@@ -1,15 +1,16 @@
 //! Answering a request: the kept answer of a known number, or a new row.
 
-ghost use Rattle.std.specs.Prelude.{◌≡◌, OnErr, IfOk, IfErr, Ok};
+ghost use Rattle.std.specs.Prelude.{◌≡◌, OnErr, IfOk, IfErr, Ok, None};
 ghost use Rattle.claim_model.specs.Bytes.{bytes_with};
-ghost use Rattle.claim_model.specs.Book.{answered};
+ghost use Rattle.claim_model.specs.Book.{answered, row_of};
 ghost use Rattle.payer_book.specs.Faults.{RefusedFor};
 
-use crate::book::deciding::Decided;
 use crate::book::{Book, Reply};
 use crate::fault::BookFault;
+use crate::ruling::drafting::Draft;
 use bin_routes::Routes;
 use envelope::TxnId;
+use std::alloc::Global;
 
 impl Book {
     /// Answers the request that came under that id.
@@ -26,12 +27,33 @@ impl Book {
         ensures err { OnErr result (self.new ≡ self.old) }
     {
         let alloc = self.allocator();
-        match self.decide(alloc, routes, id, request)? {
-            Decided::Kept(row) => {
-                let bytes = Vec::from_slice(alloc, row.answer())?;
-                Ok(Reply { bytes, kept: true })
-            }
-            Decided::New(entry) => self.enter(entry),
+        if let Some(place) = self.known(routes, id, request)? {
+            let bytes = Vec::from_slice(alloc, self.row_at(place).answer())?;
+            return Ok(Reply { bytes, kept: true });
         }
+        let mut draft = self.lend_draft(alloc);
+        let result = self.answer_new(alloc, &mut draft, routes, id, request);
+        self.keep_draft(draft);
+        result
+    }
+
+    /// Answers the request of a new id.
+    fn answer_new(
+        &mut self,
+        alloc: Global,
+        draft: &mut Draft,
+        routes: &Routes,
+        id: TxnId,
+        request: &[u8],
+    ) -> Result<Reply, BookFault>
+        requires { row_of id self.old.rows ≡ None }
+        ensures ok { IfOk result (λ reply. answered (bytes_with routes.now) self.old id request.now ≡ Ok (record { book = self.new; bytes = reply.bytes.items; kept = reply.kept })) }
+        ensures fault { IfErr result (λ fault. RefusedFor fault (answered (bytes_with routes.now) self.old id request.now)) }
+        ensures err { OnErr result (self.new ≡ self.old) }
+    {
+        let row = self.decide_new(alloc, draft, routes, id, request)?;
+        let bytes = Vec::from_slice(alloc, row.answer())?;
+        self.enter(row, draft.changes.as_slice())?;
+        Ok(Reply { bytes, kept: false })
     }
 }

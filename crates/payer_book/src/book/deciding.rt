@@ -1,16 +1,17 @@
-//! What a book decides on a request: the row that it has for it, or a new one. Nothing is changed here.
+//! What a book decides on a request: the row that it has for it, or a new one. The book is not changed here.
 
-ghost use Rattle.std.specs.Prelude.{◌≡◌, IfOk, IfErr, Some, None};
+ghost use Rattle.std.specs.Prelude.{◌≡◌, true, IfOk, OnOk, IfErr, Ok, Some, None};
 ghost use Rattle.claim_model.specs.Bytes.{bytes_with};
 ghost use Rattle.claim_model.specs.Readable.{is_payer, payer_for};
 ghost use Rattle.claim_model.specs.Book.{answered, row_of};
 ghost use Rattle.payer_book.specs.Faults.{RefusedFor};
-ghost use Rattle.payer_book.specs.Deciding.{IsDecided};
+ghost use Rattle.payer_book.specs.Added.{kept_answer};
+ghost use Rattle.payer_book.specs.Deciding.{IsKnown, IsNew};
 
 use crate::book::Book;
-use crate::book::entry::Entry;
 use crate::book::row::Row;
 use crate::fault::BookFault;
+use crate::ruling::drafting::Draft;
 use crate::ruling::pricing::Prices;
 use bin_routes::{PayerNo, Routes};
 use claim_profile::check_readable;
@@ -18,41 +19,35 @@ use d0_header::RequestHeader;
 use envelope::TxnId;
 use std::alloc::Global;
 
-/// The row that has the request already, or a new one that is ready to be entered.
-#[derive(Drop)]
-pub(crate) enum Decided<'a> {
-    Kept(&'a Row),
-    New(Entry),
-}
-
 impl Book {
-    /// What the request that came under that id gets. The first fault that stands is in the order of [`BookFault`].
-    pub(crate) fn decide(
+    /// The place of the row that has the request and the id already; None where no row has the id. Where the request is
+    /// a new one under an old id, the first fault that stands is in the order of [`BookFault`].
+    pub(crate) fn known(
         &self,
-        alloc: Global,
         routes: &Routes,
         id: TxnId,
         request: &[u8],
-    ) -> Result<Decided<'_>, BookFault>
-        ensures decided { IfOk result (λ decided. IsDecided (bytes_with routes.now) self.now id request.now decided) }
+    ) -> Result<Option<usize>, BookFault>
+        ensures known { IfOk result (λ place. IsKnown (bytes_with routes.now) self.now id request.now place) }
         ensures fault { IfErr result (λ fault. RefusedFor fault (answered (bytes_with routes.now) self.now id request.now)) }
     {
-        match self.row_for(id) {
-            Some(row) => self.decide_known(routes, id, row, request),
-            None => self.decide_new(alloc, routes, id, request),
-        }
+        let Some(place) = self.place_of(id) else {
+            return Ok(None);
+        };
+        self.decide_known(routes, id, self.row_at(place), request)?;
+        Ok(Some(place))
     }
 
-    /// What a request gets under the id of a row.
-    fn decide_known<'a>(
+    /// Whether a request gets the answer of the row that has its id.
+    fn decide_known(
         &self,
         routes: &Routes,
         id: TxnId,
-        row: &'a Row,
+        row: &Row,
         request: &[u8],
-    ) -> Result<Decided<'a>, BookFault>
+    ) -> Result<(), BookFault>
         requires { row_of id self.now.rows ≡ Some row.now }
-        ensures decided { IfOk result (λ decided. IsDecided (bytes_with routes.now) self.now id request.now decided) }
+        ensures decided { OnOk result (answered (bytes_with routes.now) self.now id request.now ≡ Ok (record { book = self.now; bytes = kept_answer row.now; kept = true })) }
         ensures fault { IfErr result (λ fault. RefusedFor fault (answered (bytes_with routes.now) self.now id request.now)) }
     {
         if row.request() == request {
@@ -68,34 +63,31 @@ impl Book {
         Err(BookFault::NumberReused)
     }
 
-    /// What a row's own request gets. It is readable, as the request of every row, so only its route is asked.
-    fn decide_again<'a>(
-        &self,
-        routes: &Routes,
-        id: TxnId,
-        row: &'a Row,
-    ) -> Result<Decided<'a>, BookFault>
+    /// Whether a row's own request gets its answer. It is readable, as the request of every row, so only its route is
+    /// asked.
+    fn decide_again(&self, routes: &Routes, id: TxnId, row: &Row) -> Result<(), BookFault>
         requires { row_of id self.now.rows ≡ Some row.now }
-        ensures decided { IfOk result (λ decided. IsDecided (bytes_with routes.now) self.now id row.now.request decided) }
+        ensures decided { OnOk result (answered (bytes_with routes.now) self.now id row.now.request ≡ Ok (record { book = self.now; bytes = kept_answer row.now; kept = true })) }
         ensures fault { IfErr result (λ fault. RefusedFor fault (answered (bytes_with routes.now) self.now id row.now.request)) }
     {
         let (bin, pcn) = row.bin_and_pcn();
         if !is_routed(routes, &bin, &pcn, self.payer()) {
             return Err(BookFault::NotOurs);
         }
-        Ok(Decided::Kept(row))
+        Ok(())
     }
 
-    /// What a request gets under an id that has no row: a new row.
-    fn decide_new(
+    /// The row that a request gets under an id that has none; the draft then has what the row changes.
+    pub(crate) fn decide_new(
         &self,
         alloc: Global,
+        draft: &mut Draft,
         routes: &Routes,
         id: TxnId,
         request: &[u8],
-    ) -> Result<Decided<'_>, BookFault>
+    ) -> Result<Row, BookFault>
         requires { row_of id self.now.rows ≡ None }
-        ensures decided { IfOk result (λ decided. IsDecided (bytes_with routes.now) self.now id request.now decided) }
+        ensures decided { IfOk result (λ row. IsNew (bytes_with routes.now) self.now id request.now row draft.new.changes.items) }
         ensures fault { IfErr result (λ fault. RefusedFor fault (answered (bytes_with routes.now) self.now id request.now)) }
     {
         let framed = match check_readable(request) {
@@ -109,8 +101,7 @@ impl Book {
             return Err(BookFault::BookFull);
         }
         let prices = Prices::Plan(&self.plan);
-        let entry = self.prepare(alloc, id, &framed, request, prices)?;
-        Ok(Decided::New(entry))
+        self.prepare(alloc, draft, id, &framed, request, prices)
     }
 }
 

@@ -1,17 +1,17 @@
 //! Answering a request with a packet.
 
-ghost use Rattle.std.specs.Prelude.{◌≡◌, ◌≤◌, [], ◌∷◌, length, OnErr, IfOk, IfErr};
+ghost use Rattle.std.specs.Prelude.{◌≡◌, ◌≤◌, [], ◌∷◌, length, None, OnErr, IfOk, IfErr};
 ghost use Rattle.envelope.specs.Envelope.{envelope_text, longest_payload};
 ghost use Rattle.claim_model.specs.Words.{Response};
 ghost use Rattle.claim_model.specs.Bytes.{bytes_with};
-ghost use Rattle.claim_model.specs.Book.{answered};
+ghost use Rattle.claim_model.specs.Book.{answered, row_of};
 ghost use Rattle.claim_model.specs.Node.{Node, Up, Done, after_answer};
 ghost use Rattle.payer_book.specs.Faults.{RefusedFor};
 ghost use Rattle.payer_book.specs.Posted.{IsPosted};
 
 use crate::book::Book;
-use crate::book::deciding::Decided;
 use crate::fault::BookFault;
+use crate::ruling::drafting::Draft;
 use bin_routes::Routes;
 use envelope::{Kind, TxnId, write};
 use octets::Octets;
@@ -37,14 +37,33 @@ impl Book {
         ensures err { OnErr result (self.new ≡ self.old) }
     {
         let alloc = self.allocator();
-        match self.decide(alloc, routes, id, request)? {
-            Decided::Kept(row) => Ok(packet(alloc, id, row.answer())?),
-            Decided::New(entry) => {
-                let packet = packet(alloc, id, entry.answer())?;
-                self.enter(entry)?;
-                Ok(packet)
-            }
+        if let Some(place) = self.known(routes, id, request)? {
+            return Ok(packet(alloc, id, self.row_at(place).answer())?);
         }
+        let mut draft = self.lend_draft(alloc);
+        let result = self.packet_new(alloc, &mut draft, routes, id, request);
+        self.keep_draft(draft);
+        result
+    }
+
+    /// The packet that answers the request of a new id.
+    fn packet_new(
+        &mut self,
+        alloc: Global,
+        draft: &mut Draft,
+        routes: &Routes,
+        id: TxnId,
+        request: &[u8],
+    ) -> Result<Octets, BookFault>
+        requires { row_of id self.old.rows ≡ None }
+        ensures ok { IfOk result (λ packet. IsPosted (bytes_with routes.now) self.old id request.now self.new packet) }
+        ensures fault { IfErr result (λ fault. RefusedFor fault (answered (bytes_with routes.now) self.old id request.now)) }
+        ensures err { OnErr result (self.new ≡ self.old) }
+    {
+        let row = self.decide_new(alloc, draft, routes, id, request)?;
+        let packet = packet(alloc, id, row.answer())?;
+        self.enter(row, draft.changes.as_slice())?;
+        Ok(packet)
     }
 }
 

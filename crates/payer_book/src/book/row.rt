@@ -1,6 +1,6 @@
 //! One decided request.
 
-ghost use Rattle.std.specs.Prelude.{◌≡◌, ◌≤◌, length, Some, IsSome};
+ghost use Rattle.std.specs.Prelude.{◌≡◌, ◌≤◌, length, Some, IsSome, IfOk};
 ghost use Rattle.bin_routes.specs.Table.{RouteMaps};
 ghost use Rattle.d0_header.specs.Request.{request_of};
 ghost use Rattle.claim_profile.specs.Readable.{readable_header};
@@ -10,18 +10,19 @@ ghost use Rattle.envelope.specs.Envelope.{longest_payload};
 ghost use Rattle.payer_book.specs.Kept.{IsAnswered};
 ghost use Rattle.payer_book.specs.Added.{kept_answer};
 
+use crate::book::held_rulings::HeldRulings;
+use crate::book::texts::Texts;
 use claim_profile::Ruling;
 use envelope::TxnId;
-use octets::Octets;
+use std::alloc::{AllocError, Global};
 use std::marker::Model;
 
 /// One decided request: its id, its bytes, the ruling of each place and the answer's bytes.
 #[derive(Drop)]
 pub struct Row {
     id: TxnId,
-    request: Octets,
-    rulings: Vec<Ruling>,
-    answer: Octets,
+    texts: Texts,
+    rulings: HeldRulings,
 }
 
 impl Model for Row {
@@ -30,23 +31,26 @@ impl Model for Row {
 
     ghost Value = { RowParts };
 
-    ghost view = { λ r. record { id = r.id; request = r.request; rulings = r.rulings.items } };
+    ghost view = { λ r. record { id = r.id; request = r.texts.request; rulings = r.rulings } };
 
-    ghost invariant = { λ r. IsAnswered r.request r.rulings.items r.answer };
+    ghost invariant = { λ r. IsAnswered r.texts.request r.rulings r.texts.answer };
 }
 
 impl Row {
-    /// The row of a readable request with these rulings, and its answer.
-    pub(crate) fn new(id: TxnId, request: Octets, rulings: Vec<Ruling>, answer: Octets) -> Row
-        requires { IsAnswered request rulings.items answer }
-        ensures { result ≡ record { id = id; request = request; rulings = rulings.items } }
+    /// The row of a readable request with these rulings, and its answer: copies of them.
+    pub(crate) fn copy_of(
+        alloc: Global,
+        id: TxnId,
+        request: &[u8],
+        rulings: &[Ruling],
+        answer: &[u8],
+    ) -> Result<Row, AllocError>
+        requires { IsAnswered request.now rulings.now answer.now }
+        ensures { IfOk result (λ row. row ≡ record { id = id; request = request.now; rulings = rulings.now }) }
     {
-        Row {
-            id,
-            request,
-            rulings,
-            answer,
-        }
+        let texts = Texts::copy_of(alloc, request, answer)?;
+        let rulings = HeldRulings::copy_of(alloc, rulings)?;
+        Ok(Row { id, texts, rulings })
     }
 
     /// The pharmacy and number that the request came under.
@@ -64,14 +68,14 @@ impl Row {
         ensures pcn { result.1 ≡ (request_of self.now.request).pcn }
     {
         let _answered = self.answer();
-        bin_and_pcn_of(self.request.as_slice())
+        bin_and_pcn_of(self.texts.request())
     }
 
     /// The request's bytes.
     pub fn request(&self) -> &[u8]
         ensures { result.now ≡ self.now.request }
     {
-        self.request.as_slice()
+        self.texts.request()
     }
 
     /// The ruling of each place, in the order of the request's groups.
@@ -88,7 +92,7 @@ impl Row {
         ensures value { (routes : RouteMaps) → Some result.now ≡ row_answer (bytes_with routes) self.now }
         ensures text { result.now ≡ kept_answer self.now }
     {
-        self.answer.as_slice()
+        self.texts.answer()
     }
 }
 

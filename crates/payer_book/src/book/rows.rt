@@ -1,8 +1,9 @@
 //! The rows of a book, in the order in which they were decided, found by their id.
 
-ghost use Rattle.std.specs.Prelude.{◌≡◌, [], ◌∷◌, ◌++◌, length, None, OnOk, OnErr};
+ghost use Rattle.std.specs.Prelude.{◌≡◌, ◌<◌, [], ◌∷◌, ◌++◌, length, slice_get, Some, None, OnOk, OnErr};
 ghost use Rattle.std.specs.Option.{option_copied};
 ghost use Rattle.claim_model.specs.Book.{row_of};
+ghost use Rattle.payer_book.specs.RowPlaces.{IsPlaceOf};
 
 use crate::book::row::Row;
 use crate::keys::{HashKeys, HashStart};
@@ -67,12 +68,30 @@ impl Rows {
         self.list.as_slice()
     }
 
+    /// The place of the row of an id.
+    pub(crate) fn place_of(&self, id: TxnId) -> Option<usize>
+        ensures { IsPlaceOf id self.now result }
+    {
+        match self.places.get(&id) {
+            Some(place) => Some(*place),
+            None => None,
+        }
+    }
+
+    /// The row at a place.
+    pub(crate) fn at(&self, place: usize) -> &Row
+        requires { place < length self.now }
+        ensures { slice_get self.now place ≡ Some result.now }
+    {
+        &self.list[place]
+    }
+
     /// The row of an id.
     pub(crate) fn find(&self, id: TxnId) -> Option<&Row>
         ensures { option_copied result ≡ row_of id self.now }
     {
-        match self.places.get(&id) {
-            Some(place) => self.list.get(*place),
+        match self.place_of(id) {
+            Some(place) => Some(self.at(place)),
             None => None,
         }
     }

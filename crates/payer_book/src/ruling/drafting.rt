@@ -18,42 +18,51 @@ use crate::ruling::pricing::Prices;
 use claim_profile::{Claim, Code, Order, OrderFault, Ruling, order_at};
 use d0_header::RequestHeader;
 use d0_segments::Framed;
-use std::alloc::{AllocError, Global};
+use std::alloc::Global;
 
-/// The ruling of each place so far, and what each changes among the payments.
+/// The ruling of each place so far, what each changes among the payments, and room for the answer's bytes. A book lends
+/// the same lists to one request after another.
 #[derive(Drop)]
 pub(crate) struct Draft {
     pub(crate) rulings: Vec<Ruling>,
     pub(crate) changes: Vec<Change>,
+    pub(crate) answer: Vec<u8>,
 }
 
-/// The rulings of a request over the payments of a book.
+/// Fills a draft with the rulings of a request over the payments of a book. What stood in it is gone.
 pub(crate) fn rule_all(
-    alloc: Global,
+    draft: &mut Draft,
     payments: &Payments,
     prices: Prices<'_>,
     framed: &Framed<'_, RequestHeader>,
-) -> Result<Draft, BookFault>
-    ensures made { IfOk result (λ d. IsDraft payments.now (pricing prices.entry) (orders_in (Some (framed_parts framed.now))) d) }
+) -> Result<(), BookFault>
+    ensures made { OnOk result (IsDraft payments.now (pricing prices.entry) (orders_in (Some (framed_parts framed.now))) draft.new) }
     ensures fault { IfErr result (λ e. (e ≡ OutOfMemory) ⊎ ((e ≡ SerialsUsedUp) × (list_all serial_fits (rulings_on payments.now (pricing prices.entry) [] (orders_in (Some (framed_parts framed.now)))) ≡ false))) }
 {
+    draft.clear();
     let places = framed.group_count();
-    let mut draft = Draft::with_room(alloc, places)?;
     for place in 0..places {
         draft.rule(payments, &prices, &order_at(framed, place))?;
     }
-    Ok(draft)
+    Ok(())
 }
 
 impl Draft {
-    /// A draft with room for so many places.
-    fn with_room(alloc: Global, places: usize) -> Result<Draft, AllocError>
-        ensures { IfOk result (λ d. (d.rulings.items ≡ []) × (d.changes.items ≡ [])) }
+    /// An empty draft, which has taken no memory.
+    pub(crate) fn new(alloc: Global) -> Draft {
+        Draft {
+            rulings: Vec::new(alloc),
+            changes: Vec::new(alloc),
+            answer: Vec::new(alloc),
+        }
+    }
+
+    /// Takes out the rulings and the changes, and keeps the memory.
+    fn clear(&mut self)
+        ensures { (self.new.rulings.items ≡ []) × (self.new.changes.items ≡ []) }
     {
-        Ok(Draft {
-            rulings: Vec::with_capacity(alloc, places)?,
-            changes: Vec::with_capacity(alloc, places)?,
-        })
+        self.rulings.clear();
+        self.changes.clear();
     }
 
     /// Adds the ruling of the next place.

@@ -1,13 +1,16 @@
 use Rattle.std.proofs.Common.{◌≡◌, ◌<◌, ◌≤◌, ◌⊎◌, Bool, true, false, length, None, Err, inl, inr, refl, sym, ap, ◌∙◌, subst, arith}
+use Rattle.std.specs.Prelude.{List}
 use Rattle.std.specs.List.{list_all}
 use Rattle.std.proofs.lemmas.Bool.{le-ltb, lt-ltb}
-use Rattle.std.proofs.lemmas.Result.{err_from_is_err_and}
-use Rattle.claim_model.specs.Words.{RequestHeader}
+use Rattle.std.proofs.lemmas.Result.{IfOk-weaker, IfErr-weaker}
+use Rattle.claim_profile.specs.Answer.{answer_text}
+use Rattle.claim_model.specs.Words.{RequestHeader, AcceptedStatus}
 use Rattle.claim_model.specs.Bytes.{bytes_with}
 use Rattle.claim_model.specs.Readable.{is_payer, payer_for}
 use Rattle.claim_model.specs.Refusal.{Refusal}
 use Rattle.claim_model.specs.Rows.{Row, Book}
 use Rattle.claim_model.specs.Book.{serial_fits, row_of, answered}
+use Rattle.payer_book.specs.declared.ruling.changes.Change.{Change}
 use Rattle.payer_book.specs.declared.fault.BookFault.{BookFault}
 use Rattle.payer_book.specs.declared.fault.BookFault.TheVariants.{OutOfMemory, SerialsUsedUp}
 use Rattle.payer_book.specs.Faults.{RefusedFor}
@@ -49,36 +52,46 @@ returns-then-len-cap-clause-fault c =
     (full c.args.routes.now (opened d) c.args.id c.args.request.now c.in-Some.framed.header c.in-Some.ensures.readable (routed d true c.if-not-leads_to.false)
     (fresh d) (le-ltb (length c.self.inside.rows) c.self.inside.settings.cap cap))
 
-pub returns-in_err-entry-clause-fault : goal.returns-in_err-entry-clause-fault
-returns-in_err-entry-clause-fault c =
-    let d = (goal.at.returns-in_err-entry-clause-fault c).After-leads_to in
-    let p = err_from_is_err_and c.from_residual.result c.from_residual.ensures.1 in
-    let room : length c.self.inside.rows < c.self.inside.settings.cap = omega (arith, c.len.ensures, c.cap.ensures.value) in
-    let fault = subst (λ (b : Book). (c.in_err-entry.field-0.0 ≡ OutOfMemory) ⊎ ((c.in_err-entry.field-0.0 ≡ SerialsUsedUp) × (list_all serial_fits (rulings_by (ByPlan c.self.inside.plan) b c.args.id c.args.request.now) ≡ false))) (sym c.self.view_is) c.in_err-entry.ensures.fault in
-    rw (p.1, p.2)
-    (subst (λ (b : Book). RefusedFor c.in_err-entry.field-0.0 (answered (bytes_with c.args.routes.now) b c.args.id c.args.request.now)) c.self.view_is
-    (elim fault [
-      | inl e ↦ subst (λ (f : BookFault). RefusedFor f (answered (bytes_with c.args.routes.now) (opened d) c.args.id c.args.request.now)) (sym e) tt
-      | inr e ↦ subst (λ (f : BookFault). RefusedFor f (answered (bytes_with c.args.routes.now) (opened d) c.args.id c.args.request.now)) (sym e.0)
-          (used_up c.args.routes.now (opened d) c.args.id c.args.request.now c.in-Some.framed.header c.in-Some.ensures.readable (routed d true c.if-not-leads_to.false)
-          (fresh d) (lt-ltb (length c.self.inside.rows) c.self.inside.settings.cap room) (row_alike c.args.routes.now (opened d) c.self.inside.payments c.self.invariant.0 c.args.id c.args.request.now) e.1)
-    ]))
+module _ (c : After-leads_to) (ours : c.leads_to.result ≡ true) (room : length c.self.inside.rows < c.self.inside.settings.cap) where
+  -- a fault of the new row is a refusal of the request
+  refused : (f : BookFault) → (f ≡ OutOfMemory) ⊎ ((f ≡ SerialsUsedUp) × (list_all serial_fits (rulings_by (ByPlan c.self.inside.plan) c.args.self.now c.args.id c.args.request.now) ≡ false))
+      → RefusedFor f (answered (bytes_with c.args.routes.now) c.args.self.now c.args.id c.args.request.now)
+  refused f why =
+      let fault = subst (λ (b : Book). (f ≡ OutOfMemory) ⊎ ((f ≡ SerialsUsedUp) × (list_all serial_fits (rulings_by (ByPlan c.self.inside.plan) b c.args.id c.args.request.now) ≡ false))) (sym c.self.view_is) why in
+      subst (λ (b : Book). RefusedFor f (answered (bytes_with c.args.routes.now) b c.args.id c.args.request.now)) c.self.view_is
+      (elim fault [
+        | inl e ↦ subst (λ (g : BookFault). RefusedFor g (answered (bytes_with c.args.routes.now) (opened c) c.args.id c.args.request.now)) (sym e) tt
+        | inr e ↦ subst (λ (g : BookFault). RefusedFor g (answered (bytes_with c.args.routes.now) (opened c) c.args.id c.args.request.now)) (sym e.0)
+            (used_up c.args.routes.now (opened c) c.args.id c.args.request.now c.in-Some.framed.header c.in-Some.ensures.readable (routed c true ours)
+            (fresh c) (lt-ltb (length c.self.inside.rows) c.self.inside.settings.cap room) (row_alike c.args.routes.now (opened c) c.self.inside.payments c.self.invariant.0 c.args.id c.args.request.now) e.1)
+      ])
+
+  -- the new row answers the request
+  is_new : (row : Row) (changes : List Change) → IsEntry c.args.self.now row changes × (row ≡ record { id = c.args.id; request = c.args.request.now; rulings = rulings_by (ByPlan c.self.inside.plan) c.args.self.now c.args.id c.args.request.now })
+      → IsNew (bytes_with c.args.routes.now) c.args.self.now c.args.id c.args.request.now row changes
+  is_new row changes made =
+      let is = subst (λ (b : Book). row ≡ record { id = c.args.id; request = c.args.request.now; rulings = rulings_by (ByPlan c.self.inside.plan) b c.args.id c.args.request.now }) (sym c.self.view_is) made.1 in
+      let entry = subst (λ (b : Book). IsEntry b row changes) (sym c.self.view_is) made.0 in
+      let bytes = answer_text c.in-Some.framed.header AcceptedStatus row.rulings in
+      let text : kept_answer row ≡ bytes = new_text row c.args.id c.args.request.now _ c.in-Some.framed.header c.in-Some.ensures.readable is bytes refl in
+      subst (λ (b : Book). IsNew (bytes_with c.args.routes.now) b c.args.id c.args.request.now row changes) c.self.view_is
+      (record {
+        entry = entry;
+        room = room;
+        fresh = ap (λ (r : Row). row_of r.id c.self.inside.rows) is ∙ fresh c;
+        ruled = answered_new c.args.routes.now (opened c) c.args.id c.args.request.now c.in-Some.framed.header c.in-Some.ensures.readable (routed c true ours)
+            (fresh c) (lt-ltb (length c.self.inside.rows) c.self.inside.settings.cap room) (row_alike c.args.routes.now (opened c) c.self.inside.payments c.self.invariant.0 c.args.id c.args.request.now)
+            (with_row (opened c) row) row (kept_answer row) false is entry.fit refl text refl;
+      })
 
 pub returns-clause-decided : goal.returns-clause-decided
 returns-clause-decided c =
     let d = (goal.at.returns-clause-decided c).After-leads_to in
-    let e = c.in_ok-entry.entry in
-    let room : length c.self.inside.rows < c.self.inside.settings.cap = omega (arith, c.len.ensures, c.cap.ensures.value) in
-    let ruled = subst (λ (b : Book). e.row ≡ record { id = c.args.id; request = c.args.request.now; rulings = rulings_by (ByPlan c.self.inside.plan) b c.args.id c.args.request.now }) (sym c.self.view_is) c.in_ok-entry.ensures.row in
-    let fit = (subst (λ (b : Book). IsEntry b e) (sym c.self.view_is) c.in_ok-entry.ensures.made).fit in
-    let text : kept_answer e.row ≡ e.bytes.items = new_text e.row c.args.id c.args.request.now _ c.in-Some.framed.header c.in-Some.ensures.readable ruled e.bytes.items c.in_ok-entry.ensures.text in
-    subst (λ (b : Book). IsNew (bytes_with c.args.routes.now) b c.args.id c.args.request.now e) c.self.view_is
-    (record {
-      entry = subst (λ (b : Book). IsEntry b e) (sym c.self.view_is) c.in_ok-entry.ensures.made;
-      room = room;
-      fresh = ap (λ (row : Row). row_of row.id c.self.inside.rows) ruled ∙ fresh d;
-      text = text;
-      ruled = answered_new c.args.routes.now (opened d) c.args.id c.args.request.now c.in-Some.framed.header c.in-Some.ensures.readable (routed d true c.if-not-leads_to.false)
-          (fresh d) (lt-ltb (length c.self.inside.rows) c.self.inside.settings.cap room) (row_alike c.args.routes.now (opened d) c.self.inside.payments c.self.invariant.0 c.args.id c.args.request.now)
-          (with_row (opened d) e.row) e.row e.bytes.items false ruled fit refl c.in_ok-entry.ensures.text refl;
-    })
+    let room : length c.self.inside.rows < c.self.inside.settings.cap = omega (arith, c.len.ensures, c.cap.ensures.value, c.if-len-cap.false) in
+    IfOk-weaker c.prepare.result _ _ (λ row made. is_new d c.if-not-leads_to.false room row c.prepare.new.draft.changes.items made) c.prepare.ensures.made
+
+pub returns-clause-fault : goal.returns-clause-fault
+returns-clause-fault c =
+    let d = (goal.at.returns-clause-fault c).After-leads_to in
+    let room : length c.self.inside.rows < c.self.inside.settings.cap = omega (arith, c.len.ensures, c.cap.ensures.value, c.if-len-cap.false) in
+    IfErr-weaker c.prepare.result _ _ (λ f why. refused d c.if-not-leads_to.false room f why) c.prepare.ensures.fault

@@ -1,4 +1,4 @@
-use Rattle.std.proofs.Common.{◌≡◌, ℕ, ◌≤◌, List, [], length, true, false, Some, inl, inr, sym, ap, ◌∙◌, subst, arith}
+use Rattle.std.proofs.Common.{◌≡◌, ℕ, ◌≤◌, List, [], ◌++◌, length, true, false, Some, inl, inr, sym, ap, ◌∙◌, subst, arith}
 use Rattle.std.specs.List.{list_all, AllByRecursion}
 use Rattle.std.proofs.lemmas.Result.{err_from_is_err_and}
 use Rattle.bin_routes.specs.Table.{routes_of}
@@ -6,7 +6,6 @@ use Rattle.d0_header.specs.Request.{Request}
 use Rattle.d0_segments.specs.FramedParts.{framed_parts}
 use Rattle.claim_profile.specs.declared.ruling.HeaderStatus.TheVariants.{Accepted}
 use Rattle.claim_profile.specs.Answer.{AreWritable, answer_text}
-use Rattle.claim_profile.specs.Readable.{readable_header}
 use Rattle.claim_model.specs.Words.{Ruling, Plan}
 use Rattle.claim_model.specs.Laws.{IsRuling}
 use Rattle.claim_model.specs.Bytes.{orders_in}
@@ -17,14 +16,15 @@ use Rattle.payer_book.specs.Changes.{changes_by}
 use Rattle.payer_book.specs.Drafts.{pricing, rulings_on}
 use Rattle.payer_book.specs.Books.{reading}
 use Rattle.payer_book.specs.Added.{kept_answer, kept_rulings, with_row, with_kept}
-use Rattle.payer_book.specs.Entries.{with_plan, rulings_by}
+use Rattle.payer_book.specs.Entries.{with_plan, rulings_by, IsEntry}
+use Rattle.payer_book.specs.Kept.{IsAnswered}
 use Rattle.payer_book.proofs.Readings.{readable_alike}
 use Rattle.payer_book.proofs.RulingLemmas.{rulings_writable, length_rulings}
 use Rattle.payer_book.proofs.Keeping.{rulings_by_on, kept_again}
 use Rattle.payer_book.proofs.Tellable.{rulings_told, prices_fit}
 use Rattle.payer_book.proofs.Grown.{row_stands}
 use Rattle.payer_book.proofs.book.Book.prepare.Goals as goal
-use Rattle.payer_book.proofs.book.Book.prepare.Goals.{After-rule_all, In_ok-rulings, After-new}
+use Rattle.payer_book.proofs.book.Book.prepare.Goals.{After-rule_all, In_ok-rule_all, After-copy_of}
 
 -- the book that was opened
 abbrev opened : (c : After-rule_all) → Book
@@ -36,16 +36,16 @@ same_orders c = ap orders_in (sym c.requires.parts)
 is_readable : (c : After-rule_all) → readable reading c.args.request.now ≡ Some c.args.framed.now.header
 is_readable c = readable_alike (routes_of []) c.args.request.now ∙ c.requires.readable
 
-ruled : (c : In_ok-rulings) → c.in_ok-rulings.field-0.rulings.items ≡ rulings_on c.self.inside.payments (pricing c.args.prices) [] (reading.orders c.args.request.now)
-ruled c = c.in_ok-rulings.ensures.made.ruled ∙ ap (rulings_on c.self.inside.payments (pricing c.args.prices) []) (ap orders_in (sym c.requires.parts))
+ruled : (c : In_ok-rule_all) → c.rule_all.new.draft.rulings.items ≡ rulings_on c.self.inside.payments (pricing c.args.prices) [] (reading.orders c.args.request.now)
+ruled c = c.in_ok-rule_all.ensures.made.ruled ∙ ap (rulings_on c.self.inside.payments (pricing c.args.prices) []) (ap orders_in (sym c.requires.parts))
 
-pub returns-in_err-rulings-clause-fault : goal.returns-in_err-rulings-clause-fault
-returns-in_err-rulings-clause-fault c =
-    let d = (goal.at.returns-in_err-rulings-clause-fault c).After-rule_all in
+pub returns-in_err-rule_all-clause-fault : goal.returns-in_err-rule_all-clause-fault
+returns-in_err-rule_all-clause-fault c =
+    let d = (goal.at.returns-in_err-rule_all-clause-fault c).After-rule_all in
     let p = err_from_is_err_and c.from_residual.result c.from_residual.ensures.1 in
     let same = ap (rulings_on c.self.inside.payments (pricing c.args.prices) []) (sym (same_orders d)) in
     rw (p.1, p.2)
-    (elim c.in_err-rulings.ensures.fault [
+    (elim c.in_err-rule_all.ensures.fault [
       | inl e ↦ inl e
       | inr e ↦ inr (
         e.0,
@@ -54,55 +54,46 @@ returns-in_err-rulings-clause-fault c =
       )
     ])
 
-pub write_answer-requires-clause-count : goal.write_answer-requires-clause-count
-write_answer-requires-clause-count c =
-    let d = (goal.at.write_answer-requires-clause-count c).After-rule_all in
-    let o = (goal.at.write_answer-requires-clause-count c).In_ok-rulings in
-    ap (λ (rs : List Ruling). length rs) (c.as_slice.ensures.value ∙ ruled o)
+pub put_answer-requires-clause-count : goal.put_answer-requires-clause-count
+put_answer-requires-clause-count c =
+    let d = (goal.at.put_answer-requires-clause-count c).After-rule_all in
+    let o = (goal.at.put_answer-requires-clause-count c).In_ok-rule_all in
+    ap (λ (rs : List Ruling). length rs) (c.as_slice-rulings.ensures.value ∙ ruled o)
     ∙ (length_rulings c.self.inside.payments (pricing c.args.prices) [] (reading.orders c.args.request.now)
     ∙ (c.orders_of_requests.ensures.groups (routes_of []) c.args.request.now c.args.framed.now.header (is_readable d)
     ∙ ap (λ (h : Request). h.count) (sym c.header.ensures)))
 
-pub write_answer-requires-clause-writable : goal.write_answer-requires-clause-writable
-write_answer-requires-clause-writable c =
-    let d = (goal.at.write_answer-requires-clause-writable c).After-rule_all in
-    let o = (goal.at.write_answer-requires-clause-writable c).In_ok-rulings in
-    subst (AreWritable Accepted) (sym (c.as_slice.ensures.value ∙ ruled o))
+pub put_answer-requires-clause-writable : goal.put_answer-requires-clause-writable
+put_answer-requires-clause-writable c =
+    let d = (goal.at.put_answer-requires-clause-writable c).After-rule_all in
+    let o = (goal.at.put_answer-requires-clause-writable c).In_ok-rule_all in
+    subst (AreWritable Accepted) (sym (c.as_slice-rulings.ensures.value ∙ ruled o))
     (rulings_writable c.self.inside.payments (pricing c.args.prices) [] c.args.framed.now.header (reading.orders c.args.request.now)
     (c.orders_of_requests.ensures.orders (routes_of []) c.args.request.now c.args.framed.now.header (is_readable d)))
 
-ruled_new : (c : After-new) → c.in_ok-rulings.field-0.rulings.items ≡ rulings_on c.self.inside.payments (pricing c.args.prices) [] (reading.orders c.args.request.now)
-ruled_new c = c.in_ok-rulings.ensures.made.ruled ∙ ap (rulings_on c.self.inside.payments (pricing c.args.prices) []) (ap orders_in (sym c.requires.parts))
+ruled_new : (c : After-copy_of) → c.rule_all.new.draft.rulings.items ≡ rulings_on c.self.inside.payments (pricing c.args.prices) [] (reading.orders c.args.request.now)
+ruled_new c = c.in_ok-rule_all.ensures.made.ruled ∙ ap (rulings_on c.self.inside.payments (pricing c.args.prices) []) (ap orders_in (sym c.requires.parts))
 
 -- the rulings of the new row are those of its request at these prices
-by_prices : (c : After-new) → c.in_ok-rulings.field-0.rulings.items ≡ rulings_by (pricing c.args.prices) c.args.self.now c.args.id c.args.request.now
+by_prices : (c : After-copy_of) → c.rule_all.new.draft.rulings.items ≡ rulings_by (pricing c.args.prices) c.args.self.now c.args.id c.args.request.now
 by_prices c =
     let b : Book = record { payer = c.self.inside.payer; settings = c.self.inside.settings; plan = c.self.inside.plan; rows = c.self.inside.rows } in
-    subst (λ (q : Book). c.in_ok-rulings.field-0.rulings.items ≡ rulings_by (pricing c.args.prices) q c.args.id c.args.request.now) c.self.view_is
+    subst (λ (q : Book). c.rule_all.new.draft.rulings.items ≡ rulings_by (pricing c.args.prices) q c.args.id c.args.request.now) c.self.view_is
     (ruled_new c ∙ sym (rulings_by_on b c.self.inside.payments c.self.invariant.0 c.args.id c.args.request.now (pricing c.args.prices)))
 
-pub returns-clause-row : goal.returns-clause-row
-returns-clause-row c =
-    let e = c.in_ok-request.ensures in
-    let f = by_prices c in
-    c.new.ensures ∙ (λ i. let r : Row = record { id = c.args.id; request = e i; rulings = f i } in r)
-
--- and those that the rules give again
-made_again : (c : After-new) → c.new.result.rulings ≡ kept_rulings c.args.self.now c.new.result.id c.new.result.request c.new.result.rulings
+-- which are those that the rules give again
+made_again : (c : After-copy_of) → c.rule_all.new.draft.rulings.items ≡ kept_rulings c.args.self.now c.args.id c.args.request.now c.rule_all.new.draft.rulings.items
 made_again c =
     let b : Book = record { payer = c.self.inside.payer; settings = c.self.inside.settings; plan = c.self.inside.plan; rows = c.self.inside.rows } in
-    let rulings = c.in_ok-rulings.field-0.rulings.items in
-    let first : rulings ≡ kept_rulings c.args.self.now c.args.id c.args.request.now rulings =
+    let rulings = c.rule_all.new.draft.rulings.items in
     subst (λ (q : Book). rulings ≡ kept_rulings q c.args.id c.args.request.now rulings) c.self.view_is
-    (kept_again b c.self.inside.payments c.self.invariant.0 c.args.id c.args.request.now (pricing c.args.prices) rulings (ruled_new c)) in
-    subst (λ (r : Row). r.rulings ≡ kept_rulings c.args.self.now r.id r.request r.rulings) (sym c.new.ensures)
-    (subst (λ (t : List ℕ). rulings ≡ kept_rulings c.args.self.now c.args.id t rulings) (sym c.in_ok-request.ensures) first)
+    (kept_again b c.self.inside.payments c.self.invariant.0 c.args.id c.args.request.now (pricing c.args.prices) rulings (ruled_new c))
 
-fits : (c : After-new) → list_all serial_fits c.in_ok-rulings.field-0.rulings.items ≡ true
-fits c = c.in_ok-rulings.ensures.made.fit
+fits : (c : After-copy_of) → list_all serial_fits c.rule_all.new.draft.rulings.items ≡ true
+fits c = c.in_ok-rule_all.ensures.made.fit
 
 -- an answer can tell of each ruling
-all_told : (c : After-new) → AllByRecursion IsRuling c.in_ok-rulings.field-0.rulings.items
+all_told : (c : After-copy_of) → AllByRecursion IsRuling c.rule_all.new.draft.rulings.items
 all_told c =
     let l = c.self.inside.payments in
     let orders = reading.orders c.args.request.now in
@@ -117,31 +108,40 @@ all_told c =
     (rulings_told l prices h some_payer payer_fits serial (prices_fit (c.orders_of_requests.ensures.prices (routes_of [])) h prices c.requires.prices) [] orders c.self.invariant.1.told
     (c.orders_of_requests.ensures.orders (routes_of []) c.args.request.now h reads) (ap (list_all serial_fits) (sym (ruled_new c)) ∙ fits c))
 
+-- the row of these rulings
+abbrev made_row : (c : After-copy_of) → Row
+made_row c = record { id = c.args.id; request = c.args.request.now; rulings = c.rule_all.new.draft.rulings.items }
+
 -- so the row can be added
-stands_again : (c : After-new) (plan : Plan) → with_kept (with_plan c.args.self.now plan) c.new.result.id c.new.result.request (kept_answer c.new.result) ≡ Some (with_row (with_plan c.args.self.now plan) c.new.result)
+stands_again : (c : After-copy_of) (plan : Plan) → with_kept (with_plan c.args.self.now plan) c.args.id c.args.request.now (kept_answer (made_row c)) ≡ Some (with_row (with_plan c.args.self.now plan) (made_row c))
 stands_again c =
     let h = c.args.framed.now.header in
-    let reads : readable_header c.new.result.request ≡ Some h = ap (λ (r : Row). readable_header r.request) c.new.ensures ∙ (ap readable_header c.in_ok-request.ensures ∙ c.requires.readable) in
-    let same : c.new.result.rulings ≡ c.in_ok-rulings.field-0.rulings.items = ap (λ (r : Row). r.rulings) c.new.ensures in
-    let count : length c.new.result.rulings ≡ h.count =
-    ap (λ (rs : List Ruling). length rs) (same ∙ ruled_new c)
+    let count : length c.rule_all.new.draft.rulings.items ≡ h.count =
+    ap (λ (rs : List Ruling). length rs) (ruled_new c)
     ∙ (length_rulings c.self.inside.payments (pricing c.args.prices) [] (reading.orders c.args.request.now)
     ∙ c.orders_of_requests.ensures.groups (routes_of []) c.args.request.now h (readable_alike (routes_of []) c.args.request.now ∙ c.requires.readable)) in
-    row_stands c.bytes_keep_laws.ensures c.args.self.now c.new.result h reads count (subst (AllByRecursion IsRuling) (sym same) (all_told c)) (made_again c) (ap (list_all serial_fits) same ∙ fits c)
+    row_stands c.bytes_keep_laws.ensures c.args.self.now (made_row c) h c.requires.readable count (all_told c) (made_again c) (fits c)
 
-pub returns-clause-made : goal.returns-clause-made
-returns-clause-made c = record {
+-- the entry of that row
+is_entry : (c : After-copy_of) → IsEntry c.args.self.now (made_row c) c.rule_all.new.draft.changes.items
+is_entry c = record {
   ruled = made_again c;
-  fit = ap (λ (r : Row). list_all serial_fits r.rulings) c.new.ensures ∙ c.in_ok-rulings.ensures.made.fit;
-  changed = c.in_ok-rulings.ensures.made.changed ∙ (ap (λ os. changes_by os c.in_ok-rulings.field-0.rulings.items) (ap orders_in (sym c.requires.parts))
-      ∙ (ap (λ (t : List ℕ). changes_by (reading.orders t) c.in_ok-rulings.field-0.rulings.items) (sym c.in_ok-request.ensures)
-      ∙ ap (λ (r : Row). changes_by (reading.orders r.request) r.rulings) (sym c.new.ensures)));
-  told = subst (λ (r : Row). AllByRecursion IsRuling r.rulings) (sym c.new.ensures) (all_told c);
+  fit = fits c;
+  changed = c.in_ok-rule_all.ensures.made.changed ∙ ap (λ os. changes_by os c.rule_all.new.draft.rulings.items) (ap orders_in (sym c.requires.parts));
+  told = all_told c;
   stands = stands_again c;
 }
 
+pub returns-clause-made : goal.returns-clause-made
+returns-clause-made c =
+    let d = (goal.at.returns-clause-made c).After-copy_of in
+    let is : c.in_ok-copy_of.field-0 ≡ made_row d = c.in_ok-copy_of.ensures ∙ ap (λ (rs : List Ruling). let r : Row = record { id = c.args.id; request = c.args.request.now; rulings = rs } in r) c.as_slice-rulings.ensures.value in (
+      subst (λ (r : Row). IsEntry c.args.self.now r c.rule_all.new.draft.changes.items) (sym is) (is_entry d),
+      is ∙ ap (λ (rs : List Ruling). let r : Row = record { id = c.args.id; request = c.args.request.now; rulings = rs } in r) (by_prices d),
+    )
+
 -- an answer can tell of each ruling of the draft
-draft_told : (c : In_ok-rulings) → AllByRecursion IsRuling c.in_ok-rulings.field-0.rulings.items
+draft_told : (c : In_ok-rule_all) → AllByRecursion IsRuling c.rule_all.new.draft.rulings.items
 draft_told c =
     let l = c.self.inside.payments in
     let orders = reading.orders c.args.request.now in
@@ -154,31 +154,29 @@ draft_told c =
     let payer_fits : l.payer ≤ 9999 = omega (arith, payer, c.self.invariant.1.payer_fits) in
     subst (AllByRecursion IsRuling) (sym (ruled c))
     (rulings_told l prices h some_payer payer_fits serial (prices_fit (c.orders_of_requests.ensures.prices (routes_of [])) h prices c.requires.prices) [] orders c.self.invariant.1.told
-    (c.orders_of_requests.ensures.orders (routes_of []) c.args.request.now h reads) (ap (list_all serial_fits) (sym (ruled c)) ∙ c.in_ok-rulings.ensures.made.fit))
+    (c.orders_of_requests.ensures.orders (routes_of []) c.args.request.now h reads) (ap (list_all serial_fits) (sym (ruled c)) ∙ c.in_ok-rule_all.ensures.made.fit))
 
 -- so its answer is short
-draft_short : (c : In_ok-rulings) → length (answer_text c.args.framed.now.header Accepted c.in_ok-rulings.field-0.rulings.items) ≤ 32768
+draft_short : (c : In_ok-rule_all) → length (answer_text c.args.framed.now.header Accepted c.rule_all.new.draft.rulings.items) ≤ 32768
 draft_short c =
     let h = c.args.framed.now.header in
     let reads = readable_alike (routes_of []) c.args.request.now ∙ c.requires.readable in
-    let count : length c.in_ok-rulings.field-0.rulings.items ≡ h.count =
+    let count : length c.rule_all.new.draft.rulings.items ≡ h.count =
     ap (λ (rs : List Ruling). length rs) (ruled c)
     ∙ (length_rulings c.self.inside.payments (pricing c.args.prices) [] (reading.orders c.args.request.now)
     ∙ c.orders_of_requests.ensures.groups (routes_of []) c.args.request.now h reads) in
-    let spelled = (c.bytes_keep_laws.ensures (routes_of [])).answers c.args.request.now h Accepted c.in_ok-rulings.field-0.rulings.items reads count (draft_told c) tt in
+    let spelled = (c.bytes_keep_laws.ensures (routes_of [])).answers c.args.request.now h Accepted c.rule_all.new.draft.rulings.items reads count (draft_told c) tt in
     spelled.short
 
-pub new-requires : goal.new-requires
-new-requires c =
-    let o = (goal.at.new-requires c).In_ok-rulings in
+pub copy_of-requires : goal.copy_of-requires
+copy_of-requires c =
+    let o = (goal.at.copy_of-requires c).In_ok-rule_all in
     let h = c.args.framed.now.header in
-    let rulings = c.in_ok-rulings.field-0.rulings.items in
-    let text : c.in_ok-answer.answer ≡ answer_text h Accepted rulings =
-    c.in_ok-answer.ensures ∙ (c.as_slice-2.ensures.value ∙ (c.in_ok-bytes.ensures.text
-    ∙ (ap (λ (x : Request). answer_text x Accepted c.as_slice.result.now) c.header.ensures ∙ ap (λ (rs : List Ruling). answer_text h Accepted rs) c.as_slice.ensures.value))) in
-    record {
-      header = h;
-      reads = ap readable_header c.in_ok-request.ensures ∙ c.requires.readable;
-      text = text;
-      short = subst (λ (t : List ℕ). length t ≤ 32768) (sym text) (draft_short o);
-    }
+    let rulings = c.rule_all.new.draft.rulings.items in
+    let text : c.as_slice.result.now ≡ answer_text h Accepted rulings =
+    c.as_slice.ensures.value ∙ (c.in_ok-put_answer.ensures.text
+    ∙ ap (λ (t : List ℕ). t ++ answer_text c.header.result.now Accepted c.as_slice-rulings.result.now) c.clear.ensures.items
+    ∙ (ap (λ (x : Request). answer_text x Accepted c.as_slice-rulings.result.now) c.header.ensures ∙ ap (λ (rs : List Ruling). answer_text h Accepted rs) c.as_slice-rulings.ensures.value)) in
+    let short : length c.as_slice.result.now ≤ 32768 = subst (λ (t : List ℕ). length t ≤ 32768) (sym text) (draft_short o) in
+    subst (λ (rs : List Ruling). IsAnswered c.args.request.now rs c.as_slice.result.now) (sym c.as_slice-rulings.ensures.value)
+    (record { header = h; reads = c.requires.readable; text = text; short = short })

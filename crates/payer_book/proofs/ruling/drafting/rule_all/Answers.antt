@@ -1,4 +1,4 @@
-use Rattle.std.proofs.Common.{◌≡◌, ◌+◌, ◌<◌, ◌≤◌, List, ◌∷◌, drop, length, Some, inl, inr, refl, sym, ap, ◌∙◌, arith}
+use Rattle.std.proofs.Common.{◌≡◌, ◌+◌, ◌<◌, ◌≤◌, ◌∷◌, drop, length, Some, inl, inr, refl, sym, ap, ◌∙◌, arith}
 use Rattle.std.proofs.lemmas.List.{length-map}
 use Rattle.std.proofs.lemmas.Result.{err_from_is_err_and}
 use Rattle.d0_segments.specs.Pieces.{shared_of, groups_of}
@@ -18,7 +18,7 @@ next c =
     ∙ ap (λ o. order_in o ∷ drop (c.loop-place.place + 1) (orders_in (Some (framed_parts f)))) (sym c.order_at.ensures)
 
 pub loop-place-init : goal.loop-place-init
-loop-place-init c = rw (c.in_ok-draft.ensures.0, c.in_ok-draft.ensures.1) (nothing_yet _ _ _)
+loop-place-init c = rw (c.clear.ensures.0, c.clear.ensures.1) (nothing_yet _ _ _)
 
 pub loop-place-preserved : goal.loop-place-preserved
 loop-place-preserved c =
@@ -28,7 +28,7 @@ loop-place-preserved c =
 
 pub returns-in_err-rule-clause-fault : goal.returns-in_err-rule-clause-fault
 returns-in_err-rule-clause-fault c =
-    let p = err_from_is_err_and c.from_residual-in_err-rule.result c.from_residual-in_err-rule.ensures.1 in
+    let p = err_from_is_err_and c.from_residual.result c.from_residual.ensures.1 in
     rw (p.1, p.2)
     (elim c.in_err-rule.ensures.fault [
       | inl e ↦ inl e

@@ -1,0 +1,70 @@
+//! Answering a request with the row that keeps the answer, so that no byte of it is copied.
+
+ghost use Rattle.std.specs.Prelude.{◌≡◌, OnErr, IfOk, IfErr, None};
+ghost use Rattle.claim_model.specs.Bytes.{bytes_with};
+ghost use Rattle.claim_model.specs.Book.{answered, row_of};
+ghost use Rattle.payer_book.specs.Faults.{RefusedFor};
+ghost use Rattle.payer_book.specs.Placing.{IsAnsweredAt};
+
+use crate::book::Book;
+use crate::fault::BookFault;
+use crate::ruling::drafting::Draft;
+use bin_routes::Routes;
+use envelope::TxnId;
+use std::alloc::Global;
+
+/// Where the answer to a request stands, and whether the book had it already.
+#[derive(Clone, Copy, Debug, PartialEq, Eq)]
+pub struct Placed {
+    /// The place of the row that has the answer, from 0: [`Book::row`] lends it.
+    pub place: usize,
+    /// True where the number was known with the same request.
+    pub kept: bool,
+}
+
+impl Book {
+    /// Answers the request that came under that id as `answer` does, and tells which row has the answer. `row` lends
+    /// that row and its bytes, so they are not copied.
+    ///
+    /// # Errors
+    /// Those of `answer`, in its order. The book is as it was after each of them.
+    pub fn answer_at(
+        &mut self,
+        routes: &Routes,
+        id: TxnId,
+        request: &[u8],
+    ) -> Result<Placed, BookFault>
+        ensures ok { IfOk result (λ at. IsAnsweredAt (bytes_with routes.now) self.old id request.now self.new at.place at.kept) }
+        ensures fault { IfErr result (λ fault. RefusedFor fault (answered (bytes_with routes.now) self.old id request.now)) }
+        ensures err { OnErr result (self.new ≡ self.old) }
+    {
+        if let Some(place) = self.known(routes, id, request)? {
+            return Ok(Placed { place, kept: true });
+        }
+        let alloc = self.allocator();
+        let mut draft = self.lend_draft(alloc);
+        let result = self.place_new(alloc, &mut draft, routes, id, request);
+        self.keep_draft(draft);
+        result
+    }
+
+    /// Answers the request of a new id.
+    fn place_new(
+        &mut self,
+        alloc: Global,
+        draft: &mut Draft,
+        routes: &Routes,
+        id: TxnId,
+        request: &[u8],
+    ) -> Result<Placed, BookFault>
+        requires { row_of id self.old.rows ≡ None }
+        ensures ok { IfOk result (λ at. IsAnsweredAt (bytes_with routes.now) self.old id request.now self.new at.place at.kept) }
+        ensures fault { IfErr result (λ fault. RefusedFor fault (answered (bytes_with routes.now) self.old id request.now)) }
+        ensures err { OnErr result (self.new ≡ self.old) }
+    {
+        let row = self.decide_new(alloc, draft, routes, id, request)?;
+        let place = self.rows().len();
+        self.enter(row, draft.changes.as_slice())?;
+        Ok(Placed { place, kept: false })
+    }
+}
