@@ -1,7 +1,8 @@
 -- What is left behind a field, a name and a group separator.
-use Rattle.std.proofs.Common.{◌≡◌, ℕ, zero, suc, ◌+◌, ◌<◌, ◌≤◌, Bool, true, false, not, cond, eqb, ◌&&◌, ◌||◌, List, [], ◌∷◌, ◌++◌, map, length, get_or, drop, refl, sym, ap, ◌∙◌, arith, length-drop, ◌⊎◌, inl, inr}
+use Rattle.std.proofs.Common.{◌≡◌, ℕ, zero, suc, ◌+◌, ◌<◌, ◌≤◌, Bool, true, false, not, cond, eqb, ◌&&◌, ◌||◌, List, [], ◌∷◌, ◌++◌, map, length, get_or, drop, refl, sym, ap, ◌∙◌, arith, length-drop, ◌⊎◌, inl, inr, Some}
 use Rattle.std.proofs.lemmas.List.{append-nil, length-map}
 use Rattle.std.proofs.lemmas.Bool.{eqb-true}
+use Rattle.memchr.specs.Find.{IsFirstByte, is_byte}
 use Rattle.d0_segments.specs.Separators.{is_id, ends_here, ends_segment, begins_with}
 use Rattle.d0_segments.specs.Parts.{FieldParts, SegmentParts, is_field}
 use Rattle.d0_segments.specs.Faults.{count_groups}
@@ -160,6 +161,11 @@ no_groups [] never = refl
 no_groups (b ∷ bs) never =
     groups_over b bs (is_false (eqb b 29) (never 0 (omega arith) (omega arith)))
     ∙ no_groups bs (λ j low below. never (suc j) (omega arith) (omega arith))
+
+-- a group separator at the front is the first
+pub first_here : (bs : List ℕ) → begins_with 29 bs ≡ true → IsFirstByte (is_byte 29) bs (Some 0)
+first_here [] begins = absurd cc
+first_here (b ∷ bs) begins = (record { low = omega arith; high = omega arith; before = λ j low below. absurd (omega (arith, below)) }, begins)
 
 -- as many groups as group separators
 pieces_count_of : (t : Bool) (ps : List (List ℕ)) (b n : ℕ) → length ps ≡ 1 + n → length (let qs : List (List ℕ) = cond t ([] ∷ ps) (onto b ps) in qs) ≡ 1 + (cond t 1 0 + n)

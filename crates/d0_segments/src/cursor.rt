@@ -6,6 +6,7 @@ ghost use Rattle.d0_segments.specs.Texts.{field_text};
 ghost use Rattle.d0_segments.specs.Views.{field_parts};
 ghost use Rattle.d0_segments.specs.Pieces.{shared_of, groups_of};
 ghost use Rattle.d0_segments.specs.Inside.{is_inside, fields_left};
+ghost use Rattle.memchr.specs.Find.{IsFirstByte, is_byte};
 
 use crate::field::Field;
 use crate::rest::{behind, byte_at};
@@ -134,9 +135,20 @@ impl<'a> Cursor<'a> {
         ensures groups { MatchOption result (groups_of self.entry.bytes.now ≡ []) (λ x. groups_of self.entry.bytes.now ≡ shared_of x.bytes.now ∷ groups_of x.bytes.now) }
         ensures shorter { IfSome result (λ x. length x.bytes.now < length self.entry.bytes.now) }
     {
-        match memchr(GROUP_SEPARATOR, self.bytes) {
+        match next_group(self.bytes) {
             Some(place) => Some(Cursor::at(behind(self.bytes, place + 1))),
             None => None,
         }
     }
+}
+
+/// The place of the next group separator. Where no segments stand in front of the first group, it is the first byte.
+#[inline(always)]
+fn next_group(bytes: &[u8]) -> Option<usize>
+    ensures { IsFirstByte (is_byte 29) bytes.now result }
+{
+    if begins_with(bytes, GROUP_SEPARATOR) {
+        return Some(0);
+    }
+    memchr(GROUP_SEPARATOR, bytes)
 }
