@@ -1,4 +1,4 @@
 pub mod Leaving
 pub mod Breaking
 pub mod Listing
-pub mod Reading
+pub mod LogReading

@@ -2,3 +2,5 @@ pub mod Values
 pub mod Crosses
 pub mod Lines
 pub mod Appending
+pub mod Pieces
+pub mod Verdicts

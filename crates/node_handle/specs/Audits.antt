@@ -1,5 +1,5 @@
 -- What is said of logs that stand one behind another.
-use Rattle.std.specs.Prelude.{◌≡◌, ◌≢◌, ◌⊎◌, ℕ, nat_lt, Bool, true, false, List, [], ◌∷◌, ◌++◌, length, take, drop, Result, Ok, Err, Option, Some, None, if◌then◌else◌}
+use Rattle.std.specs.Prelude.{◌≡◌, ◌≢◌, ◌⊎◌, ℕ, nat_lt, Bool, true, false, List, [], ◌∷◌, length, take, drop, Ok, Err, Option, Some, None, if◌then◌else◌}
 use Rattle.std.specs.Option.{option_map}
 use Rattle.claim_logs.specs.Logs.{NodeLog}
 use Rattle.world_setup.specs.declared.settings.WorldSettings.{WorldSettings}
@@ -14,14 +14,23 @@ cut_at [] [] = Some []
 cut_at [] (byte ∷ more) = None
 cut_at (size ∷ sizes) bytes = if nat_lt (length bytes) size then None else option_map (λ pieces. take size bytes ∷ pieces) (cut_at sizes (drop size bytes))
 
--- bytes are logs of these sizes under the settings that a text spells, of one legal run or of none
-pub record IsJudged (text bytes sizes : List ℕ) (legal : Bool) : Type 0 where
-  pub pieces : List (List ℕ)
-  pub cut : cut_at sizes bytes ≡ Some pieces
+-- pieces of bytes are logs under the settings that a text spells, of one legal run or of none
+pub record IsReported (text : List ℕ) (pieces : List (List ℕ)) (legal : Bool) : Type 0 where
   pub settings : WorldSettings
   pub logs : List NodeLog
   pub read : IsRead text pieces settings logs
   pub told : IsTold settings logs legal
+
+-- the same of bytes with the logs of these sizes
+pub record IsJudged (text bytes sizes : List ℕ) (legal : Bool) : Type 0 where
+  pub pieces : List (List ℕ)
+  pub cut : cut_at sizes bytes ≡ Some pieces
+  pub reported : IsReported text pieces legal
+
+-- a verdict is said where all was told; else the buffer is as it was
+abbrev pub JudgedAs : Bool → Said → List ℕ → List ℕ → Type 0
+JudgedAs legal (Ok made) buffer after = legal ≡ true
+JudgedAs legal (Err why) buffer after = ((why ≡ NoRun) × (legal ≡ false)) ⊎ ((why ≢ NoRun) × (after ≡ buffer))
 
 -- there is a legal run, or it is said that there is none; at any other outcome the buffer is as it was
 abbrev pub Audits : List ℕ → List ℕ → List ℕ → Said → List ℕ → List ℕ → Type 0

@@ -5,3 +5,4 @@ pub mod Texts
 pub mod Typed
 pub mod Asked
 pub mod Payments
+pub mod Audits

@@ -1,21 +1,25 @@
 //! Whether logs are those of one legal run, as claimaudit tells it.
 
-ghost use Rattle.std.specs.Prelude.{◌≡◌, ◌⊎◌, IfErr};
+ghost use Rattle.std.specs.Prelude.{◌≡◌, ◌≢◌, map, true, false, IfOk, IfErr, OnOk};
+ghost use Rattle.run_merge.specs.LogSeen.{logs_seen};
+ghost use Rattle.log_audit.specs.Given.{IsRead};
 ghost use Rattle.node_handle.specs.declared.refusal.Refusal.TheVariants.{NoRun};
+ghost use Rattle.node_handle.specs.Audits.{Audits, IsJudged, IsReported, JudgedAs};
 
+use crate::cutting::pieces_of;
 use crate::reading::copy_out;
 use crate::refusal::{Refusal, refusal_of_log};
 use log_audit::{AuditFault, Audited, Form, Report, read_audited, report_on};
 use message_words::Style;
-use std::alloc::{AllocError, Global};
+use std::alloc::Global;
 
 /// Judges logs, which stand one behind another, each of its size; copies what claimaudit tells of them, as lines or as one
 /// object of JSON.
 ///
 /// # Errors
 /// `NoRun` where they are those of no legal run; what is told of them was copied then too. Else the buffer is as it was:
-/// `Settings`, or the fault of a log, with its place among the logs, from 0, in `size`; `NotALog` also where the sizes are
-/// not those of all bytes; `ShortBuffer`, or memory was refused.
+/// `Settings`, or the fault of a log, with its place among the logs, from 0, in `size`; `NotALog`, with their count, where
+/// the sizes are not those of all bytes; `ShortBuffer`, or memory was refused.
 pub fn audit(
     alloc: Global,
     style: Style,
@@ -25,7 +29,7 @@ pub fn audit(
     buffer: &mut [u8],
     size: &mut usize,
 ) -> Result<(), Refusal>
-    ensures { IfErr result (λ why. (why ≡ NoRun) ⊎ (buffer.new ≡ buffer.old)) }
+    ensures { Audits settings.now logs.now sizes.now result buffer.old buffer.new }
 {
     match report_of(alloc, style, settings, logs, sizes, size) {
         Ok(report) => give(&report, buffer, size),
@@ -35,17 +39,18 @@ pub fn audit(
 
 /// Copies what is told of logs, and says whether there is a legal run.
 fn give(report: &Report, buffer: &mut [u8], size: &mut usize) -> Result<(), Refusal>
-    ensures { IfErr result (λ why. (why ≡ NoRun) ⊎ (buffer.new ≡ buffer.old)) }
+    ensures { JudgedAs report.now.legal result buffer.old buffer.new }
 {
     match copy_out(report.text.as_slice(), buffer, size) {
         Ok(()) => verdict(report.legal),
-        Err(why) => Err(why),
+        Err(_) => Err(Refusal::ShortBuffer),
     }
 }
 
 /// What is said of logs of which all was told.
 fn verdict(legal: bool) -> Result<(), Refusal>
-    ensures { IfErr result (λ why. why ≡ NoRun) }
+    ensures ok { OnOk result (legal ≡ true) }
+    ensures err { IfErr result (λ why. (why ≡ NoRun) × (legal ≡ false)) }
 {
     if legal { Ok(()) } else { Err(Refusal::NoRun) }
 }
@@ -58,11 +63,14 @@ fn report_of(
     logs: &[u8],
     sizes: &[usize],
     place: &mut usize,
-) -> Result<Report, Refusal> {
-    match parts_of(alloc, logs, sizes) {
-        Ok(Ok(parts)) => report_on_parts(alloc, style, settings, parts.as_slice(), place),
-        Ok(Err(log)) => {
-            *place = log;
+) -> Result<Report, Refusal>
+    ensures judged { IfOk result (λ report. IsJudged settings.now logs.now sizes.now report.legal) }
+    ensures refused { IfErr result (λ why. why ≢ NoRun) }
+{
+    match pieces_of(alloc, logs, sizes) {
+        Ok(Some(pieces)) => report_on_pieces(alloc, style, settings, pieces.as_slice(), place),
+        Ok(None) => {
+            *place = sizes.len();
             Err(Refusal::NotALog)
         }
         Err(_) => Err(Refusal::OutOfMemory),
@@ -70,51 +78,43 @@ fn report_of(
 }
 
 /// What is told of logs that stand each by itself.
-fn report_on_parts(
+fn report_on_pieces(
     alloc: Global,
     style: Style,
     settings: &[u8],
     logs: &[Vec<u8>],
     place: &mut usize,
-) -> Result<Report, Refusal> {
-    match audited(alloc, settings, logs) {
-        Ok(audited) => match report_on(alloc, audited, form_of(style)) {
-            Ok(report) => Ok(report),
-            Err(fault) => Err(told(fault, place)),
-        },
+) -> Result<Report, Refusal>
+    ensures judged { IfOk result (λ report. IsReported settings.now (map (λ bytes. bytes.items) logs.now) report.legal) }
+    ensures refused { IfErr result (λ why. why ≢ NoRun) }
+{
+    match reported(alloc, style, settings, logs) {
+        Ok(report) => Ok(report),
         Err(fault) => Err(told(fault, place)),
     }
 }
 
+/// What is told of logs that stand each by itself.
+fn reported(
+    alloc: Global,
+    style: Style,
+    settings: &[u8],
+    logs: &[Vec<u8>],
+) -> Result<Report, AuditFault>
+    ensures { IfOk result (λ report. IsReported settings.now (map (λ bytes. bytes.items) logs.now) report.legal) }
+{
+    let audited = audited(alloc, settings, logs)?;
+    report_on(alloc, audited, form_of(style))
+}
+
 /// The settings and the logs that bytes are.
-fn audited(alloc: Global, settings: &[u8], logs: &[Vec<u8>]) -> Result<Audited, AuditFault> {
+fn audited(alloc: Global, settings: &[u8], logs: &[Vec<u8>]) -> Result<Audited, AuditFault>
+    ensures { IfOk result (λ audited. IsRead settings.now (map (λ bytes. bytes.items) logs.now) audited.settings (logs_seen audited.logs.items)) }
+{
     match Vec::from_slice(alloc, settings) {
         Ok(text) => read_audited(alloc, text, logs),
         Err(_) => Err(AuditFault::OutOfMemory),
     }
-}
-
-/// The logs that stand one behind another, each of its size; or the place of the first that does not.
-fn parts_of(
-    alloc: Global,
-    logs: &[u8],
-    sizes: &[usize],
-) -> Result<Result<Vec<Vec<u8>>, usize>, AllocError> {
-    let mut parts = Vec::new(alloc);
-    let mut rest = logs;
-    for size in sizes {
-        if *size > rest.len() {
-            return Ok(Err(parts.len()));
-        }
-        let (one, more) = rest.split_at(*size);
-        parts.push(Vec::from_slice(alloc, one)?)?;
-        rest = more;
-    }
-    Ok(if rest.is_empty() {
-        Ok(parts)
-    } else {
-        Err(parts.len())
-    })
 }
 
 /// The form in which logs are told of.
@@ -126,7 +126,9 @@ fn form_of(style: Style) -> Form {
 }
 
 /// The refusal of a fault, with the place of the log that it is about.
-fn told(fault: AuditFault, place: &mut usize) -> Refusal {
+fn told(fault: AuditFault, place: &mut usize) -> Refusal
+    ensures { result ≢ NoRun }
+{
     match fault {
         AuditFault::OutOfMemory => Refusal::OutOfMemory,
         AuditFault::Settings => Refusal::Settings,

@@ -6,6 +6,7 @@
 
 mod asking;
 mod auditing;
+mod cutting;
 mod describing;
 mod handle;
 mod part;

@@ -1,6 +1,7 @@
 //! Why a call on a handle is refused, and the numbers of refusals.
 
-ghost use Rattle.std.specs.Prelude.{◌≡◌};
+ghost use Rattle.std.specs.Prelude.{◌≡◌, ◌≢◌};
+ghost use Rattle.node_handle.specs.declared.refusal.Refusal.TheVariants.{NoRun};
 ghost use Rattle.node_handle.specs.Numbers.{number_of};
 
 use kept_logs::LogFault;
@@ -89,7 +90,9 @@ pub(crate) fn refusal_of(fault: ServiceFault) -> Refusal {
 }
 
 /// The refusal of a log.
-pub(crate) fn refusal_of_log(fault: LogFault) -> Refusal {
+pub(crate) fn refusal_of_log(fault: LogFault) -> Refusal
+    ensures { result ≢ NoRun }
+{
     match fault {
         LogFault::OutOfMemory => Refusal::OutOfMemory,
         LogFault::Short => Refusal::NotALog,

@@ -5,16 +5,16 @@
 //! thread, waits, or reads or writes a file.
 #![tactic(auto)]
 
-ghost use Rattle.std.specs.Prelude.{◌≡◌, ◌⊎◌, IfErr};
+ghost use Rattle.std.specs.Prelude.{◌≡◌, IfErr};
 ghost use Rattle.std.specs.Option.{option_map};
 ghost use Rattle.std.specs.declared.option.Option.TheVariants.{None};
 ghost use Rattle.node_handle.specs.Numbers.{Says};
-ghost use Rattle.node_handle.specs.declared.refusal.Refusal.TheVariants.{NoRun};
 ghost use Rattle.node_handle.specs.Calls.{Clears, Copies, Counts, Opens, Serves, records_of, written_of};
 ghost use Rattle.node_handle.specs.Texts.{Prints, Unprints};
 ghost use Rattle.node_handle.specs.Typed.{Takes, submit_line};
 ghost use Rattle.node_handle.specs.Asked.{Gives, Sizes, answer_in, request_in};
 ghost use Rattle.node_handle.specs.Payments.{Lists, payments_in};
+ghost use Rattle.node_handle.specs.Audits.{Audits};
 
 use node_handle::{NodeHandle, PlainPayment, Style, audit, describe, number_of, print, unprint};
 use std::alloc::Global;
@@ -235,7 +235,7 @@ pub extern "C" fn vogrilas_audit(
     buffer: &mut [u8],
     size: &mut usize,
 ) -> u32
-    ensures { Says result (λ said. IfErr said (λ why. (why ≡ NoRun) ⊎ (buffer.new ≡ buffer.old))) }
+    ensures { Says result (λ said. Audits settings.now logs.now sizes.now said buffer.old buffer.new) }
 {
     let style = if json == 0 { Style::Lines } else { Style::Json };
     number_of(audit(alloc, style, settings, logs, sizes, buffer, size))

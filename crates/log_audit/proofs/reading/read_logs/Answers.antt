@@ -1,4 +1,4 @@
-use Rattle.log_audit.proofs.Reading.{reads_on}
+use Rattle.log_audit.proofs.LogReading.{reads_on}
 use Rattle.log_audit.proofs.reading.read_logs.Goals as goal
 
 pub loop-place-preserved : goal.loop-place-preserved
