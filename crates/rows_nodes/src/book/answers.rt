@@ -6,13 +6,13 @@ use bin_routes::Routes;
 use case_files::Told;
 use envelope::{Envelope, TxnId};
 use input_text::read_decimal;
-use payer_book::{Book, PlanFault, Reply};
+use payer_book::{Book, PlanFault, Reply, Row};
 use std::alloc::Global;
 
 /// Tells what comes of a step.
 pub(crate) fn tell(told: &mut Told, alloc: Global, book: &mut Book, word: &str, argument: &[u8]) {
     match word {
-        "answer" | "packet" => request(told, alloc, book, word, argument),
+        "answer" | "packet" | "place" => request(told, alloc, book, word, argument),
         "price" => price(told, book, argument),
         "each" => each::tell(told, alloc, book, argument),
         "keys" => keys::compare(told, book, argument),
@@ -31,6 +31,7 @@ fn request(told: &mut Told, alloc: Global, book: &mut Book, word: &str, argument
         Some((id, request)) => match opening::routes(alloc) {
             Some(routes) => match word {
                 "answer" => answer(told, book, &routes, id, request),
+                "place" => place(told, book, &routes, id, request),
                 _ => packet(told, book, &routes, id, request),
             },
             None => told.refuse(),
@@ -55,6 +56,29 @@ fn tell_reply(told: &mut Told, book: &Book, id: TxnId, reply: &Reply) {
     told.word(said(reply.kept));
     told.bytes(reply.bytes.as_slice());
     tell_held(told, book.held(id), reply.bytes.as_slice());
+}
+
+/// The book tells where its answer stands, and the row there lends it.
+fn place(told: &mut Told, book: &mut Book, routes: &Routes, id: TxnId, request: &[u8]) {
+    match book.answer_at(routes, id, request) {
+        Ok(at) => {
+            told.word(said(at.kept));
+            told.shown(at.place);
+            tell_answer(told, book.row(at.place));
+        }
+        Err(fault) => {
+            told.word("refused");
+            told.named(fault);
+        }
+    }
+}
+
+/// Tells the answer of a row.
+fn tell_answer(told: &mut Told, row: Option<&Row>) {
+    match row {
+        Some(row) => told.bytes(row.answer()),
+        None => told.word("no-row"),
+    }
 }
 
 /// Whether an answer was kept.
