@@ -5,8 +5,8 @@ ghost use Rattle.audit_tables.specs.Rows.{head_text};
 ghost use Rattle.audit_tables.specs.Tables.{table_names};
 ghost use Rattle.audit_tables.specs.declared.table.Table.TheVariants.{Payments, Entries, Rows, Packets};
 
-use std::alloc::AllocError;
 use crate::layout::put_head;
+use std::alloc::AllocError;
 
 /// Appends the names of the columns of payments.
 pub(crate) fn put_payment_names(out: &mut Vec<u8>) -> Result<(), AllocError>

@@ -8,13 +8,13 @@ ghost use Rattle.pharmacy_journal.specs.Listing.{listed};
 ghost use Rattle.audit_tables.specs.Rows.{row_text, rows_text};
 ghost use Rattle.audit_tables.specs.Entries.{names, count_named, cents_of, state_word, shown_seen, shown_row, entry_row, entry_rows};
 
+use crate::fields::Field;
 use crate::kinds::kind_word;
+use crate::layout::{Style, put_row};
 use claim_profile::{Auth, Ruling};
 use node_state::JournalReading;
 use pharmacy_journal::{CountedPayment, EntryView};
 use std::alloc::AllocError;
-use crate::fields::Field;
-use crate::layout::{Style, put_row};
 
 /// What is told of an entry.
 #[derive(Clone, Copy)]

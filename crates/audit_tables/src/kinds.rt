@@ -6,9 +6,9 @@ ghost use Rattle.world_setup.specs.Seen.{node_seen};
 ghost use Rattle.audit_tables.specs.Seen.{field_seen};
 ghost use Rattle.audit_tables.specs.Kinds.{kind_word, kind_in, date_in, letters_of, number_of, node_member};
 
+use crate::fields::Field;
 use claim_profile::check_readable;
 use payer_book::Row;
-use crate::fields::Field;
 use world_setup::Node;
 
 /// What a request of this code (103-A3) is: a billing or a reversal.

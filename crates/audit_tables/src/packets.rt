@@ -7,12 +7,12 @@ ghost use Rattle.world_setup.specs.Seen.{packet_seen};
 ghost use Rattle.audit_tables.specs.Rows.{row_text, rows_text};
 ghost use Rattle.audit_tables.specs.Packets.{packet_rows, sent_row, packet_row, loaded_row, carried_seen, load_of, kind_word};
 
+use crate::fields::Field;
 use crate::kinds::node_field;
+use crate::layout::{Style, put_row};
 use claim_model::envelopes_know_no_place;
 use envelope::{Envelope, EnvelopeFault, Kind};
 use std::alloc::AllocError;
-use crate::fields::Field;
-use crate::layout::{Style, put_row};
 use world_setup::Packet;
 
 /// Appends a row for each packet, with the event that sent it.

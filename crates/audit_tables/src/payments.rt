@@ -9,14 +9,14 @@ ghost use Rattle.audit_tables.specs.Rows.{row_text, rows_text};
 ghost use Rattle.pharmacy_journal.specs.Counting.{has_auth};
 ghost use Rattle.audit_tables.specs.Payments.{state_word, reversing, shown_seen, texts_seen, fill_shown, cents_of, shown_row, payment_row, found_payment, ruling_payment, row_payments, book_payments};
 
+use crate::fields::Field;
 use crate::kinds::date_of;
+use crate::layout::{Style, put_row};
 use claim_profile::{Amounts, Auth, Fill, Ruling};
 use envelope::TxnId;
 use payer_book::{Book, PaymentView, Row};
 use std::alloc::AllocError;
 use std::collections::BTreeSet;
-use crate::fields::Field;
-use crate::layout::{Style, put_row};
 
 /// Where a payment was made: which transaction of which request, its authorization and its date of service (401-D1).
 #[derive(Drop)]

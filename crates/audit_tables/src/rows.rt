@@ -6,13 +6,13 @@ ghost use Rattle.claim_profile.specs.Reject.{code_text};
 ghost use Rattle.audit_tables.specs.Rows.{row_text, rows_text};
 ghost use Rattle.audit_tables.specs.Rulings.{codes_text, at_seen, answered_row, ruling_row, row_rulings, book_rulings};
 
+use crate::fields::Field;
 use crate::kinds::kind_of;
+use crate::layout::{Style, put_row};
 use claim_profile::{Code, Ruling};
 use envelope::TxnId;
 use payer_book::{Book, Row};
 use std::alloc::{AllocError, Global};
-use crate::fields::Field;
-use crate::layout::{Style, put_row};
 
 /// Which transaction of which request a ruling is about.
 #[derive(Clone, Copy)]

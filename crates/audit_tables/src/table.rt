@@ -12,6 +12,7 @@ ghost use Rattle.audit_tables.specs.Tables.{node_payments, node_entries, node_ru
 use crate::columns::{put_entry_names, put_packet_names, put_payment_names, put_row_names};
 use crate::counted::counted_auths;
 use crate::entries::put_journal;
+use crate::layout::{Style, put_list};
 use crate::packets::put_packets;
 use crate::payments::put_book_payments;
 use crate::rows::put_book_rulings;
@@ -19,7 +20,6 @@ use claim_profile::Auth;
 use node_state::{PayerNode, PharmacyNode};
 use std::alloc::{AllocError, Global};
 use std::collections::BTreeSet;
-use crate::layout::{Style, put_list};
 use world_core::World;
 
 /// Which table.

@@ -4,11 +4,10 @@ use crate::fault::AuditFault;
 use crate::left::put_left_tables;
 use crate::names::{put, put_count};
 use crate::reading::Audited;
-use audit_tables::node_field;
+use audit_tables::{Field, Style, node_field, put_json_text, put_list, put_row};
 use input_text::Lines;
 use run_merge::NodeLog;
 use std::alloc::{AllocError, Global};
-use audit_tables::{Field, Style, put_json_text, put_list, put_row};
 use world_setup::Event;
 
 /// Appends the object of logs of a legal run of these events.
