@@ -289,8 +289,9 @@ vogrilas_code vogrilas_describe(const void *message, size_t message_size, uint32
 ** VOGRILAS_SHORT_BUFFER: *size is how many bytes are told, and nothing is said of the run; ask again with more room (64 KiB do
 ** for lines of a hundred nodes). VOGRILAS_SETTINGS: the settings are none. VOGRILAS_NOT_A_LOG, VOGRILAS_LOG_VERSION,
 ** VOGRILAS_DAMAGED_HEAD, VOGRILAS_NO_KIND, VOGRILAS_OTHER_SETTINGS, VOGRILAS_DAMAGED and VOGRILAS_BAD_RECORD: a log is none of
-** these settings, and *size is which one, from 0; VOGRILAS_NOT_A_LOG also where the sizes do not add up to `logs_size`. The
-** buffer is unchanged at all codes but the first two, which is what is proved here; what is said and told is tested.
+** these settings, and *size is which one, from 0; VOGRILAS_NOT_A_LOG also where the sizes do not add up to `logs_size`, and
+** *size is `count` then. It is proved that the first two codes are right, of the settings that the text spells and the logs that
+** the bytes are, and that the buffer is unchanged at the others; what is told is tested.
 */
 vogrilas_code vogrilas_audit(const void *settings, size_t settings_size, const void *logs, size_t logs_size,
                              const size_t *sizes, size_t count, uint32_t json, void *buffer, size_t room, size_t *size);

@@ -454,7 +454,7 @@ static void try_audits(void) {
     logs[sizes[0] + sizes[1] - 1] ^= 1;
     memset(told, 'x', MOST);
     check(vogrilas_audit(settings, settings_size, logs, all, sizes, NODES, 0, told, MOST, &size) == VOGRILAS_DAMAGED && size == 1, "a damaged log, and which");
-    check(vogrilas_audit(settings, settings_size, logs, all - 1, sizes, NODES, 0, told, MOST, &size) == VOGRILAS_NOT_A_LOG && size == 2, "sizes of more bytes");
+    check(vogrilas_audit(settings, settings_size, logs, all - 1, sizes, NODES, 0, told, MOST, &size) == VOGRILAS_NOT_A_LOG && size == NODES, "sizes of more bytes");
     check(vogrilas_audit(settings, settings_size, logs, all, sizes, 2, 0, told, MOST, &size) == VOGRILAS_NOT_A_LOG && size == 2, "sizes of fewer bytes");
     check(vogrilas_audit("again", 5, logs, all, sizes, NODES, 0, told, MOST, &size) == VOGRILAS_SETTINGS, "an audit under no settings");
     check(told[0] == 'x' && told[100] == 'x', "an audit that is not made writes nothing");
