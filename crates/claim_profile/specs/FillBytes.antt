@@ -7,6 +7,6 @@ use Rattle.claim_profile.specs.declared.order.Fill.{Fill}
 abbrev pub joined : List ℕ → List ℕ → List ℕ → List ℕ → List ℕ → List ℕ → List ℕ
 joined a b c d e f = ((((a ++ b) ++ c) ++ d) ++ e) ++ f
 
--- the fields of a fill one after another: its numbers last, the prescription's eight bytes with the lowest first
+-- the fields of a fill one after another, at last the prescription number's eight bytes with the lowest first
 unfoldable pub fill_bytes : Fill → List ℕ
-fill_bytes f = joined f.bin f.pcn f.qualifier f.provider (f.fill ∷ []) (to_le_bytes w64 f.prescription)
+fill_bytes f = joined f.pcn f.bin f.provider (f.fill ∷ []) f.qualifier (to_le_bytes w64 f.prescription)

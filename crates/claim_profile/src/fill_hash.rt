@@ -20,16 +20,19 @@ impl Hash for Fill {
 }
 
 impl Fill {
-    /// The fields one after another.
+    /// The fields one after another. The toolchain's fast hasher multiplies by every second eight bytes, xor a constant:
+    /// were they that constant, the product would be 0, and nothing of a map's keys be left in the hash. So each such
+    /// eight have a byte that cannot be the constant's: a digit of the BIN, the fill number, the prescription number's
+    /// last byte, which is 0.
     fn bytes(&self) -> [u8; 42]
         ensures { result ≡ fill_bytes self.now }
     {
         let mut bytes = [0; 42];
-        let place = put(&mut bytes, 0, &self.bin);
-        let place = put(&mut bytes, place, &self.pcn);
-        let place = put(&mut bytes, place, &self.qualifier);
+        let place = put(&mut bytes, 0, &self.pcn);
+        let place = put(&mut bytes, place, &self.bin);
         let place = put(&mut bytes, place, &self.provider);
         let place = put(&mut bytes, place, &[self.fill]);
+        let place = put(&mut bytes, place, &self.qualifier);
         let _end = put(&mut bytes, place, &self.prescription.to_le_bytes());
         bytes
     }

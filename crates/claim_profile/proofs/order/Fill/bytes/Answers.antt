@@ -24,4 +24,4 @@ returns c =
     (put_behind _ _ _ _ _ _ c.put-place-3.ensures.end c.put-place-3.ensures.front
     (put_behind _ _ _ _ _ _ c.put-place-2.ensures.end c.put-place-2.ensures.front
     (put_first _ _ _ c.put-place.ensures.end c.put-place.ensures.front)))))
-    ∙ ap (joined f.bin f.pcn f.qualifier f.provider (f.fill ∷ [])) c.to_le_bytes.ensures)
+    ∙ ap (joined f.pcn f.bin f.provider (f.fill ∷ []) f.qualifier) c.to_le_bytes.ensures)
