@@ -3,7 +3,8 @@ use Rattle.d0_header.specs.Request.{request_of}
 use Rattle.pharmacy_journal.specs.Reading.{header_of}
 use Rattle.pharmacy_journal.specs.Entries.{kept_of}
 use Rattle.pharmacy_journal.specs.Listing.{listed_by}
-use Rattle.pharmacy_journal.proofs.ReadingLemmas.{IsReadable-from, readable_cut}
+use Rattle.claim_profile.proofs.Headers.{readable_cut}
+use Rattle.pharmacy_journal.proofs.ReadingLemmas.{IsReadable-from}
 use Rattle.pharmacy_journal.proofs.listing.view_of.Goals as goal
 
 pub returns-clause-seen : goal.returns-clause-seen

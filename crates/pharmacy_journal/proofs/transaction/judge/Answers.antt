@@ -1,6 +1,7 @@
 use Rattle.std.proofs.Common.{◌∙◌}
 use Rattle.d0_header.specs.Request.{request_of}
-use Rattle.pharmacy_journal.proofs.ReadingLemmas.{readable_cut, settles_at, settles_none}
+use Rattle.claim_profile.proofs.Headers.{readable_cut}
+use Rattle.pharmacy_journal.proofs.ReadingLemmas.{settles_at, settles_none}
 use Rattle.pharmacy_journal.proofs.transaction.judge.Goals as goal
 
 pub returns-in-Err-clause-fault : goal.returns-in-Err-clause-fault
