@@ -45,6 +45,7 @@ class Connection:
         self._task = None
         self._at_open = []
         self._opening = set()
+        self._told = set()
         self.is_open = asyncio.Event()
 
     async def start(self):
@@ -59,8 +60,9 @@ class Connection:
         self._send(f"SUB {subject} {number}\r\n".encode())
 
     def say(self, what):
-        """Tells people what is not as it should be."""
-        if self._says:
+        """Tells people what is not as it should be: each thing once, until the server has sent something."""
+        if self._says and what not in self._told:
+            self._told.add(what)
             print(f"{self._name}: {what}", file=sys.stderr, flush=True)
 
     async def at_open(self, make):
@@ -100,16 +102,12 @@ class Connection:
             self._writer.write(data)
 
     async def _run(self):
-        is_told = False
         while True:
             try:
                 await self._serve()
             except (OSError, asyncio.IncompleteReadError, ValueError):
                 pass
-            is_told = is_told and not self.is_open.is_set()
-            if not is_told:
-                self.say(f"no server at {self._server.host}:{self._server.port}, trying again")
-            is_told = True
+            self.say(f"no server at {self._server.host}:{self._server.port}, trying again")
             self._writer = None
             self.is_open.clear()
             await asyncio.sleep(0.1)
@@ -135,6 +133,8 @@ class Connection:
             if not line:
                 return
             words = line.split()
+            if words[0] in (b"MSG", b"PING"):
+                self._told.clear()
             if words[0] == b"MSG":
                 await self._message(reader, words)
             elif words[0] == b"PING":
