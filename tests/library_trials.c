@@ -439,7 +439,7 @@ static void try_audits(void) {
         all += sizes[one];
     }
     check(vogrilas_audit(settings, settings_size, logs, all, sizes, NODES, 0, told, MOST, &size) == VOGRILAS_OK, "a legal run");
-    check(memmem_text(told, size, "\none legal run of ") && memmem_text(told, size, "\npr1 rows 2 standing 0 cents 0 reversed 1 cents 4720\n"), "what is told of a run");
+    check(memmem_text(told, size, "\none legal run of ") && memmem_text(told, size, "\npayer 1 rows 2 standing 0 cents 0 reversed 1 cents 4720\n"), "what is told of a run");
     memset(told, 'x', MOST);
     for (size_t room = 0; room < size; room += 17)
         check(vogrilas_audit(settings, settings_size, logs, all, sizes, NODES, 0, told, room, &again) == VOGRILAS_SHORT_BUFFER &&
