@@ -31,3 +31,12 @@ pub mod BytesLaws
 pub mod Placeless
 pub mod AnswersBack
 pub mod Tabled
+pub mod Names
+pub mod Steps
+pub mod Ends
+pub mod Serving
+pub mod Replaying
+pub mod Posting
+pub mod GoingOn
+pub mod Walking
+pub mod Finding

@@ -20,3 +20,8 @@ pub mod Held
 pub mod Promises
 pub mod Bytes
 pub mod InFlight
+pub mod Nodes
+pub mod Logs
+pub mod Local
+pub mod Replays
+pub mod Interleavings

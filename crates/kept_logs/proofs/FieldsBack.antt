@@ -5,7 +5,7 @@ use Rattle.std.proofs.lemmas.List.{take_at as take_front, drop_at}
 use Rattle.std.specs.List.{AllByRecursion}
 use Rattle.std.specs.Int.{w16, w32, w64, to_be_bytes}
 use Rattle.claim_model.specs.Node.{Node, Pharmacy, Switch, Payer, Sent, Call, Submit, Tick, Take, Stop, Start, Reprice}
-use Rattle.claim_logs.specs.Logs.{Logged}
+use Rattle.claim_model.specs.Logs.{Logged}
 use Rattle.kept_records.proofs.FieldsBack.{u8_at-put, u16_at-put, u32_at-put, u64_at-put}
 use Rattle.kept_logs.specs.Fields.{bytes_at, text_of, text_at, node_text, node_at}
 use Rattle.kept_logs.specs.Calls.{call_text, call_at, submit_at, take_at, unplan_at, plan_at}

@@ -5,7 +5,7 @@ use Rattle.std.proofs.lemmas.Option.{some_pair_parts, same_Some}
 use Rattle.std.proofs.lemmas.List.{take-append-drop, length-take-le}
 use Rattle.std.specs.Int.{w16, w32, w64, to_be_bytes}
 use Rattle.claim_model.specs.Node.{Node, Pharmacy, Switch, Payer, Sent, Call, Submit, Tick, Take, Stop, Start, Reprice}
-use Rattle.claim_logs.specs.Logs.{Logged}
+use Rattle.claim_model.specs.Logs.{Logged}
 use Rattle.kept_records.specs.Fields.{u8_at, u16_at, u32_at, u64_at}
 use Rattle.kept_records.specs.Options.{◌>>=◌}
 use Rattle.kept_records.proofs.Chains.{option_then}

@@ -4,7 +4,7 @@ use Rattle.std.proofs.lemmas.Bool.Decides.{nat_tests}
 use Rattle.std.proofs.lemmas.List.{take_at, take-append-drop, length-take-le}
 use Rattle.std.specs.Int.{w64, to_be_bytes}
 use Rattle.claim_model.specs.Node.{Node}
-use Rattle.claim_logs.specs.Logs.{Logged}
+use Rattle.claim_model.specs.Logs.{Logged}
 use Rattle.kept_records.specs.Fields.{u64_at}
 use Rattle.kept_records.proofs.FieldsOnly.{AreBytes, drop_bytes, take_bytes, IsTaken, u64_at_taken}
 use Rattle.kept_logs.specs.declared.fault.LogFault.{LogFault}

@@ -3,7 +3,7 @@ use Rattle.std.proofs.Common.{◌≡◌, ℕ, suc, ◌+◌, ◌-◌, ◌<◌, �
 use Rattle.std.proofs.lemmas.List.{drop_more}
 use Rattle.std.specs.List.{AllByRecursion}
 use Rattle.claim_model.specs.Node.{Node, Sent}
-use Rattle.claim_logs.specs.Logs.{Logged, NodeLog}
+use Rattle.claim_model.specs.Logs.{Logged, NodeLog}
 use Rattle.kept_logs.specs.declared.fault.LogFault.{LogFault}
 use Rattle.kept_logs.specs.Fits.{FitsSent, FitsLogged}
 use Rattle.kept_logs.specs.Records.{sent_text, sent_at, sents_text, sents_in, logged_text}

@@ -1,6 +1,6 @@
 -- Logs whose text is cut off.
 use Rattle.std.specs.Prelude.{◌≡◌, ℕ, suc, ◌+◌, ◌-◌, ◌<◌, ◌≤◌, cond, List, [], ◌∷◌, ◌++◌, length, take, nat_lt, Ok}
-use Rattle.claim_logs.specs.Logs.{Logged, NodeLog}
+use Rattle.claim_model.specs.Logs.{Logged, NodeLog}
 use Rattle.kept_logs.specs.Records.{logged_text}
 use Rattle.kept_logs.specs.Frames.{frame_text, CutOff, frame_at}
 use Rattle.kept_logs.specs.Logs.{log_text, Reading, log_in}

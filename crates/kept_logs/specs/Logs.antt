@@ -1,7 +1,7 @@
 -- The text of a log, and what bytes are as a log.
 use Rattle.std.specs.Prelude.{ℕ, zero, suc, ◌+◌, ◌-◌, List, [], ◌∷◌, ◌++◌, length, codes, Option, Some, None, Result, Ok, Err}
 use Rattle.claim_model.specs.Node.{Node}
-use Rattle.claim_logs.specs.Logs.{Logged, NodeLog}
+use Rattle.claim_model.specs.Logs.{Logged, NodeLog}
 use Rattle.kept_logs.specs.declared.fault.LogFault.{LogFault}
 use Rattle.kept_logs.specs.declared.fault.LogFault.TheVariants as fault
 use Rattle.kept_logs.specs.Faults.{◌>>=◌, some_or}

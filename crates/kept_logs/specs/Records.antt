@@ -2,7 +2,7 @@
 use Rattle.std.specs.Prelude.{ℕ, zero, suc, List, [], ◌∷◌, ◌++◌, length, Option, Some, None}
 use Rattle.std.specs.Int.{w64, to_be_bytes}
 use Rattle.claim_model.specs.Node.{Sent}
-use Rattle.claim_logs.specs.Logs.{Logged}
+use Rattle.claim_model.specs.Logs.{Logged}
 use Rattle.kept_records.specs.Fields.{u64_at}
 use Rattle.kept_records.specs.Options.{◌>>=◌}
 use Rattle.kept_logs.specs.Fields.{text_of, text_at, node_text, node_at}

@@ -1,7 +1,7 @@
 //! What holds of every log and its text, as facts that a caller cites by a call.
 
 ghost use Rattle.std.specs.Prelude.{◌≡◌, ℕ, ◌+◌, ◌<◌, ◌≤◌, ◌++◌, List, length, take, slice_index, Ok, Err};
-ghost use Rattle.claim_logs.specs.Logs.{Logged, NodeLog};
+ghost use Rattle.claim_model.specs.Logs.{Logged, NodeLog};
 ghost use Rattle.kept_logs.specs.declared.fault.LogFault.TheVariants.{Short};
 ghost use Rattle.kept_logs.specs.Records.{logged_text};
 ghost use Rattle.kept_logs.specs.Frames.{frame_text, frame_at, CutOff};

@@ -4,8 +4,8 @@ use Rattle.std.proofs.lemmas.List.{at_drop_more}
 use Rattle.std.specs.Prelude.{Option, Some, None, MatchOption}
 use Rattle.claim_model.specs.Context.{Context}
 use Rattle.claim_model.specs.Node.{Outcome}
-use Rattle.claim_logs.specs.Nodes.{AnyNode}
-use Rattle.claim_logs.specs.Logs.{Logged}
+use Rattle.claim_model.specs.Nodes.{AnyNode}
+use Rattle.claim_model.specs.Logs.{Logged}
 use Rattle.run_merge.specs.Order.{FitsBy, Fits}
 use Rattle.log_audit.specs.Misfits.{Does, DoesNot, BreaksAt}
 

@@ -1,7 +1,7 @@
 -- How logs are read, one after another.
 use Rattle.std.proofs.Common.{◌≡◌, ℕ, ◌+◌, ◌<◌, List, [], ◌∷◌, ◌++◌, length, take, get_or, map, sym, ap, ◌∙◌, subst}
 use Rattle.std.proofs.lemmas.List.{take_more, map-append}
-use Rattle.claim_logs.specs.Logs.{NodeLog}
+use Rattle.claim_model.specs.Logs.{NodeLog}
 use Rattle.run_merge.specs.LogSeen.{log_seen, logs_seen}
 use Rattle.run_merge.specs.declared.log.NodeLog.{NodeLog as Kept}
 use Rattle.log_audit.specs.Given.{IsLog, AreLogs}

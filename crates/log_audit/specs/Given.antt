@@ -1,7 +1,7 @@
 -- The settings and the logs that bytes are, before anything is judged.
 use Rattle.std.specs.Prelude.{◌≡◌, ℕ, List, [], ◌∷◌, Some, Ok, ⊤}
 use Rattle.sha2.specs.Sha256.{sha256}
-use Rattle.claim_logs.specs.Logs.{NodeLog}
+use Rattle.claim_model.specs.Logs.{NodeLog}
 use Rattle.world_setup.specs.declared.settings.WorldSettings.{WorldSettings}
 use Rattle.world_settings.specs.Document.{document_seen, settings_in}
 use Rattle.kept_logs.specs.Logs.{log_in}

@@ -1,7 +1,7 @@
 -- What logs are judged to be.
 use Rattle.std.specs.Prelude.{Bool, true, false, List, map}
 use Rattle.claim_model.specs.World.{Event}
-use Rattle.claim_logs.specs.Logs.{NodeLog}
+use Rattle.claim_model.specs.Logs.{NodeLog}
 use Rattle.world_setup.specs.Seen.{event_seen}
 use Rattle.world_setup.specs.declared.settings.WorldSettings.{WorldSettings}
 use Rattle.run_merge.specs.Merged.{IsMerged, NoMerge}

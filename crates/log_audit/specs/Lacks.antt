@@ -1,8 +1,8 @@
 -- Nodes of which there is not one log.
 use Rattle.std.specs.Prelude.{ℕ, ◌==◌, cond, count_by, List, Option, Some, None}
 use Rattle.claim_model.specs.Node.{Node}
-use Rattle.claim_logs.specs.Nodes.{same_node}
-use Rattle.claim_logs.specs.Logs.{NodeLog}
+use Rattle.claim_model.specs.Nodes.{same_node}
+use Rattle.claim_model.specs.Logs.{NodeLog}
 use Rattle.log_audit.specs.declared.missing.Lack.{Lack}
 use Rattle.log_audit.specs.declared.missing.Lack.TheVariants.{NoLog, SeveralLogs}
 

@@ -2,8 +2,8 @@
 use Rattle.std.specs.Prelude.{◌≡◌, ℕ, zero, suc, List, [], ◌∷◌, Option, Some, None}
 use Rattle.claim_model.specs.Context.{Context}
 use Rattle.claim_model.specs.Node.{Done}
-use Rattle.claim_logs.specs.Nodes.{AnyNode, node_step}
-use Rattle.claim_logs.specs.Logs.{Logged}
+use Rattle.claim_model.specs.Nodes.{AnyNode, node_step}
+use Rattle.claim_model.specs.Logs.{Logged}
 use Rattle.run_merge.specs.Order.{FitsBy, Fits}
 use Rattle.log_audit.specs.declared.replaying.FirstMisfit.{FirstMisfit}
 

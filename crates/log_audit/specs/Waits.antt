@@ -3,8 +3,8 @@ use Rattle.std.specs.Prelude.{ℕ, Bool, ◌&&◌, List, nat_eq}
 use Rattle.std.specs.Cmp.Lexicographic.{pointwise}
 use Rattle.std.specs.List.{list_any}
 use Rattle.claim_model.specs.Node.{Node, Sent}
-use Rattle.claim_logs.specs.Nodes.{same_node}
-use Rattle.claim_logs.specs.Logs.{Logged, NodeLog}
+use Rattle.claim_model.specs.Nodes.{same_node}
+use Rattle.claim_model.specs.Logs.{Logged, NodeLog}
 
 -- a packet is to that node, and of these bytes
 abbrev pub is_packet : Node → List ℕ → Sent → Bool

@@ -3,7 +3,7 @@
 ghost use Rattle.std.specs.Prelude.{◌≡◌, ◌↔◌, map, None, IfOk, IsTrue, MatchOption};
 ghost use Rattle.claim_model.specs.Bytes.{bytes_with};
 ghost use Rattle.claim_model.specs.Settings.{opening, settings_fault};
-ghost use Rattle.claim_logs.specs.Nodes.{node_at};
+ghost use Rattle.claim_model.specs.Nodes.{node_at};
 ghost use Rattle.world_setup.specs.Seen.{node_seen, sent_seen, settings_seen};
 ghost use Rattle.log_audit.specs.Misfits.{Does, DoesNot, IsFirst, IsFirstOf};
 

@@ -10,10 +10,10 @@ use Rattle.claim_model.specs.Settings.{opening}
 use Rattle.claim_model.specs.Settings as model
 use Rattle.claim_model.specs.World.{World, Event, run}
 use Rattle.claim_model.proofs.Lists.{all_at}
-use Rattle.claim_logs.specs.Nodes.{AnyNode, OfPharmacy, node_at}
-use Rattle.claim_logs.specs.Logs.{Logged, NodeLog, log_in, replay}
-use Rattle.claim_logs.specs.Interleavings.{HasLog, IsInterleaving}
-use Rattle.claim_logs.proofs.Replaying.{replays, absent_stays}
+use Rattle.claim_model.specs.Nodes.{AnyNode, OfPharmacy, node_at}
+use Rattle.claim_model.specs.Logs.{Logged, NodeLog, log_in, replay}
+use Rattle.claim_model.specs.Interleavings.{HasLog, IsInterleaving}
+use Rattle.claim_model.proofs.Replaying.{replays, absent_stays}
 use Rattle.world_setup.specs.Seen.{event_seen, settings_seen}
 use Rattle.world_setup.specs.declared.settings.WorldSettings.{WorldSettings}
 use Rattle.run_merge.specs.Naming.{calls_of}

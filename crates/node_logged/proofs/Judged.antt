@@ -10,7 +10,7 @@ use Rattle.claim_model.specs.Node.{Power}
 use Rattle.claim_model.specs.Numbered.{numbered}
 use Rattle.node_logged.specs.Tills.{Receipt, Till}
 use Rattle.node_logged.specs.Ledgers.{Ledger, receipts_at, heard_at, counts_agree, is_receipt, has_one, each_has_one, has_receipts, answer_at, is_equal, is_answer, has_answers, lacking}
-use Rattle.claim_logs.specs.Logs.{NodeLog}
+use Rattle.claim_model.specs.Logs.{NodeLog}
 use Rattle.node_logged.specs.Replayed.{ledger_after, ledgers_from}
 use Rattle.node_logged.specs.Judged.{AreAsMany, AreReceipts, AreHeard, Lacks}
 

@@ -5,7 +5,7 @@ use Rattle.claim_model.specs.Context.{Context}
 use Rattle.claim_model.specs.Refusal.{Refusal}
 use Rattle.claim_model.specs.Journal.{Journal, submit_fault, submitted, submitted_unless, stopped, kept_entry}
 use Rattle.claim_model.specs.Node.{Submit, Sent, Up, AtRest, Done, after_submit}
-use Rattle.claim_logs.specs.Nodes.{AnyNode, OfPharmacy, OfSwitch, OfPayer, as_node, node_step}
+use Rattle.claim_model.specs.Nodes.{AnyNode, OfPharmacy, OfSwitch, OfPayer, as_node, node_step}
 use Rattle.node_state.specs.Nodes.{entries_of}
 
 grown_unless : (ctx : Context) (j : Journal) (text : List ℕ) (fault : Option Refusal) (next : AnyNode) (sent : List Sent) → as_node OfPharmacy (after_submit (submitted_unless ctx j text fault)) ≡ Done next sent

@@ -3,7 +3,7 @@ use Rattle.std.proofs.Common.{◌≡◌, ℕ, Bool, true, false, cond, List, Opt
 use Rattle.std.specs.List.{list_all}
 use Rattle.std.proofs.lemmas.Bool.{both_ways}
 use Rattle.claim_model.specs.Settings.{opening}
-use Rattle.claim_logs.specs.Logs.{NodeLog}
+use Rattle.claim_model.specs.Logs.{NodeLog}
 use Rattle.world_setup.specs.Seen.{settings_seen}
 use Rattle.world_setup.specs.declared.settings.WorldSettings.{WorldSettings}
 use Rattle.run_merge.specs.LogSeen.{logs_seen}

@@ -8,8 +8,8 @@ use Rattle.claim_model.specs.Journal.{PharmacySettings, Journal, JournalAtRest}
 use Rattle.claim_model.specs.Node.{Power, Outcome, Done, Refused, pharmacy_step}
 use Rattle.claim_model.specs.Numbered.{numbered}
 use Rattle.claim_model.specs.Settings.{pharmacies_from}
-use Rattle.claim_logs.specs.Nodes.{AnyNode, OfPharmacy, as_node}
-use Rattle.claim_logs.specs.Logs.{Logged, NodeLog, node_after, replay}
+use Rattle.claim_model.specs.Nodes.{AnyNode, OfPharmacy, as_node}
+use Rattle.claim_model.specs.Logs.{Logged, NodeLog, node_after, replay}
 use Rattle.node_state.specs.Nodes.{journal_of}
 use Rattle.run_merge.proofs.Opens.{pharmacy_there}
 use Rattle.node_logged.specs.Ledgers.{Ledger}

@@ -3,8 +3,8 @@ use Rattle.std.proofs.Common.{◌≡◌, List, [], ◌∷◌, ◌++◌, Option, 
 use Rattle.std.specs.Prelude.{option_map}
 use Rattle.claim_model.specs.Context.{Context}
 use Rattle.claim_model.specs.Node.{Node, Call, Sent, Outcome, Done, Refused}
-use Rattle.claim_logs.specs.Nodes.{AnyNode, node_step}
-use Rattle.claim_logs.specs.Logs.{Logged, NodeLog, node_after, replay}
+use Rattle.claim_model.specs.Nodes.{AnyNode, node_step}
+use Rattle.claim_model.specs.Logs.{Logged, NodeLog, node_after, replay}
 use Rattle.world_setup.specs.Seen.{settings_seen}
 use Rattle.world_setup.specs.declared.settings.WorldSettings.{WorldSettings}
 use Rattle.run_merge.specs.Order.{Fits, FitsBy}

@@ -1,8 +1,8 @@
 -- A node with its log beside it, and what a call makes of them.
 use Rattle.std.specs.Prelude.{◌≡◌, List, [], ◌∷◌, ◌++◌, ◌-◌, length, slice_get, Option, Some, None, option_map, unwrap_or}
 use Rattle.claim_model.specs.Node.{Call, Stop, Start, Sent, Outcome, Done, Refused}
-use Rattle.claim_logs.specs.Nodes.{AnyNode, node_step}
-use Rattle.claim_logs.specs.Logs.{Logged, NodeLog, replay}
+use Rattle.claim_model.specs.Nodes.{AnyNode, node_step}
+use Rattle.claim_model.specs.Logs.{Logged, NodeLog, replay}
 use Rattle.world_setup.specs.declared.settings.WorldSettings.{WorldSettings}
 use Rattle.run_merge.specs.Merged.{FitsThere}
 use Rattle.node_logged.specs.Setting.{context_of, opened}

@@ -7,8 +7,8 @@ use Rattle.claim_model.specs.Node.{Power, Pharmacy}
 use Rattle.claim_model.specs.Numbered.{numbered}
 use Rattle.claim_model.specs.World.{World}
 use Rattle.claim_model.specs.Settings.{opening}
-use Rattle.claim_logs.specs.Nodes.{AnyNode, OfPharmacy, OfSwitch, OfPayer}
-use Rattle.claim_logs.specs.Logs.{NodeLog, replay}
+use Rattle.claim_model.specs.Nodes.{AnyNode, OfPharmacy, OfSwitch, OfPayer}
+use Rattle.claim_model.specs.Logs.{NodeLog, replay}
 use Rattle.world_setup.specs.Seen.{settings_seen}
 use Rattle.world_setup.specs.declared.settings.WorldSettings.{WorldSettings}
 use Rattle.run_merge.specs.Naming.{calls_of}

@@ -8,7 +8,7 @@ use Rattle.claim_model.specs.Settings.{settings_fault, opening}
 use Rattle.claim_model.specs.Node.{Node}
 use Rattle.world_setup.specs.Seen.{settings_seen}
 use Rattle.world_setup.specs.declared.settings.WorldSettings.{WorldSettings}
-use Rattle.claim_logs.specs.Nodes.{AnyNode, node_at}
+use Rattle.claim_model.specs.Nodes.{AnyNode, node_at}
 
 -- a world takes these settings, and this is the table of their routes
 pub record IsTaken (s : WorldSettings) (routes : RouteMaps) : Type 0 where

@@ -4,7 +4,7 @@ ghost use Rattle.std.specs.Prelude.{◌≡◌, ◌+◌, ◌⊎◌, [], map, Some
 ghost use Rattle.std.specs.Option.{option_copied};
 ghost use Rattle.std.specs.Arc.{arc_value};
 ghost use Rattle.claim_model.specs.Node.{Pharmacy, Submit, Stop};
-ghost use Rattle.claim_logs.specs.Nodes.{node_step, same_node};
+ghost use Rattle.claim_model.specs.Nodes.{node_step, same_node};
 ghost use Rattle.node_state.specs.Nodes.{entries_of, held_of};
 ghost use Rattle.run_merge.specs.LogSeen.{log_seen};
 ghost use Rattle.run_merge.specs.Merged.{FitsAlone};

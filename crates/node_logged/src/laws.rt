@@ -3,7 +3,7 @@
 ghost use Rattle.std.specs.Prelude.{List, IsPermutation};
 ghost use Rattle.claim_model.specs.Settings.{opening};
 ghost use Rattle.claim_model.specs.World.{Event, run};
-ghost use Rattle.claim_logs.specs.Logs.{NodeLog};
+ghost use Rattle.claim_model.specs.Logs.{NodeLog};
 ghost use Rattle.world_setup.specs.Seen.{settings_seen};
 ghost use Rattle.world_setup.specs.declared.settings.WorldSettings.{WorldSettings};
 ghost use Rattle.run_merge.specs.Merged.{IsMerged};

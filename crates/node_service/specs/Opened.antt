@@ -3,7 +3,7 @@ use Rattle.std.specs.Prelude.{◌≡◌, ◌⊎◌, ℕ, zero, List, [], length,
 use Rattle.std.specs.Option.{option_map}
 use Rattle.sha2.specs.Sha256.{sha256}
 use Rattle.claim_model.specs.Node.{Node}
-use Rattle.claim_logs.specs.Logs.{NodeLog, replay}
+use Rattle.claim_model.specs.Logs.{NodeLog, replay}
 use Rattle.world_setup.specs.declared.settings.WorldSettings.{WorldSettings}
 use Rattle.world_settings.specs.Document.{document_seen, settings_in}
 use Rattle.kept_logs.specs.declared.fault.LogFault.TheVariants.{Short}

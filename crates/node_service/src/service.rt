@@ -2,7 +2,7 @@
 
 ghost use Rattle.std.specs.Prelude.{◌≡◌, [], codes, OnOk};
 ghost use Rattle.claim_model.specs.Node.{Done};
-ghost use Rattle.claim_logs.specs.Nodes.{node_step};
+ghost use Rattle.claim_model.specs.Nodes.{node_step};
 ghost use Rattle.node_logged.specs.Setting.{context_of};
 ghost use Rattle.world_setup.specs.Seen.{call_seen, node_seen};
 ghost use Rattle.node_lines.specs.Answering.{refused_line};

@@ -9,7 +9,7 @@ use Rattle.claim_model.specs.Rows.{Book}
 use Rattle.claim_model.specs.Book.{row_of}
 use Rattle.claim_model.specs.Node.{Power, Up, AtRest}
 use Rattle.claim_model.specs.Held.{journal_in, book_in, held_in_table, row_answer}
-pub use Rattle.claim_logs.specs.Nodes.{AnyNode, OfPharmacy, OfSwitch, OfPayer, as_node, node_step, node_at}
+pub use Rattle.claim_model.specs.Nodes.{AnyNode, OfPharmacy, OfSwitch, OfPayer, as_node, node_step, node_at}
 use Rattle.claim_model.specs.Settings.{is_empty}
 
 -- how many entries a pharmacy has; 0 of another node

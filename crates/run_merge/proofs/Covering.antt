@@ -8,10 +8,10 @@ use Rattle.claim_model.specs.Numbered.{numbered}
 use Rattle.claim_model.specs.Settings.{opening}
 use Rattle.world_setup.specs.Seen.{payer_seen, settings_seen}
 use Rattle.world_setup.specs.declared.settings.WorldSettings.{WorldSettings as Given}
-use Rattle.claim_logs.specs.Nodes.{node_at, same_node}
-use Rattle.claim_logs.specs.Logs.{NodeLog}
-use Rattle.claim_logs.specs.Interleavings.{HasLog}
-use Rattle.claim_logs.proofs.Names.{same_self}
+use Rattle.claim_model.specs.Nodes.{node_at, same_node}
+use Rattle.claim_model.specs.Logs.{NodeLog}
+use Rattle.claim_model.specs.Interleavings.{HasLog}
+use Rattle.claim_model.proofs.Names.{same_self}
 use Rattle.run_merge.specs.Naming.{is_numbered, is_there, name_at, has_log, all_distinct}
 use Rattle.run_merge.specs.Merged.{EachHasLog}
 use Rattle.run_merge.proofs.Names.{name_cases}

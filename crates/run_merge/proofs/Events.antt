@@ -4,7 +4,7 @@ use Rattle.std.specs.Prelude.{option_map}
 use Rattle.claim_model.specs.Numbered.{numbered}
 use Rattle.claim_model.specs.Node.{Node, Pharmacy, Switch, Payer, Call, Submit, Tick, Take, Stop, Start, Reprice}
 use Rattle.claim_model.specs.World.{Packet, Event, Submission, Ticking, Delivery, Stopping, Starting, PlanChange}
-use Rattle.claim_logs.specs.Nodes.{Asked, taking, asked}
+use Rattle.claim_model.specs.Nodes.{Asked, taking, asked}
 use Rattle.run_merge.specs.Line.{IsAbsent, NoEvent, Does}
 
 taken : (o : Option Packet) (a : Asked) → option_map taking o ≡ Some a → (p : Packet) × (o ≡ Some p) × (Take p.from p.bytes ≡ a.call) × (p.to ≡ a.node)

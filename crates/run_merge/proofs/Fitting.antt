@@ -2,8 +2,8 @@
 use Rattle.std.proofs.Common.{◌≡◌, ℕ, zero, suc, ◌<◌, List, [], ◌∷◌, drop, length, get_or, refl, sym, ap, ◌∙◌, subst, arith}
 use Rattle.claim_model.specs.Context.{Context}
 use Rattle.claim_model.specs.Node.{Sent, Outcome, Done, Refused}
-use Rattle.claim_logs.specs.Nodes.{AnyNode, node_step}
-use Rattle.claim_logs.specs.Logs.{Logged}
+use Rattle.claim_model.specs.Nodes.{AnyNode, node_step}
+use Rattle.claim_model.specs.Logs.{Logged}
 use Rattle.run_merge.specs.Order.{FitsBy, Fits}
 
 -- these calls fit this node exactly where those fit that one

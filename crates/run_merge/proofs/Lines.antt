@@ -3,12 +3,12 @@ use Rattle.std.proofs.Common.{◌≡◌, ℕ, zero, suc, ◌<◌, true, false, n
 use Rattle.std.proofs.lemmas.Bool.{and_parts, not-true, or_parts, cond-true, cond-false}
 use Rattle.claim_model.specs.Node.{Node}
 use Rattle.claim_model.specs.World.{Packet, Event, posted}
-use Rattle.claim_logs.specs.Nodes.{same_node}
-use Rattle.claim_logs.specs.Logs.{Logged, NodeLog}
+use Rattle.claim_model.specs.Nodes.{same_node}
+use Rattle.claim_model.specs.Logs.{Logged, NodeLog}
 use Rattle.run_merge.specs.Naming.{has_log, all_distinct, calls_of}
 use Rattle.run_merge.specs.Order.{advanced, Asks, Leads, Stuck, InOrder, NoOrder, none_left, calls_left}
 use Rattle.run_merge.specs.Line.{AllWait, OrderParts, IsPlaced, IsMadeByEvents, AllPlaced}
-use Rattle.claim_logs.proofs.Names.{same_self}
+use Rattle.claim_model.proofs.Names.{same_self}
 use Rattle.run_merge.proofs.Names.{name_cases}
 use Rattle.run_merge.proofs.Ordering.{advanced_same, advanced_other, leads_more, finished}
 

@@ -19,10 +19,10 @@ use Rattle.world_setup.specs.declared.settings.WorldSettings.{WorldSettings as G
 use Rattle.world_setup.specs.declared.world_fault.WorldFault.{WorldFault}
 use Rattle.world_setup.specs.declared.world_fault.WorldFault.TheVariants as fault
 use Rattle.world_setup.proofs.Taken.{no_fault_at_all}
-use Rattle.claim_logs.specs.Nodes.{AnyNode, node_at, same_node}
-use Rattle.claim_logs.specs.Logs.{Logged, NodeLog, log_in}
-use Rattle.claim_logs.specs.Interleavings.{IsInterleaving}
-use Rattle.claim_logs.proofs.Replaying.{absent_stays}
+use Rattle.claim_model.specs.Nodes.{AnyNode, node_at, same_node}
+use Rattle.claim_model.specs.Logs.{Logged, NodeLog, log_in}
+use Rattle.claim_model.specs.Interleavings.{IsInterleaving}
+use Rattle.claim_model.proofs.Replaying.{absent_stays}
 use Rattle.run_merge.specs.Naming.{is_there, has_log, all_distinct, calls_of}
 use Rattle.run_merge.specs.Order.{Fits, InOrder, NoOrder, Leads, none_left}
 use Rattle.run_merge.specs.LogSeen.{log_seen, logs_seen}

@@ -3,8 +3,8 @@ use Rattle.std.proofs.Common.{◌≡◌, ℕ, zero, suc, true, false, List, [], 
 use Rattle.std.proofs.lemmas.Bool.{both_ways}
 use Rattle.claim_model.specs.Numbered.{numbered}
 use Rattle.claim_model.specs.Node.{Node}
-use Rattle.claim_logs.specs.Nodes.{same_node}
-use Rattle.claim_logs.proofs.Names.{same_self, told_apart}
+use Rattle.claim_model.specs.Nodes.{same_node}
+use Rattle.claim_model.proofs.Names.{same_self, told_apart}
 
 -- two names are of one node, or not
 pub name_cases : (a b : Node) → ((a ≡ b) × (same_node a b ≡ true)) ⊎ (same_node a b ≡ false)

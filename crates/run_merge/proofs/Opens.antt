@@ -8,7 +8,7 @@ use Rattle.claim_model.specs.Journal.{PharmacySettings}
 use Rattle.claim_model.specs.Settings.{pharmacies_from, switches_of, payers_from}
 use Rattle.world_setup.specs.Seen.{payer_seen}
 use Rattle.world_setup.specs.declared.settings.PayerSettings.{PayerSettings as Given}
-use Rattle.claim_logs.specs.Nodes.{OfPharmacy, OfSwitch, OfPayer}
+use Rattle.claim_model.specs.Nodes.{OfPharmacy, OfSwitch, OfPayer}
 use Rattle.run_merge.specs.Naming.{is_numbered}
 
 get_there : {A : Type 0} (xs : List A) (k : ℕ) → nat_lt k (length xs) ≡ is_some (slice_get xs k)

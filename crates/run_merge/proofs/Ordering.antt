@@ -5,8 +5,8 @@ use Rattle.std.proofs.lemmas.Bool.{cond-true, cond-false}
 use Rattle.claim_model.specs.Numbered.{numbered}
 use Rattle.claim_model.specs.Node.{Node}
 use Rattle.claim_model.specs.World.{Packet, Event, Submission, Ticking, Delivery, Stopping, Starting, PlanChange, packet_from, posted}
-use Rattle.claim_logs.specs.Nodes.{same_node, Asked, taking, asked}
-use Rattle.claim_logs.specs.Logs.{Logged}
+use Rattle.claim_model.specs.Nodes.{same_node, Asked, taking, asked}
+use Rattle.claim_model.specs.Logs.{Logged}
 use Rattle.run_merge.specs.Order.{advanced, Asks, Leads, Stuck, none_left}
 use Rattle.claim_model.proofs.Lists.{numbered_append}
 use Rattle.run_merge.proofs.Names.{name_cases, numbered_behind, numbered_split}

@@ -5,7 +5,7 @@ use Rattle.std.specs.List.{list_all}
 use Rattle.std.proofs.lemmas.Bool.{and_parts, and_cases, eq-eqb, cases_eq}
 use Rattle.claim_model.specs.World.{Packet, Event}
 use Rattle.claim_model.proofs.Lists.{get_map}
-use Rattle.claim_logs.specs.Logs.{Logged, NodeLog}
+use Rattle.claim_model.specs.Logs.{Logged, NodeLog}
 use Rattle.run_merge.specs.Line.{Waits, Goes, AllWait, GoesAt, AllPlaced}
 use Rattle.run_merge.specs.LineSeen.{line_seen, lines_seen}
 use Rattle.run_merge.specs.declared.line.Line.{Line}

@@ -5,7 +5,7 @@ use Rattle.claim_model.specs.Node.{Node, Sent}
 use Rattle.claim_model.specs.World.{Packet, posted}
 use Rattle.world_setup.specs.Seen.{node_seen, event_seen}
 use Rattle.world_setup.specs.declared.event.Event.{Event}
-use Rattle.claim_logs.specs.Logs.{Logged, NodeLog}
+use Rattle.claim_model.specs.Logs.{Logged, NodeLog}
 use Rattle.run_merge.specs.Order.{InOrder, NoOrder}
 use Rattle.run_merge.specs.Line.{GoesAt, OrderParts, IsPlaced, IsStill, IsMadeByEvents, AllPlaced, AllWait}
 use Rattle.run_merge.specs.LineSeen.{line_seen, lines_seen}

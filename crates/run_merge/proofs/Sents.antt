@@ -1,8 +1,8 @@
 -- What was sent, compared.
 use Rattle.std.proofs.Common.{◌≡◌, ℕ, true, List, [], ◌∷◌, map, ap, sym, ◌∙◌, ◌<◌, zero, suc, length, get_or, arith}
 use Rattle.claim_model.specs.Node.{Node, Sent}
-use Rattle.claim_logs.specs.Nodes.{same_node}
-use Rattle.claim_logs.proofs.Names.{same_self}
+use Rattle.claim_model.specs.Nodes.{same_node}
+use Rattle.claim_model.proofs.Names.{same_self}
 
 pub same_sent : (a b : Node) (x y : List ℕ) → a ≡ b → x ≡ y → ◌≡◌ {A = Sent} (record { to = a; bytes = x }) (record { to = b; bytes = y })
 same_sent a b x y e f = λ i. record { to = e i; bytes = f i }

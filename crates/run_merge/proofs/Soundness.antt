@@ -4,15 +4,15 @@ use Rattle.std.proofs.lemmas.Bool.{cond-true, cond-false}
 use Rattle.claim_model.specs.Context.{Context}
 use Rattle.claim_model.specs.Node.{Node, Sent, Outcome, Done, Refused}
 use Rattle.claim_model.specs.World.{World, Packet, Event, posted, on_node, step, world_after}
-use Rattle.claim_logs.specs.Nodes.{AnyNode, node_step, node_at, called, same_node, Asked, asked, asked_step}
-use Rattle.claim_logs.specs.Local.{Follows}
-use Rattle.claim_logs.specs.Logs.{Logged, logged_by, log_in}
-use Rattle.claim_logs.specs.Interleavings.{IsDone, AllAccepted}
+use Rattle.claim_model.specs.Nodes.{AnyNode, node_step, node_at, called, same_node, Asked, asked, asked_step}
+use Rattle.claim_model.specs.Local.{Follows}
+use Rattle.claim_model.specs.Logs.{Logged, logged_by, log_in}
+use Rattle.claim_model.specs.Interleavings.{IsDone, AllAccepted}
 use Rattle.run_merge.specs.Order.{FitsBy, Fits, advanced, Asks, Leads, none_left}
 use Rattle.run_merge.specs.Merged.{FitsThere}
-use Rattle.claim_logs.proofs.Steps.{follows, accepted, step_asked}
-use Rattle.claim_logs.proofs.Names.{same_self}
-use Rattle.claim_logs.proofs.Ends.{Unchanged, One_call, ended}
+use Rattle.claim_model.proofs.Steps.{follows, accepted, step_asked}
+use Rattle.claim_model.proofs.Names.{same_self}
+use Rattle.claim_model.proofs.Ends.{Unchanged, One_call, ended}
 use Rattle.run_merge.proofs.Names.{name_cases, apart}
 use Rattle.run_merge.proofs.Ordering.{each_node, advanced_same, advanced_other}
 

@@ -3,8 +3,8 @@ use Rattle.std.specs.Prelude.{◌≡◌, ℕ, List, [], ◌∷◌, ◌++◌, sli
 use Rattle.claim_model.specs.Numbered.{numbered}
 use Rattle.claim_model.specs.Node.{Node, Call}
 use Rattle.claim_model.specs.World.{Packet, Event, posted}
-use Rattle.claim_logs.specs.Logs.{Logged, NodeLog}
-use Rattle.claim_logs.specs.Nodes.{asked}
+use Rattle.claim_model.specs.Logs.{Logged, NodeLog}
+use Rattle.claim_model.specs.Nodes.{asked}
 use Rattle.run_merge.specs.Naming.{calls_of, all_distinct}
 use Rattle.run_merge.specs.Order.{Asks, Leads}
 

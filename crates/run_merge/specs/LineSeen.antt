@@ -2,7 +2,7 @@
 use Rattle.std.specs.Prelude.{List, map}
 use Rattle.claim_model.specs.World.{Packet}
 use Rattle.world_setup.specs.Seen.{node_seen}
-use Rattle.claim_logs.specs.Logs.{NodeLog}
+use Rattle.claim_model.specs.Logs.{NodeLog}
 use Rattle.run_merge.specs.declared.slip.Slip.{Slip}
 use Rattle.run_merge.specs.declared.line.Line.{Line}
 

@@ -1,7 +1,7 @@
 -- Logs as the model sees them.
 use Rattle.std.specs.Prelude.{map, List}
 use Rattle.world_setup.specs.Seen.{node_seen}
-use Rattle.claim_logs.specs.Logs.{NodeLog}
+use Rattle.claim_model.specs.Logs.{NodeLog}
 use Rattle.run_merge.specs.declared.log.NodeLog.{NodeLog as Kept}
 
 -- a node's log

@@ -10,9 +10,9 @@ use Rattle.claim_model.specs.Node.{Node}
 use Rattle.claim_model.specs.World.{Event}
 use Rattle.world_setup.specs.Seen.{settings_seen}
 use Rattle.world_setup.specs.declared.settings.WorldSettings.{WorldSettings}
-use Rattle.claim_logs.specs.Nodes.{AnyNode, node_at}
-use Rattle.claim_logs.specs.Logs.{Logged, NodeLog}
-use Rattle.claim_logs.specs.Interleavings.{HasLog, IsInterleaving}
+use Rattle.claim_model.specs.Nodes.{AnyNode, node_at}
+use Rattle.claim_model.specs.Logs.{Logged, NodeLog}
+use Rattle.claim_model.specs.Interleavings.{HasLog, IsInterleaving}
 use Rattle.run_merge.specs.Naming.{is_there}
 use Rattle.run_merge.specs.Order.{Fits}
 use Rattle.run_merge.specs.declared.history.MergeFault.{MergeFault}

@@ -3,8 +3,8 @@ use Rattle.std.specs.Prelude.{ℕ, zero, suc, ◌+◌, ◌-◌, Bool, true, fals
 use Rattle.std.specs.List.{list_any}
 use Rattle.claim_model.specs.Node.{Node, Pharmacy, Switch, Payer}
 use Rattle.claim_model.specs.Settings.{WorldSettings, opening}
-use Rattle.claim_logs.specs.Nodes.{node_at, same_node}
-use Rattle.claim_logs.specs.Logs.{Logged, NodeLog}
+use Rattle.claim_model.specs.Nodes.{node_at, same_node}
+use Rattle.claim_model.specs.Logs.{Logged, NodeLog}
 
 -- a number from 1 to a count
 abbrev pub is_numbered : ℕ → ℕ → Bool

@@ -3,8 +3,8 @@ use Rattle.std.specs.Prelude.{◌≡◌, ℕ, ◌+◌, cond, List, [], ◌∷◌
 use Rattle.claim_model.specs.Context.{Context}
 use Rattle.claim_model.specs.Node.{Node, Sent, Outcome, Done, Refused}
 use Rattle.claim_model.specs.World.{Packet, Event, posted}
-use Rattle.claim_logs.specs.Nodes.{AnyNode, node_step, same_node, asked}
-use Rattle.claim_logs.specs.Logs.{Logged, NodeLog}
+use Rattle.claim_model.specs.Nodes.{AnyNode, node_step, same_node, asked}
+use Rattle.claim_model.specs.Logs.{Logged, NodeLog}
 
 abbrev pub FitsBy : (AnyNode → Type 0) → List Sent → Outcome AnyNode → Type 0
 FitsBy P sent (Done after out) = (out ≡ sent) × P after

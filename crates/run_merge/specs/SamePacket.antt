@@ -5,8 +5,8 @@ use Rattle.std.proofs.lemmas.Bool.{and_parts, and_from}
 use Rattle.std.specs.Cmp.{IsEquivalence, both_ways}
 use Rattle.std.specs.Cmp.Lexicographic.{pointwise, bytes_decides, nat_list_eq_equiv}
 use Rattle.claim_model.specs.World.{Packet}
-use Rattle.claim_logs.specs.Nodes.{same_node}
-use Rattle.claim_logs.proofs.Names.{same_self, same_is}
+use Rattle.claim_model.specs.Nodes.{same_node}
+use Rattle.claim_model.proofs.Names.{same_self, same_is}
 
 abbrev pub same_packet : Packet → Packet → Bool
 same_packet p q = same_node p.from q.from && (same_node p.to q.to && pointwise nat_eq p.bytes q.bytes)

@@ -3,7 +3,7 @@
 ghost use Rattle.std.specs.Prelude.{◌≡◌, map, IfOk, MatchBool};
 ghost use Rattle.claim_model.specs.Bytes.{bytes_with};
 ghost use Rattle.claim_model.specs.Node.{Done};
-ghost use Rattle.claim_logs.specs.Nodes.{AnyNode, node_step};
+ghost use Rattle.claim_model.specs.Nodes.{AnyNode, node_step};
 ghost use Rattle.run_merge.specs.Order.{Fits};
 
 use crate::record::Record;

@@ -2,7 +2,7 @@
 
 ghost use Rattle.std.specs.Prelude.{◌≡◌, ◌<◌, ◌++◌, ◌∷◌, [], vec_len, vec_capacity, map, IfOk, OnOk};
 ghost use Rattle.world_setup.specs.Seen.{node_seen, call_seen, sent_seen};
-ghost use Rattle.claim_logs.specs.Nodes.{same_node};
+ghost use Rattle.claim_model.specs.Nodes.{same_node};
 ghost use Rattle.run_merge.specs.LogSeen.{log_seen};
 
 use crate::record::Record;

@@ -17,7 +17,7 @@ pub struct Record {
 impl Model for Record {
     ghost use Rattle.std.specs.Prelude.{map};
     ghost use Rattle.world_setup.specs.Seen.{call_seen, sent_seen};
-    ghost use Rattle.claim_logs.specs.Logs as model;
+    ghost use Rattle.claim_model.specs.Logs as model;
 
     ghost Value = { model.Logged };
 

@@ -7,8 +7,8 @@ ghost use Rattle.bin_routes.specs.Table.{routes_of};
 ghost use Rattle.claim_model.specs.Bytes.{bytes_with};
 ghost use Rattle.claim_model.specs.Settings.{settings_fault, opening};
 ghost use Rattle.world_setup.specs.Seen.{node_seen, settings_seen};
-ghost use Rattle.claim_logs.specs.Nodes.{node_step, node_at};
-ghost use Rattle.claim_logs.specs.Logs.{node_after, replay};
+ghost use Rattle.claim_model.specs.Nodes.{node_step, node_at};
+ghost use Rattle.claim_model.specs.Logs.{node_after, replay};
 
 use crate::log::NodeLog;
 use crate::record::Record;

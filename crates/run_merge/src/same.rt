@@ -2,7 +2,7 @@
 
 ghost use Rattle.std.specs.Prelude.{◌≡◌, ◌↔◌, map, IsTrue};
 ghost use Rattle.world_setup.specs.Seen.{node_seen, sent_seen};
-ghost use Rattle.claim_logs.specs.Nodes.{same_node};
+ghost use Rattle.claim_model.specs.Nodes.{same_node};
 
 use world_setup::{Node, Sent};
 

@@ -7,7 +7,7 @@ use Rattle.std.proofs.lemmas.List.Elements.{filter_map-append}
 use Rattle.claim_model.specs.Context.{Context}
 use Rattle.claim_model.specs.Node.{Outcome, Done, Refused}
 use Rattle.claim_model.specs.World.{World, Packet, Event, Submission, Ticking, Delivery, Stopping, Starting, PlanChange, packet_from, step, world_after, run}
-use Rattle.claim_logs.proofs.Ends.{Unchanged, One_call, ended}
+use Rattle.claim_model.proofs.Ends.{Unchanged, One_call, ended}
 use Rattle.run_picture.specs.Marks.{Mark, made_mark, sent_marks, event_marks, marks_from}
 use Rattle.run_picture.specs.Counts.{Way, way, sending, arrow, delivered_by, deliveries}
 

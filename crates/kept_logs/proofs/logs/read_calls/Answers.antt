@@ -1,5 +1,5 @@
 use Rattle.std.proofs.Common.{◌≡◌, ◌≢◌, ◌+◌, ◌-◌, ◌++◌, ◌∷◌, [], length, Result, Ok, Err, IfErr, IsErrAnd, ◌∙◌, refl, ap, sym, arith}
-use Rattle.claim_logs.specs.Logs.{NodeLog}
+use Rattle.claim_model.specs.Logs.{NodeLog}
 use Rattle.kept_logs.specs.declared.fault.LogFault.{LogFault}
 use Rattle.kept_logs.specs.declared.fault.LogFault.TheVariants.{OutOfMemory}
 use Rattle.kept_logs.specs.Logs.{behind, calls_in}

@@ -1,6 +1,6 @@
 use Rattle.std.proofs.Common.{◌≡◌, drop}
 use Rattle.claim_model.specs.Bytes.{bytes_with}
-use Rattle.claim_logs.specs.Logs.{replay}
+use Rattle.claim_model.specs.Logs.{replay}
 use Rattle.run_merge.proofs.replay.replay.Given as goal
 
 abbrev pub invariant-loop-record : goal.invariant-loop-record

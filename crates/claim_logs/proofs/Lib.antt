@@ -1,9 +1,0 @@
-pub mod Names
-pub mod Steps
-pub mod Ends
-pub mod Serving
-pub mod Replaying
-pub mod Posting
-pub mod GoingOn
-pub mod Walking
-pub mod Finding
