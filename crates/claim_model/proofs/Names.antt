@@ -1,13 +1,8 @@
 -- The names of nodes, told apart.
-use Rattle.std.proofs.Common.{◌≡◌, ℕ, Bool, true, false, refl, sym, ap, ◌∙◌, ◌⊎◌, inl, inr, arith}
+use Rattle.std.proofs.Common.{◌≡◌, Bool, true, false, refl, sym, ap, ◌∙◌, ◌⊎◌, inl, inr, arith}
 use Rattle.std.proofs.lemmas.Bool.{false≢true}
 use Rattle.claim_model.specs.Node.{Node, Pharmacy, Switch, Payer}
 use Rattle.claim_model.specs.Nodes.{same_node}
-
-number_of : Node → ℕ
-number_of (Pharmacy n) = n
-number_of (Switch n) = n
-number_of (Payer n) = n
 
 -- a name is its own
 pub same_self : (node : Node) → same_node node node ≡ true

@@ -2,7 +2,6 @@
 use Rattle.std.proofs.Common.{◌≡◌, ℕ, Bool, true, false, ◌&&◌, ◌==◌, cond, List, Option, Some, None, refl, ap, ◌∙◌, eqb-true, eq-eqb, leb-true, length, ◌≤◌}
 use Rattle.std.specs.Prelude.{bytes_eq, option_and_then, nat_le}
 use Rattle.std.proofs.lemmas.Bool.{and_parts, and_from, false≢true, cond-true}
-use Rattle.std.proofs.lemmas.Bool.Decides.{not_from_Decides}
 use Rattle.std.proofs.lemmas.Slice.Eq.{bytes_eq-Decides}
 use Rattle.claim_model.specs.Words.{TxnId, Auth, Fill, RequestHeader}
 use Rattle.claim_model.specs.Context.{Context}
@@ -15,9 +14,6 @@ bytes_same a b = (bytes_eq-Decides a b).0
 
 pub bytes_self : (a : List ℕ) → bytes_eq a a ≡ true
 bytes_self a = (bytes_eq-Decides a a).1 refl
-
-pub bytes_differ : (a b : List ℕ) → bytes_eq a b ≡ false → a ≡ b → ⊥
-bytes_differ a b h = not_from_Decides (bytes_eq a b) (bytes_eq-Decides a b) h
 
 pub nat_same : (a b : ℕ) → (a == b) ≡ true → a ≡ b
 nat_same a b h = eqb-true a b h

@@ -55,9 +55,6 @@ due_has ctx j (suc k) phase request h z =
 
 -- ---- the circle
 
-pub circle_above : (s : PharmacySettings) → 0 < s.again → 0 < s.tries → 0 < length s.nodes → 0 < circle s
-circle_above s again tries some = mul-pos (mul-pos again tries) some
-
 -- a phase that is at a place of the list is below the circle
 pub phase_below : (s : PharmacySettings) (phase : ℕ) → 0 < s.again → 0 < s.tries → phase / (s.again * s.tries) < length s.nodes → phase < circle s
 phase_below s phase again tries fits =

@@ -1,5 +1,5 @@
 -- From the mask of sixteen bytes to the place of the first separator.
-use Rattle.std.proofs.Common.{◌≡◌, ℕ, ◌+◌, ◌*◌, ◌-◌, ◌%◌, ◌^◌, ◌<◌, ◌≤◌, Bool, true, false, not, cond, ltb, eqb, ◌&&◌, List, [], ◌∷◌, ◌++◌, map, length, take, drop, get_or, replicate, Option, Some, None, refl, sym, ap, ap₂, ◌∙◌, arith, w8, Fits, zero, suc, take-append-drop, length-take-le, length-drop}
+use Rattle.std.proofs.Common.{◌≡◌, ℕ, ◌+◌, ◌*◌, ◌-◌, ◌%◌, ◌^◌, ◌<◌, ◌≤◌, Bool, true, false, not, cond, ltb, eqb, ◌&&◌, List, [], ◌∷◌, ◌++◌, map, length, take, drop, replicate, Option, Some, None, refl, sym, ap, ap₂, ◌∙◌, arith, w8, Fits, zero, suc, take-append-drop, length-take-le, length-drop}
 use Rattle.std.specs.Prelude.{option_map}
 use Rattle.std.specs.List.{prefix_len}
 use Rattle.std.proofs.lemmas.Bool.{agree_below, agree_below_at, eq-eqb, ne_eqb}
@@ -91,25 +91,6 @@ ends_drop (b ∷ d) = ends_step b d (is_separator b) refl (ends_drop d)
 
 pub within : (d : List ℕ) → plain_length d ≤ length d
 within d = prefix_len-le-length plain d
-
--- over one byte
-pub goes_on : (d : List ℕ) (i : ℕ) → i < length d → is_separator (get_or d i 0) ≡ false → plain_length (drop i d) ≡ 1 + plain_length (drop (i + 1) d)
-goes_on [] i lt e = absurd (omega arith)
-goes_on (b ∷ d) zero lt e = ap (λ x. cond (not x) (1 + plain_length d) 0) e
-goes_on (b ∷ d) (suc i) lt e =
-    let more : suc i + 1 ≡ suc (i + 1) = omega arith in
-    goes_on d i (omega arith) e ∙ ap (λ n. 1 + plain_length (drop n (b ∷ d))) (sym more)
-
-pub stops : (d : List ℕ) (i : ℕ) → i < length d → is_separator (get_or d i 0) ≡ true → plain_length (drop i d) ≡ 0
-stops [] i lt e = absurd (omega arith)
-stops (b ∷ d) zero lt e = ap (λ x. cond (not x) (1 + plain_length d) 0) e
-stops (b ∷ d) (suc i) lt e = stops d i (omega arith) e
-
-pub at_end : (d : List ℕ) (i : ℕ) → length d ≤ i → plain_length (drop i d) ≡ 0
-at_end [] zero le = refl
-at_end [] (suc i) le = refl
-at_end (b ∷ d) zero le = absurd (omega arith)
-at_end (b ∷ d) (suc i) le = at_end d i (omega arith)
 
 -- the search for a separator tells the same
 pub from_place : (d : List ℕ) (p : ℕ) → first_separator d ≡ Some p → plain_length d ≡ p

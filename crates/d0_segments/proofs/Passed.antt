@@ -1,23 +1,22 @@
 -- What is passed over, and what a check that passed over everything knows.
 use Rattle.std.proofs.Common.{◌≡◌, ℕ, ◌+◌, ◌-◌, ◌<◌, ◌≤◌, Bool, true, false, cond, eqb, ◌&&◌, List, [], ◌∷◌, ◌++◌, length, drop, Option, Some, None, refl, sym, ap, ◌∙◌, arith, length-append}
-use Rattle.std.proofs.lemmas.Bool.{eqb-true}
 use Rattle.d0_header.specs.declared.fault.HeaderFault.{HeaderFault}
 use Rattle.d0_segments.specs.declared.fault.FramingFault.{FramingFault}
 use Rattle.d0_segments.specs.declared.fault.FramingFault.TheVariants.{CountMismatch}
 use Rattle.d0_segments.specs.declared.field.Field.{Field}
 use Rattle.d0_segments.specs.declared.rest.Rest.{Rest}
-use Rattle.d0_segments.specs.Separators.{is_id, ends_here, begins_with}
+use Rattle.d0_segments.specs.Separators.{is_id, ends_here}
 use Rattle.d0_segments.specs.Parts.{SegmentParts, TransmissionParts}
 use Rattle.d0_segments.specs.Texts.{field_text}
 use Rattle.d0_segments.specs.Views.{field_parts}
 use Rattle.d0_segments.specs.Faults.{first_fault, or_else, count_groups}
 use Rattle.d0_segments.specs.Pieces.{shared_of, groups_of}
 use Rattle.d0_segments.specs.Framing.{HeaderKind, count_fault, body_fault, after_header, framing_fault, unless, transmission_of}
-use Rattle.d0_segments.specs.Taking.{Takes, fault_in}
+use Rattle.d0_segments.specs.Taking.{Takes}
 use Rattle.d0_segments.specs.Passing.{Passes}
 use Rattle.d0_segments.proofs.Walking.{walk_field, carried}
 use Rattle.d0_segments.proofs.Typed.{field_typed}
-use Rattle.d0_segments.proofs.Taken.{entered_segment, entered_group}
+use Rattle.d0_segments.proofs.Taken.{entered_segment}
 use Rattle.d0_segments.proofs.Cutting.{lacks, lacks-head, lacks-nil, lacks-cons, inner, inner_lacks, name_lacks}
 
 -- no group begins in bytes without a group separator
@@ -59,31 +58,6 @@ passes_segment a b x y t id ends =
       shorter = shorter_by (30 ∷ 28 ∷ 65 ∷ 77 ∷ x ∷ y ∷ []) a.bytes.now b.bytes.now t.parts (omega arith);
       ends = ends;
     }
-
-begins_here : (bs : List ℕ) → begins_with 30 bs ≡ true → ends_here bs ≡ true
-begins_here [] e = refl
-begins_here (b ∷ bs) e = ap (λ c. ends_here (c ∷ bs)) (eqb-true b 30 e)
-
-pub passes_group : (a b : Rest) → Takes a (29 ∷ []) b → begins_with 30 b.bytes.now ≡ true → Passes a 1 b
-passes_group a b t begins = record {
-  fault = entered_group a b t begins;
-  count = ap count_groups t.parts;
-  few = omega arith;
-  shorter = shorter_by (29 ∷ []) a.bytes.now b.bytes.now t.parts (omega arith);
-  ends = begins_here b.bytes.now begins;
-}
-
--- at the end
-none_left : (bs : List ℕ) (p : ℕ) → length bs ≡ 0 → first_fault 0 p bs ≡ None
-none_left [] p e = refl
-none_left (b ∷ bs) p e = absurd (omega arith)
-
-pub at_end : (r : Rest) → length r.bytes.now ≡ 0 → fault_in r ≡ None
-at_end r e = none_left r.bytes.now (r.end - length r.bytes.now) e
-
-pub no_more : (bs : List ℕ) → length bs ≡ 0 → count_groups bs ≡ 0
-no_more [] e = refl
-no_more (b ∷ bs) e = absurd (omega arith)
 
 -- the fault of all the bytes
 module _ {H : Type 0} (kind : HeaderKind H) (bytes body : List ℕ) (place : ℕ) (passes : kind.fault bytes ≡ None) (is : body ≡ drop kind.size bytes) (at : place ≡ kind.size) where

@@ -1,9 +1,8 @@
 -- What a search for the next separator finds.
-use Rattle.std.proofs.Common.{◌≡◌, ℕ, zero, suc, ◌+◌, ◌-◌, ◌<◌, ◌≤◌, Bool, true, false, not, cond, ◌&&◌, List, [], ◌∷◌, ◌++◌, length, get_or, take, drop, Option, Some, None, refl, sym, ap, ◌∙◌, arith, length-drop}
+use Rattle.std.proofs.Common.{◌≡◌, ℕ, zero, suc, ◌+◌, ◌<◌, ◌≤◌, Bool, true, false, not, cond, ◌&&◌, List, [], ◌∷◌, ◌++◌, length, get_or, Option, Some, None, refl, sym, ap, ◌∙◌, arith}
 use Rattle.std.specs.Prelude.{option_map}
-use Rattle.std.proofs.Math.Seq.{take-length}
 use Rattle.memchr.specs.Find.{IsFirstByte}
-use Rattle.d0_segments.specs.Separators.{is_separator, is_plain, is_id, ends_here, first_separator}
+use Rattle.d0_segments.specs.Separators.{is_separator, is_plain, is_id, first_separator}
 
 -- of a byte that passes no test
 none_behind : (b : ℕ) (bs : List ℕ) → ((k : ℕ) → 0 ≤ k → k < length (b ∷ bs) → is_separator (get_or (b ∷ bs) k 0) ≡ true → ⊥)
@@ -63,23 +62,6 @@ plain_if_none [] e = refl
 plain_if_none (b ∷ bs) e =
     let h = head_none (is_separator b) (first_separator bs) e in
     ap (λ t. not t && is_plain bs) h.0 ∙ plain_if_none bs h.1
-
-pub plain_before : (bs : List ℕ) (p : ℕ) → first_separator bs ≡ Some p → is_plain (take p bs) ≡ true
-plain_before [] p e = absurd cc
-plain_before (b ∷ bs) zero e = refl
-plain_before (b ∷ bs) (suc p) e =
-    let h = head_suc (is_separator b) (first_separator bs) p e in
-    ap (λ t. not t && is_plain (take p bs)) h.0 ∙ plain_before bs p h.1
-
-pub ends_at : (bs : List ℕ) (p : ℕ) → first_separator bs ≡ Some p → ends_here (drop p bs) ≡ true
-ends_at [] p e = absurd cc
-ends_at (b ∷ bs) zero e = head_zero (is_separator b) (first_separator bs) e
-ends_at (b ∷ bs) (suc p) e = ends_at bs p (head_suc (is_separator b) (first_separator bs) p e).1
-
-pub ends_at_end : (bs : List ℕ) (p : ℕ) → first_separator bs ≡ Some p → ends_here (take (length bs - p) (drop p bs)) ≡ true
-ends_at_end bs p e =
-    let whole : take (length bs - p) (drop p bs) ≡ drop p bs = rw (← length-drop) (take-length (drop p bs)) in
-    ap ends_here whole ∙ ends_at bs p e
 
 pub is_id_plain : (id : List ℕ) → length id ≡ 2 → first_separator id ≡ None → is_id id ≡ true
 is_id_plain [] two e = absurd (omega arith)

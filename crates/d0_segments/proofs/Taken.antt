@@ -19,9 +19,6 @@ use Rattle.d0_segments.specs.Taking.{Takes, IsIdentified, fault_in, fault_behind
 use Rattle.d0_segments.proofs.Walking.{both, not_true, walk_fields, walk_segments, walk_groups, carried, anywhere, segment_start}
 use Rattle.d0_segments.proofs.Typed.{fields_typed, segments_typed}
 
-pub Takes-none : (a : Rest) → Takes a [] a
-Takes-none a = record { parts = refl; address = ap (λ n. (a.bytes.ref_ptr.0, n)) (omega arith); end = refl }
-
 pub beyond-twice : (at : ℕ × ℕ) (m n : ℕ) → beyond (beyond at m) n ≡ beyond at (m + n)
 beyond-twice at m n = ap (λ k. (at.0, k)) (omega arith)
 

@@ -46,10 +46,6 @@ calls_in-goes_on total number most r after fits =
 
 -- ---- the text of calls
 
-pub no_calls : (number : ℕ) → calls_text number [] ≡ []
-unfolding calls_text
-no_calls number = refl
-
 pub one_call : (number : ℕ) (r : Logged) (calls : List Logged) → calls_text number (r ∷ calls) ≡ frame_text number (logged_text r) ++ calls_text (number + 1) calls
 unfolding calls_text
 one_call number r calls = refl

@@ -22,9 +22,6 @@ pub record PutsSents (before now : List ℕ) (all left : List Sent) : Type 0 whe
   pub text : now ++ sents_text left ≡ before ++ sents_text all
   pub fits : AllByRecursion FitsSent left → AllByRecursion FitsSent all
 
-pub sents_begin : (before : List ℕ) (all : List Sent) → PutsSents before before all all
-sents_begin before all = record { text = refl; fits = λ f. f }
-
 pub sents_go_on : (before now longer : List ℕ) (all left : List Sent) (one : Sent) (rest : List Sent) → left ≡ one ∷ rest → longer ≡ now ++ sent_text one → FitsSent one → PutsSents before now all left → PutsSents before longer all rest
 unfolding sents_text
 sents_go_on before now longer all left one rest is put fits so_far = record {
@@ -41,9 +38,6 @@ sents_end before now all left none so_far = (sym (append-nil now) ∙ ap (λ xs.
 pub record PutsCalls (before now : List ℕ) (all : List Logged) (number : ℕ) (left : List Logged) : Type 0 where
   pub text : now ++ calls_text number left ≡ before ++ calls_text 1 all
   pub fits : AllByRecursion FitsLogged left → AllByRecursion FitsLogged all
-
-pub calls_begin : (before : List ℕ) (all : List Logged) → PutsCalls before before all 1 all
-calls_begin before all = record { text = refl; fits = λ f. f }
 
 pub calls_go_on : (before now longer : List ℕ) (all : List Logged) (number : ℕ) (left : List Logged) (one : Logged) (rest : List Logged) → left ≡ one ∷ rest → longer ≡ now ++ frame_text number (logged_text one) → FitsLogged one
     → PutsCalls before now all number left → PutsCalls before longer all (number + 1) rest

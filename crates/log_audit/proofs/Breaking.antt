@@ -14,12 +14,6 @@ pub record Leads (ctx : Context) (s : AnyNode) (calls : List Logged) (t : AnyNod
   pub fits : Fits ctx s calls → Fits ctx t all
   pub breaks : (p q : ℕ) → q ≡ passed + p → BreaksAt ctx s calls p → BreaksAt ctx t all q
 
-pub leads_self : (ctx : Context) (s : AnyNode) (calls : List Logged) → Leads ctx s calls s calls 0
-leads_self ctx s calls = record {
-  fits = λ h. h;
-  breaks = λ p q e h. let same : p ≡ q = omega arith in subst (λ (x : ℕ). BreaksAt ctx s calls x) same h;
-}
-
 pub leads_step : (ctx : Context) (s after t : AnyNode) (r : Logged) (calls all : List Logged) (passed : ℕ) → Does ctx s r after → Leads ctx s (r ∷ calls) t all passed → Leads ctx after calls t all (passed + 1)
 leads_step ctx s after t r calls all passed e f = record {
   fits = λ h. f.fits (subst (λ (o : Outcome AnyNode). FitsBy (λ x. Fits ctx x calls) r.sent o) (sym e) (refl, h));
@@ -28,9 +22,6 @@ leads_step ctx s after t r calls all passed e f = record {
 
 pub breaks_here : (ctx : Context) (s t : AnyNode) (r : Logged) (calls all : List Logged) (passed : ℕ) → DoesNot ctx s r → Leads ctx s (r ∷ calls) t all passed → BreaksAt ctx t all passed
 breaks_here ctx s t r calls all passed n f = f.breaks 0 passed (omega arith) n
-
-pub all_fit : (ctx : Context) (s t : AnyNode) (all : List Logged) (passed : ℕ) → Leads ctx s [] t all passed → Fits ctx t all
-all_fit ctx s t all passed f = f.fits tt
 
 pub drop_at : (xs : List Logged) (k : ℕ) (r : Logged) → k < length xs → r ≡ get_or xs k r → drop k xs ≡ r ∷ drop (k + 1) xs
 drop_at xs k r h e = at_drop_more (λ (left : List Logged). left) xs k r h ∙ ap (λ (x : Logged). x ∷ drop (k + 1) xs) (sym e)

@@ -69,10 +69,6 @@ marks_one entries r place left all marks i m =
     other k d entry mark e g true h = let o = is_of entries r k entry e h in absurd (d (omega (arith, o.number, i.number)))
     other k d entry mark e g false h = ap (λ b. mark || (b || has_one (suc k) entry.request left)) (sym h) ∙ m.each k entry mark e g
 
--- before any receipt was looked at, nothing is marked
-pub marks_any : (entries : List Kept) (all : List Receipt) (marks : List Bool) → length marks ≡ length entries → ((k : ℕ) (mark : Bool) → slice_get marks k ≡ Some mark → mark ≡ false) → Marks entries all all marks
-marks_any entries all marks size none = record { size = size; each = λ k entry mark e g. ap (λ b. b || has_one (suc k) entry.request all) (none k mark g) }
-
 -- all receipts being looked at, each entry is marked exactly where each has one
 pub marks_tell : (entries : List Kept) (all : List Receipt) (marks : List Bool) → Marks entries [] all marks → list_all (λ mark. mark) marks ≡ each_has_one 1 entries all
 marks_tell entries all marks m = by 0 entries marks m.size (λ k entry mark e g. sym (either_false mark) ∙ (m.each k entry mark e g ∙ from_zero k entry))

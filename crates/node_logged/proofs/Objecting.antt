@@ -1,22 +1,19 @@
 -- What speaks against tills, and what that is a cause for.
-use Rattle.std.proofs.Common.{◌≡◌, ℕ, Bool, true, false, cond, List, Option, Some, None, Result, Ok, Err, IfOk, IfErr, OnOk, MatchOption, refl, sym, subst}
+use Rattle.std.proofs.Common.{◌≡◌, ℕ, Bool, true, false, cond, List, Option, Some, None, Result, Ok, Err, IfOk, MatchOption, refl, sym, subst}
 use Rattle.std.specs.List.{list_all}
 use Rattle.std.proofs.lemmas.Bool.{both_ways}
 use Rattle.claim_model.specs.Settings.{opening}
 use Rattle.claim_model.specs.Logs.{NodeLog}
 use Rattle.world_setup.specs.Seen.{settings_seen}
 use Rattle.world_setup.specs.declared.settings.WorldSettings.{WorldSettings}
-use Rattle.run_merge.specs.LogSeen.{logs_seen}
-use Rattle.run_merge.specs.declared.log.NodeLog.{NodeLog as Kept}
 use Rattle.node_logged.specs.Tills.{Till}
 use Rattle.node_logged.specs.Ledgers.{lacking, has_receipts, has_answers}
 use Rattle.node_logged.specs.Setting.{context_of}
 use Rattle.node_logged.specs.Replayed.{ledgers_of}
 use Rattle.node_logged.specs.Objections.{first_objection, objection_by}
-use Rattle.node_logged.specs.Causes.{AreRight, Stands, IsCause, IsUnmerged}
+use Rattle.node_logged.specs.Causes.{AreRight, Stands}
 use Rattle.node_logged.specs.declared.judging.objection.Objection.{Objection}
 use Rattle.node_logged.specs.declared.judging.objection.Objection.TheVariants.{ReceiptMissing, HeardDiffers}
-use Rattle.node_logged.specs.declared.judging.finish_fault.FinishFault.{FinishFault}
 use Rattle.node_logged.specs.declared.judging.finish_fault.FinishFault.TheVariants as fault
 use Rattle.node_logged.proofs.Judged.{all_receipts, receipts_all, all_counts, all_heard, heard_all, lacks}
 
@@ -38,16 +35,3 @@ pub objections_stand : {E : Type 0} (s : WorldSettings) (logs : List NodeLog) (t
     → IfOk r (λ o. MatchOption o (AreRight tills (ledgers_of s logs)) (Stands tills (ledgers_of s logs)))
 objections_stand s logs tills (Ok o) e = subst (λ (o : Option Objection). MatchOption o (AreRight tills (ledgers_of s logs)) (Stands tills (ledgers_of s logs))) (sym e) (told s logs tills)
 objections_stand s logs tills (Err fault) e = tt
-
--- logs that are not merged though all else is right
-pub unmerged_is_cause : {V : Type 0} (s : WorldSettings) (logs : List Kept) (tills : List Till) (r : Result V FinishFault) → AreRight tills (ledgers_of s (logs_seen logs)) → IfErr r (λ f. IsUnmerged s logs f) → IfErr r (λ f. IsCause s logs tills f)
-unmerged_is_cause s logs tills (Ok v) right u = tt
-unmerged_is_cause s logs tills (Err fault.OutOfMemory) right u = tt
-unmerged_is_cause s logs tills (Err (fault.TillMissing pharmacy kept)) right u = absurd u
-unmerged_is_cause s logs tills (Err (fault.ReceiptMissing kept)) right u = absurd u
-unmerged_is_cause s logs tills (Err (fault.HeardDiffers kept)) right u = absurd u
-unmerged_is_cause s logs tills (Err (fault.Tangled kept)) right u = (u.0, right, u.1)
-
-pub on_ok : {V E P : Type 0} (r : Result V E) → P → OnOk r P
-on_ok (Ok v) p = p
-on_ok (Err e) p = tt

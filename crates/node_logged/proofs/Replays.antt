@@ -1,14 +1,13 @@
 -- A log and one accepted call more, replayed.
-use Rattle.std.proofs.Common.{◌≡◌, List, [], ◌∷◌, ◌++◌, Option, Some, None, is_some, true, refl, sym, ap, ◌∙◌, subst}
+use Rattle.std.proofs.Common.{◌≡◌, List, [], ◌∷◌, ◌++◌, Option, Some, None, refl, sym, ap, ◌∙◌, subst}
 use Rattle.std.specs.Prelude.{option_map}
 use Rattle.claim_model.specs.Context.{Context}
-use Rattle.claim_model.specs.Node.{Node, Call, Sent, Outcome, Done, Refused}
+use Rattle.claim_model.specs.Node.{Call, Sent, Outcome, Done, Refused}
 use Rattle.claim_model.specs.Nodes.{AnyNode, node_step}
 use Rattle.claim_model.specs.Logs.{Logged, NodeLog, node_after, replay}
-use Rattle.world_setup.specs.Seen.{settings_seen}
 use Rattle.world_setup.specs.declared.settings.WorldSettings.{WorldSettings}
 use Rattle.run_merge.specs.Order.{Fits, FitsBy}
-use Rattle.run_merge.specs.Merged.{FitsThere, FitsAlone}
+use Rattle.run_merge.specs.Merged.{FitsThere}
 use Rattle.node_logged.specs.Setting.{context_of, opened}
 use Rattle.node_logged.specs.Holding.{IsKept, recorded}
 
@@ -42,15 +41,6 @@ fits_on ctx (Some s) calls l state next was fits step =
     let there : state ≡ replay ctx s calls = cc in
     fits_more ctx calls l s next fits (subst (λ (n : AnyNode). node_step ctx n l.call ≡ Done next l.sent) there step)
 
--- a node as it opens is kept by the empty log
-pub begins_kept : (settings : WorldSettings) (node : Node) (state : AnyNode) → opened settings node ≡ Some state → IsKept settings state (record { node = node; calls = [] })
-begins_kept settings node state opens =
-    record { replay = ap (option_map (λ s. s)) opens; fits = by (opened settings node) opens }
-  where
-    by : (o : Option AnyNode) → o ≡ Some state → FitsThere (context_of settings) o []
-    by None e = refl
-    by (Some s) e = tt
-
 -- a node that is kept by its log is so after a step that is recorded
 pub stays_kept : (settings : WorldSettings) (state next : AnyNode) (log new : NodeLog) (call : Call) (sent : List Sent) → IsKept settings state log → node_step (context_of settings) state call ≡ Done next sent
     → new ≡ recorded log call sent → IsKept settings next new
@@ -60,11 +50,3 @@ stays_kept settings state next log new call sent was step is =
       replay = replayed_on (context_of settings) (opened settings log.node) log.calls (record { call = call; sent = sent }) state next was.replay step;
       fits = fits_on (context_of settings) (opened settings log.node) log.calls (record { call = call; sent = sent }) state next was.replay was.fits step;
     })
-
--- a log that keeps a node fits it
-pub kept_alone : (settings : WorldSettings) (state : AnyNode) (log : NodeLog) → IsKept settings state log → FitsAlone (context_of settings) (settings_seen settings) log
-kept_alone settings state log kept = record { there = by (opened settings log.node) kept.replay; fits = kept.fits }
-  where
-    by : (o : Option AnyNode) → option_map (λ s. replay (context_of settings) s log.calls) o ≡ Some state → is_some o ≡ true
-    by None e = absurd (cc)
-    by (Some s) e = refl

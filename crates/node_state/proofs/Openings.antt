@@ -86,32 +86,13 @@ no_none false false false true e rest h = absurd (cc)
 no_none false false false false true rest h = refl
 no_none false false false false false rest h = absurd (cc)
 
-no_more : (a b c : Bool) (rest : Option SettingsFault) → cond (a || (b || c)) (Some TooMany) rest ≡ None → c ≡ false
-no_more true b c rest h = absurd (cc)
-no_more false true c rest h = absurd (cc)
-no_more false false true rest h = absurd (cc)
-no_more false false false rest h = refl
-
 pub all_have_nodes : (s : WorldSettings) → settings_fault s ≡ None → list_all (has_nodes (length s.switches)) s.pharmacies ≡ true
 all_have_nodes s h =
     no_none (nat_lt 256 (length s.pharmacies) || (nat_lt 64 (length s.switches) || nat_lt 64 (length s.payers))) (is_empty s.pharmacies) (is_empty s.switches) (is_empty s.payers) (list_all (has_nodes (length s.switches)) s.pharmacies) _ h
 
-pub few_payers : (s : WorldSettings) → settings_fault s ≡ None → nat_lt 64 (length s.payers) ≡ false
-few_payers s h = no_more (nat_lt 256 (length s.pharmacies)) (nat_lt 64 (length s.switches)) (nat_lt 64 (length s.payers)) _ h
-
 both : (a b : Bool) → (a && b) ≡ true → (a ≡ true) × (b ≡ true)
 both true b h = (refl, h)
 both false b h = absurd (cc)
-
-at_place : {A : Type 0} (test : A → Bool) (xs : List A) (k : ℕ) (x : A) → list_all test xs ≡ true → slice_get xs k ≡ Some x → test x ≡ true
-at_place test [] k x all is = absurd (cc)
-at_place test (y ∷ xs) zero x all is =
-    let y-is : y ≡ x = cc in rw y-is at ((both (test y) (list_all test xs) all).0)
-at_place test (y ∷ xs) (suc k) x all is = at_place test xs k x ((both (test y) (list_all test xs) all).1) is
-
-not_empty : (nodes : List ℕ) → not (is_empty nodes) ≡ true → 0 < length nodes
-not_empty [] h = absurd (cc)
-not_empty (node ∷ nodes) h = omega arith
 
 -- each pharmacy tries some switch
 pub have_node : (switches : ℕ) (ss : List PharmacySettings) → list_all (has_nodes switches) ss ≡ true → list_all has_node ss ≡ true
@@ -120,9 +101,6 @@ have_node switches (s ∷ ss) all =
     let split = both (has_nodes switches s) (list_all (has_nodes switches) ss) all in
     let first = both (not (is_empty s.nodes)) (list_all (is_switch switches) s.nodes) split.0 in
     rw (first.0) (have_node switches ss split.1)
-
-pub some_node : (k : ℕ) (ss : List PharmacySettings) (s : PharmacySettings) → list_all has_node ss ≡ true → slice_get ss k ≡ Some s → 0 < length s.nodes
-some_node k ss s all is = not_empty s.nodes (at_place has_node ss k s all is)
 
 -- the payer of a number, from a copy of its settings
 pub payer_opened : (n : ℕ) (ps : List PayerSettings) (p copy : PayerSettings) (payer : ℕ) → 0 < n → slice_get ps (n - 1) ≡ Some p → payer_seen copy ≡ payer_seen p → payer ≡ n → numbered (payers_from 1 (map payer_seen ps)) n ≡ Some (Up (record { payer = payer; settings = copy.book; plan = copy.plan; rows = [] }))

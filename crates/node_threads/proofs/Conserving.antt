@@ -2,7 +2,7 @@
 use Rattle.std.proofs.Common.{◌≡◌, ℕ, zero, suc, List, [], ◌∷◌, ◌++◌, set, sym, refl, ap, ◌∙◌, subst, append_assoc, append-nil}
 use Rattle.std.specs.Prelude.{flat_map, IsPermutation, ⊤}
 use Rattle.std.proofs.lemmas.List.Concat.{flat_map-append}
-use Rattle.std.proofs.lemmas.List.Sorted.{IsPermutation-refl, IsPermutation-sym, IsPermutation-trans, IsPermutation-cons, IsPermutation-middle, IsPermutation-append_left, IsPermutation-append_right, IsPermutation-to_front}
+use Rattle.std.proofs.lemmas.List.Sorted.{IsPermutation-sym, IsPermutation-trans, IsPermutation-cons, IsPermutation-middle, IsPermutation-append_left, IsPermutation-append_right, IsPermutation-to_front}
 use mathlib.Core.Option.{some, some-injective, some-ne-none}
 use lib.ListN.{get_elem?}
 use Rattle.crossbeam_channel.specs.Fifo.{Pushes, Pops, Forks, Learns}
@@ -56,9 +56,6 @@ removed rest passes seat before mail here kept =
     subst (λ l. IsPermutation l (all_taken (set passes seat after) ++ rest)) (sym put)
     (IsPermutation-trans _ _ _ kept
     (IsPermutation-trans _ _ _ (IsPermutation-middle (all_taken passes) mail rest) (IsPermutation-append_left rest _ _ taken)))
-
-pub begins : Conserved [] (traffic [] [] ∷ [])
-begins = IsPermutation-refl []
 
 pub adds : (n seat : ℕ) (before : Traffic) (mail : Mail) → Pushes Conserved n seat before mail (λ after. Added before mail after)
 unfolding Added

@@ -23,9 +23,6 @@ put_behind xs ys p d e h =
 pub put_behind_front : (xs ys : List ℕ) (p d : ℕ) → p ≡ length xs → p < length ys → take (p + 1) (set (xs ++ drop p ys) p d) ≡ xs ++ d ∷ []
 put_behind_front xs ys p d e h = rw (put_behind xs ys p d e h) (grind (arith, common_steps))
 
-pub put_behind_rest : (xs ys : List ℕ) (p d : ℕ) → p ≡ length xs → p < length ys → drop (p + 1) (set (xs ++ drop p ys) p d) ≡ drop (p + 1) ys
-put_behind_rest xs ys p d e h = rw (put_behind xs ys p d e h) (grind (arith, common_steps))
-
 pub leading_digits_step : (n : ℕ) → 0 < n → leading_digits n ≡ leading_digits (n / 10) ++ (48 + n % 10) ∷ []
 leading_digits_step n h = rw (digits_of_step 10 n (omega arith) h) (map-append (λ digit. 48 + digit) (digits_of 10 (n / 10)) (n % 10 ∷ []))
 

@@ -2,8 +2,6 @@
 use Rattle.std.proofs.Common.{◌≡◌, ℕ, ◌<◌, Bool, true, false, not, List, length, Option, Some, None, ◌⊎◌, inl, inr, refl, sym, ap, ◌∙◌, subst}
 use Rattle.std.specs.Prelude.{bytes_eq, nat_lt, is_none, ◌&&◌}
 use Rattle.std.specs.List.{list_all}
-use Rattle.std.specs.Borrow.{Bor}
-use Rattle.std.specs.Option.{option_copied}
 use Rattle.std.proofs.lemmas.Bool.{cond-true, cond-false, and_from, and_left, and_right, lt-ltb, false≢true}
 use Rattle.claim_profile.specs.Readable.{readable_header}
 use Rattle.claim_profile.specs.Answer.{answer_text}
@@ -81,11 +79,3 @@ pub unruled_none : (b : Book) (id : TxnId) (request answer : List ℕ) (h : Requ
 unruled_none b id request answer h reads said says rulings same f (inl memory) other = absurd (other (ap row_fault memory))
 unruled_none b id request answer h reads said says rulings same f (inr unfit) other =
     kept_unfit b id request answer h reads said says (subst (λ (rs : List Ruling). list_all serial_fits (kept_rulings b id request rs) ≡ false) same unfit.1)
-
--- what a look-up found
-pub found_none : {A : Type 0} (o : Option (Bor A)) (r : Option A) → option_copied o ≡ r → is_none o ≡ is_none r
-found_none o r e = by_case o ∙ ap (λ x. is_none x) e
-  where
-    by_case : {A : Type 0} (o : Option (Bor A)) → is_none o ≡ is_none (option_copied o)
-    by_case None = refl
-    by_case (Some x) = refl

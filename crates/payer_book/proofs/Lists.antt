@@ -1,12 +1,8 @@
 -- Lists: what is found in a longer one, what passes two tests.
-use Rattle.std.proofs.Common.{◌≡◌, ℕ, zero, suc, ◌<◌, Bool, true, false, cond, List, [], ◌∷◌, ◌++◌, length, Option, Some, None, slice_get, slice_set, refl, sym, ap, ◌∙◌, subst, ◌⊎◌, inl, inr, arith}
+use Rattle.std.proofs.Common.{◌≡◌, ℕ, zero, suc, ◌<◌, Bool, true, false, cond, List, [], ◌∷◌, ◌++◌, length, Option, Some, None, slice_get, slice_set, refl, ap, ◌∙◌, subst, ◌⊎◌, inl, inr, arith}
 use Rattle.std.specs.Prelude.{find, filter}
-use Rattle.std.specs.Prelude.{Result, Ok, Err, IsOk, IfOk, OnOk, IsSome}
+use Rattle.std.specs.Prelude.{Result, Ok, Err, IsOk, OnOk, IsSome}
 use Rattle.std.specs.List.{AllByRecursion}
-use Rattle.std.specs.Borrow.{Bor}
-use Rattle.std.specs.Slice.{IsItemAt}
-use Rattle.std.specs.Option.{option_copied}
-use Rattle.std.proofs.lemmas.Option.{slice_get_past, slice_get_read}
 use Rattle.std.proofs.lemmas.Bool.{cond-false, false≢true}
 
 pub get_append : {A : Type 0} (xs ys : List A) (k : ℕ) → k < length xs → slice_get (xs ++ ys) k ≡ slice_get xs k
@@ -45,11 +41,6 @@ find_passes test (x ∷ xs) a h = by_test (test x) refl (find_passes test xs a) 
     by_test : (b : Bool) → test x ≡ b → (find test xs ≡ Some a → test a ≡ true) → cond b (Some x) (find test xs) ≡ Some a → test a ≡ true
     by_test true is g e = subst (λ y. test y ≡ true) (same_some x a e) is
     by_test false is g e = g e
-
--- what `get` of a slice gives
-pub got_item : {A : Type 0} (xs : List A) (i : ℕ) (o : Option (Bor A)) → IsItemAt xs i o → option_copied o ≡ slice_get xs i
-got_item xs i None h = sym (slice_get_past xs i h.3)
-got_item xs i (Some x) h = sym (slice_get_read xs (length xs) i x.now refl h.3.0 (h.3.1 x.now))
 
 pub get_more : {A : Type 0} (xs : List A) (y : A) (k : ℕ) (a : A) → slice_get (xs ++ y ∷ []) k ≡ Some a → (slice_get xs k ≡ Some a) ⊎ ((k ≡ length xs) × (a ≡ y))
 get_more [] y zero a h = inr (refl, cc)
@@ -115,7 +106,3 @@ all_true P f (x ∷ xs) = (f x, all_true P f xs)
 pub filter_none : {A : Type 0} (f : A → Bool) (xs : List A) → AllByRecursion (λ x. f x ≡ false) xs → filter f xs ≡ []
 filter_none f [] h = refl
 filter_none f (x ∷ xs) h = cond-false (f x) (x ∷ filter f xs) (filter f xs) h.0 ∙ filter_none f xs h.1
-
-pub if_ok_three : {T E : Type 0} (r : Result T E) (P Q R S : T → Type 0) → ((x : T) → P x → Q x → R x → S x) → IfOk r P → IfOk r Q → IfOk r R → IfOk r S
-if_ok_three (Ok x) P Q R S f p q s = f x p q s
-if_ok_three (Err e) P Q R S f p q s = tt

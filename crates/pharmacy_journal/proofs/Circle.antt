@@ -1,5 +1,5 @@
 -- Going round the circle of phases.
-use Rattle.std.proofs.Common.{◌≡◌, ℕ, ◌+◌, ◌-◌, ◌%◌, ◌<◌, ◌≤◌, eqb, sym, ap, ◌∙◌, arith, inl, inr, ⊎_elim, ◌⊎◌}
+use Rattle.std.proofs.Common.{◌≡◌, ℕ, ◌+◌, ◌-◌, ◌%◌, ◌<◌, ◌≤◌, eqb, sym, ap, ◌∙◌, arith, ⊎_elim, ◌⊎◌}
 use Rattle.std.proofs.Math.Nat.{mod-eq_of_lt, add-mod_right, mod-add-mod, mod-mod_of_dvd, dvd-mul_right, dvd-mul_right_of_dvd, add-mod-mod}
 use Rattle.std.proofs.lemmas.Bool.{cases_eq, cases_lt, eq-eqb, ne_eqb}
 use Rattle.pharmacy_journal.specs.Retry.{Rule, phases_of}
@@ -17,10 +17,6 @@ behind clock phase circle lt below =
 -- the remainder of a phase
 pub round_on_circle : (r : Rule) (n : ℕ) → (n % phases_of r) % r.again ≡ n % r.again
 round_on_circle r n = mod-mod_of_dvd r.again n (dvd-mul_right_of_dvd r.again (dvd-mul_right r.again r.tries) r.nodes)
-
-sum_is_round : (past rest again : ℕ) → past < again → rest < again → eqb ((past + rest) % again) 0 ≡ eqb ((past + rest)) 0 ⊎ (again ≤ past + rest)
-sum_is_round past rest again p q =
-    ⊎_elim (λ lt. inl (ap (λ n. eqb n 0) (mod-eq_of_lt lt))) (λ ge. inr ge) (cases_lt (past + rest) again)
 
 wraps : (past rest again : ℕ) → past < again → rest < again → again ≤ past + rest → (past + rest) % again ≡ past + rest - again
 wraps past rest again p q ge =

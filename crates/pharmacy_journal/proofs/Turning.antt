@@ -1,7 +1,6 @@
 -- What a timetable keeps, when entries come, go and wait.
-use Rattle.std.proofs.Common.{◌≡◌, ℕ, ◌+◌, ◌<◌, ◌%◌, eqb, List, [], ◌∷◌, ◌++◌, length, map, set, get_or, Option, Some, None, option_map, Result, Ok, Err, refl, sym, ap, ◌∙◌, arith, subst, ⊎_elim, length-set, length-append, zero-add}
+use Rattle.std.proofs.Common.{◌≡◌, ℕ, ◌+◌, ◌<◌, ◌%◌, eqb, List, [], ◌∷◌, ◌++◌, length, map, set, get_or, Option, Some, None, option_map, refl, sym, ap, ◌∙◌, arith, subst, ⊎_elim, length-set, length-append, zero-add}
 use Rattle.std.specs.List.{AllByRecursion, filter}
-use Rattle.std.specs.Result.{OnErr}
 use Rattle.std.proofs.Math.Nat.{mod-add-mod}
 use Rattle.std.proofs.lemmas.Bool.{cases_eq, eq-eqb, ne_eqb}
 use Rattle.std.proofs.lemmas.List.Elements.{filter-append, filter_agree}
@@ -71,11 +70,6 @@ AllByRecursion-set : {A : Type 0} (P : A → Type 0) (xs : List A) (i : ℕ) (y 
 AllByRecursion-set P [] i y h p = tt
 AllByRecursion-set P (x ∷ xs) Prim.Native.Nat.zero y h p = (p, h.1)
 AllByRecursion-set P (x ∷ xs) (Prim.Native.Nat.suc i) y h p = (h.0, AllByRecursion-set P xs i y h.1 p)
-
--- what holds at all holds at an error
-pub at_error : {T E P : Type 0} (r : Result T E) → P → OnErr r P
-at_error (Ok x) p = tt
-at_error (Err e) p = p
 
 -- places that were there are there when an entry comes
 in_longer : (leads : List (Option ℕ)) (lead : Option ℕ) (ks : List ℕ) → AllByRecursion (λ k. k < length leads) ks → AllByRecursion (λ k. k < length (leads ++ lead ∷ [])) ks

@@ -1,7 +1,7 @@
 -- One log for each node: by tests over logs, and as a fact.
 use Rattle.std.proofs.Common.{◌≡◌, ℕ, zero, suc, ◌+◌, ◌-◌, ◌<◌, Bool, true, false, not, ◌||◌, cond, List, [], ◌∷◌, length, Some, slice_get, refl, sym, ap, ◌∙◌, subst, inl, inr, arith, ltb-true, ltb-false}
 use Rattle.std.specs.Prelude.{nat_lt, IsSome}
-use Rattle.std.proofs.lemmas.Bool.{and_from, both_ways, cases_eq, cond-true, cond-false, lt-ltb, le-ltb}
+use Rattle.std.proofs.lemmas.Bool.{and_from, both_ways, cond-true, cond-false, lt-ltb, le-ltb}
 use Rattle.std.proofs.lemmas.List.{length-map}
 use Rattle.claim_model.specs.Node.{Node, Pharmacy, Switch, Payer}
 use Rattle.claim_model.specs.Numbered.{numbered}
@@ -173,17 +173,6 @@ name_there s place h = first (nat_lt place (length s.pharmacies.items)) refl
 -- the nodes before a place have logs
 pub record HaveLogs (place : ℕ) (s : Given) (logs : List NodeLog) : Type 0 where
   pub logs_of : (k : ℕ) → k < place → has_log (name_in s k) logs ≡ true
-
-pub have_none : (s : Given) (logs : List NodeLog) → HaveLogs 0 s logs
-have_none s logs = record { logs_of = λ k h. absurd (omega (arith, h)) }
-
-pub have_next : (s : Given) (logs : List NodeLog) (place : ℕ) → has_log (name_in s place) logs ≡ true → HaveLogs place s logs → HaveLogs (place + 1) s logs
-have_next s logs place e h = record {
-  logs_of = λ k l. elim (cases_eq k place) [
-    | inl same ↦ ap (λ (n : ℕ). has_log (name_in s n) logs) same ∙ e
-    | inr d ↦ h.logs_of k (omega (arith, l, d))
-  ];
-}
 
 pub have_all : (s : Given) (logs : List NodeLog) (place : ℕ) → count_of s ≡ place → HaveLogs place s logs → EachHasLog (settings_seen s) logs
 have_all s logs place n h node there =

@@ -1,7 +1,7 @@
 -- Logs that fit, one call after another.
-use Rattle.std.proofs.Common.{◌≡◌, ℕ, zero, suc, ◌<◌, List, [], ◌∷◌, drop, length, get_or, refl, sym, ap, ◌∙◌, subst, arith}
+use Rattle.std.proofs.Common.{◌≡◌, ℕ, zero, suc, ◌<◌, List, [], ◌∷◌, drop, length, get_or, refl, sym, ap, ◌∙◌, arith}
 use Rattle.claim_model.specs.Context.{Context}
-use Rattle.claim_model.specs.Node.{Sent, Outcome, Done, Refused}
+use Rattle.claim_model.specs.Node.{Outcome, Done, Refused}
 use Rattle.claim_model.specs.Nodes.{AnyNode, node_step}
 use Rattle.claim_model.specs.Logs.{Logged}
 use Rattle.run_merge.specs.Order.{FitsBy, Fits}
@@ -10,19 +10,6 @@ use Rattle.run_merge.specs.Order.{FitsBy, Fits}
 pub record FitsAlike (ctx : Context) (s : AnyNode) (calls : List Logged) (t : AnyNode) (all : List Logged) : Type 0 where
   pub to : Fits ctx s calls → Fits ctx t all
   pub from : Fits ctx t all → Fits ctx s calls
-
-pub alike_self : (ctx : Context) (s : AnyNode) (calls : List Logged) → FitsAlike ctx s calls s calls
-alike_self ctx s calls = record { to = λ h. h; from = λ h. h }
-
-same_after : (s t : AnyNode) (a b : List Sent) → Done s a ≡ Done t b → s ≡ t
-same_after s t a b e = cc
-
-pub alike_step : (ctx : Context) (s after t : AnyNode) (r : Logged) (calls all : List Logged) → node_step ctx s r.call ≡ Done after r.sent → FitsAlike ctx s (r ∷ calls) t all → FitsAlike ctx after calls t all
-alike_step ctx s after t r calls all e f =
-    record {
-      to = λ h. f.to (subst (λ o. FitsBy (λ x. Fits ctx x calls) r.sent o) (sym e) (refl, h));
-      from = λ h. (subst (λ o. FitsBy (λ x. Fits ctx x calls) r.sent o) e (f.from h)).1;
-    }
 
 fits_by : (ctx : Context) (s : AnyNode) (r : Logged) (calls : List Logged) (o : Outcome AnyNode) → node_step ctx s r.call ≡ o → FitsBy (λ x. Fits ctx x calls) r.sent o → (after : AnyNode) × (node_step ctx s r.call ≡ Done after r.sent)
 fits_by ctx s r calls (Refused why) e h = absurd h

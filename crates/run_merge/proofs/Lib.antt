@@ -4,7 +4,6 @@ pub mod Soundness
 pub mod Sents
 pub mod Opens
 pub mod Fitting
-pub mod Events
 pub mod Lines
 pub mod Covering
 pub mod Places

@@ -1,6 +1,6 @@
 -- Merging logs: what their interleavings have, and what makes one.
 use Rattle.std.proofs.Common.{Result, Ok, Err, IfOk, MatchOption, ◌≡◌, ℕ, zero, suc, ◌+◌, ◌<◌, Bool, true, false, List, [], ◌∷◌, ◌++◌, length, get_or, Option, Some, None, slice_get, is_some, refl, sym, ap, ◌∙◌, subst, inl, inr, arith}
-use Rattle.std.specs.Prelude.{IsSome, option_map}
+use Rattle.std.specs.Prelude.{IsSome}
 use Rattle.std.specs.List.{AllByRecursion}
 use Rattle.std.proofs.lemmas.Bool.{or_parts, both_ways, cases_eq, cond-false}
 use Rattle.std.proofs.lemmas.List.{append-nil}
@@ -14,17 +14,14 @@ use Rattle.claim_model.specs.World.{Event}
 use Rattle.claim_model.specs.Settings.{WorldSettings, settings_fault, opening}
 use Rattle.claim_model.proofs.Lists.{all_at, all_from}
 use Rattle.world_setup.specs.Seen.{settings_seen}
-use Rattle.world_setup.specs.Taken.{named, world_fault}
 use Rattle.world_setup.specs.declared.settings.WorldSettings.{WorldSettings as Given}
-use Rattle.world_setup.specs.declared.world_fault.WorldFault.{WorldFault}
 use Rattle.world_setup.specs.declared.world_fault.WorldFault.TheVariants as fault
-use Rattle.world_setup.proofs.Taken.{no_fault_at_all}
 use Rattle.claim_model.specs.Nodes.{AnyNode, node_at, same_node}
 use Rattle.claim_model.specs.Logs.{Logged, NodeLog, log_in}
 use Rattle.claim_model.specs.Interleavings.{IsInterleaving}
 use Rattle.claim_model.proofs.Replaying.{absent_stays}
-use Rattle.run_merge.specs.Naming.{is_there, has_log, all_distinct, calls_of}
-use Rattle.run_merge.specs.Order.{Fits, InOrder, NoOrder, Leads, none_left}
+use Rattle.run_merge.specs.Naming.{has_log, all_distinct, calls_of}
+use Rattle.run_merge.specs.Order.{InOrder, NoOrder, Leads, none_left}
 use Rattle.run_merge.specs.LogSeen.{log_seen, logs_seen}
 use Rattle.run_merge.specs.Merged.{IsMerged, NoMerge, EachHasLog, FitsThere, FitsAlone, AllFit}
 use Rattle.run_merge.specs.declared.log.NodeLog.{NodeLog as Kept}
@@ -120,13 +117,6 @@ pub merged_as : (s : Given) (logs : List Kept) (es : List Event) → settings_fa
     → AllFit (bytes_with (routes_of s.routes.items)) (settings_seen s) (logs_seen logs) → InOrder (calls_of (logs_seen logs)) es → IsMerged s (logs_seen logs) es
 merged_as s logs es w r n d f o = record { nodes = w; rows = r; legal = is_legal (bytes_with (routes_of s.routes.items)) (settings_seen s) (logs_seen logs) es n d f o }
 
--- settings that a world does not take
-pub not_taken : (s : Given) (logs : List NodeLog) (why : WorldFault) → world_fault s ≡ Some why → NoMerge s logs
-not_taken s logs why e es m =
-    let none : world_fault s ≡ None = no_fault_at_all s (ap (option_map named) m.nodes) (ap (option_map fault.BadRoute) m.rows) in
-    let wrong : None ≡ Some why = sym none ∙ e in
-    absurd cc
-
 -- what an order of the calls shows
 pub order_merged : {V E : Type 0} (s : Given) (logs : List Kept) (r : Result (Option V) E) (seen : V → List Event) → settings_fault (settings_seen s) ≡ None → first_fault (length s.payers.items) s.routes.items ≡ None → EachHasLog (settings_seen s) (logs_seen logs)
     → all_distinct (logs_seen logs) ≡ true → AllFit (bytes_with (routes_of s.routes.items)) (settings_seen s) (logs_seen logs)
@@ -140,9 +130,6 @@ order_merged s logs (Ok (Some v)) seen w r n d f h = merged_as s logs (seen v) w
 -- the logs before a place fit
 pub record FitBefore (place : ℕ) (ctx : Context) (s : WorldSettings) (logs : List NodeLog) : Type 0 where
   pub fit : (k : ℕ) (log : NodeLog) → k < place → slice_get logs k ≡ Some log → FitsAlone ctx s log
-
-pub fit_any : (ctx : Context) (s : WorldSettings) (logs : List NodeLog) → FitBefore 0 ctx s logs
-fit_any ctx s logs = record { fit = λ k log h e. absurd (omega arith) }
 
 pub fit_next : (ctx : Context) (s : WorldSettings) (logs : List Kept) (place : ℕ) (log : Kept) → place < length logs → log ≡ get_or logs place log → FitsAlone ctx s (log_seen log) → FitBefore place ctx s (logs_seen logs) → FitBefore (place + 1) ctx s (logs_seen logs)
 fit_next ctx s logs place log h e f b =
@@ -160,12 +147,3 @@ pub fit_not : (ctx : Context) (s : WorldSettings) (logs : List Kept) (place : �
 fit_not ctx s logs place log h e n f = n (f place (log_seen log) (found_at log_seen logs place log h e))
 
 -- a log whose node is there
-
-pub alone_not : (ctx : Context) (s : WorldSettings) (log : NodeLog) → is_there s log.node ≡ false → FitsAlone ctx s log → ⊥
-alone_not ctx s log h f = both_ways (is_there s log.node) h f.there
-
-pub alone_fits : (ctx : Context) (s : WorldSettings) (log : NodeLog) (n : AnyNode) → is_there s log.node ≡ true → node_at (opening s) log.node ≡ Some n → Fits ctx n log.calls → FitsAlone ctx s log
-alone_fits ctx s log n t e f = record { there = t; fits = subst (λ o. FitsThere ctx o log.calls) (sym e) f }
-
-pub alone_fails : (ctx : Context) (s : WorldSettings) (log : NodeLog) (n : AnyNode) → node_at (opening s) log.node ≡ Some n → (Fits ctx n log.calls → ⊥) → FitsAlone ctx s log → ⊥
-alone_fails ctx s log n e x f = x (subst (λ o. FitsThere ctx o log.calls) e f.fits)

@@ -1,5 +1,5 @@
 -- The index of packets, as packets are added.
-use Rattle.std.proofs.Common.{MatchOption, ◌≡◌, ℕ, zero, suc, ◌+◌, Bool, true, false, cond, List, [], ◌∷◌, ◌++◌, map, length, Option, Some, None, refl, sym, ap, ◌∙◌, subst, inl, inr}
+use Rattle.std.proofs.Common.{MatchOption, ◌≡◌, ℕ, ◌+◌, Bool, true, false, cond, List, [], ◌∷◌, ◌++◌, map, length, Option, Some, None, refl, sym, ap, ◌∙◌, subst, inl, inr}
 use Rattle.std.proofs.lemmas.Bool.{both_ways}
 use Rattle.claim_model.specs.Numbered.{numbered}
 use Rattle.claim_model.specs.World.{Packet}
@@ -13,13 +13,6 @@ use Rattle.run_merge.specs.declared.slip.Slip.{Slip}
 -- what an index says of a packet
 abbrev Says : List Packet → Packet → Option ℕ → Type 0
 Says packets p o = MatchOption o (IsAbsent packets p) (λ k. numbered packets k ≡ Some p)
-
-none_there : (p : Packet) → IsAbsent [] p
-none_there p zero h = absurd cc
-none_there p (suc k) h = absurd cc
-
-pub indexed_none : (number_of : Slip → Option ℕ) → ((slip : Slip) → number_of slip ≡ None) → IsNumbered [] number_of
-indexed_none number_of h = record { found = λ slip. subst (Says [] (slip_seen slip)) (sym (h slip)) (none_there (slip_seen slip)) }
 
 pub number_found : (packets : List Packet) (number_of : Slip → Option ℕ) (slip : Slip) (k : ℕ) → IsNumbered packets number_of → number_of slip ≡ Some k → numbered packets k ≡ Some (slip_seen slip)
 number_found packets number_of slip k h e = subst (Says packets (slip_seen slip)) e (h.found slip)

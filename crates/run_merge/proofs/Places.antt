@@ -1,12 +1,10 @@
 -- Elements of lists by their places.
 use Rattle.std.proofs.Common.{◌≡◌, ℕ, zero, suc, ◌+◌, ◌<◌, ◌==◌, true, false, List, [], ◌∷◌, ◌++◌, map, length, get_or, Option, Some, slice_get, refl, sym, ap, ◌∙◌, subst, inl, inr, arith, eqb-true}
-use Rattle.std.specs.Prelude.{option_map}
 use Rattle.std.specs.List.{list_all}
 use Rattle.std.proofs.lemmas.Bool.{and_parts, and_cases, eq-eqb, cases_eq}
-use Rattle.claim_model.specs.World.{Packet, Event}
-use Rattle.claim_model.proofs.Lists.{get_map}
+use Rattle.claim_model.specs.World.{Packet}
 use Rattle.claim_model.specs.Logs.{Logged, NodeLog}
-use Rattle.run_merge.specs.Line.{Waits, Goes, AllWait, GoesAt, AllPlaced}
+use Rattle.run_merge.specs.Line.{Waits, AllWait, AllPlaced}
 use Rattle.run_merge.specs.LineSeen.{line_seen, lines_seen}
 use Rattle.run_merge.specs.declared.line.Line.{Line}
 
@@ -27,16 +25,9 @@ pub map_more : {A B : Type 0} (f : A → B) (xs : List A) (x : A) → map f (xs 
 map_more f [] x = refl
 map_more f (y ∷ xs) x = ap (λ ys. f y ∷ ys) (map_more f xs x)
 
--- an event makes the next call of the log at a place
-pub goes_at : (packets : List Packet) (lines : List Line) (place : ℕ) (line : Line) (e : Event) → slice_get lines place ≡ Some line → Goes packets (line_seen line) e → GoesAt packets (lines_seen lines) place e
-goes_at packets lines place line e at goes = record { log = line_seen line; at = get_map line_seen lines place ∙ ap (option_map line_seen) at; goes = goes }
-
 -- the logs before a place wait
 pub record WaitBefore (place : ℕ) (packets : List Packet) (lines : List NodeLog) : Type 0 where
   pub wait : (k : ℕ) (log : NodeLog) → k < place → slice_get lines k ≡ Some log → Waits packets log
-
-pub wait_before_any : (packets : List Packet) (lines : List NodeLog) → WaitBefore 0 packets lines
-wait_before_any packets lines = record { wait = λ k log h e. absurd (omega arith) }
 
 pub wait_before_next : (packets : List Packet) (lines : List Line) (place : ℕ) (line : Line) → place < length lines → line ≡ get_or lines place line → Waits packets (line_seen line) → WaitBefore place packets (lines_seen lines) → WaitBefore (place + 1) packets (lines_seen lines)
 wait_before_next packets lines place line h e w b =

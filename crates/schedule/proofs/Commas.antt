@@ -1,12 +1,12 @@
 -- Texts at their first comma, and the actions that their parts name.
-use Rattle.std.proofs.Common.{◌≡◌, ℕ, ◌+◌, ◌<◌, ◌≤◌, Bool, true, false, cond, ltb, List, [], ◌∷◌, ◌++◌, length, take, drop, Option, Some, None, inl, inr, refl, ap, sym, ◌∙◌, append_assoc, arith}
+use Rattle.std.proofs.Common.{◌≡◌, ℕ, ◌+◌, ◌<◌, ◌≤◌, Bool, true, false, cond, ltb, List, [], ◌∷◌, ◌++◌, length, take, drop, Option, Some, None, inl, inr, arith}
 use Rattle.std.specs.List.{slice_split, position, position_or_len}
 use Rattle.std.proofs.lemmas.List.Splits.{slice_split_none, slice_split_first}
 use Rattle.std.proofs.lemmas.List.Quantifiers.{position-Some}
 use Rattle.std.proofs.lemmas.Bool.{lt-ltb, cases_lt}
 use Rattle.std.proofs.lemmas.List.Sums.{position_or_len_is, fails_before_first}
 use Rattle.world_setup.specs.declared.link.Action.{Action}
-use Rattle.schedule.specs.Faults.{is_comma, onto, action_in, named_actions, actions_in}
+use Rattle.schedule.specs.Faults.{is_comma}
 
 -- the parts of a text with a comma
 pub parts_at : (text : List ℕ) (i : ℕ) → position is_comma text ≡ Some i → slice_split is_comma text ≡ take i text ∷ slice_split is_comma (drop (i + 1) text)
@@ -33,31 +33,3 @@ parts_none text nowhere =
 abbrev pub before : List Action → Option (List Action) → Option (List Action)
 before xs None = None
 before xs (Some ys) = Some (xs ++ ys)
-
-pub before-nil : (o : Option (List Action)) → before [] o ≡ o
-before-nil None = refl
-before-nil (Some ys) = refl
-
-before-step : (xs : List Action) (a : Action) (o : Option (List Action)) → before xs (onto (Some a) o) ≡ before (xs ++ a ∷ []) o
-before-step xs a None = refl
-before-step xs a (Some ys) = ap (λ (zs : List Action). Some zs) (sym (append_assoc xs (a ∷ []) ys))
-
--- the first of several parts names an action
-pub part_taken : (xs : List Action) (text word more : List ℕ) (a : Action) → slice_split is_comma text ≡ word ∷ slice_split is_comma more → action_in word ≡ Some a
-    → before xs (actions_in text) ≡ before (xs ++ a ∷ []) (actions_in more)
-part_taken xs text word more a parts is =
-    ap (λ (words : List (List ℕ)). before xs (named_actions words)) parts ∙ (ap (λ (o : Option Action). before xs (onto o (actions_in more))) is ∙ before-step xs a (actions_in more))
-
--- it names none
-pub part_bad : (xs : List Action) (text word more : List ℕ) → slice_split is_comma text ≡ word ∷ slice_split is_comma more → action_in word ≡ None → before xs (actions_in text) ≡ None
-part_bad xs text word more parts is =
-    ap (λ (words : List (List ℕ)). before xs (named_actions words)) parts ∙ ap (λ (o : Option Action). before xs (onto o (actions_in more))) is
-
--- the last part names an action
-pub last_taken : (xs : List Action) (text : List ℕ) (a : Action) → slice_split is_comma text ≡ text ∷ [] → action_in text ≡ Some a → before xs (actions_in text) ≡ Some (xs ++ a ∷ [])
-last_taken xs text a parts is =
-    ap (λ (words : List (List ℕ)). before xs (named_actions words)) parts ∙ ap (λ (o : Option Action). before xs (onto o (Some []))) is
-
-pub last_bad : (xs : List Action) (text : List ℕ) → slice_split is_comma text ≡ text ∷ [] → action_in text ≡ None → before xs (actions_in text) ≡ None
-last_bad xs text parts is =
-    ap (λ (words : List (List ℕ)). before xs (named_actions words)) parts ∙ ap (λ (o : Option Action). before xs (onto o (Some []))) is

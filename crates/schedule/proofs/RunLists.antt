@@ -1,12 +1,12 @@
 -- How the faults and commands of lines are those of the first line and of the rest.
-use Rattle.std.proofs.Common.{◌≡◌, ℕ, true, false, List, [], ◌∷◌, ◌++◌, Option, Some, None, Result, Ok, Err, refl, sym, ap, ◌∙◌, append_assoc, append-nil}
+use Rattle.std.proofs.Common.{◌≡◌, ℕ, false, List, [], ◌∷◌, ◌++◌, Option, Some, None, Result, Ok, Err, refl, sym, ap, ◌∙◌, append-nil}
 use Rattle.input_text.specs.Lines.{is_skipped}
 use Rattle.world_setup.specs.declared.link.LinkFault.{LinkFault}
 use Rattle.schedule.specs.declared.commands.Command.{Command}
 use Rattle.schedule.specs.Commands.{command_of}
 use Rattle.schedule.specs.Faults.{fault_of}
 use Rattle.schedule.specs.Reading.{NumberedLine, told_lines, spelled_in}
-use Rattle.schedule.specs.Runs.{RunParts, fault_before, with_faults, begun_by, run_in, front_fault}
+use Rattle.schedule.specs.Runs.{RunParts, with_faults, begun_by, run_in, front_fault}
 use Rattle.schedule.proofs.EventLists.{joined, joined-nil, joined-step, line_taken, line_bad, no_lines}
 
 -- more faults before those of a run
@@ -19,30 +19,9 @@ abbrev pub going : List LinkFault → List Command → List NumberedLine → Res
 going faults [] rest = more_faults faults (run_in rest)
 going faults (c ∷ cs) rest = with_faults faults (joined (c ∷ cs) (spelled_in command_of rest))
 
-pub more-nil : (r : Result RunParts ℕ) → more_faults [] r ≡ r
-more-nil (Ok run) = refl
-more-nil (Err number) = refl
-
-more-step : (faults : List LinkFault) (f : LinkFault) (r : Result RunParts ℕ) → more_faults faults (more_faults (f ∷ []) r) ≡ more_faults (faults ++ f ∷ []) r
-more-step faults f (Ok run) = ap (λ (fs : List LinkFault). Ok (record { faults = fs; commands = run.commands })) (sym (append_assoc faults (f ∷ []) run.faults))
-more-step faults f (Err number) = refl
-
 more-with : (faults front : List LinkFault) (r : Result (List Command) ℕ) → more_faults faults (with_faults front r) ≡ with_faults (faults ++ front) r
 more-with faults front (Ok commands) = refl
 more-with faults front (Err number) = refl
-
-more-one : (f : LinkFault) (r : Result RunParts ℕ) → fault_before f r ≡ more_faults (f ∷ []) r
-more-one f (Ok run) = refl
-more-one f (Err number) = refl
-
--- a line that spells a fault, before any command
-fault_first : (l : NumberedLine) (rest : List NumberedLine) (f : LinkFault) → fault_of l.1 ≡ Some f → run_in (l ∷ rest) ≡ more_faults (f ∷ []) (run_in rest)
-fault_first l rest f is = ap (λ (o : Option LinkFault). begun_by o (run_in rest) (spelled_in command_of (l ∷ rest))) is ∙ more-one f (run_in rest)
-
-pub fault_taken : (faults : List LinkFault) (commands : List Command) (l : NumberedLine) (rest : List NumberedLine) (f : LinkFault) → is_skipped l.1 ≡ false
-    → front_fault commands l.1 ≡ Some f → going faults commands (told_lines (l ∷ rest)) ≡ going (faults ++ f ∷ []) commands (told_lines rest)
-fault_taken faults [] l rest f told is = rw told (ap (more_faults faults) (fault_first l (told_lines rest) f is) ∙ more-step faults f (run_in (told_lines rest)))
-fault_taken faults (c ∷ cs) l rest f told is = absurd cc
 
 -- from the first line that spells no fault on, there are commands alone
 no_fault_first : (l : NumberedLine) (rest : List NumberedLine) → fault_of l.1 ≡ None → run_in (l ∷ rest) ≡ with_faults [] (spelled_in command_of (l ∷ rest))
@@ -80,10 +59,6 @@ neither_taken faults commands l rest told none is =
     ∙ (going_commands faults commands l (told_lines rest) none
     ∙ (ap (λ (lines : List NumberedLine). with_faults faults (joined commands (spelled_in command_of lines))) (sym (told_first l rest told))
     ∙ ap (λ (r : Result (List Command) ℕ). with_faults faults (joined commands r)) (line_bad command_of l rest told is)))
-
-pub line_told_not : (faults : List LinkFault) (commands : List Command) (l : NumberedLine) (rest : List NumberedLine) → is_skipped l.1 ≡ true
-    → going faults commands (told_lines (l ∷ rest)) ≡ going faults commands (told_lines rest)
-line_told_not faults commands l rest skipped = rw skipped refl
 
 pub none_left : (faults : List LinkFault) (commands : List Command) → going faults commands (told_lines []) ≡ Ok (record { faults = faults; commands = commands })
 unfolding spelled_in

@@ -51,10 +51,5 @@ pub lines_text-nil : lines_text [] ≡ []
 unfolding lines_text
 lines_text-nil = refl
 
--- lines behind lines
-pub blocks_join : (a b c : List ℕ) (xs ys : List Line) → b ≡ a ++ lines_text xs → c ≡ b ++ lines_text ys → c ≡ a ++ lines_text (xs ++ ys)
-blocks_join a b c xs ys one two =
-    texts_join a b c (lines_text xs) (lines_text ys) one two ∙ ap (λ (t : List ℕ). a ++ t) (sym (lines_text-append xs ys))
-
 pub no_words : (a : List ℕ) → a ≡ a ++ behind_spaces []
 no_words a = sym (append-nil a) ∙ ap (λ (t : List ℕ). a ++ t) (sym behind_spaces-nil)
