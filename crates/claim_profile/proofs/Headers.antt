@@ -1,10 +1,11 @@
 -- The header of a readable request is cut from its front.
-use Rattle.std.proofs.Common.{◌≡◌, ℕ, Bool, true, false, List, length, Option, Some, None, option_map, refl, sym, ap, ◌∙◌}
-use Rattle.std.proofs.lemmas.Bool.{ltb-false}
-use Rattle.std.specs.Prelude.{◌≤◌, nat_le, nat_lt, option_and_then, if◌then◌else◌, IsSome}
+use Rattle.std.proofs.Common.{◌≡◌, ℕ, Bool, true, false, not, List, length, Option, Some, None, option_map, refl, sym, ap, ◌∙◌, arith}
+use Rattle.std.proofs.lemmas.Bool.{ltb-false, leb-true, and_parts}
+use Rattle.std.specs.Prelude.{◌≤◌, nat_le, nat_lt, option_and_then, slice_index, if◌then◌else◌, IsSome}
+use Rattle.d0_header.specs.Field.{is_count}
 use Rattle.d0_header.specs.Request.{Request, request_of, request_fault}
 use Rattle.d0_header.specs.declared.fault.HeaderFault.{HeaderFault}
-use Rattle.d0_header.specs.declared.fault.HeaderFault.TheVariants.{Short}
+use Rattle.d0_header.specs.declared.fault.HeaderFault.TheVariants.{Short, BadBin, BadCount}
 use Rattle.d0_segments.specs.declared.fault.FramingFault.{FramingFault}
 use Rattle.d0_segments.specs.Parts.{TransmissionParts}
 use Rattle.d0_segments.specs.Framing.{request_kind, transmission_of, framing_fault, after_header, unless}
@@ -49,6 +50,9 @@ readable_cut text s =
     let cut = header_cut text f.0 (framed (nat_le (length text) longest_request) (framed_header (transmission_of request_kind text)) f.0 f.1) in
     (cut.0, f.1 ∙ ap (λ (h : Request). Some h) (sym cut.1))
 
+pub readable_is : (text : List ℕ) → IsSome (readable_header text) → readable_header text ≡ Some (request_of text)
+readable_is text s = (readable_cut text s).1
+
 not_short : (b : Bool) (later : Option HeaderFault) → (if b then Some Short else later) ≡ None → b ≡ false
 not_short false later e = refl
 not_short true later e = absurd cc
@@ -60,3 +64,20 @@ long_enough text e = ltb-false (length text) 56 (not_short (nat_lt (length text)
 -- and it is long enough for one
 pub readable_long : (text : List ℕ) → IsSome (readable_header text) → 56 ≤ length text
 readable_long text s = long_enough text (readable_cut text s).0
+
+-- the count of a framed header is a digit
+counted : (short bin count : Bool) (later : Option HeaderFault) → (if short then Some Short else (if bin then Some BadBin else (if not count then Some BadCount else later))) ≡ None → count ≡ true
+counted true bin count later e = absurd cc
+counted false true count later e = absurd cc
+counted false false true later e = refl
+counted false false false later e = absurd cc
+
+some_count : (text : List ℕ) → request_fault text ≡ None → is_count (slice_index text 20) ≡ true
+unfolding request_fault
+some_count text e = counted (nat_lt (length text) 56) _ (is_count (slice_index text 20)) _ e
+
+-- and its count is the number of a digit
+pub readable_count : (text : List ℕ) → IsSome (readable_header text) → 48 ≤ slice_index text 20
+readable_count text s =
+    let least : 49 ≤ slice_index text 20 = leb-true _ _ (and_parts _ _ (some_count text (readable_cut text s).0)).0 in
+    omega (arith, least)

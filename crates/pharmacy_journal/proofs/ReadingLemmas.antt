@@ -1,11 +1,8 @@
 -- What is known of a readable request, and of an answer beside it.
-use Rattle.std.proofs.Common.{◌≡◌, ℕ, ◌≤◌, ◌<◌, arith, Bool, true, false, ◌&&◌, List, length, Option, Some, None, Ok, Err, refl, sym, ap, ◌∙◌}
-use Rattle.std.specs.Prelude.{nat_le, nat_lt, option_and_then, if◌then◌else◌, bytes_eq, ◌==◌, slice_index, IsSome}
-use Rattle.std.proofs.lemmas.Bool.{leb-true, and_parts}
-use Rattle.d0_header.specs.Request.{Request, request_fault}
-use Rattle.d0_header.specs.Field.{is_count}
-use Rattle.d0_header.specs.declared.fault.HeaderFault.{HeaderFault}
-use Rattle.d0_header.specs.declared.fault.HeaderFault.TheVariants.{Short, BadBin, BadCount}
+use Rattle.std.proofs.Common.{◌≡◌, ℕ, ◌≤◌, ◌<◌, Bool, true, false, ◌&&◌, List, length, Option, Some, None, Ok, Err, refl, sym, ap, ◌∙◌}
+use Rattle.std.specs.Prelude.{nat_le, nat_lt, option_and_then, if◌then◌else◌, bytes_eq, ◌==◌, IsSome}
+use Rattle.std.proofs.lemmas.Bool.{leb-true}
+use Rattle.d0_header.specs.Request.{Request}
 use Rattle.d0_segments.specs.declared.fault.FramingFault.{FramingFault}
 use Rattle.d0_segments.specs.Framing.{request_kind, transmission_of, framing_fault}
 use Rattle.claim_profile.specs.Readable.{readable_header, is_carried, if_carried, framed_header, longest_request}
@@ -105,19 +102,3 @@ admitted_at j text (Some h) is e =
 
 pub IsAdmitted-from : (j : Journal) (text : List ℕ) → submit_fault j text (header_of text) ≡ None → IsAdmitted j text
 IsAdmitted-from j text e = admitted_at j text (header_of text) refl e
-
--- the count of a readable request is a digit
-counted : (short bin count : Bool) (later : Option HeaderFault) → (if short then Some Short else (if bin then Some BadBin else (if not count then Some BadCount else later))) ≡ None → count ≡ true
-counted true bin count later e = absurd cc
-counted false true count later e = absurd cc
-counted false false true later e = refl
-counted false false false later e = absurd cc
-
-some_count : (text : List ℕ) → request_fault text ≡ None → is_count (slice_index text 20) ≡ true
-unfolding request_fault
-some_count text e = counted (nat_lt (length text) 56) _ (is_count (slice_index text 20)) _ e
-
-pub readable_count : (text : List ℕ) → IsSome (readable_header text) → 48 ≤ slice_index text 20
-readable_count text s =
-    let least : 49 ≤ slice_index text 20 = leb-true _ _ (and_parts _ _ (some_count text (readable_cut text s).0)).0 in
-    omega (arith, least)

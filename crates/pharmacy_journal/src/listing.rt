@@ -10,8 +10,7 @@ use crate::at_rest::JournalAtRest;
 use crate::counting::rulings_of;
 use crate::pharmacy::Pharmacy;
 use crate::slot::Slot;
-use crate::transaction::{code_of, count_of};
-use claim_profile::Ruling;
+use claim_profile::{Ruling, code_of, count_of};
 use std::alloc::{AllocError, Global};
 use std::marker::Model;
 

@@ -13,7 +13,7 @@ ghost use Rattle.pharmacy_journal.specs.Reading.{settles_with};
 ghost use Rattle.pharmacy_journal.specs.declared.fault.SettleFault.TheVariants.{OutOfMemory};
 
 use crate::fault::SettleFault;
-use claim_profile::check_answer;
+use claim_profile::{check_answer, code_of, count_of};
 use d0_header::ResponseHeader;
 use envelope::{HEAD, Kind, TxnId, WriteFault, payload_is_behind_its_head, write};
 use octets::Octets;
@@ -214,24 +214,4 @@ fn fits(request: &[u8], response: &ResponseHeader) -> bool
     ensures { result ≡ (bytes_eq response.now.code (request_of request.now).code && (response.now.count == (request_of request.now).count)) }
 {
     response.code() == code_of(request) && response.count() == count_of(request)
-}
-
-/// The code (103-A3) of a readable request, as it stands in its header.
-#[tactic(auto, using(claim_profile::proofs::Headers::readable_long))]
-pub(crate) fn code_of(request: &[u8]) -> [u8; 2]
-    requires { IsSome (readable_header request.now) }
-    ensures { result ≡ (request_of request.now).code }
-{
-    let mut code = [0; 2];
-    code.copy_from_slice(&request[8..10]);
-    code
-}
-
-/// The count (109-A9) of a readable request, as it stands in its header.
-#[tactic(auto, using(claim_profile::proofs::Headers::readable_long, crate::proofs::ReadingLemmas::readable_count))]
-pub(crate) fn count_of(request: &[u8]) -> u8
-    requires { IsSome (readable_header request.now) }
-    ensures { result ≡ (request_of request.now).count }
-{
-    request[20] - b'0'
 }

@@ -1,6 +1,6 @@
 //! The lines of the rows of a payer's book.
 
-ghost use Rattle.std.specs.Prelude.{◌≡◌, ◌++◌, IsSome, OnOk};
+ghost use Rattle.std.specs.Prelude.{◌≡◌, ◌++◌, OnOk};
 ghost use Rattle.bin_routes.specs.Table.{RouteMaps};
 ghost use Rattle.claim_profile.specs.Readable.{readable_header};
 ghost use Rattle.claim_model.specs.Bytes.{bytes_with};
@@ -11,7 +11,7 @@ ghost use Rattle.world_report.specs.BookRows.{code_in, is_reversed, was_reversed
 
 use crate::places::Place;
 use crate::rows::put_row_place;
-use claim_profile::{Auth, Ruling};
+use claim_profile::{Auth, Ruling, code_of};
 use payer_book::{Book, Row};
 use std::alloc::AllocError;
 
@@ -19,7 +19,7 @@ use std::alloc::AllocError;
 pub fn put_row(out: &mut Vec<u8>, book: &Book, row: &Row) -> Result<(), AllocError>
     ensures { (routes : RouteMaps) → OnOk result (out.new.items ≡ out.old.items ++ lines_text (row_lines (bytes_with routes) book.now.rows row.now)) }
 {
-    let (id, code) = (row.id(), code_of(row));
+    let (id, code) = (row.id(), request_code(row));
     let rulings = row.rulings();
     let count = rulings.len() as u64;
     for (passed, ruling) in rulings.iter().enumerate() {
@@ -34,22 +34,11 @@ pub fn put_row(out: &mut Vec<u8>, book: &Book, row: &Row) -> Result<(), AllocErr
 }
 
 /// The code of a row's request (103-A3).
-fn code_of(row: &Row) -> [u8; 2]
+fn request_code(row: &Row) -> [u8; 2]
     ensures { result ≡ code_in (readable_header row.now.request) }
 {
     let _readable = row.answer();
-    request_code(row.request())
-}
-
-/// The code of a readable request, as it stands in its header.
-#[tactic(auto, using(claim_profile::proofs::Headers::readable_long))]
-fn request_code(request: &[u8]) -> [u8; 2]
-    requires { IsSome (readable_header request.now) }
-    ensures { result ≡ code_in (readable_header request.now) }
-{
-    let mut code = [0; 2];
-    code.copy_from_slice(&request[8..10]);
-    code
+    code_of(row.request())
 }
 
 /// Whether a ruling made a payment that was reversed.

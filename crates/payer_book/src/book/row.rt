@@ -12,7 +12,7 @@ ghost use Rattle.payer_book.specs.Added.{kept_answer};
 
 use crate::book::held_rulings::HeldRulings;
 use crate::book::texts::Texts;
-use claim_profile::Ruling;
+use claim_profile::{Ruling, bin_of, pcn_of};
 use envelope::TxnId;
 use std::alloc::{AllocError, Global};
 use std::marker::Model;
@@ -68,7 +68,8 @@ impl Row {
         ensures pcn { result.1 ≡ (request_of self.now.request).pcn }
     {
         let _answered = self.answer();
-        bin_and_pcn_of(self.texts.request())
+        let request = self.texts.request();
+        (bin_of(request), pcn_of(request))
     }
 
     /// The request's bytes.
@@ -94,19 +95,4 @@ impl Row {
     {
         self.texts.answer()
     }
-}
-
-/// The BIN number and the processor control number of a readable request.
-#[tactic(auto, using(claim_profile::proofs::Headers::readable_long))]
-fn bin_and_pcn_of(request: &[u8]) -> ([u8; 6], [u8; 10])
-    requires { IsSome (readable_header request.now) }
-    ensures readable { readable_header request.now ≡ Some (request_of request.now) }
-    ensures bin { result.0 ≡ (request_of request.now).bin }
-    ensures pcn { result.1 ≡ (request_of request.now).pcn }
-{
-    let mut bin = [0; 6];
-    bin.copy_from_slice(&request[..6]);
-    let mut pcn = [0; 10];
-    pcn.copy_from_slice(&request[10..20]);
-    (bin, pcn)
 }
