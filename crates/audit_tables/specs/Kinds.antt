@@ -1,12 +1,21 @@
 -- Kinds of requests and of nodes, and members of rows.
-use Rattle.std.specs.Prelude.{ℕ, Bool, List, [], bytes_eq, codes, cond, Option, Some, None}
+use Rattle.std.specs.Prelude.{ℕ, Bool, List, [], codes, Option, Some, None}
+use Rattle.claim_profile.specs.declared.transaction.TransactionCode.{TransactionCode}
+use Rattle.claim_profile.specs.declared.transaction.TransactionCode.TheVariants as transaction
+use Rattle.claim_profile.specs.Transaction.{transaction_code}
 use Rattle.claim_model.specs.Words.{RequestHeader}
 use Rattle.claim_model.specs.Node.{Node, Pharmacy, Switch, Payer}
 use Rattle.audit_tables.specs.Members.{Member, Number, Text, Named, Flag, number_or_nothing}
 
--- what a request of this code is
+-- the word for a kind of transaction
+abbrev pub kind_named : Option TransactionCode → List ℕ
+kind_named (Some transaction.Billing) = codes "billing"
+kind_named (Some transaction.Reversal) = codes "reversal"
+kind_named None = []
+
+-- what a request of this code is; nothing under another code, which no entry and no row has
 abbrev pub kind_word : List ℕ → List ℕ
-kind_word code = cond (bytes_eq code (codes "B1")) (codes "billing") (codes "reversal")
+kind_word code = kind_named (transaction_code code)
 
 -- the kind of a request by its header; a request that is not readable, which no row has, has none
 abbrev pub kind_in : Option RequestHeader → List ℕ

@@ -7,18 +7,19 @@ ghost use Rattle.audit_tables.specs.Seen.{field_seen};
 ghost use Rattle.audit_tables.specs.Kinds.{kind_word, kind_in, date_in, letters_of, number_of, node_member};
 
 use crate::fields::Field;
-use claim_profile::check_readable;
+use claim_profile::{TransactionCode, check_readable};
 use payer_book::Row;
 use world_setup::Node;
 
-/// What a request of this code (103-A3) is: a billing or a reversal.
+/// What a request of this code (103-A3) is: a billing or a reversal. Of another code, which no entry and no row has, it
+/// is nothing.
 pub(crate) fn kind_word(code: [u8; 2]) -> &'static [u8]
     ensures { result.now ≡ kind_word code }
 {
-    if code == *b"B1" {
-        b"billing"
-    } else {
-        b"reversal"
+    match TransactionCode::read(code) {
+        Some(TransactionCode::Billing) => b"billing",
+        Some(TransactionCode::Reversal) => b"reversal",
+        None => b"",
     }
 }
 

@@ -20,8 +20,12 @@ use Rattle.bin_routes.specs.Table.{RouteMaps}
 use Rattle.claim_profile.specs.declared.reject.Code.TheVariants as code
 use Rattle.claim_profile.specs.Reject.{held, first_five_held}
 use Rattle.claim_profile.specs.Fields.{values_in, texts_in, required, optional}
-use Rattle.claim_profile.specs.Order.{number_up_to, not_negative, amount_in_cents, the_text, prescription_in, claim_fields, reversal_fields, claim_of, claim_codes, reversal_of, reversal_codes, or_rejected, claim_order, reversal_order, order_of}
+use Rattle.claim_profile.specs.Order.{number_up_to, not_negative, amount_in_cents, the_text, prescription_in, claim_fields, reversal_fields, claim_of, claim_codes, reversal_of, reversal_codes, or_rejected, claim_order, reversal_order, order_as, order_of}
 use Rattle.claim_profile.specs.Readable.{readable_header}
+use Rattle.claim_profile.specs.declared.transaction.TransactionCode.{TransactionCode}
+use Rattle.claim_profile.specs.declared.transaction.TransactionCode.TheVariants as transaction
+use Rattle.claim_profile.specs.Transaction.{transaction_code}
+use Rattle.claim_profile.proofs.TransactionLemmas.{only}
 use Rattle.plan_rules.specs.Prices.{price_of}
 use Rattle.plan_rules.specs.Pricing.{amounts_at, paid, worth}
 use Rattle.claim_model.specs.Words.{Amounts, Claim, Reversal, Bills, Reverses, Code, RequestHeader, Kind, Envelope, Plan}
@@ -227,38 +231,26 @@ reversal_order_is : NumbersInRange → (h : RequestHeader) (group : List Segment
 reversal_order_is numbers h group (Some v) code e = reversal_is numbers h group v code e
 reversal_order_is numbers h group None code e = let f = reversal_fields h group in reversal_rejects h f.date f.prescription f.fill e
 
-order_by_code : NumbersInRange → AmountsInRange → (h : RequestHeader) (shared group : List SegmentParts) (b : Bool) → bytes_eq h.code billing_code ≡ b → has_code h ≡ true
-    → IsOrderOf h (order_in (cond b (claim_order h shared group) (reversal_order h group)))
+order_by_code : NumbersInRange → AmountsInRange → (h : RequestHeader) (shared group : List SegmentParts) (o : Option TransactionCode) → transaction_code h.code ≡ o
+    → IsOrderOf h (order_in (order_as o h shared group))
 unfolding claim_order reversal_order
-order_by_code numbers amounts h shared group true is code = claim_order_is numbers amounts h shared group (claim_of h (claim_fields h shared group)) (bytes_same h.code billing_code is) refl
-order_by_code numbers amounts h shared group false is code =
-    let other : bytes_eq h.code reversal_code ≡ true = elim (or_cases (bytes_eq h.code billing_code) (bytes_eq h.code reversal_code) code) [ inl t ↦ absurd (Rattle.std.proofs.lemmas.Bool.both_ways (bytes_eq h.code billing_code) is t) | inr t ↦ t ] in
-    reversal_order_is numbers h group (reversal_of h (reversal_fields h group)) (bytes_same h.code reversal_code other) refl
+order_by_code numbers amounts h shared group (Some transaction.Billing) is = claim_order_is numbers amounts h shared group (claim_of h (claim_fields h shared group)) (only h.code transaction.Billing is) refl
+order_by_code numbers amounts h shared group (Some transaction.Reversal) is = reversal_order_is numbers h group (reversal_of h (reversal_fields h group)) (only h.code transaction.Reversal is) refl
+order_by_code numbers amounts h shared group None is = record { some = omega arith; few = omega arith }
 
-order_is : NumbersInRange → AmountsInRange → (h : RequestHeader) (shared group : List SegmentParts) → has_code h ≡ true → IsOrderOf h (order_in (order_of h shared group))
+order_is : NumbersInRange → AmountsInRange → (h : RequestHeader) (shared group : List SegmentParts) → IsOrderOf h (order_in (order_of h shared group))
 unfolding order_of
-order_is numbers amounts h shared group code = order_by_code numbers amounts h shared group (bytes_eq h.code billing_code) refl code
+order_is numbers amounts h shared group = order_by_code numbers amounts h shared group (transaction_code h.code) refl
 
-all_orders : NumbersInRange → AmountsInRange → (h : RequestHeader) (shared : List SegmentParts) (groups : List (List SegmentParts)) → has_code h ≡ true
+all_orders : NumbersInRange → AmountsInRange → (h : RequestHeader) (shared : List SegmentParts) (groups : List (List SegmentParts))
     → AllByRecursion (IsOrderOf h) (map (λ group. order_in (order_of h shared group)) groups)
-all_orders numbers amounts h shared [] code = tt
-all_orders numbers amounts h shared (g ∷ groups) code = (order_is numbers amounts h shared g code, all_orders numbers amounts h shared groups code)
-
-carried_code : (o : Option RequestHeader) (h : RequestHeader) → option_and_then if_carried o ≡ Some h → has_code h ≡ true
-carried_code None h e = absurd cc
-carried_code (Some g) h e =
-    let p = carried_parts g h (has_version g && has_code g) e in
-    subst (λ (x : RequestHeader). has_code x ≡ true) p.1 (Rattle.std.proofs.lemmas.Bool.and_parts (has_version g) (has_code g) p.0).1
-
-readable_code : (ctx : Context) (text : List ℕ) (h : RequestHeader) → readable ctx text ≡ Some h → has_code h ≡ true
-unfolding readable
-readable_code ctx text h e = carried_code (ctx.header text) h (if_short_parts (Rattle.std.specs.Prelude.nat_le (length text) longest) (option_and_then if_carried (ctx.header text)) h e).1
+all_orders numbers amounts h shared [] = tt
+all_orders numbers amounts h shared (g ∷ groups) = (order_is numbers amounts h shared g, all_orders numbers amounts h shared groups)
 
 pub orders_are : NumbersInRange → AmountsInRange → (routes : RouteMaps) (text : List ℕ) (h : RequestHeader) → readable (bytes_with routes) text ≡ Some h → AllByRecursion (IsOrderOf h) ((bytes_with routes).orders text)
 orders_are numbers amounts routes text h e =
     let r = read_as routes text h e in
-    let code : has_code h ≡ true = readable_code (bytes_with routes) text h e in
-    let all : AllByRecursion (IsOrderOf h) (map (λ group. order_in (order_of h r.parts.shared group)) r.parts.groups) = all_orders numbers amounts h r.parts.shared r.parts.groups code in
+    let all : AllByRecursion (IsOrderOf h) (map (λ group. order_in (order_of h r.parts.shared group)) r.parts.groups) = all_orders numbers amounts h r.parts.shared r.parts.groups in
     subst (λ (o : Option (TransmissionParts RequestHeader)). AllByRecursion (IsOrderOf h) (orders_in o)) (sym r.spells)
     (subst (λ (x : RequestHeader). AllByRecursion (IsOrderOf h) (map (λ group. order_in (order_of x r.parts.shared group)) r.parts.groups)) (sym r.header) all)
 

@@ -1,6 +1,7 @@
 -- What goes wrong without the premises: each of these worlds breaks a promise, and none of them is reached.
 use Rattle.std.proofs.Common.{◌≡◌, ℕ, List, [], ◌∷◌, ◌++◌, map, Option, Some, None, refl}
 use Rattle.std.specs.Prelude.{option_map}
+use Rattle.claim_profile.specs.Transaction.{transaction_code}
 use Rattle.claim_model.specs.Words.{TxnId, Auth}
 use Rattle.claim_model.specs.Context.{Context}
 use Rattle.claim_model.specs.Readable.{readable}
@@ -35,11 +36,11 @@ abbrev pub stolen : World
 stolen = run small (opening twins) (Submission 1 c1 ∷ Delivery 1 ∷ Delivery 2 ∷ Delivery 3 ∷ Delivery 4 ∷ Submission 2 v1 ∷ Delivery 5 ∷ Delivery 6 ∷ [])
 
 stolen_counted : auths (journal_at stolen 1) ≡ auth_1 ∷ []
-unfolding step answered readable ruling judged submitted ticked due requested responded heard stopped started counted held refusals_by pharmacy
+unfolding step answered readable transaction_code ruling judged submitted ticked due requested responded heard stopped started counted held refusals_by pharmacy
 stolen_counted = refl
 
 stolen_by : reverser auth_1 (book_at stolen 1) ≡ Some (Some (id 2 1))
-unfolding step answered readable ruling judged submitted ticked due requested responded heard stopped started counted held refusals_by pharmacy
+unfolding step answered readable transaction_code ruling judged submitted ticked due requested responded heard stopped started counted held refusals_by pharmacy
 stolen_by = refl
 
 twins_refused : settings_fault twins ≡ Some SameProvider
@@ -54,11 +55,11 @@ abbrev pub forged : World
 forged = run small (with_forged (run small one (Submission 1 c1 ∷ []))) (Delivery 2 ∷ [])
 
 forged_counted : auths (journal_at forged 1) ≡ auth_1 ∷ []
-unfolding one step answered readable ruling judged submitted ticked due requested responded heard stopped started counted held refusals_by pharmacy
+unfolding one step answered readable transaction_code ruling judged submitted ticked due requested responded heard stopped started counted held refusals_by pharmacy
 forged_counted = refl
 
 forged_rows : briefs (book_at forged 1) ≡ []
-unfolding one step answered readable ruling judged submitted ticked due requested responded heard stopped started counted held refusals_by pharmacy
+unfolding one step answered readable transaction_code ruling judged submitted ticked due requested responded heard stopped started counted held refusals_by pharmacy
 forged_rows = refl
 
 -- two route tables: one switch forwards a request, the other one rejects it, and two nodes hold different answers
@@ -69,7 +70,7 @@ abbrev pub split : World
 split = run without_routes (run small one (Submission 1 c1 ∷ Ticking 1 ∷ Delivery 1 ∷ Delivery 3 ∷ Delivery 4 ∷ [])) (Delivery 2 ∷ Delivery 6 ∷ [])
 
 split_held : map (λ node. held small split node (id 1 1)) (Pharmacy 1 ∷ Switch 1 ∷ []) ≡ Some (7 ∷ 1 ∷ 82 ∷ 4 ∷ 1 ∷ 0 ∷ 0 ∷ []) ∷ Some a1 ∷ []
-unfolding one step answered readable ruling judged submitted ticked due requested responded heard stopped started counted held refusals_by pharmacy
+unfolding one step answered readable transaction_code ruling judged submitted ticked due requested responded heard stopped started counted held refusals_by pharmacy
 split_held = refl
 
 -- a journal that is lost at a stop: its number is given again, an old answer settles the new claim, and what is counted has another fill than what was paid
@@ -88,15 +89,15 @@ paid_fill auth None = None
 paid_fill auth (Some b) = option_map (λ (p : Payment). p.claim.fill.fill) (payment_of auth (ruled_rows small b.rows))
 
 forgotten_counted : auths (journal_at forgotten 1) ≡ auth_1 ∷ []
-unfolding one step answered readable ruling judged submitted ticked due requested responded heard stopped started counted held refusals_by pharmacy
+unfolding one step answered readable transaction_code ruling judged submitted ticked due requested responded heard stopped started counted held refusals_by pharmacy
 forgotten_counted = refl
 
 forgotten_fill : counted_fills (journal_at forgotten 1) ≡ 1 ∷ []
-unfolding one step answered readable ruling judged submitted ticked due requested responded heard stopped started counted held refusals_by pharmacy
+unfolding one step answered readable transaction_code ruling judged submitted ticked due requested responded heard stopped started counted held refusals_by pharmacy
 forgotten_fill = refl
 
 forgotten_paid : paid_fill auth_1 (book_at forgotten 1) ≡ Some 0
-unfolding one step answered readable ruling judged submitted ticked due requested responded heard stopped started counted held refusals_by pharmacy
+unfolding one step answered readable transaction_code ruling judged submitted ticked due requested responded heard stopped started counted held refusals_by pharmacy
 forgotten_paid = refl
 
 -- a list that names a switch which is not there: its packets have nowhere to go
@@ -104,7 +105,7 @@ abbrev pub lost_list : WorldSettings
 lost_list = record { pharmacies = pharmacy 7 (3 ∷ []) 100 ∷ []; switches = 64 ∷ 64 ∷ []; payers = a_payer ∷ [] }
 
 lost_list_delivery : refusals_by small (opening lost_list) (Submission 1 c1 ∷ Delivery 1 ∷ []) ≡ None ∷ Some NoSuchNode ∷ []
-unfolding step answered readable ruling judged submitted ticked due requested responded heard stopped started counted held refusals_by pharmacy
+unfolding step answered readable transaction_code ruling judged submitted ticked due requested responded heard stopped started counted held refusals_by pharmacy
 lost_list_delivery = refl
 
 lost_list_refused : settings_fault lost_list ≡ Some NoNode
@@ -116,5 +117,5 @@ abbrev pub lost_route : Context
 lost_route = record small { route = λ bin pcn. Some 2 }
 
 lost_route_delivery : refusals_by lost_route one (Submission 1 c1 ∷ Delivery 1 ∷ Delivery 2 ∷ []) ≡ None ∷ None ∷ Some NoSuchNode ∷ []
-unfolding one step answered readable ruling judged submitted ticked due requested responded heard stopped started counted held refusals_by pharmacy
+unfolding one step answered readable transaction_code ruling judged submitted ticked due requested responded heard stopped started counted held refusals_by pharmacy
 lost_route_delivery = refl

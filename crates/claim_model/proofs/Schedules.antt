@@ -1,6 +1,7 @@
 -- Schedules of events that compute: what the definitions say of whole stories.
 use Rattle.std.proofs.Common.{◌≡◌, ℕ, ◌+◌, List, [], ◌∷◌, ◌++◌, map, Option, Some, None, Result, Ok, Err, refl}
 use Rattle.std.specs.Prelude.{option_map}
+use Rattle.claim_profile.specs.Transaction.{transaction_code}
 use Rattle.claim_model.specs.Words.{TxnId, Envelope, Auth, Ruling, Paid, Duplicate, Reversed, Rejected, BadBin, DuplicateClaim, ReversalNotProcessed}
 use Rattle.claim_model.specs.Context.{Context}
 use Rattle.claim_model.specs.Readable.{readable, rulings_in, request_envelope, answer_envelope}
@@ -69,7 +70,7 @@ overtaking : List Event
 overtaking = Submission 1 c1 ∷ Submission 1 v1 ∷ Delivery 2 ∷ Delivery 3 ∷ Delivery 1 ∷ Delivery 5 ∷ []
 
 overtaken : rows_after overtaking ≡ (record { pharmacy = 1; number = 2 }, Rejected (ReversalNotProcessed ∷ []) ∷ []) ∷ (record { pharmacy = 1; number = 1 }, Paid auth_1 123456 all_amounts ∷ []) ∷ []
-unfolding overtaking one step answered readable ruling judged submitted ticked due requested responded heard stopped started counted held refusals_by pharmacy
+unfolding overtaking one step answered readable transaction_code ruling judged submitted ticked due requested responded heard stopped started counted held refusals_by pharmacy
 overtaken = refl
 
 -- the rulings of a payer's book after some events
@@ -99,19 +100,19 @@ replies b n (r ∷ rs) = told_by (answered small b (id 1 n) r) ∷ replies (book
 duplicates : replies (book 1 100) 1 (c1 ∷ c1 ∷ (1 ∷ 7 ∷ 4 ∷ 20 ∷ []) ∷ (1 ∷ 7 ∷ 4 ∷ 11 ∷ []) ∷ (2 ∷ 7 ∷ 4 ∷ 99 ∷ []) ∷ v1 ∷ v1 ∷ [])
     ≡ Ok (Paid auth_1 123456 all_amounts ∷ []) ∷ Ok (Duplicate auth_1 123456 all_amounts ∷ []) ∷ Ok (Rejected (DuplicateClaim ∷ []) ∷ [])
     ∷ Ok (Paid auth_2 123456 all_amounts ∷ []) ∷ Ok (Rejected (ReversalNotProcessed ∷ []) ∷ []) ∷ Ok (Reversed auth_1 123456 ∷ []) ∷ Ok (Rejected (ReversalNotProcessed ∷ []) ∷ []) ∷ []
-unfolding replies one step answered readable ruling judged submitted ticked due requested responded heard stopped started counted held refusals_by pharmacy
+unfolding replies one step answered readable transaction_code ruling judged submitted ticked due requested responded heard stopped started counted held refusals_by pharmacy
 duplicates = refl
 
 -- a reversal before any payment is rejected; after a reversal the fill is paid again, with the next serial
 paid_again : replies (book 1 100) 1 (v1 ∷ c1 ∷ v1 ∷ v1 ∷ c1 ∷ [])
     ≡ Ok (Rejected (ReversalNotProcessed ∷ []) ∷ []) ∷ Ok (Paid auth_1 123456 all_amounts ∷ []) ∷ Ok (Reversed auth_1 123456 ∷ []) ∷ Ok (Rejected (ReversalNotProcessed ∷ []) ∷ []) ∷ Ok (Paid auth_2 123456 all_amounts ∷ []) ∷ []
-unfolding replies one step answered readable ruling judged submitted ticked due requested responded heard stopped started counted held refusals_by pharmacy
+unfolding replies one step answered readable transaction_code ruling judged submitted ticked due requested responded heard stopped started counted held refusals_by pharmacy
 paid_again = refl
 
 -- the last serial is given once; a ruling that pays nothing needs none
 serials_end : replies (book 999999999999 100) 1 (c1 ∷ (1 ∷ 7 ∷ 4 ∷ 11 ∷ []) ∷ (1 ∷ 7 ∷ 4 ∷ 20 ∷ []) ∷ [])
     ≡ Ok (Paid (record { payer = 1; serial = 999999999999 }) 123456 all_amounts ∷ []) ∷ Err SerialsUsedUp ∷ Ok (Rejected (DuplicateClaim ∷ []) ∷ []) ∷ []
-unfolding replies one step answered readable ruling judged submitted ticked due requested responded heard stopped started counted held refusals_by pharmacy
+unfolding replies one step answered readable transaction_code ruling judged submitted ticked due requested responded heard stopped started counted held refusals_by pharmacy
 serials_end = refl
 
 -- four claims in one request: the third repeats the first, within the request
@@ -121,29 +122,29 @@ c17 = 1 ∷ 7 ∷ 4 ∷ 10 ∷ 11 ∷ 10 ∷ 12 ∷ []
 four_claims : replies (book 1 100) 1 (c17 ∷ (2 ∷ 7 ∷ 4 ∷ 0 ∷ 0 ∷ []) ∷ [])
     ≡ Ok (Paid auth_1 123456 all_amounts ∷ Paid auth_2 123456 all_amounts ∷ Duplicate auth_1 123456 all_amounts ∷ Paid (record { payer = 1; serial = 3 }) 123456 all_amounts ∷ [])
     ∷ Ok (Reversed auth_1 123456 ∷ Rejected (ReversalNotProcessed ∷ []) ∷ []) ∷ []
-unfolding replies one step answered readable ruling judged submitted ticked due requested responded heard stopped started counted held refusals_by pharmacy
+unfolding replies one step answered readable transaction_code ruling judged submitted ticked due requested responded heard stopped started counted held refusals_by pharmacy
 four_claims = refl
 
 -- a request is one row, all or nothing: where a place would need a serial over the limit, nothing is kept, and another request is paid with the first
 all_or_nothing : replies (book 999999999998 100) 1 (c17 ∷ c1 ∷ []) ≡ Err SerialsUsedUp ∷ Ok (Paid (record { payer = 1; serial = 999999999998 }) 123456 all_amounts ∷ []) ∷ []
-unfolding replies one step answered readable ruling judged submitted ticked due requested responded heard stopped started counted held refusals_by pharmacy
+unfolding replies one step answered readable transaction_code ruling judged submitted ticked due requested responded heard stopped started counted held refusals_by pharmacy
 all_or_nothing = refl
 
 -- in a full book a known number with its request is answered again, and no new one
 full_book : told_by (answered small (book_next (book 1 1) (answered small (book 1 1) (id 1 1) c1)) (id 1 1) c1) ≡ Ok (Paid auth_1 123456 all_amounts ∷ [])
-unfolding replies one step answered readable ruling judged submitted ticked due requested responded heard stopped started counted held refusals_by pharmacy
+unfolding replies one step answered readable transaction_code ruling judged submitted ticked due requested responded heard stopped started counted held refusals_by pharmacy
 full_book = refl
 
 full_book_new : told_by (answered small (book_next (book 1 1) (answered small (book 1 1) (id 1 1) c1)) (id 1 2) c1) ≡ Err BookFull
-unfolding replies one step answered readable ruling judged submitted ticked due requested responded heard stopped started counted held refusals_by pharmacy
+unfolding replies one step answered readable transaction_code ruling judged submitted ticked due requested responded heard stopped started counted held refusals_by pharmacy
 full_book_new = refl
 
 number_reused : told_by (answered small (book_next (book 1 1) (answered small (book 1 1) (id 1 1) c1)) (id 1 1) v1) ≡ Err NumberReused
-unfolding replies one step answered readable ruling judged submitted ticked due requested responded heard stopped started counted held refusals_by pharmacy
+unfolding replies one step answered readable transaction_code ruling judged submitted ticked due requested responded heard stopped started counted held refusals_by pharmacy
 number_reused = refl
 
 not_ours : told_by (answered small (book 1 1) (id 1 1) cn) ≡ Err NotOurs
-unfolding replies one step answered readable ruling judged submitted ticked due requested responded heard stopped started counted held refusals_by pharmacy
+unfolding replies one step answered readable transaction_code ruling judged submitted ticked due requested responded heard stopped started counted held refusals_by pharmacy
 not_ours = refl
 
 -- a reversal whose answer is never delivered stays open at its pharmacy, which goes on counting the payment beside the new one
@@ -160,20 +161,20 @@ answers None = []
 answers (Some j) = map (λ (k : Kept). option_map (λ a. rulings_in (small.read_answer a)) k.answer) j.entries
 
 lost_answer_counted : auths (journal_at (run small one lost_answer) 1) ≡ auth_1 ∷ auth_2 ∷ []
-unfolding one step answered readable ruling judged submitted ticked due requested responded heard stopped started counted held refusals_by pharmacy
+unfolding one step answered readable transaction_code ruling judged submitted ticked due requested responded heard stopped started counted held refusals_by pharmacy
 lost_answer_counted = refl
 
 lost_answer_entries : answers (journal_at (run small one lost_answer) 1) ≡ Some (Paid auth_1 123456 all_amounts ∷ []) ∷ None ∷ Some (Paid auth_2 123456 all_amounts ∷ []) ∷ []
-unfolding one step answered readable ruling judged submitted ticked due requested responded heard stopped started counted held refusals_by pharmacy
+unfolding one step answered readable transaction_code ruling judged submitted ticked due requested responded heard stopped started counted held refusals_by pharmacy
 lost_answer_entries = refl
 
 lost_answer_rows : rows_after lost_answer ≡ (id 1 1, Paid auth_1 123456 all_amounts ∷ []) ∷ (id 1 2, Reversed auth_1 123456 ∷ []) ∷ (id 1 3, Paid auth_2 123456 all_amounts ∷ []) ∷ []
-unfolding one step answered readable ruling judged submitted ticked due requested responded heard stopped started counted held refusals_by pharmacy
+unfolding one step answered readable transaction_code ruling judged submitted ticked due requested responded heard stopped started counted held refusals_by pharmacy
 lost_answer_rows = refl
 
 -- once the reversal's answer came, the first payment counts no more
 answered_counted : auths (journal_at (run small one (lost_answer ++ Delivery 7 ∷ Delivery 12 ∷ [])) 1) ≡ auth_2 ∷ []
-unfolding one step answered readable ruling judged submitted ticked due requested responded heard stopped started counted held refusals_by pharmacy
+unfolding one step answered readable transaction_code ruling judged submitted ticked due requested responded heard stopped started counted held refusals_by pharmacy
 answered_counted = refl
 
 -- a switch that stops loses its table; the retry goes to the next switch, and the payer gives the answer that it kept
@@ -181,15 +182,15 @@ abbrev pub failover : List Event
 failover = Submission 1 c1 ∷ Delivery 1 ∷ Delivery 2 ∷ Stopping (Switch 1) ∷ Delivery 3 ∷ Starting (Switch 1) ∷ Delivery 3 ∷ Ticking 1 ∷ Delivery 4 ∷ Delivery 5 ∷ Delivery 6 ∷ Delivery 7 ∷ []
 
 failover_refusals : refusals one failover ≡ None ∷ None ∷ None ∷ None ∷ Some Down ∷ None ∷ Some NotWaiting ∷ None ∷ None ∷ None ∷ None ∷ None ∷ []
-unfolding one step answered readable ruling judged submitted ticked due requested responded heard stopped started counted held refusals_by pharmacy
+unfolding one step answered readable transaction_code ruling judged submitted ticked due requested responded heard stopped started counted held refusals_by pharmacy
 failover_refusals = refl
 
 failover_rows : rows_after failover ≡ (id 1 1, Paid auth_1 123456 all_amounts ∷ []) ∷ []
-unfolding one step answered readable ruling judged submitted ticked due requested responded heard stopped started counted held refusals_by pharmacy
+unfolding one step answered readable transaction_code ruling judged submitted ticked due requested responded heard stopped started counted held refusals_by pharmacy
 failover_rows = refl
 
 failover_entries : answers (journal_at (run small one failover) 1) ≡ Some (Paid auth_1 123456 all_amounts ∷ []) ∷ []
-unfolding one step answered readable ruling judged submitted ticked due requested responded heard stopped started counted held refusals_by pharmacy
+unfolding one step answered readable transaction_code ruling judged submitted ticked due requested responded heard stopped started counted held refusals_by pharmacy
 failover_entries = refl
 
 -- without a route both switches answer alike, and make no entry
@@ -197,15 +198,15 @@ abbrev pub unrouted : List Event
 unrouted = Submission 1 cn ∷ Ticking 1 ∷ Delivery 1 ∷ Delivery 2 ∷ Delivery 3 ∷ Delivery 4 ∷ []
 
 unrouted_refusals : refusals one unrouted ≡ None ∷ None ∷ None ∷ None ∷ None ∷ Some AlreadySettled ∷ []
-unfolding one step answered readable ruling judged submitted ticked due requested responded heard stopped started counted held refusals_by pharmacy
+unfolding one step answered readable transaction_code ruling judged submitted ticked due requested responded heard stopped started counted held refusals_by pharmacy
 unrouted_refusals = refl
 
 unrouted_entries : answers (journal_at (run small one unrouted) 1) ≡ Some (Rejected (BadBin ∷ []) ∷ []) ∷ []
-unfolding one step answered readable ruling judged submitted ticked due requested responded heard stopped started counted held refusals_by pharmacy
+unfolding one step answered readable transaction_code ruling judged submitted ticked due requested responded heard stopped started counted held refusals_by pharmacy
 unrouted_entries = refl
 
 unrouted_switches : (run small one unrouted).switches ≡ Up (record { cap = 64; entries = [] }) ∷ Up (record { cap = 64; entries = [] }) ∷ []
-unfolding one step answered readable ruling judged submitted ticked due requested responded heard stopped started counted held refusals_by pharmacy
+unfolding one step answered readable transaction_code ruling judged submitted ticked due requested responded heard stopped started counted held refusals_by pharmacy
 unrouted_switches = refl
 
 -- numbers go on after a stop and a start, up to the cap
@@ -213,13 +214,13 @@ abbrev pub small_journal : World
 small_journal = opening (record { pharmacies = pharmacy 7 (1 ∷ 2 ∷ []) 2 ∷ []; switches = 64 ∷ 64 ∷ []; payers = [] })
 
 numbers_go_on : refusals small_journal (Submission 1 c1 ∷ Stopping (Pharmacy 1) ∷ Submission 1 c1 ∷ Starting (Pharmacy 1) ∷ Submission 1 c1 ∷ Submission 1 c1 ∷ []) ≡ None ∷ None ∷ Some Down ∷ None ∷ None ∷ Some JournalFull ∷ []
-unfolding one step answered readable ruling judged submitted ticked due requested responded heard stopped started counted held refusals_by pharmacy
+unfolding one step answered readable transaction_code ruling judged submitted ticked due requested responded heard stopped started counted held refusals_by pharmacy
 numbers_go_on = refl
 
 -- refusals that the world itself gives
 world_refusals : refusals one (Delivery 99 ∷ Stopping (Switch 2) ∷ Stopping (Switch 2) ∷ Starting (Pharmacy 1) ∷ Ticking 9 ∷ Delivery 0 ∷ PlanChange 2 [] None ∷ Stopping (Payer 1) ∷ PlanChange 1 [] None ∷ [])
     ≡ Some NoSuchPacket ∷ None ∷ Some Down ∷ Some AlreadyUp ∷ Some NoSuchNode ∷ Some NoSuchPacket ∷ Some NoSuchNode ∷ None ∷ Some Down ∷ []
-unfolding one step answered readable ruling judged submitted ticked due requested responded heard stopped started counted held refusals_by pharmacy
+unfolding one step answered readable transaction_code ruling judged submitted ticked due requested responded heard stopped started counted held refusals_by pharmacy
 world_refusals = refl
 
 -- a repeat does not make an entry young: the oldest leaves a full table
@@ -228,7 +229,7 @@ narrow = opening (record { pharmacies = pharmacy 7 (1 ∷ []) 100 ∷ []; switch
 
 oldest_leaves : refusals narrow (Submission 1 c1 ∷ Submission 1 (1 ∷ 7 ∷ 4 ∷ 11 ∷ []) ∷ Submission 1 (1 ∷ 7 ∷ 4 ∷ 12 ∷ []) ∷ Delivery 1 ∷ Delivery 2 ∷ Delivery 1 ∷ Delivery 3 ∷ Delivery 4 ∷ Delivery 8 ∷ Delivery 5 ∷ Delivery 9 ∷ [])
     ≡ None ∷ None ∷ None ∷ None ∷ None ∷ None ∷ None ∷ None ∷ Some NotWaiting ∷ None ∷ None ∷ []
-unfolding one step answered readable ruling judged submitted ticked due requested responded heard stopped started counted held refusals_by pharmacy
+unfolding one step answered readable transaction_code ruling judged submitted ticked due requested responded heard stopped started counted held refusals_by pharmacy
 oldest_leaves = refl
 
 -- the retry rule: again 2, tries 2, two switches; of eight ticks the second goes to switch 1, the fourth and the sixth to switch 2, the eighth to switch 1
@@ -240,11 +241,11 @@ ticks j [] = []
 ticks j (_ ∷ more) = map (λ (s : Sending). s.switch) (due small (ticked j)) ∷ ticks (ticked j) more
 
 retries : ticks patient (0 ∷ 0 ∷ 0 ∷ 0 ∷ 0 ∷ 0 ∷ 0 ∷ 0 ∷ []) ≡ [] ∷ (1 ∷ []) ∷ [] ∷ (2 ∷ []) ∷ [] ∷ (2 ∷ []) ∷ [] ∷ (1 ∷ []) ∷ []
-unfolding ticks one step answered readable ruling judged submitted ticked due requested responded heard stopped started counted held refusals_by pharmacy
+unfolding ticks one step answered readable transaction_code ruling judged submitted ticked due requested responded heard stopped started counted held refusals_by pharmacy
 retries = refl
 
 retries_after_start : ticks (started (stopped patient)) (0 ∷ 0 ∷ 0 ∷ 0 ∷ 0 ∷ 0 ∷ []) ≡ [] ∷ (1 ∷ []) ∷ [] ∷ (1 ∷ []) ∷ [] ∷ (2 ∷ []) ∷ []
-unfolding ticks one step answered readable ruling judged submitted ticked due requested responded heard stopped started counted held refusals_by pharmacy
+unfolding ticks one step answered readable transaction_code ruling judged submitted ticked due requested responded heard stopped started counted held refusals_by pharmacy
 retries_after_start = refl
 
 -- a reversal by another pharmacy reverses nothing
@@ -255,17 +256,17 @@ abbrev pub others : List Event
 others = Submission 1 c1 ∷ Delivery 1 ∷ Delivery 2 ∷ Delivery 3 ∷ Delivery 4 ∷ Submission 2 (2 ∷ 8 ∷ 4 ∷ 0 ∷ []) ∷ Delivery 5 ∷ Delivery 6 ∷ Delivery 7 ∷ Delivery 8 ∷ []
 
 others_rows : briefs (book_at (run small two others) 1) ≡ (id 1 1, Paid auth_1 123456 all_amounts ∷ []) ∷ (id 2 1, Rejected (ReversalNotProcessed ∷ []) ∷ []) ∷ []
-unfolding one step answered readable ruling judged submitted ticked due requested responded heard stopped started counted held refusals_by pharmacy
+unfolding one step answered readable transaction_code ruling judged submitted ticked due requested responded heard stopped started counted held refusals_by pharmacy
 others_rows = refl
 
 -- the pharmacy, the switch and the payer hold the same answer
 others_held : map (λ node. held small (run small two others) node (id 1 1)) (Pharmacy 1 ∷ Switch 1 ∷ Payer 1 ∷ []) ≡ Some (7 ∷ 1 ∷ 65 ∷ 1 ∷ 1 ∷ 1 ∷ 123456 ∷ []) ∷ Some (7 ∷ 1 ∷ 65 ∷ 1 ∷ 1 ∷ 1 ∷ 123456 ∷ []) ∷ Some (7 ∷ 1 ∷ 65 ∷ 1 ∷ 1 ∷ 1 ∷ 123456 ∷ []) ∷ []
-unfolding one step answered readable ruling judged submitted ticked due requested responded heard stopped started counted held refusals_by pharmacy
+unfolding one step answered readable transaction_code ruling judged submitted ticked due requested responded heard stopped started counted held refusals_by pharmacy
 others_held = refl
 
 -- four claims through the world: three are counted
 four_counted : auths (journal_at (run small one (Submission 1 c17 ∷ Delivery 1 ∷ Delivery 2 ∷ Delivery 3 ∷ Delivery 4 ∷ [])) 1) ≡ auth_1 ∷ auth_2 ∷ record { payer = 1; serial = 3 } ∷ []
-unfolding one step answered readable ruling judged submitted ticked due requested responded heard stopped started counted held refusals_by pharmacy
+unfolding one step answered readable transaction_code ruling judged submitted ticked due requested responded heard stopped started counted held refusals_by pharmacy
 four_counted = refl
 
 -- a switch alone: what it forwards, what it refuses, and what it loses at a stop
@@ -310,35 +311,35 @@ routed_in (Ok r) = Some r.routed
 routed_in (Err why) = None
 
 forwards : routed_in (requested small empty_table (request_of_1 c1)) ≡ Some (Forward 1 (1 ∷ 1 ∷ 1 ∷ c1))
-unfolding requested readable
+unfolding requested readable transaction_code
 forwards = refl
 
 another_request : why_not (requested small waiting (request_of_1 v1)) ≡ Some NumberReused
-unfolding requested readable
+unfolding requested readable transaction_code
 another_request = refl
 
 another_answer : why_not (responded small has_it (response_of 1 a1_again)) ≡ Some Differs
-unfolding requested responded readable
+unfolding requested responded readable transaction_code
 another_answer = refl
 
 same_answer_again : why_not (responded small has_it (response_of 1 a1)) ≡ None
-unfolding requested responded readable
+unfolding requested responded readable transaction_code
 same_answer_again = refl
 
 not_waited_for : why_not (responded small has_it (response_of 2 a1)) ≡ Some NotWaiting
-unfolding requested responded readable
+unfolding requested responded readable transaction_code
 not_waited_for = refl
 
 no_response : map (λ e. why_not (responded small has_it e)) (response_of 1 (5 ∷ []) ∷ request_of_1 a1 ∷ []) ≡ Some Unreadable ∷ Some Unreadable ∷ []
-unfolding requested responded readable
+unfolding requested responded readable transaction_code
 no_response = refl
 
 no_request : why_not (requested small has_it (request_of_1 (5 ∷ []))) ≡ Some Unreadable
-unfolding requested responded readable
+unfolding requested responded readable transaction_code
 no_request = refl
 
 answers_itself : routed_in (requested small has_it (request_of_1 c1)) ≡ Some (Back (2 ∷ 1 ∷ 1 ∷ a1))
-unfolding requested responded readable
+unfolding requested responded readable transaction_code
 answers_itself = refl
 
 lost_at_a_stop : why_not (responded small empty_table (response_of 1 a1)) ≡ Some NotWaiting

@@ -1,6 +1,8 @@
 -- Which requests a payer or a switch takes, where they are routed, and which answers fit them.
-use Rattle.std.specs.Prelude.{ℕ, Bool, true, false, cond, ◌&&◌, ◌||◌, ◌==◌, nat_le, List, [], ◌∷◌, length, replicate, Option, Some, None, bytes_eq, option_and_then}
+use Rattle.std.specs.Prelude.{ℕ, Bool, true, false, cond, ◌&&◌, ◌==◌, nat_le, List, [], ◌∷◌, length, replicate, Option, Some, None, is_some, bytes_eq, option_and_then}
 use Rattle.envelope.specs.Envelope.{longest_payload}
+use Rattle.claim_profile.specs.declared.transaction.TransactionCode.TheVariants.{Billing, Reversal}
+use Rattle.claim_profile.specs.Transaction.{code_bytes, transaction_code}
 use Rattle.claim_model.specs.Words.{TxnId, RequestHeader, Answer, Ruling, Rejected, BadBin, AcceptedStatus, RejectedStatus, Envelope, Request, Response}
 use Rattle.claim_model.specs.Context.{Context}
 
@@ -8,19 +10,20 @@ use Rattle.claim_model.specs.Context.{Context}
 abbrev pub version_d0 : List ℕ
 version_d0 = 68 ∷ 48 ∷ []
 
--- "B1"
+-- the code of a billing
 abbrev pub billing_code : List ℕ
-billing_code = 66 ∷ 49 ∷ []
+billing_code = code_bytes Billing
 
--- "B2"
+-- the code of a reversal
 abbrev pub reversal_code : List ℕ
-reversal_code = 66 ∷ 50 ∷ []
+reversal_code = code_bytes Reversal
 
 abbrev pub has_version : RequestHeader → Bool
 has_version h = bytes_eq h.version version_d0
 
+-- whether it is of a kind that is carried
 abbrev pub has_code : RequestHeader → Bool
-has_code h = bytes_eq h.code billing_code || bytes_eq h.code reversal_code
+has_code h = is_some (transaction_code h.code)
 
 -- no payload of an envelope is longer
 abbrev pub longest : ℕ
@@ -29,7 +32,7 @@ longest = longest_payload
 abbrev pub if_carried : RequestHeader → Option RequestHeader
 if_carried h = cond (has_version h && has_code h) (Some h) None
 
--- the header of a readable request: framed, of version D0, with code B1 or B2, and at most 32,768 bytes
+-- the header of a readable request: framed, of version D0, of a kind that is carried, and at most 32,768 bytes
 unfoldable pub readable : Context → List ℕ → Option RequestHeader
 readable ctx text = cond (nat_le (length text) longest) (option_and_then if_carried (ctx.header text)) None
 

@@ -1,13 +1,17 @@
 -- Billings and reversals are readable: they are short, and their headers are carried.
-use Rattle.std.proofs.Common.{◌≡◌, ℕ, ◌≤◌, true, false, ◌&&◌, ◌||◌, List, length, nat_lt, Option, Some, None, codes, refl, ap, ◌∙◌, arith, length-append}
-use Rattle.std.specs.Prelude.{bytes_eq}
+use Rattle.std.proofs.Common.{◌≡◌, ℕ, ◌≤◌, true, false, ◌&&◌, List, length, nat_lt, Option, Some, None, codes, ap, ◌∙◌, arith, length-append}
+use Rattle.std.specs.Prelude.{bytes_eq, is_some}
 use Rattle.std.proofs.lemmas.Bool.Decides.{nat_tests}
 use Rattle.overpunch.specs.Number.{number_text}
 use Rattle.overpunch.specs.Amount.{amount_text}
 use Rattle.d0_header.specs.Request.{Request, IsRequest, request_text}
 use Rattle.d0_segments.specs.Framing.{request_kind, transmission_of}
+use Rattle.claim_profile.specs.declared.transaction.TransactionCode.{TransactionCode}
+use Rattle.claim_profile.specs.declared.transaction.TransactionCode.TheVariants.{Billing as Billed, Reversal as Reversed}
+use Rattle.claim_profile.specs.Transaction.{code_bytes, transaction_code}
 use Rattle.claim_profile.specs.Building.{Billing, IsBilling, billing_parts, billing_text, insurance_segment, billed_segment, submitted_segment, Reversing, IsReversing, reversal_parts, reversal_text, reversed_segment, IsHeader, has_more_digits, is_fill_too_long}
 use Rattle.claim_profile.specs.Readable.{is_carried, longest_request, readable_header}
+use Rattle.claim_profile.proofs.TransactionLemmas.{coded}
 use Rattle.claim_profile.proofs.PlainTexts.{number_fits, amount_fits}
 use Rattle.claim_profile.proofs.ReadableLemmas.{framed_text}
 use Rattle.claim_profile.proofs.BuiltFrames.{billing_fits, reversal_fits}
@@ -52,20 +56,17 @@ reversed_short wide numbers h prescription (Some fill) product sound few fill_fe
     let text : length product ≤ 19 = text_short 19 (length product) short in
     simp length-append (omega (arith, header, number, filled, text))
 
-carried : (code : List ℕ) (h : Request) → IsHeader code h → h.version ≡ codes "D0" → (bytes_eq code (codes "B1") || bytes_eq code (codes "B2")) ≡ true → is_carried h ≡ true
-carried code h is version known =
-    ap (λ v. bytes_eq v (codes "D0") && (bytes_eq h.code (codes "B1") || bytes_eq h.code (codes "B2"))) version
-    ∙ ap (λ c. bytes_eq c (codes "B1") || bytes_eq c (codes "B2")) is.code
-    ∙ known
+carried : (kind : TransactionCode) (h : Request) → IsHeader (code_bytes kind) h → h.version ≡ codes "D0" → is_carried h ≡ true
+carried kind h is version = ap (λ v. bytes_eq v (codes "D0") && is_some (transaction_code h.code)) version ∙ ap is_some (coded h.code kind is.code)
 
 pub billing_readable : HeadersAreWide → NumbersReadBack → AmountsReadBack → (b : Billing) → IsBilling b → transmission_of request_kind (billing_text b) ≡ Some (billing_parts b) → b.header.version ≡ codes "D0"
     → readable_header (billing_text b) ≡ Some b.header
 billing_readable wide numbers amounts b is parts version =
-    framed_text (billing_text b) (billing_parts b) true (billing_short wide numbers amounts b is) parts (carried (codes "B1") b.header is.header version refl)
+    framed_text (billing_text b) (billing_parts b) true (billing_short wide numbers amounts b is) parts (carried Billed b.header is.header version)
 
 pub reversal_readable : HeadersAreWide → NumbersReadBack → (r : Reversing) → IsReversing r → transmission_of request_kind (reversal_text r) ≡ Some (reversal_parts r) → r.header.version ≡ codes "D0"
     → readable_header (reversal_text r) ≡ Some r.header
 reversal_readable wide numbers r is parts version =
     let fits = reversal_fits r is.sound in
     framed_text (reversal_text r) (reversal_parts r) true (reversed_short wide numbers r.header r.prescription r.fill r.product is.header.sound fits.prescription fits.fill fits.product) parts
-    (carried (codes "B2") r.header is.header version refl)
+    (carried Reversed r.header is.header version)

@@ -1,6 +1,5 @@
 -- The orders of billings and reversals are their parts.
-use Rattle.std.proofs.Common.{◌≡◌, ◌≢◌, ℕ, ℤ, pos, negsuc, ◌+◌, ◌/◌, ◌%◌, ◌^◌, ◌<◌, ◌≤◌, ◌≤ℤ◌, true, false, cond, List, [], ◌∷◌, ◌++◌, length, nat_le, nat_lt, slice_index, Option, Some, None, Ok, option_map, option_and_then, codes, refl, ap, sym, ◌∙◌, arith}
-use Rattle.std.specs.Str.{bytes_eq}
+use Rattle.std.proofs.Common.{◌≡◌, ◌≢◌, ℕ, ℤ, pos, negsuc, ◌+◌, ◌/◌, ◌%◌, ◌^◌, ◌<◌, ◌≤◌, ◌≤ℤ◌, true, false, cond, List, [], ◌∷◌, ◌++◌, length, nat_le, nat_lt, slice_index, Option, Some, None, Ok, option_map, option_and_then, refl, ap, sym, ◌∙◌, arith}
 use Rattle.std.specs.Result.{result_ok}
 use Rattle.std.specs.Int.RustNames.{unsigned_abs}
 use Rattle.std.proofs.lemmas.Bool.Decides.{nat_tests}
@@ -10,8 +9,10 @@ use Rattle.d0_header.specs.Request.{Request}
 use Rattle.d0_header.specs.Date.{is_calendar_date}
 use Rattle.claim_profile.specs.declared.order.Order.TheVariants as order
 use Rattle.claim_profile.specs.Fields.{is_filled, trimmed, required, optional, values, fields_of}
-use Rattle.claim_profile.specs.Order.{text_up_to, number_up_to, amount_in_cents, not_negative, day_of_service, claim_fields, reversal_fields, claim_of, claim_order, reversal_of, reversal_order, order_of}
+use Rattle.claim_profile.specs.Order.{text_up_to, number_up_to, amount_in_cents, not_negative, day_of_service, claim_fields, reversal_fields, claim_of, reversal_of, order_as, order_of}
 use Rattle.claim_profile.specs.Building.{Billing, IsBilling, billing_group, billing_parts, insurance_segment, billed_segment, submitted_segment, claim_billed, Reversing, IsReversing, reversal_group, reversal_parts, reversed_segment, reversal_asked, ends_in_space, IsText, IsSubmitted, has_more_digits, is_fill_too_long}
+use Rattle.claim_profile.specs.declared.transaction.TransactionCode.TheVariants.{Billing as Billed, Reversal as Reversed}
+use Rattle.claim_profile.proofs.TransactionLemmas.{coded}
 use Rattle.claim_profile.proofs.OrderLemmas.{claim_order_ok, reversal_order_ok}
 use Rattle.claim_profile.proofs.BuiltFrames.{billing_fits, reversal_fits}
 
@@ -101,8 +102,7 @@ claim_fields_are numbers amounts b is =
 pub billing_order : NumbersReadBack → AmountsReadBack → (b : Billing) → IsBilling b → order_of b.header (billing_parts b).shared (billing_group b) ≡ Ok (order.Claim (claim_billed b))
 unfolding order_of claim_of
 billing_order numbers amounts b is =
-    let billed : bytes_eq b.header.code (codes "B1") ≡ true = ap (λ c. bytes_eq c (codes "B1")) is.header.code in
-    ap (λ t. cond t (claim_order b.header (billing_parts b).shared (billing_group b)) (reversal_order b.header (billing_group b))) billed
+    ap (λ code. order_as code b.header (billing_parts b).shared (billing_group b)) (coded b.header.code Billed is.header.code)
     ∙ sym (claim_order_ok b.header (billing_parts b).shared (billing_group b) _ (order.Claim (claim_billed b)) (claim_fields_are numbers amounts b is) refl)
 
 fill_passes : NumbersReadBack → (fill : ℕ) → has_more_digits 2 fill ≡ false → option_map (λ (n : ℕ). Some n) (number_up_to 2 (number_text fill)) ≡ Some (Some fill)
@@ -126,6 +126,5 @@ pub reversal_order_is : NumbersReadBack → (r : Reversing) → IsReversing r �
 unfolding order_of reversal_of
 reversal_order_is numbers r is =
     let fits = reversal_fits r is.sound in
-    let reversed : bytes_eq r.header.code (codes "B1") ≡ false = ap (λ c. bytes_eq c (codes "B1")) is.header.code in
-    ap (λ t. cond t (claim_order r.header (reversal_parts r).shared (reversal_group r)) (reversal_order r.header (reversal_group r))) reversed
+    ap (λ code. order_as code r.header (reversal_parts r).shared (reversal_group r)) (coded r.header.code Reversed is.header.code)
     ∙ sym (reversal_order_ok r.header (reversal_group r) _ (reversal_asked r) (reversal_fields_are numbers r.header r.prescription r.fill r.product is.header.date fits.prescription fits.fill) refl)

@@ -1,9 +1,9 @@
 -- The headers of readable requests, and what is answered where they are routed nowhere.
-use Rattle.std.proofs.Common.{◌≡◌, ℕ, zero, suc, Bool, true, false, cond, ◌||◌, List, [], ◌∷◌, ◌++◌, length, drop, replicate, nat_le, Option, Some, None, codes, refl, ap, subst, arith, inl, inr}
-use Rattle.std.specs.Prelude.{option_and_then}
+use Rattle.std.proofs.Common.{◌≡◌, ℕ, zero, suc, Bool, true, false, cond, List, [], ◌∷◌, ◌++◌, length, drop, replicate, nat_le, Option, Some, None, codes, refl, ap, subst, arith}
+use Rattle.std.specs.Prelude.{option_and_then, is_some}
 use Rattle.std.specs.List.{AllByRecursion}
 use Rattle.std.specs.Str.{bytes_eq}
-use Rattle.std.proofs.lemmas.Bool.{and_parts, or_cases}
+use Rattle.std.proofs.lemmas.Bool.{and_parts}
 use Rattle.std.proofs.lemmas.Slice.Eq.{bytes_eq-Decides}
 use Rattle.d0_header.specs.declared.fault.HeaderFault.{HeaderFault}
 use Rattle.d0_header.specs.Request.{Request, IsRequest, request_text, request_of, request_fault}
@@ -15,6 +15,8 @@ use Rattle.claim_profile.specs.declared.ruling.Ruling.{Ruling}
 use Rattle.claim_profile.specs.declared.ruling.Ruling.TheVariants.{Rejected}
 use Rattle.claim_profile.specs.declared.ruling.HeaderStatus.TheVariants as header
 use Rattle.claim_profile.specs.Answer.{StandsBeside}
+use Rattle.claim_profile.specs.Transaction.{transaction_code}
+use Rattle.claim_profile.proofs.TransactionLemmas.{only, some_code}
 use Rattle.claim_profile.specs.Readable.{is_carried, if_carried, framed_header, longest_request, readable_header}
 use Rattle.claim_profile.specs.Answering.{IsConstructible, Answers, unrouted, IsCarried}
 
@@ -38,11 +40,12 @@ framed_sound found text t e =
 
 carried_from : (h : Request) → IsRequest h → is_carried h ≡ true → IsCarried h
 carried_from h sound e =
-    let p = and_parts (bytes_eq h.version (codes "D0")) (bytes_eq h.code (codes "B1") || bytes_eq h.code (codes "B2")) e in
+    let p = and_parts (bytes_eq h.version (codes "D0")) (is_some (transaction_code h.code)) e in
+    let kind = some_code (transaction_code h.code) p.1 in
     record {
       sound = sound;
       version = (bytes_eq-Decides h.version (codes "D0")).0 p.0;
-      code = elim (or_cases (bytes_eq h.code (codes "B1")) (bytes_eq h.code (codes "B2")) p.1) [ inl b ↦ inl ((bytes_eq-Decides h.code (codes "B1")).0 b) | inr b ↦ inr ((bytes_eq-Decides h.code (codes "B2")).0 b) ];
+      code = (kind.0, only h.code kind.0 kind.1);
     }
 
 if_carried_some : (g h : Request) (b : Bool) → cond b (Some g) None ≡ Some h → (b ≡ true) × (g ≡ h)

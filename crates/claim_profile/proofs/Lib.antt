@@ -2,6 +2,7 @@ pub mod Room
 pub mod Trimming
 pub mod Counting
 pub mod OrderCounting
+pub mod TransactionLemmas
 pub mod OrderLemmas
 pub mod AuthorizationLemmas
 pub mod AnswerTexts

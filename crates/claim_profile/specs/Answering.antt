@@ -1,5 +1,5 @@
 -- Answers to readable requests: what they are made of, and what they spell.
-use Rattle.std.specs.Prelude.{◌≡◌, ℕ, ◌≤◌, List, [], ◌∷◌, length, replicate, codes, ◌⊎◌}
+use Rattle.std.specs.Prelude.{◌≡◌, ℕ, ◌≤◌, List, [], ◌∷◌, length, replicate, codes}
 use Rattle.std.specs.List.{AllByRecursion}
 use Rattle.d0_header.specs.Request.{Request, IsRequest}
 use Rattle.d0_header.specs.Response.{answer_to}
@@ -8,6 +8,8 @@ use Rattle.claim_profile.specs.declared.ruling.Ruling.{Ruling}
 use Rattle.claim_profile.specs.declared.ruling.Ruling.TheVariants as ruling
 use Rattle.claim_profile.specs.declared.ruling.HeaderStatus.{HeaderStatus}
 use Rattle.claim_profile.specs.declared.ruling.HeaderStatus.TheVariants as under
+use Rattle.claim_profile.specs.declared.transaction.TransactionCode.{TransactionCode}
+use Rattle.claim_profile.specs.Transaction.{code_bytes}
 use Rattle.claim_profile.specs.Authorization.{IsAuthorization}
 use Rattle.claim_profile.specs.Money.{IsMoney}
 use Rattle.claim_profile.specs.Answer.{status_byte_of, answer_text, IsPrescription, StandsBeside}
@@ -39,8 +41,8 @@ unrouted h = replicate h.count (ruling.Rejected (Bin ∷ []))
 abbrev pub unrouted_text : Request → List ℕ
 unrouted_text h = answer_text h under.Rejected (unrouted h)
 
--- the header of a request that is carried: sound, of version `D0`, a billing or a reversal
+-- the header of a request that is carried: sound, of version `D0`, and of a kind that is carried
 pub record IsCarried (h : Request) : Type 0 where
   pub sound : IsRequest h
   pub version : h.version ≡ codes "D0"
-  pub code : (h.code ≡ codes "B1") ⊎ (h.code ≡ codes "B2")
+  pub code : (kind : TransactionCode) × (h.code ≡ code_bytes kind)

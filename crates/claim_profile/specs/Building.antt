@@ -15,6 +15,8 @@ use Rattle.claim_profile.specs.declared.building.BillingParts.{BillingParts}
 use Rattle.claim_profile.specs.declared.building.ReversalParts.{ReversalParts}
 use Rattle.claim_profile.specs.declared.order.Claim.{Claim}
 use Rattle.claim_profile.specs.declared.order.Reversal.{Reversal}
+use Rattle.claim_profile.specs.declared.transaction.TransactionCode.TheVariants as kind
+use Rattle.claim_profile.specs.Transaction.{code_bytes}
 use Rattle.claim_profile.specs.Answer.{field, segment}
 use Rattle.claim_profile.specs.Order.{fill_of}
 
@@ -179,7 +181,7 @@ pub record IsHeader (expected : List ℕ) (h : Request) : Type 0 where
 
 -- a billing as callers hand it, without a fault
 pub record IsBilling (b : Billing) : Type 0 where
-  pub header : IsHeader (codes "B1") b.header
+  pub header : IsHeader (code_bytes kind.Billing) b.header
   pub cardholder : IsText b.cardholder
   pub product : IsText b.product
   pub cost : IsSubmitted b.cost
@@ -188,7 +190,7 @@ pub record IsBilling (b : Billing) : Type 0 where
 
 -- a reversal as callers hand it, without a fault
 pub record IsReversing (r : Reversing) : Type 0 where
-  pub header : IsHeader (codes "B2") r.header
+  pub header : IsHeader (code_bytes kind.Reversal) r.header
   pub product : IsText r.product
   pub sound : reversal_fault r ≡ None
 

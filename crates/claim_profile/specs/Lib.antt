@@ -5,6 +5,7 @@ pub mod Text
 pub mod Authorization
 pub mod Money
 pub mod Reject
+pub mod Transaction
 pub mod Order
 pub mod FillBytes
 pub mod Readable

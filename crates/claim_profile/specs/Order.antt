@@ -9,6 +9,8 @@ use Rattle.d0_header.specs.Date.{is_calendar_date}
 use Rattle.d0_segments.specs.Parts.{SegmentParts}
 use Rattle.claim_profile.specs.declared.reject.Code.{Code}
 use Rattle.claim_profile.specs.declared.reject.Code.TheVariants as code
+use Rattle.claim_profile.specs.declared.transaction.TransactionCode.{TransactionCode}
+use Rattle.claim_profile.specs.declared.transaction.TransactionCode.TheVariants as kind
 use Rattle.claim_profile.specs.declared.order.Fill.{Fill}
 use Rattle.claim_profile.specs.declared.order.Claim.{Claim}
 use Rattle.claim_profile.specs.declared.order.Reversal.{Reversal}
@@ -20,6 +22,7 @@ use Rattle.claim_profile.specs.declared.order_reading.OrderFault.{OrderFault}
 use Rattle.claim_profile.specs.declared.order_reading.OrderFault.TheVariants.{Rejected}
 use Rattle.claim_profile.specs.Fields.{values_in, texts_in, required, optional}
 use Rattle.claim_profile.specs.Reject.{first_five_held}
+use Rattle.claim_profile.specs.Transaction.{transaction_code}
 
 infixl 10 ◌>>=◌
 abbrev pub ◌>>=◌ : {A B : Type 0} → Option A → (A → Option B) → Option B
@@ -147,6 +150,13 @@ claim_order h shared group = or_rejected (option_map order.Claim (claim_of h (cl
 unfoldable pub reversal_order : Request → List SegmentParts → Result Order OrderFault
 reversal_order h group = or_rejected (option_map order.Reversal (reversal_of h (reversal_fields h group))) (reversal_codes (reversal_fields h group))
 
--- what a transaction asks for: a claim under code `B1`, else a reversal
+-- what a transaction of this kind asks for: a billing for a claim, a reversal for one. Of no kind that is carried it asks
+-- for a service that is not covered; a readable request is none such
+abbrev pub order_as : Option TransactionCode → Request → (shared group : List SegmentParts) → Result Order OrderFault
+order_as (Some kind.Billing) h shared group = claim_order h shared group
+order_as (Some kind.Reversal) h shared group = reversal_order h group
+order_as None h shared group = Err (Rejected (code.NotCovered ∷ []))
+
+-- what a transaction asks for, by its header's code
 unfoldable pub order_of : Request → (shared group : List SegmentParts) → Result Order OrderFault
-order_of h shared group = if bytes_eq h.code (codes "B1") then claim_order h shared group else reversal_order h group
+order_of h shared group = order_as (transaction_code h.code) h shared group

@@ -1,16 +1,17 @@
 -- Which requests this product carries.
-use Rattle.std.specs.Prelude.{◌≡◌, ℕ, Bool, ◌&&◌, ◌||◌, nat_le, List, length, Option, Some, None, option_map, option_and_then, bytes_eq, codes, if◌then◌else◌}
+use Rattle.std.specs.Prelude.{◌≡◌, ℕ, Bool, ◌&&◌, nat_le, List, length, Option, Some, None, is_some, option_map, option_and_then, bytes_eq, codes, if◌then◌else◌}
 use Rattle.d0_header.specs.Request.{Request}
 use Rattle.d0_segments.specs.Parts.{TransmissionParts}
 use Rattle.d0_segments.specs.declared.fault.FramingFault.{FramingFault}
 use Rattle.d0_segments.specs.declared.fault.FramingFault.TheVariants as framing
 use Rattle.d0_segments.specs.Framing.{request_kind, transmission_of}
+use Rattle.claim_profile.specs.Transaction.{transaction_code}
 use Rattle.claim_profile.specs.declared.readable.RequestFault.{RequestFault}
 use Rattle.claim_profile.specs.declared.readable.RequestFault.TheVariants.{OutOfMemory, Unreadable}
 
--- a billing or a reversal of version D0
+-- of version D0, and of a kind that is carried: a billing or a reversal
 abbrev pub is_carried : Request → Bool
-is_carried h = bytes_eq h.version (codes "D0") && (bytes_eq h.code (codes "B1") || bytes_eq h.code (codes "B2"))
+is_carried h = bytes_eq h.version (codes "D0") && is_some (transaction_code h.code)
 
 -- a header, where it is one of those
 abbrev pub if_carried : Request → Option Request

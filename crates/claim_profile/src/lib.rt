@@ -25,6 +25,7 @@ mod reject;
 mod ruling;
 mod showing;
 mod texts;
+mod transaction;
 mod values;
 
 pub use answer_reading::{Answer, AnswerFault, check_answer, read_answer};
@@ -43,3 +44,4 @@ pub use readable::{LONGEST_REQUEST, RequestFault, check_readable, read_readable}
 pub use reject::{Code, Rejects};
 pub use ruling::{HeaderStatus, Ruling};
 pub use texts::Text;
+pub use transaction::{TransactionCode, transaction_laws};

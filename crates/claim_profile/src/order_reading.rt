@@ -1,19 +1,21 @@
 //! Reading what a transaction asks for.
 
-ghost use Rattle.std.specs.Prelude.{◌≡◌, ◌<◌, ◌≤◌, List, [], length, slice_index_or};
+ghost use Rattle.std.specs.Prelude.{◌≡◌, ◌<◌, ◌≤◌, List, [], ◌∷◌, length, slice_index_or, Err};
 ghost use Rattle.d0_segments.specs.Parts.{SegmentParts};
 ghost use Rattle.d0_segments.specs.Pieces.{shared_of, groups_of};
 ghost use Rattle.d0_segments.specs.Views.{segments_parts, groups_parts};
 ghost use Rattle.claim_profile.specs.Order.{claim_codes, claim_order, reversal_order, order_of};
 ghost use Rattle.claim_profile.specs.OrderSeen.{claim_seen};
 ghost use Rattle.claim_profile.specs.OrderTally.{order_seen, nothing_seen, segments_counted};
+ghost use Rattle.claim_profile.specs.declared.reject.Code.TheVariants.{NotCovered};
+ghost use Rattle.claim_profile.specs.declared.order_reading.OrderFault.TheVariants.{Rejected};
 ghost use Rattle.claim_profile.specs.declared.order_values.Level.TheVariants.{Shared, Group};
 
-use crate::names::is_same;
 use crate::order::Order;
 use crate::order_fields::{ClaimFields, ReversalFields, claim_spelled};
 use crate::order_values::OrderValues;
-use crate::reject::Rejects;
+use crate::reject::{Code, Rejects};
+use crate::transaction::TransactionCode;
 use d0_header::RequestHeader;
 use d0_segments::{Framed, Segment, Transmission};
 use thiserror::Error;
@@ -21,13 +23,14 @@ use thiserror::Error;
 /// Why a transaction has no order.
 #[derive(Clone, Copy, Debug, PartialEq, Eq, Error)]
 pub enum OrderFault {
-    /// Fields are missing or invalid: their reject codes, in order, the first five.
+    /// Fields are missing or invalid: their reject codes, in order, the first five. Under a code of no
+    /// transaction that is carried: 70 alone.
     #[error("rejected {0}")]
     Rejected(Rejects),
 }
 
-/// Reads the order of the transaction at `place`, from 0. A header with code `B1` asks for a claim,
-/// one with `B2` for a reversal.
+/// Reads the order of the transaction at `place`, from 0. A billing asks for a claim, a reversal for
+/// one; under any other code, which no readable request has, it asks for a service that is not covered.
 ///
 /// Of each field the values count that are not empty, wherever they stand in segments of the field's
 /// identification at its level; texts lose trailing spaces first. A required field has exactly one
@@ -55,10 +58,10 @@ fn read_group_order(
 ) -> Result<Order, OrderFault>
     ensures { result ≡ order_of header.now (segments_parts shared.now) (segments_parts group.now) }
 {
-    if is_same(header.code(), *b"B1") {
-        claim(header, shared, group)
-    } else {
-        reversal(header, group)
+    match TransactionCode::read(header.code()) {
+        Some(TransactionCode::Billing) => claim(header, shared, group),
+        Some(TransactionCode::Reversal) => reversal(header, group),
+        None => not_covered(),
     }
 }
 
@@ -85,10 +88,10 @@ pub fn order_at(framed: &Framed<'_, RequestHeader>, place: usize) -> Result<Orde
     requires { place < length (groups_of framed.now.body.bytes.now) }
     ensures { result ≡ order_of framed.now.header (shared_of framed.now.body.bytes.now) (slice_index_or (groups_of framed.now.body.bytes.now) place []) }
 {
-    if is_same(framed.header().code(), *b"B1") {
-        claim_at(framed, place)
-    } else {
-        reversal_at(framed, place)
+    match TransactionCode::read(framed.header().code()) {
+        Some(TransactionCode::Billing) => claim_at(framed, place),
+        Some(TransactionCode::Reversal) => reversal_at(framed, place),
+        None => not_covered(),
     }
 }
 
@@ -104,6 +107,14 @@ fn reversal_at(framed: &Framed<'_, RequestHeader>, place: usize) -> Result<Order
     ensures { result ≡ reversal_order framed.now.header (slice_index_or (groups_of framed.now.body.bytes.now) place []) }
 {
     reversal_of(framed.header(), &OrderValues::in_reversal(framed, place))
+}
+
+// What a transaction of no kind that is carried asks for.
+#[inline(never)]
+fn not_covered() -> Result<Order, OrderFault>
+    ensures { result ≡ Err (Rejected (NotCovered ∷ [])) }
+{
+    Err(OrderFault::Rejected(Rejects::one(Code::NotCovered)))
 }
 
 // The claim of these values.

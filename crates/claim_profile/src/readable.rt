@@ -7,6 +7,7 @@ ghost use Rattle.d0_segments.specs.Transmissions.{transmission_parts};
 ghost use Rattle.claim_profile.specs.Readable.{RefusesFor, fault_of_framing, is_carried, readable_header};
 
 use crate::names::is_same;
+use crate::transaction::TransactionCode;
 use d0_header::RequestHeader;
 use d0_segments::{Framed, FramingFault, Transmission, check_request, read_request};
 use std::alloc::Global;
@@ -92,6 +93,5 @@ fn fault_of_framing(fault: FramingFault) -> RequestFault
 fn is_carried(header: &RequestHeader) -> bool
     ensures { result ≡ is_carried header.now }
 {
-    let code = header.code();
-    is_same(header.version(), *b"D0") && (is_same(code, *b"B1") || is_same(code, *b"B2"))
+    is_same(header.version(), *b"D0") && TransactionCode::read(header.code()).is_some()
 }

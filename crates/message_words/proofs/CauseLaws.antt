@@ -12,12 +12,15 @@ use Rattle.claim_profile.specs.declared.order.Order.TheVariants as order
 use Rattle.claim_profile.specs.declared.order_fields.ClaimFields.{ClaimFields}
 use Rattle.claim_profile.specs.declared.order_fields.ReversalFields.{ReversalFields}
 use Rattle.claim_profile.specs.declared.order_reading.OrderFault.TheVariants.{Rejected}
+use Rattle.claim_profile.specs.declared.transaction.TransactionCode.{TransactionCode}
+use Rattle.claim_profile.specs.declared.transaction.TransactionCode.TheVariants as transaction
+use Rattle.claim_profile.specs.Transaction.{transaction_code}
 use Rattle.claim_profile.specs.Fields.{values_in, texts_in, required}
 use Rattle.claim_profile.specs.Reject.{held}
-use Rattle.claim_profile.specs.Order.{text_up_to, number_up_to, the_text, qualified, claim_fields, reversal_fields, claim_of, claim_codes, reversal_of, reversal_codes, or_rejected, claim_order, reversal_order, order_of}
+use Rattle.claim_profile.specs.Order.{text_up_to, number_up_to, the_text, qualified, claim_fields, reversal_fields, claim_of, claim_codes, reversal_of, reversal_codes, or_rejected, claim_order, reversal_order, order_as, order_of}
 use Rattle.message_words.specs.declared.names.FieldName.{FieldName}
 use Rattle.message_words.specs.declared.names.FieldName.TheVariants as field
-use Rattle.message_words.specs.Causes.{CauseSeen, Condition, unless_required, unless_qualified, condition, cardholder_condition, date_condition, prescription_condition, fill_condition, product_condition, quantity_condition, cost_condition, fee_condition, given_fill_condition, claim_conditions, reversal_conditions, holding, causes_of, codes_told}
+use Rattle.message_words.specs.Causes.{CauseSeen, Condition, unless_required, unless_qualified, condition, cardholder_condition, date_condition, prescription_condition, fill_condition, product_condition, quantity_condition, cost_condition, fee_condition, given_fill_condition, claim_conditions, reversal_conditions, holding, causes_under, causes_of, codes_told}
 
 -- a condition without its field
 abbrev pair : Condition → Bool × Code
@@ -182,29 +185,29 @@ reversal_first_five h group ds e =
 
 -- ---- transactions
 
+reads_under : (o : Option TransactionCode) (h : Request) (shared group : List SegmentParts) (told : Order) → order_as o h shared group ≡ Ok told → causes_under o h shared group ≡ []
+reads_under (Some transaction.Billing) h shared group told = claim_reads_all h shared group told
+reads_under (Some transaction.Reversal) h shared group told = reversal_reads_all h group told
+reads_under None h shared group told = λ e. absurd cc
+
+only_under : (o : Option TransactionCode) (h : Request) (shared group : List SegmentParts) → causes_under o h shared group ≡ [] → (told : Order) × (order_as o h shared group ≡ Ok told)
+only_under (Some transaction.Billing) h shared group = claim_only_all h shared group
+only_under (Some transaction.Reversal) h shared group = reversal_only_all h group
+only_under None h shared group = λ e. absurd cc
+
+first_five_under : (o : Option TransactionCode) (h : Request) (shared group : List SegmentParts) (ds : List Code) → order_as o h shared group ≡ Err (Rejected ds) → ds ≡ take 5 (codes_told (causes_under o h shared group))
+first_five_under (Some transaction.Billing) h shared group ds = claim_first_five h shared group ds
+first_five_under (Some transaction.Reversal) h shared group ds = reversal_first_five h group ds
+first_five_under None h shared group ds = λ e. cc
+
 pub reads : (h : Request) (shared group : List SegmentParts) (told : Order) → order_of h shared group ≡ Ok told → causes_of h shared group ≡ []
 unfolding order_of causes_of
-reads h shared group told =
-    elim (bytes_eq h.code (codes "B1"))
-    as (λ b. (if b then claim_order h shared group else reversal_order h group) ≡ Ok told → (if b then holding (claim_conditions h shared group) else holding (reversal_conditions h group)) ≡ []) [
-      | true ↦ claim_reads_all h shared group told
-      | false ↦ reversal_reads_all h group told
-    ]
+reads h shared group told = reads_under (transaction_code h.code) h shared group told
 
 pub only : (h : Request) (shared group : List SegmentParts) → causes_of h shared group ≡ [] → (told : Order) × (order_of h shared group ≡ Ok told)
 unfolding order_of causes_of
-only h shared group =
-    elim (bytes_eq h.code (codes "B1"))
-    as (λ b. (if b then holding (claim_conditions h shared group) else holding (reversal_conditions h group)) ≡ [] → (told : Order) × ((if b then claim_order h shared group else reversal_order h group) ≡ Ok told)) [
-      | true ↦ claim_only_all h shared group
-      | false ↦ reversal_only_all h group
-    ]
+only h shared group = only_under (transaction_code h.code) h shared group
 
 pub first_five : (h : Request) (shared group : List SegmentParts) (ds : List Code) → order_of h shared group ≡ Err (Rejected ds) → ds ≡ take 5 (codes_told (causes_of h shared group))
 unfolding order_of causes_of
-first_five h shared group ds =
-    elim (bytes_eq h.code (codes "B1"))
-    as (λ b. (if b then claim_order h shared group else reversal_order h group) ≡ Err (Rejected ds) → ds ≡ take 5 (codes_told (if b then holding (claim_conditions h shared group) else holding (reversal_conditions h group)))) [
-      | true ↦ claim_first_five h shared group ds
-      | false ↦ reversal_first_five h group ds
-    ]
+first_five h shared group ds = first_five_under (transaction_code h.code) h shared group ds

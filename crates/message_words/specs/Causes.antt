@@ -6,6 +6,9 @@ use Rattle.d0_header.specs.Request.{Request}
 use Rattle.d0_segments.specs.Parts.{SegmentParts, TransmissionParts}
 use Rattle.claim_profile.specs.declared.reject.Code.{Code}
 use Rattle.claim_profile.specs.declared.reject.Code.TheVariants as code
+use Rattle.claim_profile.specs.declared.transaction.TransactionCode.{TransactionCode}
+use Rattle.claim_profile.specs.declared.transaction.TransactionCode.TheVariants as transaction
+use Rattle.claim_profile.specs.Transaction.{transaction_code}
 use Rattle.claim_profile.specs.Fields.{values_in, texts_in, required, optional}
 use Rattle.claim_profile.specs.Order.{text_up_to, number_up_to, amount_in_cents, the_text, day_of_service}
 use Rattle.claim_profile.specs.Tally.{Tally, Absent, tallied}
@@ -112,12 +115,19 @@ reversal_conditions h group = date_condition h ∷ prescription_condition group 
 abbrev pub holding : List Condition → List CauseSeen
 holding conditions = map (λ c. c.1) (filter (λ c. c.0) conditions)
 
--- all causes for which a transaction is rejected: of a claim under code `B1`, else of a reversal
+-- the cause of a transaction of no kind that is carried
+abbrev pub uncarried_cause : CauseSeen
+uncarried_cause = record { code = code.NotCovered; field = field.TransactionCode; found = Absent }
+
+-- all causes for which a transaction under this code is rejected
+abbrev pub causes_under : Option TransactionCode → Request → (shared group : List SegmentParts) → List CauseSeen
+causes_under (Some transaction.Billing) h shared group = holding (claim_conditions h shared group)
+causes_under (Some transaction.Reversal) h shared group = holding (reversal_conditions h group)
+causes_under None h shared group = uncarried_cause ∷ []
+
+-- the same under its header's code
 unfoldable pub causes_of : Request → (shared group : List SegmentParts) → List CauseSeen
-causes_of h shared group =
-    if bytes_eq h.code (codes "B1")
-    then holding (claim_conditions h shared group)
-    else holding (reversal_conditions h group)
+causes_of h shared group = causes_under (transaction_code h.code) h shared group
 
 -- their codes
 abbrev pub codes_told : List CauseSeen → List Code

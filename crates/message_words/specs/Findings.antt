@@ -1,11 +1,12 @@
 -- What the product makes of a framed request.
-use Rattle.std.specs.Prelude.{ℕ, ◌+◌, Bool, not, ◌||◌, nat_lt, List, [], ◌∷◌, ◌++◌, length, map, slice_index_or}
-use Rattle.std.specs.Prelude.{Result, Ok, Err, codes, if◌then◌else◌}
+use Rattle.std.specs.Prelude.{ℕ, ◌+◌, Bool, not, nat_lt, List, [], ◌∷◌, ◌++◌, length, map, slice_index_or}
+use Rattle.std.specs.Prelude.{is_some, Result, Ok, Err, codes, if◌then◌else◌}
 use Rattle.std.specs.Str.{bytes_eq}
 use Rattle.d0_header.specs.Request.{Request}
 use Rattle.d0_segments.specs.Parts.{SegmentParts, TransmissionParts}
 use Rattle.claim_profile.specs.declared.order.Order.{Order}
 use Rattle.claim_profile.specs.declared.order_reading.OrderFault.{OrderFault}
+use Rattle.claim_profile.specs.Transaction.{transaction_code}
 use Rattle.claim_profile.specs.Order.{order_of}
 use Rattle.claim_profile.specs.Readable.{longest_request}
 use Rattle.message_words.specs.declared.findings.Finding.{Finding}
@@ -39,7 +40,7 @@ unfoldable pub reasons_of : List ℕ → Request → List FindingSeen
 reasons_of bytes h =
     if_so (nat_lt longest_request (length bytes)) TooLong
     ++ if_so (not (bytes_eq h.version (codes "D0"))) OtherVersion
-    ++ if_so (not (bytes_eq h.code (codes "B1") || bytes_eq h.code (codes "B2"))) OtherCode
+    ++ if_so (not (is_some (transaction_code h.code))) OtherCode
 
 -- of a transaction that it reads as an order, or every cause for which it is rejected
 abbrev pub order_or_causes : ℕ → Result Order OrderFault → List CauseSeen → List FindingSeen

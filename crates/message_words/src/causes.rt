@@ -8,6 +8,7 @@ ghost use Rattle.message_words.specs.Causes.{
   condition_seen,
   holding,
   causes_in,
+  uncarried_cause,
   claim_conditions,
   reversal_conditions,
   cardholder_condition,
@@ -26,7 +27,7 @@ use crate::names::FieldName;
 use crate::values::{
     is_bad_amount, is_bad_fee, is_bad_given_fill, is_bad_number, is_bad_text, is_exactly,
 };
-use claim_profile::Code;
+use claim_profile::{Code, TransactionCode};
 use d0_header::{RequestHeader, is_date};
 use d0_segments::{Cursor, Framed};
 use std::alloc::{AllocError, Global};
@@ -57,11 +58,25 @@ pub fn all_causes<'a>(
     ensures { IfOk result (λ found. causes_seen found.items ≡ causes_in (framed_parts framed.now) place) }
 {
     let group = framed.group(place);
-    if framed.header().code() == *b"B1" {
-        claim_causes(alloc, framed.header(), framed.body(), group)
-    } else {
-        reversal_causes(alloc, framed.header(), group)
+    match TransactionCode::read(framed.header().code()) {
+        Some(TransactionCode::Billing) => {
+            claim_causes(alloc, framed.header(), framed.body(), group)
+        }
+        Some(TransactionCode::Reversal) => reversal_causes(alloc, framed.header(), group),
+        None => uncarried_causes(alloc),
     }
+}
+
+/// The cause of a transaction of no kind that is carried.
+fn uncarried_causes<'a>(alloc: Global) -> Result<Vec<Cause<'a>>, AllocError>
+    ensures { IfOk result (λ found. causes_seen found.items ≡ uncarried_cause ∷ []) }
+{
+    let cause = Cause {
+        code: Code::NotCovered,
+        field: FieldName::TransactionCode,
+        found: Found::Nothing,
+    };
+    collect(alloc, &[(true, cause)])
 }
 
 /// The causes of a claim.

@@ -1,8 +1,9 @@
 //! What the product makes of a framed request.
 
-ghost use Rattle.std.specs.Prelude.{◌≡◌, ◌<◌, ◌++◌, ◌||◌, [], ◌∷◌, length, map, IfOk, OnOk, bytes_eq, codes};
+ghost use Rattle.std.specs.Prelude.{◌≡◌, ◌<◌, ◌++◌, [], ◌∷◌, length, map, IfOk, OnOk, is_some};
 ghost use Rattle.d0_segments.specs.Pieces.{shared_of, groups_of};
 ghost use Rattle.d0_segments.specs.FramedParts.{framed_parts};
+ghost use Rattle.claim_profile.specs.Transaction.{transaction_code};
 ghost use Rattle.message_words.specs.Causes.{causes_seen, causes_in};
 ghost use Rattle.message_words.specs.Findings.{
   Asks,
@@ -16,7 +17,7 @@ ghost use Rattle.message_words.specs.Findings.{
 };
 
 use crate::causes::{Cause, all_causes};
-use claim_profile::{LONGEST_REQUEST, order_at};
+use claim_profile::{LONGEST_REQUEST, TransactionCode, order_at};
 use d0_header::RequestHeader;
 use d0_segments::Framed;
 use std::alloc::{AllocError, Global};
@@ -84,10 +85,12 @@ fn reasons<'a>(
 
 /// Whether a request is a billing or a reversal.
 fn is_known(header: &RequestHeader) -> bool
-    ensures { result ≡ (bytes_eq header.now.code (codes "B1") || bytes_eq header.now.code (codes "B2")) }
+    ensures { result ≡ is_some (transaction_code header.now.code) }
 {
-    let code = header.code();
-    code == *b"B1" || code == *b"B2"
+    match TransactionCode::read(header.code()) {
+        Some(TransactionCode::Billing | TransactionCode::Reversal) => true,
+        None => false,
+    }
 }
 
 /// Adds a reason, where it holds.

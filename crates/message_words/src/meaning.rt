@@ -3,7 +3,7 @@
 use crate::names::FieldName;
 use crate::records::number_of;
 use crate::text::Text;
-use claim_profile::{Auth, Code, trimmed};
+use claim_profile::{Auth, Code, TransactionCode, trimmed};
 use d0_header::is_date;
 use overpunch::{Amount, AmountFault, NumberFault, read_number};
 
@@ -44,11 +44,19 @@ pub(crate) fn put_meaning(out: &mut Text, name: FieldName, value: &[u8]) {
 
 /// Appends what a transaction code means.
 fn put_code(out: &mut Text, value: &[u8]) {
-    out.put(match value {
-        b"B1" => "billing",
-        b"B2" => "reversal",
-        _ => "neither a billing nor a reversal",
+    out.put(match code_of(value) {
+        Some(TransactionCode::Billing) => "billing",
+        Some(TransactionCode::Reversal) => "reversal",
+        None => "neither a billing nor a reversal",
     });
+}
+
+/// The transaction code that a value is.
+fn code_of(value: &[u8]) -> Option<TransactionCode> {
+    match value {
+        [first, second] => TransactionCode::read([*first, *second]),
+        _ => None,
+    }
 }
 
 /// Appends a date with the month by its name.

@@ -7,7 +7,7 @@ use crate::meaning::put_units;
 use crate::names::FieldName;
 use crate::page::Page;
 use crate::wanted::wanted_in;
-use claim_profile::{Claim, Order, Reversal, order_at};
+use claim_profile::{Claim, Order, Reversal, TransactionCode, order_at};
 use d0_header::RequestHeader;
 use d0_segments::{Framed, check_request};
 use std::alloc::Global;
@@ -169,7 +169,7 @@ impl Page {
         self.note.put(named.name);
         self.note.put(": found ");
         self.found(header, cause);
-        let wanted = wanted_in(cause.field, header.code() == *b"B1");
+        let wanted = wanted_in(cause.field, TransactionCode::read(header.code()));
         self.member("wanted", wanted);
         self.note.put(", wanted ");
         self.note.put(wanted);

@@ -1,12 +1,15 @@
 -- A claim that was read has a fill number of one or two digits.
-use Rattle.std.proofs.Common.{◌≡◌, ℕ, ◌^◌, ◌<◌, ◌≤◌, Bool, true, false, cond, List, [], ◌∷◌, map, Option, Some, None, Result, Ok, Err, refl, ap, subst, arith}
-use Rattle.std.specs.Prelude.{option_map, bytes_eq, codes}
+use Rattle.std.proofs.Common.{◌≡◌, ℕ, ◌^◌, ◌<◌, ◌≤◌, List, [], ◌∷◌, map, Option, Some, None, Result, Ok, Err, refl, ap, subst, arith}
+use Rattle.std.specs.Prelude.{option_map, codes}
 use Rattle.std.specs.List.{AllByRecursion}
 use Rattle.std.specs.Result.{result_ok}
 use Rattle.overpunch.specs.Number.{number_of}
 use Rattle.d0_segments.specs.Parts.{SegmentParts, TransmissionParts}
+use Rattle.claim_profile.specs.declared.transaction.TransactionCode.{TransactionCode}
+use Rattle.claim_profile.specs.declared.transaction.TransactionCode.TheVariants as transaction
+use Rattle.claim_profile.specs.Transaction.{transaction_code}
 use Rattle.claim_profile.specs.Fields.{values_in, required}
-use Rattle.claim_profile.specs.Order.{number_up_to, claim_fields, claim_of, claim_codes, reversal_fields, reversal_of, reversal_codes, or_rejected, claim_order, reversal_order, order_of}
+use Rattle.claim_profile.specs.Order.{number_up_to, claim_fields, claim_of, claim_codes, reversal_fields, reversal_of, reversal_codes, or_rejected, claim_order, reversal_order, order_as, order_of}
 use Rattle.claim_model.specs.Words.{RequestHeader, Claim, Order, Bills, Reverses, Code}
 use Rattle.claim_model.specs.Bytes.{order_in, orders_in}
 use Rattle.payer_book.specs.Books.{OrderNumbered}
@@ -53,11 +56,12 @@ reversal_numbered (Some v) rejects = tt
 
 order_numbered : NumbersInRange → (h : RequestHeader) (shared group : List SegmentParts) → OrderNumbered (order_in (order_of h shared group))
 unfolding order_of claim_order reversal_order
-order_numbered law h shared group = by_code (bytes_eq h.code (codes "B1"))
+order_numbered law h shared group = by_code (transaction_code h.code)
   where
-    by_code : (b : Bool) → OrderNumbered (order_in (cond b (claim_order h shared group) (reversal_order h group)))
-    by_code true = claim_numbered (claim_of h (claim_fields h shared group)) (claim_codes (claim_fields h shared group)) (λ c e. claim_fill law h shared group c e)
-    by_code false = reversal_numbered (reversal_of h (reversal_fields h group)) (reversal_codes (reversal_fields h group))
+    by_code : (o : Option TransactionCode) → OrderNumbered (order_in (order_as o h shared group))
+    by_code (Some transaction.Billing) = claim_numbered (claim_of h (claim_fields h shared group)) (claim_codes (claim_fields h shared group)) (λ c e. claim_fill law h shared group c e)
+    by_code (Some transaction.Reversal) = reversal_numbered (reversal_of h (reversal_fields h group)) (reversal_codes (reversal_fields h group))
+    by_code None = tt
 
 pub orders_numbered : NumbersInRange → (o : Option (TransmissionParts RequestHeader)) → AllByRecursion OrderNumbered (orders_in o)
 orders_numbered law None = tt

@@ -4,6 +4,7 @@ ghost use Rattle.std.specs.Prelude.{◌≡◌, ◌≢◌, ◌<◌, ◌+◌, ◌+
 ghost use Rattle.bin_routes.specs.Table.{RouteMaps};
 ghost use Rattle.claim_profile.specs.Readable.{readable_header};
 ghost use Rattle.claim_model.specs.Bytes.{bytes_with};
+ghost use Rattle.claim_model.specs.Readable.{has_code};
 ghost use Rattle.claim_model.specs.Journal.{Journal, Waits, submit_fault, submitted};
 ghost use Rattle.pharmacy_journal.specs.Reading.{header_of, is_own_request};
 ghost use Rattle.pharmacy_journal.specs.Refusing.{IsRefused, IsCause, refusal_to_submit};
@@ -15,7 +16,7 @@ use crate::pharmacy::Pharmacy;
 use crate::sent::Sent;
 use crate::slot::Slot;
 use crate::transaction::OpenTxn;
-use claim_profile::LONGEST_REQUEST;
+use claim_profile::{LONGEST_REQUEST, TransactionCode};
 use d0_header::RequestHeader;
 use d0_segments::check_request;
 use envelope::TxnId;
@@ -58,8 +59,7 @@ impl Pharmacy {
         if header.version() != *b"D0" {
             return Some(SubmitFault::Version);
         }
-        let code = header.code();
-        if code != *b"B1" && code != *b"B2" {
+        if !is_kind_carried(header) {
             return Some(SubmitFault::CodeNotCarried);
         }
         if header.qualifier() != self.settings.qualifier()
@@ -120,5 +120,15 @@ fn read_header(text: &[u8]) -> Result<RequestHeader, SubmitFault>
     match check_request(text) {
         Ok(framed) => Ok(*framed.header()),
         Err(_) => Err(SubmitFault::Unreadable),
+    }
+}
+
+/// Whether a request is of a kind that is submitted: a billing or a reversal.
+fn is_kind_carried(header: &RequestHeader) -> bool
+    ensures { result ≡ has_code header.now }
+{
+    match TransactionCode::read(header.code()) {
+        Some(TransactionCode::Billing | TransactionCode::Reversal) => true,
+        None => false,
     }
 }
