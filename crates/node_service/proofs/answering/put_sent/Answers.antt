@@ -1,8 +1,8 @@
 use Rattle.std.proofs.Common.{◌++◌, List, ℕ, ap, sym, ◌∙◌}
 use Rattle.world_setup.specs.Seen.{sent_seen}
-use Rattle.node_lines.specs.Answering.{sent_line, sent_lines}
-use Rattle.node_lines.proofs.Loops.{texts_go_on, texts_are_done, flat_map-seen}
-use Rattle.node_lines.proofs.answering.put_sent.Goals as goal
+use Rattle.node_service.specs.Answering.{sent_line, sent_lines}
+use Rattle.node_service.proofs.Loops.{texts_go_on, texts_are_done, flat_map-seen}
+use Rattle.node_service.proofs.answering.put_sent.Goals as goal
 
 pub loop-one-preserved : goal.loop-one-preserved
 loop-one-preserved c =

@@ -9,9 +9,9 @@ use Rattle.input_text.specs.Printing.{unprinted}
 use Rattle.schedule.specs.Events.{product_in, price_in}
 use Rattle.world_setup.specs.declared.call.Call.{Call}
 use Rattle.world_setup.specs.declared.call.Call.TheVariants.{Submit, Tick, Take, Stop, Start, Plan}
-use Rattle.node_lines.specs.Names.{node_in}
-use Rattle.node_lines.specs.declared.asking.Asked as value
-use Rattle.node_lines.specs.declared.asking.Asked.TheVariants as asked
+use Rattle.node_service.specs.Names.{node_in}
+use Rattle.node_service.specs.declared.asking.Asked as value
+use Rattle.node_service.specs.declared.asking.Asked.TheVariants as asked
 
 -- a request in printed bytes, which may be empty
 abbrev pub submission : List ℕ → Option Call

@@ -3,7 +3,7 @@ use Rattle.std.specs.Prelude.{ℕ, List, ◌++◌, codes, decimal}
 use Rattle.std.specs.List.{flat_map}
 use Rattle.input_text.specs.Printing.{printed}
 use Rattle.claim_model.specs.Node.{Sent}
-use Rattle.node_lines.specs.Names.{node_text}
+use Rattle.node_service.specs.Names.{node_text}
 
 -- a packet for another node: `send`, its name and the packet in printed bytes
 unfoldable pub sent_line : Sent → List ℕ

@@ -2,7 +2,7 @@
 
 ghost use Rattle.std.specs.Prelude.{◌≡◌, IfOk};
 ghost use Rattle.std.specs.Option.{option_map};
-ghost use Rattle.node_lines.specs.Asking.{answer_to, asked_of, asked_seen, call_of, call_with, plain_call, plan_change, submission, taking};
+ghost use Rattle.node_service.specs.Asking.{answer_to, asked_of, asked_seen, call_of, call_with, plain_call, plan_change, submission, taking};
 
 use crate::names::node_in;
 use input_text::{PrintedFault, read_decimal, split_word, unprint};
@@ -16,7 +16,7 @@ const MOST_NUMBER_DIGITS: usize = 18;
 
 /// What a line asks of a node.
 #[derive(Debug, Drop, PartialEq, Eq)]
-pub enum Asked {
+pub(crate) enum Asked {
     /// A call on the node.
     Call(Call),
     /// The answer to this number of a pharmacy.
@@ -31,7 +31,7 @@ pub enum Asked {
 /// # Errors
 /// Memory was refused.
 #[tactic(auto, unfolding(crate::specs::Asking::asked_of))]
-pub fn asked_of(alloc: Global, line: &[u8]) -> Result<Option<Asked>, AllocError>
+pub(crate) fn asked_of(alloc: Global, line: &[u8]) -> Result<Option<Asked>, AllocError>
     ensures { IfOk result (λ asked. option_map asked_seen asked ≡ asked_of line.now) }
 {
     if let Some(call) = call_of(alloc, line)? {

@@ -2,7 +2,7 @@
 
 ghost use Rattle.std.specs.Prelude.{◌≡◌, ◌++◌, take, drop, OnOk};
 ghost use Rattle.world_setup.specs.Seen.{node_seen};
-ghost use Rattle.node_lines.specs.Names.{node_in, node_text, node_with, number_in};
+ghost use Rattle.node_service.specs.Names.{node_in, node_text, node_with, number_in};
 
 use input_text::{put_decimal, read_decimal};
 use std::alloc::AllocError;
