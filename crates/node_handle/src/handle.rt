@@ -10,12 +10,12 @@ ghost use Rattle.world_setup.specs.declared.node.Node.{Node};
 ghost use Rattle.node_handle.specs.declared.refusal.Refusal.TheVariants.{Damaged, BadRecord};
 ghost use Rattle.node_handle.specs.Calls.{Opens, Serves, Clears, Counts, Copies, records_of, written_of};
 
+use crate::loose::Loose;
 use crate::part::Part;
 use crate::reading::copy_out;
 use crate::refusal::{Refusal, refusal_of};
 use crate::seed::keys_of;
 use kept_logs::LogFault;
-use loose::Loose;
 use node_service::{Service, ServiceFault, node_in};
 use std::alloc::Global;
 use std::mem::replace;

@@ -1,5 +1,4 @@
 //! A box as its pointer, for a place that cannot hold a box, as a struct that C has in its memory.
-#![tactic(auto)]
 
 ghost use Rattle.std.specs.Prelude.{◌≡◌};
 ghost use Rattle.std_alloc.specs.Box.Ownership.{box_owns};
@@ -8,12 +7,12 @@ use std::alloc::Allocator;
 use std::marker::Model;
 
 /// A box as its pointer. What the box had, this has.
-pub struct Loose<T, A: Allocator> {
+pub(crate) struct Loose<T, A: Allocator> {
     /// Where the value lies.
-    pub at: *mut T,
+    pub(crate) at: *mut T,
     /// What its memory goes back to.
-    pub alloc: A,
-    pub ghost value: { T },
+    pub(crate) alloc: A,
+    pub(crate) ghost value: { T },
 }
 
 impl<T, A: Allocator> Model for Loose<T, A> {
@@ -22,7 +21,7 @@ impl<T, A: Allocator> Model for Loose<T, A> {
 
 impl<T: Drop, A: Allocator> Loose<T, A> {
     /// The pointer of a box.
-    pub fn of(value: Box<T, A>) -> Loose<T, A>
+    pub(crate) fn of(value: Box<T, A>) -> Loose<T, A>
         ensures { result.value ≡ value.value }
     {
         let (at, alloc) = Box::into_raw_with_allocator(value);
@@ -30,7 +29,7 @@ impl<T: Drop, A: Allocator> Loose<T, A> {
     }
 
     /// The box of a pointer.
-    pub fn into_box(self) -> Box<T, A>
+    pub(crate) fn into_box(self) -> Box<T, A>
         ensures { result.value ≡ self.value }
     {
         let Loose { at, alloc } = self;
