@@ -2,7 +2,7 @@
 
 use crate::end::End;
 use clap::{Arg, ArgAction, Command};
-use node_lines::node_in;
+use node_service::node_in;
 use std::alloc::Global;
 use world_setup::Node;
 

@@ -7,9 +7,9 @@ use Rattle.claim_model.specs.World.{World, Event, run}
 use Rattle.world_setup.specs.Seen.{settings_seen}
 use Rattle.world_setup.specs.declared.settings.WorldSettings.{WorldSettings}
 use Rattle.world_core.specs.Parts.{WorldParts, context_of}
-use Rattle.audit_tables.specs.Senders.{senders_from}
-use Rattle.audit_tables.specs.Tables.{table_csv}
-use Rattle.audit_tables.specs.declared.table.Table.{Table}
+use Rattle.log_audit.specs.Senders.{senders_from}
+use Rattle.log_audit.specs.Tables.{table_csv}
+use Rattle.log_audit.specs.declared.tables.table.Table.{Table}
 use Rattle.log_audit.specs.Tabled.{csv_after, run_csv}
 
 -- of a world that events led to from the opening of these settings, over its routes, with the senders of its packets

@@ -1,3 +1,9 @@
+pub mod Separating
+pub mod Joining
+pub mod Running
+pub mod Entering
+pub mod Authorizations
+pub mod Naming
 pub mod Leaving
 pub mod Breaking
 pub mod Listing

@@ -1,3 +1,15 @@
+pub mod Members
+pub mod Seen
+pub mod Quoting
+pub mod Values
+pub mod Rows
+pub mod Kinds
+pub mod Payments
+pub mod Rulings
+pub mod Packets
+pub mod Entries
+pub mod Tables
+pub mod Senders
 pub mod Judged
 pub mod Tabled
 pub mod Lacks

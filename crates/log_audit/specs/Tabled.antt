@@ -9,9 +9,9 @@ use Rattle.claim_model.specs.Logs.{NodeLog}
 use Rattle.world_setup.specs.Seen.{settings_seen}
 use Rattle.world_setup.specs.declared.settings.WorldSettings.{WorldSettings}
 use Rattle.run_merge.specs.Merged.{IsMerged}
-use Rattle.audit_tables.specs.Senders.{senders_from}
-use Rattle.audit_tables.specs.Tables.{table_csv}
-use Rattle.audit_tables.specs.declared.table.Table.{Table}
+use Rattle.log_audit.specs.Senders.{senders_from}
+use Rattle.log_audit.specs.Tables.{table_csv}
+use Rattle.log_audit.specs.declared.tables.table.Table.{Table}
 use Rattle.log_audit.specs.declared.report.Form.{Form}
 use Rattle.log_audit.specs.declared.report.Form.TheVariants.{Lines, Json, Csv, Schedule}
 

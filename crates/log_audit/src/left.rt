@@ -8,7 +8,8 @@ ghost use Rattle.log_audit.specs.Tabled.{run_csv};
 
 use crate::fault::AuditFault;
 use crate::ledger::put_ledger;
-use audit_tables::{Table, put_csv, put_json, run_noting};
+use crate::tables::senders::run_noting;
+use crate::tables::table::{Table, put_csv, put_json};
 use std::alloc::Global;
 use world_core::World;
 use world_setup::{Event, WorldFault, WorldSettings};

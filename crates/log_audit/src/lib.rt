@@ -14,10 +14,12 @@ mod packets;
 mod reading;
 mod replaying;
 mod report;
+mod tables;
 mod waiting;
 
-pub use audit_tables::Table;
 pub use fault::AuditFault;
 pub use judging::{Verdict, judge};
 pub use reading::{Audited, read_audited};
 pub use report::{Form, Report, report_on};
+pub use tables::laws::{lists_are_separated, rows_have_their_columns};
+pub use tables::table::Table;

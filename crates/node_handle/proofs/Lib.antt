@@ -1,4 +1,5 @@
-pub mod Values
+pub mod LooseValues
+pub mod PartValues
 pub mod Crosses
 pub mod Lines
 pub mod Appending

@@ -15,8 +15,8 @@ use Rattle.input_text.specs.Printing.{printed, unprinted}
 use Rattle.world_setup.specs.declared.node.Node.{Node}
 use Rattle.world_setup.specs.declared.node.Node.TheVariants.{Pharmacy, Switch, Payer}
 use Rattle.world_setup.specs.declared.call.Call.TheVariants.{Submit, Take}
-use Rattle.node_lines.specs.Names.{node_in, node_with, number_in}
-use Rattle.node_lines.specs.Asking.{Calls, asked_of, call_of, taking}
+use Rattle.node_service.specs.Names.{node_in, node_with, number_in}
+use Rattle.node_service.specs.Asking.{Calls, asked_of, call_of, taking}
 use Rattle.node_service.specs.Serving.{Serving}
 use Rattle.node_handle.specs.Calls.{Said, Serves}
 use Rattle.node_handle.specs.Typed.{Takes, submit_line, take_line}

@@ -3,7 +3,7 @@ use Rattle.std.specs.Prelude.{◌≡◌, ◌⊎◌, ℕ, ◌<◌, List, [], ◌+
 use Rattle.std.specs.Option.{option_map}
 use Rattle.world_setup.specs.Seen.{node_seen}
 use Rattle.world_setup.specs.declared.node.Node.{Node}
-use Rattle.node_lines.specs.Names.{node_in}
+use Rattle.node_service.specs.Names.{node_in}
 use Rattle.node_service.specs.Serving.{Serving, after_line}
 use Rattle.node_service.specs.Opened.{IsOpened}
 use Rattle.node_handle.specs.declared.refusal.Refusal.{Refusal}

@@ -3,21 +3,20 @@
 ghost use Rattle.std.specs.Prelude.{◌≡◌, ◌⊎◌, IfOk, IfErr, IsSome, is_some};
 ghost use Rattle.std.specs.declared.option.Option.TheVariants.{None, Some};
 ghost use Rattle.world_setup.specs.Seen.{node_seen};
-ghost use Rattle.node_lines.specs.Names.{node_in};
+ghost use Rattle.node_service.specs.Names.{node_in};
 ghost use Rattle.node_service.specs.Opened.{IsOpened};
 ghost use Rattle.std.specs.Option.{option_map};
 ghost use Rattle.world_setup.specs.declared.node.Node.{Node};
 ghost use Rattle.node_handle.specs.declared.refusal.Refusal.TheVariants.{Damaged, BadRecord};
 ghost use Rattle.node_handle.specs.Calls.{Opens, Serves, Clears, Counts, Copies, records_of, written_of};
 
+use crate::loose::Loose;
 use crate::part::Part;
 use crate::reading::copy_out;
 use crate::refusal::{Refusal, refusal_of};
 use crate::seed::keys_of;
 use kept_logs::LogFault;
-use loose::Loose;
-use node_lines::node_in;
-use node_service::{Service, ServiceFault};
+use node_service::{Service, ServiceFault, node_in};
 use std::alloc::Global;
 use std::mem::replace;
 

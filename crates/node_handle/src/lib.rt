@@ -9,6 +9,7 @@ mod auditing;
 mod cutting;
 mod describing;
 mod handle;
+mod loose;
 mod part;
 mod payments;
 mod reading;

@@ -7,7 +7,7 @@ ghost use Rattle.std.specs.Coded.{coded_option};
 ghost use Rattle.node_service.specs.contracts.Service.{the_row};
 ghost use Rattle.node_handle.specs.Erased.{owns};
 
-use loose::Loose;
+use crate::loose::Loose;
 use node_service::Service;
 use std::alloc::Global;
 use std::marker::Model;

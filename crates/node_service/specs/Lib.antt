@@ -1,2 +1,5 @@
+pub mod Names
+pub mod Asking
+pub mod Answering
 pub mod Serving
 pub mod Opened

@@ -10,8 +10,8 @@ use Rattle.world_setup.specs.declared.settings.WorldSettings.{WorldSettings}
 use Rattle.node_logged.specs.Setting.{context_of}
 use Rattle.kept_logs.specs.Records.{logged_text}
 use Rattle.kept_logs.specs.Frames.{frame_text}
-use Rattle.node_lines.specs.Asking.{Asked, Calls, AnswerTo, asked_of}
-use Rattle.node_lines.specs.Answering.{sent_lines, done_line, number_line, refused_line, answer_line}
+use Rattle.node_service.specs.Asking.{Asked, Calls, AnswerTo, asked_of}
+use Rattle.node_service.specs.Answering.{sent_lines, done_line, number_line, refused_line, answer_line}
 
 -- a node, how many calls its log has, the records that are to be appended to the log, and what is to be written once they are synced
 pub record Serving : Type 0 where

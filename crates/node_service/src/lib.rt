@@ -1,14 +1,18 @@
 //! One node as a process serves it: lines in, lines out, and beside them the records that have to be on disk before what
-//! was sent may leave.
+//! was sent may leave. A host moves such lines between a node's process and the carrier that brings its packets.
 //!
 //! A host appends the records to the node's log, syncs the log, and only then writes what came of the lines. Then
 //! whatever left the node is in its log, and the node of a log that is read again is the one that was.
 #![tactic(auto)]
 
+mod answering;
+mod asking;
 mod fault;
+mod names;
 mod opening;
 mod service;
 mod telling;
 
 pub use fault::ServiceFault;
+pub use names::node_in;
 pub use service::Service;

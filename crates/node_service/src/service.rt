@@ -5,12 +5,13 @@ ghost use Rattle.claim_model.specs.Node.{Done};
 ghost use Rattle.claim_model.specs.Nodes.{node_step};
 ghost use Rattle.node_logged.specs.Setting.{context_of};
 ghost use Rattle.world_setup.specs.Seen.{call_seen, node_seen};
-ghost use Rattle.node_lines.specs.Answering.{refused_line};
+ghost use Rattle.node_service.specs.Answering.{refused_line};
 ghost use Rattle.node_service.specs.Serving.{after_call, after_line, answer_of, saying};
 
+use crate::answering::put_refused;
+use crate::asking::{Asked, asked_of};
 use crate::telling::{put_answer_to, put_made};
 use kept_logs::record_bytes;
-use node_lines::{Asked, asked_of, put_refused};
 use node_logged::Shared;
 use node_state::NodeState;
 use run_merge::Record;
@@ -41,7 +42,7 @@ impl Model for Service {
 impl Service {
     /// Does what a line asks of the node, and adds what is to be appended to the log and what is to be written.
     ///
-    /// The lines are those of node_lines. A line that spells nothing is `refused Line`; a call that the node refuses is
+    /// The lines are those that `asked_of` reads. A line that spells nothing is `refused Line`; a call that the node refuses is
     /// `refused` and the name of the refusal, and changes nothing.
     ///
     /// # Errors

@@ -5,11 +5,11 @@ ghost use Rattle.bin_routes.specs.Table.{RouteMaps};
 ghost use Rattle.claim_model.specs.Bytes.{bytes_with};
 ghost use Rattle.claim_model.specs.Node.{Pharmacy};
 ghost use Rattle.world_setup.specs.Seen.{call_seen, node_seen};
-ghost use Rattle.node_lines.specs.Answering.{sent_lines};
+ghost use Rattle.node_service.specs.Answering.{sent_lines};
 ghost use Rattle.node_service.specs.Serving.{answer_of, answer_text, last_line};
 
+use crate::answering::{put_answer, put_done, put_number, put_sent};
 use envelope::TxnId;
-use node_lines::{put_answer, put_done, put_number, put_sent};
 use node_state::NodeState;
 use octets::Octets;
 use run_merge::Record;

@@ -17,7 +17,7 @@ use denote.Triple.Walked.{Stays, stay_dropped, walk_of}
 use Rattle.core.proofs.alloc.Calls.{Goes-blank}
 use Rattle.std.specs.declared.option.Option.TheVariants.{None}
 use Rattle.std.proofs.raw_atomic.Walks.{proved_at, leaves}
-use Rattle.node_handle.proofs.Values.{part_val, part_told, part_typed}
+use Rattle.node_handle.proofs.PartValues.{part_val, part_told, part_typed}
 use Rattle.node_handle.specs.contracts.part.Part as part
 use Rattle.node_handle.specs.contracts.part.Part.forget.{ended, clauses}
 use Rattle.node_handle.specs.contracts.part.Part.forget.Key.{name as #self}

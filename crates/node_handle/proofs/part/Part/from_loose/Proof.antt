@@ -24,15 +24,15 @@ use Rattle.std.specs.contracts.impls.GlobalAllocator.TheImpl.{ghosts}
 use Rattle.std.specs.contracts.alloc.Global as heap_row
 use Rattle.std.proofs.alloc.Global.TheLaws as heap_laws
 use Rattle.std.proofs.raw_atomic.Walks.{proved_at, leaves}
-use Rattle.loose.proofs.Values.{both, loose_good, loose_out}
-use Rattle.node_handle.proofs.Values.{part_val, part_own, part_made, part_typed}
+use Rattle.node_handle.proofs.LooseValues.{both, loose_good, loose_out}
+use Rattle.node_handle.proofs.PartValues.{part_val, part_own, part_made, part_typed}
 use Rattle.node_service.specs.contracts.Service.{the_row as service_row}
 use Rattle.node_handle.specs.contracts.part.Part.from_loose.{ended, clauses}
 use Rattle.node_handle.specs.contracts.part.Part.from_loose.Key.{name as #self}
 use Rattle.node_handle.proofs.part.Part.from_loose.Statement.{statement}
 use Rattle.node_handle.proofs.part.Part.from_loose.Code as code
 use denote.Signature.{plain}
-use Rattle.loose.specs.contracts.Loose as loose
+use Rattle.node_handle.specs.contracts.loose.Loose as loose
 
 pub from_loose_spec : {M : Type 1} → statement M
 from_loose_spec 𝓤 𝓛 𝓜 𝓡 wired =

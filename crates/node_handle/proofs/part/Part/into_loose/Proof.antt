@@ -28,10 +28,10 @@ use Rattle.std.specs.contracts.alloc.Global as heap_row
 use Rattle.std.proofs.alloc.Global.TheLaws as heap_laws
 use Rattle.std.proofs.raw_atomic.Walks.{proved_at, leaves}
 use Rattle.std_alloc.specs.Box.Ownership.{box_owns}
-use Rattle.loose.proofs.Values.{both, loose_good, loose_in}
+use Rattle.node_handle.proofs.LooseValues.{both, loose_good, loose_in}
 use Rattle.node_handle.specs.Erased as erased
 use Rattle.node_handle.specs.Erased.{heap}
-use Rattle.node_handle.proofs.Values.{part_val, part_told, part_typed, al, had}
+use Rattle.node_handle.proofs.PartValues.{part_val, part_told, part_typed, al, had}
 use Rattle.node_service.specs.contracts.Service.{the_row as service_row}
 use Rattle.node_handle.specs.contracts.part.Part as part
 use Rattle.node_handle.specs.contracts.part.Part.into_loose.{ended, clauses}

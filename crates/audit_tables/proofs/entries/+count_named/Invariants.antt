@@ -1,5 +1,0 @@
-use Rattle.std.proofs.Common.{length}
-use Rattle.audit_tables.proofs.entries.+count_named.Given as goal
-
-abbrev pub decreases-count_named : goal.decreases-count_named
-decreases-count_named l = length l.rulings.now

@@ -1,0 +1,87 @@
+-- How rows follow one another, and how loops over lists go on and end.
+use Rattle.std.proofs.Common.{◌≡◌, ℕ, ◌+◌, ◌<◌, ◌≤◌, List, [], ◌∷◌, ◌++◌, length, drop, get_or, map, refl, sym, ap, ◌∙◌, append_assoc, append-nil}
+use Rattle.std.specs.List.{flat_map}
+use Rattle.std.proofs.lemmas.List.{at_drop_more, drop_all}
+use Rattle.std.proofs.lemmas.Grind.{flat_map-append}
+use Rattle.log_audit.specs.declared.tables.layout.Style.{Style}
+use Rattle.log_audit.specs.Members.{Row}
+use Rattle.log_audit.specs.Rows.{row_text, rows_text}
+use Rattle.log_audit.specs.Payments.{told_from}
+
+pub cons_alike : {A : Type 0} {x y : A} {xs ys : List A} → x ≡ y → xs ≡ ys → (x ∷ xs) ≡ (y ∷ ys)
+cons_alike e es = cc
+
+-- one text behind another, behind what was there
+pub texts_join : (a b c x y : List ℕ) → b ≡ a ++ x → c ≡ b ++ y → c ≡ a ++ (x ++ y)
+texts_join a b c x y one two = two ∙ (ap (λ (t : List ℕ). t ++ y) one ∙ append_assoc a x y)
+
+pub rows_text-append : (style : Style) (xs ys : List Row) → rows_text style (xs ++ ys) ≡ rows_text style xs ++ rows_text style ys
+unfolding rows_text
+rows_text-append style xs ys = flat_map-append (row_text style) xs ys
+
+pub rows_text-nil : (style : Style) → rows_text style [] ≡ []
+unfolding rows_text
+rows_text-nil style = refl
+
+pub rows_text-one : (style : Style) (row : Row) → rows_text style (row ∷ []) ≡ row_text style row
+unfolding rows_text
+rows_text-one style row = append-nil (row_text style row)
+
+-- no rows, and one row, behind what was there
+pub no_rows : (style : Style) (a : List ℕ) → a ≡ a ++ rows_text style []
+no_rows style a = sym (append-nil a) ∙ ap (λ (t : List ℕ). a ++ t) (sym (rows_text-nil style))
+
+pub one_row : (style : Style) (a b : List ℕ) (row : Row) → b ≡ a ++ row_text style row → b ≡ a ++ rows_text style (row ∷ [])
+one_row style a b row one = one ∙ ap (λ (t : List ℕ). a ++ t) (sym (rows_text-one style row))
+
+-- rows behind rows
+pub rows_join : (style : Style) (a b c : List ℕ) (xs ys : List Row) → b ≡ a ++ rows_text style xs → c ≡ b ++ rows_text style ys → c ≡ a ++ rows_text style (xs ++ ys)
+rows_join style a b c xs ys one two =
+    two ∙ (ap (λ (t : List ℕ). t ++ rows_text style ys) one ∙ (append_assoc a (rows_text style xs) (rows_text style ys) ∙ ap (λ (t : List ℕ). a ++ t) (sym (rows_text-append style xs ys))))
+
+-- a block of rows, and then those of what is left
+pub block_goes_on : (style : Style) (a b whole : List ℕ) (block more : List Row) → b ≡ a ++ rows_text style block → a ++ rows_text style (block ++ more) ≡ whole → b ++ rows_text style more ≡ whole
+block_goes_on style a b whole block more one so_far = rows_join style a b (b ++ rows_text style more) block more one refl ∙ so_far
+
+pub block_ends : (style : Style) (a whole : List ℕ) → a ++ rows_text style [] ≡ whole → a ≡ whole
+block_ends style a whole so_far = no_rows style a ∙ so_far
+
+-- loops with several rows for each element
+pub blocks_go_on : {A : Type 0} (style : Style) (told : A → List Row) (a b whole : List ℕ) (xs : List A) (i : ℕ) (x : A) → i < length xs → x ≡ get_or xs i x → b ≡ a ++ rows_text style (told x)
+    → a ++ rows_text style (flat_map told (drop i xs)) ≡ whole → b ++ rows_text style (flat_map told (drop (i + 1) xs)) ≡ whole
+blocks_go_on {A} style told a b whole xs i x lt is one so_far =
+    let text = λ (left : List A). a ++ rows_text style (flat_map told left) in
+    let more = drop (i + 1) xs in
+    block_goes_on style a b whole (told x) (flat_map told more) one (ap (λ (y : A). text (y ∷ more)) is ∙ (sym (at_drop_more text xs i x lt) ∙ so_far))
+
+pub blocks_are_done : {A : Type 0} (style : Style) (told : A → List Row) (a whole : List ℕ) (xs : List A) (i : ℕ) → length xs ≤ i → a ++ rows_text style (flat_map told (drop i xs)) ≡ whole → a ≡ whole
+blocks_are_done {A} style told a whole xs i le so_far =
+    block_ends style a whole (sym (ap (λ (left : List A). a ++ rows_text style (flat_map told left)) (drop_all i xs le)) ∙ so_far)
+
+-- loops over what has numbers from 1
+pub told_goes_on : {A : Type 0} (style : Style) (told : ℕ → A → List Row) (a b whole : List ℕ) (xs : List A) (i : ℕ) (x : A) → i < length xs → x ≡ get_or xs i x
+    → b ≡ a ++ rows_text style (told (i + 1) x)
+    → a ++ rows_text style (told_from told (i + 1) (drop i xs)) ≡ whole → b ++ rows_text style (told_from told ((i + 1) + 1) (drop (i + 1) xs)) ≡ whole
+told_goes_on {A} style told a b whole xs i x lt is one so_far =
+    let text = λ (left : List A). a ++ rows_text style (told_from told (i + 1) left) in
+    let more = drop (i + 1) xs in
+    block_goes_on style a b whole (told (i + 1) x) (told_from told ((i + 1) + 1) more) one (ap (λ (y : A). text (y ∷ more)) is ∙ (sym (at_drop_more text xs i x lt) ∙ so_far))
+
+pub told_is_done : {A : Type 0} (style : Style) (told : ℕ → A → List Row) (a whole : List ℕ) (xs : List A) (i : ℕ) → length xs ≤ i
+    → a ++ rows_text style (told_from told (i + 1) (drop i xs)) ≡ whole → a ≡ whole
+told_is_done {A} style told a whole xs i le so_far =
+    block_ends style a whole (sym (ap (λ (left : List A). a ++ rows_text style (told_from told (i + 1) left)) (drop_all i xs le)) ∙ so_far)
+
+-- the same over what the model sees of the elements
+pub seen_goes_on : {A B : Type 0} (style : Style) (see : A → B) (told : ℕ → B → List Row) (a b whole : List ℕ) (xs : List A) (i : ℕ) (x : A) → i < length xs → x ≡ get_or xs i x
+    → b ≡ a ++ rows_text style (told (i + 1) (see x))
+    → a ++ rows_text style (told_from told (i + 1) (map see (drop i xs))) ≡ whole → b ++ rows_text style (told_from told ((i + 1) + 1) (map see (drop (i + 1) xs))) ≡ whole
+seen_goes_on {A} style see told a b whole xs i x lt is one so_far =
+    let text = λ (left : List A). a ++ rows_text style (told_from told (i + 1) (map see left)) in
+    let more = drop (i + 1) xs in
+    block_goes_on style a b whole (told (i + 1) (see x)) (told_from told ((i + 1) + 1) (map see more)) one (ap (λ (y : A). text (y ∷ more)) is ∙ (sym (at_drop_more text xs i x lt) ∙ so_far))
+
+pub seen_is_done : {A B : Type 0} (style : Style) (see : A → B) (told : ℕ → B → List Row) (a whole : List ℕ) (xs : List A) (i : ℕ) → length xs ≤ i
+    → a ++ rows_text style (told_from told (i + 1) (map see (drop i xs))) ≡ whole → a ≡ whole
+seen_is_done {A} style see told a whole xs i le so_far =
+    block_ends style a whole (sym (ap (λ (left : List A). a ++ rows_text style (told_from told (i + 1) (map see left))) (drop_all i xs le)) ∙ so_far)

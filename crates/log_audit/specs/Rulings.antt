@@ -1,0 +1,66 @@
+-- The transactions of the rows of a book, each as a row.
+use Rattle.std.specs.Prelude.{ℕ, List, [], ◌∷◌, ◌++◌, codes}
+use Rattle.std.specs.List.{flat_map}
+use Rattle.claim_profile.specs.Authorization.{authorization_text}
+use Rattle.claim_profile.specs.Readable.{readable_header}
+use Rattle.claim_profile.specs.Reject.{code_text}
+use Rattle.claim_model.specs.Words.{Code, Ruling, Paid, Duplicate, Reversed, Rejected}
+use Rattle.claim_model.specs.Rows as model
+use Rattle.claim_model.specs.Rows.{Book}
+use Rattle.log_audit.specs.Members.{Row}
+use Rattle.log_audit.specs.Kinds.{kind_in, number_member, text_member}
+use Rattle.log_audit.specs.Payments.{told_from}
+use Rattle.log_audit.specs.declared.tables.rows.RuledAt.{RuledAt}
+
+-- reject codes with a space between them
+abbrev pub codes_text : List Code → List ℕ
+codes_text [] = []
+codes_text (first ∷ others) = code_text first ++ flat_map (λ code. 32 ∷ code_text code) others
+
+-- which transaction of which request a ruling is about
+pub record At : Type 0 where
+  pub payer : ℕ
+  pub pharmacy : ℕ
+  pub number : ℕ
+  pub kind : List ℕ
+  pub transaction : ℕ
+
+abbrev pub at_seen : RuledAt → At
+at_seen at = record { payer = at.payer; pharmacy = at.pharmacy; number = at.number; kind = at.kind.now; transaction = at.transaction }
+
+-- the row of a transaction that was answered like this
+unfoldable pub answered_row : At → List ℕ → List ℕ → List ℕ → Row
+answered_row at ruling authorization rejects =
+    number_member (codes "payer") at.payer ∷
+    number_member (codes "pharmacy") at.pharmacy ∷
+    number_member (codes "number") at.number ∷
+    text_member (codes "kind") at.kind ∷
+    number_member (codes "transaction") at.transaction ∷
+    text_member (codes "ruling") ruling ∷
+    text_member (codes "authorization") authorization ∷
+    text_member (codes "reject_codes") rejects ∷ []
+
+-- the row of a ruling
+abbrev pub ruling_row : At → Ruling → Row
+ruling_row at (Paid auth prescription amounts) = answered_row at (codes "paid") (authorization_text auth) []
+ruling_row at (Duplicate auth prescription amounts) = answered_row at (codes "duplicate") (authorization_text auth) []
+ruling_row at (Reversed auth prescription) = answered_row at (codes "reversed") (authorization_text auth) []
+ruling_row at (Rejected rejects) = answered_row at (codes "rejected") [] (codes_text rejects)
+
+-- the row of a ruling on a transaction of a row of the book
+abbrev pub ruling_rows : ℕ → model.Row → ℕ → Ruling → List Row
+ruling_rows payer row transaction ruling = ruling_row (record {
+  payer = payer;
+  pharmacy = row.id.pharmacy;
+  number = row.id.number;
+  kind = kind_in (readable_header row.request);
+  transaction = transaction;
+}) ruling ∷ []
+
+-- the transactions of a row of the book
+abbrev pub row_rulings : Book → model.Row → List Row
+row_rulings b row = told_from (ruling_rows b.payer row) 1 row.rulings
+
+-- the transactions of all rows of a book, oldest first
+abbrev pub book_rulings : Book → List Row
+book_rulings b = flat_map (row_rulings b) b.rows

@@ -1,0 +1,95 @@
+//! The names of the columns of each table.
+
+ghost use Rattle.std.specs.Prelude.{◌≡◌, ◌++◌, OnOk};
+ghost use Rattle.log_audit.specs.Rows.{head_text};
+ghost use Rattle.log_audit.specs.Tables.{table_names};
+ghost use Rattle.log_audit.specs.declared.tables.table.Table.TheVariants.{Payments, Entries, Rows, Packets};
+
+use crate::tables::layout::put_head;
+use std::alloc::AllocError;
+
+/// Appends the names of the columns of payments.
+pub(crate) fn put_payment_names(out: &mut Vec<u8>) -> Result<(), AllocError>
+    ensures { OnOk result (out.new.items ≡ out.old.items ++ head_text (table_names Payments)) }
+{
+    put_head(
+        out,
+        &[
+            b"payer",
+            b"pharmacy",
+            b"number",
+            b"transaction",
+            b"authorization",
+            b"state",
+            b"reversed_by",
+            b"counted",
+            b"bin",
+            b"processor_control_number",
+            b"provider_qualifier",
+            b"provider",
+            b"prescription",
+            b"fill",
+            b"date_of_service",
+            b"cost_cents",
+            b"fee_cents",
+            b"copay_cents",
+            b"paid_cents",
+        ],
+    )
+}
+
+/// Appends the names of the columns of entries.
+pub(crate) fn put_entry_names(out: &mut Vec<u8>) -> Result<(), AllocError>
+    ensures { OnOk result (out.new.items ≡ out.old.items ++ head_text (table_names Entries)) }
+{
+    put_head(
+        out,
+        &[
+            b"pharmacy",
+            b"number",
+            b"kind",
+            b"transactions",
+            b"state",
+            b"counted_payments",
+            b"counted_cents",
+        ],
+    )
+}
+
+/// Appends the names of the columns of rows.
+pub(crate) fn put_row_names(out: &mut Vec<u8>) -> Result<(), AllocError>
+    ensures { OnOk result (out.new.items ≡ out.old.items ++ head_text (table_names Rows)) }
+{
+    put_head(
+        out,
+        &[
+            b"payer",
+            b"pharmacy",
+            b"number",
+            b"kind",
+            b"transaction",
+            b"ruling",
+            b"authorization",
+            b"reject_codes",
+        ],
+    )
+}
+
+/// Appends the names of the columns of packets.
+pub(crate) fn put_packet_names(out: &mut Vec<u8>) -> Result<(), AllocError>
+    ensures { OnOk result (out.new.items ≡ out.old.items ++ head_text (table_names Packets)) }
+{
+    put_head(
+        out,
+        &[
+            b"packet",
+            b"event",
+            b"from",
+            b"to",
+            b"carries",
+            b"pharmacy",
+            b"number",
+            b"bytes",
+        ],
+    )
+}

@@ -1,0 +1,156 @@
+//! The entries of a journal.
+
+ghost use Rattle.std.specs.Prelude.{◌≡◌, ◌≤◌, ◌++◌, length, OnOk};
+ghost use Rattle.bin_routes.specs.Table.{RouteMaps};
+ghost use Rattle.claim_model.specs.Bytes.{bytes_with};
+ghost use Rattle.claim_model.specs.Counted.{counted};
+ghost use Rattle.pharmacy_journal.specs.Listing.{listed};
+ghost use Rattle.log_audit.specs.Rows.{row_text, rows_text};
+ghost use Rattle.log_audit.specs.Entries.{names, count_named, cents_of, state_word, shown_seen, shown_row, entry_row, entry_rows};
+
+use crate::tables::fields::Field;
+use crate::tables::kinds::kind_word;
+use crate::tables::layout::{Style, put_row};
+use claim_profile::{Auth, Ruling};
+use node_state::JournalReading;
+use pharmacy_journal::{CountedPayment, EntryView};
+use std::alloc::AllocError;
+
+/// What is told of an entry.
+#[derive(Clone, Copy)]
+pub(crate) struct EntryShown {
+    pub(crate) pharmacy: u64,
+    pub(crate) number: u64,
+    pub(crate) kind: &'static [u8],
+    pub(crate) transactions: u64,
+    pub(crate) state: &'static [u8],
+    pub(crate) payments: u64,
+    pub(crate) cents: u64,
+}
+
+/// Appends a row for each entry of a journal, in order of numbers.
+pub(crate) fn put_journal(
+    out: &mut Vec<u8>,
+    style: Style,
+    journal: &JournalReading<'_>,
+) -> Result<(), AllocError>
+    ensures { (routes : RouteMaps) → OnOk result (out.new.items ≡ out.old.items ++ rows_text style (entry_rows journal.now.number (listed journal.now) (counted (bytes_with routes) journal.now))) }
+{
+    let (entries, paid) = journal.told()?;
+    put_entries(
+        out,
+        style,
+        journal.number(),
+        entries.as_slice(),
+        paid.as_slice(),
+    )
+}
+
+/// Appends a row for each of these entries. The payments that the pharmacy counts come in the order in which entries named
+/// them first, so each entry takes from the front those that it names.
+fn put_entries(
+    out: &mut Vec<u8>,
+    style: Style,
+    pharmacy: u16,
+    entries: &[EntryView],
+    paid: &[CountedPayment],
+) -> Result<(), AllocError>
+    ensures { OnOk result (out.new.items ≡ out.old.items ++ rows_text style (entry_rows pharmacy entries.now paid.now)) }
+{
+    let mut left = paid;
+    for entry in entries {
+        let (own, others) = left.split_at(count_named(entry.rulings(), left));
+        put_entry(out, style, pharmacy, entry, own)?;
+        left = others;
+    }
+    Ok(())
+}
+
+/// Appends the row of an entry that named these counted payments first.
+fn put_entry(
+    out: &mut Vec<u8>,
+    style: Style,
+    pharmacy: u16,
+    entry: &EntryView,
+    own: &[CountedPayment],
+) -> Result<(), AllocError>
+    ensures { OnOk result (out.new.items ≡ out.old.items ++ row_text style (entry_row pharmacy entry.now own.now)) }
+{
+    let shown = EntryShown {
+        pharmacy: u64::from(pharmacy),
+        number: entry.number(),
+        kind: kind_word(entry.code()),
+        transactions: u64::from(entry.count()),
+        state: state_word(entry.rulings()),
+        payments: own.len() as u64,
+        cents: cents_of(own),
+    };
+    put_shown(out, style, &shown)
+}
+
+/// Appends the row of what is told of an entry.
+#[tactic(auto, unfolding(crate::specs::Entries::shown_row))]
+fn put_shown(out: &mut Vec<u8>, style: Style, shown: &EntryShown) -> Result<(), AllocError>
+    ensures { OnOk result (out.new.items ≡ out.old.items ++ row_text style (shown_row (shown_seen shown.now))) }
+{
+    let fields = [
+        Field::number(b"pharmacy", shown.pharmacy),
+        Field::number(b"number", shown.number),
+        Field::word(b"kind", shown.kind),
+        Field::number(b"transactions", shown.transactions),
+        Field::word(b"state", shown.state),
+        Field::number(b"counted_payments", shown.payments),
+        Field::number(b"counted_cents", shown.cents),
+    ];
+    put_row(out, style, &fields)
+}
+
+/// Whether an entry has its answer, by the rulings of it.
+fn state_word(rulings: &[Ruling]) -> &'static [u8]
+    ensures { result.now ≡ state_word rulings.now }
+{
+    match rulings {
+        [] => b"open",
+        [_, ..] => b"answered",
+    }
+}
+
+/// How many of these payments, from the first on, rulings name in this order.
+fn count_named(rulings: &[Ruling], paid: &[CountedPayment]) -> usize
+    ensures value { result ≡ count_named rulings.now paid.now }
+    ensures within { result ≤ length paid.now }
+{
+    let [ruling, more @ ..] = rulings else {
+        return 0;
+    };
+    let [payment, others @ ..] = paid else {
+        return 0;
+    };
+    if names(ruling, payment.auth()) {
+        count_named(more, others) + 1
+    } else {
+        count_named(more, paid)
+    }
+}
+
+/// Whether a ruling names the payment of an authorization as paid, now or before.
+fn names(ruling: &Ruling, auth: Auth) -> bool
+    ensures { result ≡ names ruling.now auth }
+{
+    match *ruling {
+        Ruling::Paid { auth: named, .. } => named == auth,
+        Ruling::Duplicate { auth: named, .. } => named == auth,
+        Ruling::Reversed { .. } => false,
+        Ruling::Rejected { .. } => false,
+    }
+}
+
+/// What payments come to in cents, as far as 64 bits hold it. An entry has few.
+fn cents_of(payments: &[CountedPayment]) -> u64
+    ensures { result ≡ cents_of payments.now }
+{
+    let [first, others @ ..] = payments else {
+        return 0;
+    };
+    u64::from(first.amounts().total()).saturating_add(cents_of(others))
+}

@@ -1,0 +1,158 @@
+//! The rows of a book.
+
+ghost use Rattle.std.specs.Prelude.{◌≡◌, ◌∷◌, [], ◌++◌, codes, OnOk, IfOk};
+ghost use Rattle.std.specs.List.{flat_map};
+ghost use Rattle.claim_profile.specs.Reject.{code_text};
+ghost use Rattle.log_audit.specs.Rows.{row_text, rows_text};
+ghost use Rattle.log_audit.specs.Rulings.{codes_text, at_seen, answered_row, ruling_row, row_rulings, book_rulings};
+
+use crate::tables::fields::Field;
+use crate::tables::kinds::kind_of;
+use crate::tables::layout::{Style, put_row};
+use claim_profile::{Code, Ruling};
+use envelope::TxnId;
+use payer_book::{Book, Row};
+use std::alloc::{AllocError, Global};
+
+/// Which transaction of which request a ruling is about.
+#[derive(Clone, Copy)]
+pub(crate) struct RuledAt {
+    pub(crate) payer: u64,
+    pub(crate) pharmacy: u64,
+    pub(crate) number: u64,
+    pub(crate) kind: &'static [u8],
+    pub(crate) transaction: u64,
+}
+
+/// Appends a row for each transaction of each row of a book, oldest first.
+pub(crate) fn put_book_rulings(
+    out: &mut Vec<u8>,
+    style: Style,
+    book: &Book,
+) -> Result<(), AllocError>
+    ensures { OnOk result (out.new.items ≡ out.old.items ++ rows_text style (book_rulings book.now)) }
+{
+    for row in book.rows() {
+        put_row_rulings(out, style, book, row)?;
+    }
+    Ok(())
+}
+
+/// Appends a row for each transaction of a row.
+fn put_row_rulings(
+    out: &mut Vec<u8>,
+    style: Style,
+    book: &Book,
+    row: &Row,
+) -> Result<(), AllocError>
+    ensures { OnOk result (out.new.items ≡ out.old.items ++ rows_text style (row_rulings book.now row.now)) }
+{
+    let (payer, id) = (book.payer().get(), row.id());
+    let kind = kind_of(row);
+    let rulings = row.rulings();
+    for (passed, ruling) in rulings.iter().enumerate() {
+        put_ruling(
+            out,
+            style,
+            &ruled_at(payer, id, kind, passed as u64 + 1),
+            ruling,
+        )?;
+    }
+    Ok(())
+}
+
+/// Which transaction of which request it is.
+fn ruled_at(payer: u16, id: TxnId, kind: &'static [u8], transaction: u64) -> RuledAt
+    ensures { at_seen result ≡ record { payer = payer; pharmacy = id.pharmacy; number = id.number; kind = kind.now; transaction = transaction } }
+{
+    RuledAt {
+        payer: u64::from(payer),
+        pharmacy: u64::from(id.pharmacy()),
+        number: id.number(),
+        kind,
+        transaction,
+    }
+}
+
+/// Appends the row of a ruling.
+fn put_ruling(
+    out: &mut Vec<u8>,
+    style: Style,
+    at: &RuledAt,
+    ruling: &Ruling,
+) -> Result<(), AllocError>
+    ensures { OnOk result (out.new.items ≡ out.old.items ++ row_text style (ruling_row (at_seen at.now) ruling.now)) }
+{
+    match *ruling {
+        Ruling::Paid { auth, .. } => put_answered(out, style, at, b"paid", &auth.digits(), b""),
+        Ruling::Duplicate { auth, .. } => {
+            put_answered(out, style, at, b"duplicate", &auth.digits(), b"")
+        }
+        Ruling::Reversed { auth, .. } => {
+            put_answered(out, style, at, b"reversed", &auth.digits(), b"")
+        }
+        Ruling::Rejected { rejects } => put_rejected(out, style, at, rejects.as_slice()),
+    }
+}
+
+/// Appends the row of a rejected transaction.
+fn put_rejected(
+    out: &mut Vec<u8>,
+    style: Style,
+    at: &RuledAt,
+    rejects: &[Code],
+) -> Result<(), AllocError>
+    ensures { OnOk result (out.new.items ≡ out.old.items ++ row_text style (answered_row (at_seen at.now) (codes "rejected") [] (codes_text rejects.now))) }
+{
+    let told = codes_text(*out.allocator(), rejects)?;
+    put_answered(out, style, at, b"rejected", b"", told.as_slice())
+}
+
+/// Appends the row of a transaction that was answered like this.
+#[tactic(auto, unfolding(crate::specs::Rulings::answered_row))]
+fn put_answered(
+    out: &mut Vec<u8>,
+    style: Style,
+    at: &RuledAt,
+    ruling: &'static [u8],
+    authorization: &[u8],
+    rejects: &[u8],
+) -> Result<(), AllocError>
+    ensures { OnOk result (out.new.items ≡ out.old.items ++ row_text style (answered_row (at_seen at.now) ruling.now authorization.now rejects.now)) }
+{
+    let fields = [
+        Field::number(b"payer", at.payer),
+        Field::number(b"pharmacy", at.pharmacy),
+        Field::number(b"number", at.number),
+        Field::word(b"kind", at.kind),
+        Field::number(b"transaction", at.transaction),
+        Field::word(b"ruling", ruling),
+        Field::text(b"authorization", authorization),
+        Field::text(b"reject_codes", rejects),
+    ];
+    put_row(out, style, &fields)
+}
+
+/// Reject codes with a space behind each but the last.
+fn codes_text(alloc: Global, rejects: &[Code]) -> Result<Vec<u8>, AllocError>
+    ensures { IfOk result (λ text. text.items ≡ codes_text rejects.now) }
+{
+    let mut text = Vec::new(alloc);
+    let [first, others @ ..] = rejects else {
+        return Ok(text);
+    };
+    text.extend_from_slice(&first.text())?;
+    put_more_codes(&mut text, others)?;
+    Ok(text)
+}
+
+/// Appends codes with a space before each.
+fn put_more_codes(text: &mut Vec<u8>, rejects: &[Code]) -> Result<(), AllocError>
+    ensures { OnOk result (text.new.items ≡ text.old.items ++ flat_map (λ code. 32 ∷ code_text code) rejects.now) }
+{
+    for code in rejects {
+        text.push(b' ')?;
+        text.extend_from_slice(&code.text())?;
+    }
+    Ok(())
+}

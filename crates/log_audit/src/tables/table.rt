@@ -1,0 +1,204 @@
+//! The tables of what a run left.
+
+ghost use Rattle.std.specs.Prelude.{◌≡◌, ◌++◌, OnOk};
+ghost use Rattle.std.specs.List.{flat_map};
+ghost use Rattle.bin_routes.specs.Table.{RouteMaps};
+ghost use Rattle.claim_model.specs.Bytes.{bytes_with};
+ghost use Rattle.world_core.specs.Parts.{context_of};
+ghost use Rattle.log_audit.specs.Rows.{rows_text, head_text};
+ghost use Rattle.pharmacy_journal.specs.Counting.{has_auth};
+ghost use Rattle.log_audit.specs.Tables.{node_payments, node_entries, node_rulings, world_payments, table_rows, table_names, table_csv, table_json, table_name, table_member, table_members};
+
+use crate::tables::columns::{put_entry_names, put_packet_names, put_payment_names, put_row_names};
+use crate::tables::counted::counted_auths;
+use crate::tables::entries::put_journal;
+use crate::tables::layout::{Style, put_list};
+use crate::tables::packets::put_packets;
+use crate::tables::payments::put_book_payments;
+use crate::tables::rows::put_book_rulings;
+use claim_profile::Auth;
+use node_state::{PayerNode, PharmacyNode};
+use std::alloc::{AllocError, Global};
+use std::collections::BTreeSet;
+use world_core::World;
+
+/// Which table.
+#[derive(Clone, Copy, Debug, PartialEq, Eq)]
+pub enum Table {
+    /// Each payment of each book.
+    Payments,
+    /// Each entry of each journal.
+    Entries,
+    /// Each transaction of each row of each book.
+    Rows,
+    /// Each packet that was sent.
+    Packets,
+}
+
+impl Table {
+    /// Its name in JSON.
+    fn name(self) -> &'static [u8]
+        ensures { result.now ≡ table_name self }
+    {
+        match self {
+            Table::Payments => b"payments",
+            Table::Entries => b"entries",
+            Table::Rows => b"rows",
+            Table::Packets => b"packets",
+        }
+    }
+}
+
+/// Appends a table of what a run left as CSV: a line of the names of its columns, and a line for each row. `senders` has
+/// for each packet the event that sent it.
+pub(crate) fn put_csv(
+    alloc: Global,
+    out: &mut Vec<u8>,
+    world: &World,
+    senders: &[u64],
+    table: Table,
+) -> Result<(), AllocError>
+    ensures { OnOk result (out.new.items ≡ out.old.items ++ table_csv (context_of world.now) world.now.world senders.now table) }
+{
+    put_names(out, table)?;
+    put_table(alloc, out, Style::Csv, world, senders, table)
+}
+
+/// Appends all tables of what a run left as members of an object of JSON, each behind a comma.
+pub(crate) fn put_json(
+    alloc: Global,
+    out: &mut Vec<u8>,
+    world: &World,
+    senders: &[u64],
+) -> Result<(), AllocError>
+    ensures { OnOk result (out.new.items ≡ out.old.items ++ table_members (context_of world.now) world.now.world senders.now) }
+{
+    put_member(alloc, out, world, senders, Table::Payments)?;
+    put_member(alloc, out, world, senders, Table::Entries)?;
+    put_member(alloc, out, world, senders, Table::Rows)?;
+    put_member(alloc, out, world, senders, Table::Packets)
+}
+
+/// Appends a table as a member of an object of JSON, behind a comma.
+fn put_member(
+    alloc: Global,
+    out: &mut Vec<u8>,
+    world: &World,
+    senders: &[u64],
+    table: Table,
+) -> Result<(), AllocError>
+    ensures { OnOk result (out.new.items ≡ out.old.items ++ table_member (context_of world.now) world.now.world senders.now table) }
+{
+    out.extend_from_slice(b",\n\"")?;
+    out.extend_from_slice(table.name())?;
+    out.extend_from_slice(b"\":")?;
+    put_rows_list(alloc, out, world, senders, table)
+}
+
+/// Appends the rows of a table as a list of JSON.
+fn put_rows_list(
+    alloc: Global,
+    out: &mut Vec<u8>,
+    world: &World,
+    senders: &[u64],
+    table: Table,
+) -> Result<(), AllocError>
+    ensures { OnOk result (out.new.items ≡ out.old.items ++ table_json (context_of world.now) world.now.world senders.now table) }
+{
+    let mut rows = Vec::new(alloc);
+    put_table(alloc, &mut rows, Style::Json, world, senders, table)?;
+    put_list(out, rows.as_slice())
+}
+
+/// Appends the names of a table's columns.
+fn put_names(out: &mut Vec<u8>, table: Table) -> Result<(), AllocError>
+    ensures { OnOk result (out.new.items ≡ out.old.items ++ head_text (table_names table)) }
+{
+    match table {
+        Table::Payments => put_payment_names(out),
+        Table::Entries => put_entry_names(out),
+        Table::Rows => put_row_names(out),
+        Table::Packets => put_packet_names(out),
+    }
+}
+
+/// Appends the rows of a table.
+fn put_table(
+    alloc: Global,
+    out: &mut Vec<u8>,
+    style: Style,
+    world: &World,
+    senders: &[u64],
+    table: Table,
+) -> Result<(), AllocError>
+    ensures { OnOk result (out.new.items ≡ out.old.items ++ rows_text style (table_rows (context_of world.now) world.now.world senders.now table)) }
+{
+    match table {
+        Table::Payments => put_payments(alloc, out, style, world),
+        Table::Entries => put_entries(alloc, out, style, world.pharmacies()),
+        Table::Rows => put_rows(alloc, out, style, world.payers()),
+        Table::Packets => put_packets(out, style, world.packets(), senders),
+    }
+}
+
+/// Appends the payments of all books.
+fn put_payments(
+    alloc: Global,
+    out: &mut Vec<u8>,
+    style: Style,
+    world: &World,
+) -> Result<(), AllocError>
+    ensures { OnOk result (out.new.items ≡ out.old.items ++ rows_text style (world_payments (context_of world.now) world.now.world)) }
+{
+    let counted = counted_auths(alloc, world.pharmacies())?;
+    put_paid(alloc, out, style, world.payers(), &counted)
+}
+
+/// Appends the payments of these books, of which those with these authorizations are counted.
+fn put_paid(
+    alloc: Global,
+    out: &mut Vec<u8>,
+    style: Style,
+    nodes: &[PayerNode],
+    counted: &BTreeSet<Auth>,
+) -> Result<(), AllocError>
+    ensures { (routes : RouteMaps) → OnOk result (out.new.items ≡ out.old.items ++ rows_text style (flat_map (node_payments (bytes_with routes) (has_auth counted.now.keys)) nodes.now)) }
+{
+    for node in nodes {
+        let reading = node.book(alloc)?;
+        put_book_payments(out, style, reading.book(), counted)?;
+    }
+    Ok(())
+}
+
+/// Appends the entries of these journals.
+fn put_entries(
+    alloc: Global,
+    out: &mut Vec<u8>,
+    style: Style,
+    nodes: &[PharmacyNode],
+) -> Result<(), AllocError>
+    ensures { (routes : RouteMaps) → OnOk result (out.new.items ≡ out.old.items ++ rows_text style (flat_map (node_entries (bytes_with routes)) nodes.now)) }
+{
+    for node in nodes {
+        let journal = node.journal(alloc)?;
+        put_journal(out, style, &journal)?;
+    }
+    Ok(())
+}
+
+/// Appends the rows of these books.
+fn put_rows(
+    alloc: Global,
+    out: &mut Vec<u8>,
+    style: Style,
+    nodes: &[PayerNode],
+) -> Result<(), AllocError>
+    ensures { OnOk result (out.new.items ≡ out.old.items ++ rows_text style (flat_map node_rulings nodes.now)) }
+{
+    for node in nodes {
+        let reading = node.book(alloc)?;
+        put_book_rulings(out, style, reading.book())?;
+    }
+    Ok(())
+}

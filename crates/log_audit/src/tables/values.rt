@@ -1,0 +1,66 @@
+//! Values in each of the styles.
+
+ghost use Rattle.std.specs.Prelude.{◌≡◌, ◌++◌, decimal, OnOk};
+ghost use Rattle.input_text.specs.Printing.{printed};
+ghost use Rattle.log_audit.specs.Seen.{cell_seen};
+ghost use Rattle.log_audit.specs.Values.{flag_text, csv_value, json_value, json_named};
+
+use crate::tables::fields::Cell;
+use crate::tables::quoting::{put_csv_text, put_json_letters, put_json_text};
+use input_text::{put_decimal, put_printed};
+use std::alloc::AllocError;
+
+/// Appends a value as a field of CSV.
+pub(crate) fn put_csv_value(out: &mut Vec<u8>, cell: Cell<'_>) -> Result<(), AllocError>
+    ensures { OnOk result (out.new.items ≡ out.old.items ++ csv_value (cell_seen cell.entry)) }
+{
+    match cell {
+        Cell::Number(number) => put_decimal(out, number),
+        Cell::Text(bytes) => put_csv_text(out, bytes),
+        Cell::Word(word) => put_csv_text(out, word),
+        Cell::Named(letters, number) => put_named(out, letters, number),
+        Cell::Flag(holds) => out.extend_from_slice(flag_text(holds)),
+        Cell::Nothing => Ok(()),
+    }
+}
+
+/// Appends a value as JSON.
+pub(crate) fn put_json_value(out: &mut Vec<u8>, cell: Cell<'_>) -> Result<(), AllocError>
+    ensures { OnOk result (out.new.items ≡ out.old.items ++ json_value (cell_seen cell.entry)) }
+{
+    match cell {
+        Cell::Number(number) => put_decimal(out, number),
+        Cell::Text(bytes) => put_json_text(out, bytes),
+        Cell::Word(word) => put_json_text(out, word),
+        Cell::Named(letters, number) => put_json_named(out, letters, number),
+        Cell::Flag(holds) => out.extend_from_slice(flag_text(holds)),
+        Cell::Nothing => out.extend_from_slice(b"null"),
+    }
+}
+
+/// Appends letters, and a number behind them.
+fn put_named(out: &mut Vec<u8>, letters: &[u8], number: u64) -> Result<(), AllocError>
+    ensures { OnOk result (out.new.items ≡ out.old.items ++ (printed letters.now ++ decimal number)) }
+{
+    put_printed(out, letters)?;
+    put_decimal(out, number)
+}
+
+/// The same as a text of JSON.
+#[tactic(auto, unfolding(crate::specs::Values::json_named))]
+fn put_json_named(out: &mut Vec<u8>, letters: &[u8], number: u64) -> Result<(), AllocError>
+    ensures { OnOk result (out.new.items ≡ out.old.items ++ json_named letters.now number) }
+{
+    out.push(b'"')?;
+    put_json_letters(out, letters)?;
+    put_decimal(out, number)?;
+    out.push(b'"')?;
+    Ok(())
+}
+
+/// A truth as it is written in both styles.
+fn flag_text(holds: bool) -> &'static [u8]
+    ensures { result.now ≡ flag_text holds }
+{
+    if holds { b"true" } else { b"false" }
+}

@@ -1,0 +1,67 @@
+//! What is written of a call.
+
+ghost use Rattle.std.specs.Prelude.{◌≡◌, ◌++◌, map, OnOk};
+ghost use Rattle.world_setup.specs.Seen.{sent_seen};
+ghost use Rattle.node_service.specs.Answering.{answer_line, done_line, number_line, refused_line, sent_line, sent_lines};
+
+use crate::names::put_node;
+use input_text::{put_decimal, put_printed};
+use std::alloc::AllocError;
+use world_setup::Sent;
+
+/// Appends a line for each packet that a node sent: `send`, the addressee and the packet in printed bytes.
+#[tactic(auto, unfolding(crate::specs::Answering::sent_lines))]
+pub(crate) fn put_sent(out: &mut Vec<u8>, sent: &[Sent]) -> Result<(), AllocError>
+    ensures { OnOk result (out.new.items ≡ out.old.items ++ sent_lines (map sent_seen sent.now)) }
+{
+    for one in sent {
+        put_one(out, one)?;
+    }
+    Ok(())
+}
+
+/// Appends the line of one packet.
+#[tactic(auto, unfolding(crate::specs::Answering::sent_line))]
+fn put_one(out: &mut Vec<u8>, one: &Sent) -> Result<(), AllocError>
+    ensures { OnOk result (out.new.items ≡ out.old.items ++ sent_line (sent_seen one.now)) }
+{
+    out.extend_from_slice(b"send ")?;
+    put_node(out, one.to)?;
+    out.extend_from_slice(b" ")?;
+    put_printed(out, one.bytes.as_slice())?;
+    out.extend_from_slice(b"\n")
+}
+
+/// Appends that a call was refused, by the name of its refusal.
+pub(crate) fn put_refused(out: &mut Vec<u8>, name: &[u8]) -> Result<(), AllocError>
+    ensures { OnOk result (out.new.items ≡ out.old.items ++ refused_line name.now) }
+{
+    out.extend_from_slice(b"refused ")?;
+    out.extend_from_slice(name)?;
+    out.extend_from_slice(b"\n")
+}
+
+/// Appends that a call was made.
+pub(crate) fn put_done(out: &mut Vec<u8>) -> Result<(), AllocError>
+    ensures { OnOk result (out.new.items ≡ out.old.items ++ done_line) }
+{
+    out.extend_from_slice(b"ok\n")
+}
+
+/// Appends the number of the entry that a submission made.
+pub(crate) fn put_number(out: &mut Vec<u8>, number: u64) -> Result<(), AllocError>
+    ensures { OnOk result (out.new.items ≡ out.old.items ++ number_line number) }
+{
+    out.extend_from_slice(b"number ")?;
+    put_decimal(out, number)?;
+    out.extend_from_slice(b"\n")
+}
+
+/// Appends the answer to a number, in printed bytes.
+pub(crate) fn put_answer(out: &mut Vec<u8>, bytes: &[u8]) -> Result<(), AllocError>
+    ensures { OnOk result (out.new.items ≡ out.old.items ++ answer_line bytes.now) }
+{
+    out.extend_from_slice(b"answer ")?;
+    put_printed(out, bytes)?;
+    out.extend_from_slice(b"\n")
+}
