@@ -1,11 +1,21 @@
 //! The words of a row's argument.
 
+use envelope::TxnId;
 use input_text::{read_decimal, split_word};
 use overpunch::Amount;
+use payer_book::BookSettings;
+
+/// The first word of a text, and what stands behind its space. A text without a space is one word.
+pub(crate) fn first_word(text: &[u8]) -> (&[u8], &[u8]) {
+    match split_word(text) {
+        Some(parts) => parts,
+        None => (text, b""),
+    }
+}
 
 /// The number of at most eighteen digits that stands first, and what stands behind its space, where it has one.
 pub(crate) fn number_first(argument: &[u8]) -> Option<(u64, &[u8])> {
-    let (word, rest) = split_word(argument).unwrap_or((argument, b""));
+    let (word, rest) = first_word(argument);
     match read_decimal(word, 18) {
         Some(number) => Some((number, rest)),
         None => None,
@@ -31,6 +41,13 @@ pub(crate) fn two_first(argument: &[u8]) -> Option<(u64, u64, &[u8])> {
     }
 }
 
+/// Three numbers that fit 32 bits, with one space between them.
+pub(crate) fn three_numbers(argument: &[u8]) -> Option<(u32, u32, u32)> {
+    let (first, rest) = split_word(argument)?;
+    let (second, third) = split_word(rest)?;
+    Some((small(first)?, small(second)?, small(third)?))
+}
+
 /// Four numbers, and what stands behind them.
 pub(crate) fn four_first(argument: &[u8]) -> Option<(u64, u64, u64, u64, &[u8])> {
     match two_first(argument) {
@@ -39,6 +56,22 @@ pub(crate) fn four_first(argument: &[u8]) -> Option<(u64, u64, u64, u64, &[u8])>
             None => None,
         },
         None => None,
+    }
+}
+
+/// A number that fits 32 bits.
+pub(crate) fn small(word: &[u8]) -> Option<u32> {
+    match read_decimal(word, 10) {
+        Some(number @ 0..=4_294_967_295) => Some(number as u32),
+        _ => None,
+    }
+}
+
+/// The place, from 0, of what a number from 1 names.
+pub(crate) fn place_in(word: &[u8]) -> Option<usize> {
+    match read_decimal(word, 5) {
+        Some(number @ 1..=99_999) => Some(number as usize - 1),
+        _ => None,
     }
 }
 
@@ -64,6 +97,88 @@ pub(crate) fn unsigned(text: &[u8]) -> Option<u64> {
     }
 }
 
+/// The amount of so many cents.
+pub(crate) fn amount_of(cents: u64) -> Option<Amount> {
+    match cents {
+        0..=99_999_999 => Amount::new(cents as i64),
+        _ => None,
+    }
+}
+
+/// The transaction that two numbers name, where there is one.
+pub(crate) fn id_of(pharmacy: u64, number: u64) -> Option<TxnId> {
+    match pharmacy {
+        0..=65_535 => TxnId::new(pharmacy as u16, number),
+        _ => None,
+    }
+}
+
+/// A transaction, and the text behind it: `PHARMACY NUMBER TEXT`.
+pub(crate) fn id_first(argument: &[u8]) -> Option<(TxnId, &[u8])> {
+    match two_first(argument) {
+        Some((pharmacy, number, text)) => match id_of(pharmacy, number) {
+            Some(id) => Some((id, text)),
+            None => None,
+        },
+        None => None,
+    }
+}
+
+/// The id of a request of pharmacy 1, and what stands behind its number.
+pub(crate) fn numbered(text: &[u8]) -> Option<(TxnId, &[u8])> {
+    match number_first(text) {
+        Some((number, rest)) => match TxnId::new(1, number) {
+            Some(id) => Some((id, rest)),
+            None => None,
+        },
+        None => None,
+    }
+}
+
+/// The number of a first word `NAMENUMBER`, and what stands behind it.
+pub(crate) fn named_number<'a>(name: &[u8], text: &'a [u8]) -> Option<(u64, &'a [u8])> {
+    let (word, rest) = first_word(text);
+    match number_in(name, word) {
+        Some(number) => Some((number, rest)),
+        None => None,
+    }
+}
+
+/// The number of a word `NAMENUMBER`.
+fn number_in(name: &[u8], word: &[u8]) -> Option<u64> {
+    match word.strip_prefix(name) {
+        Some(digits) => read_decimal(digits, 18),
+        None => None,
+    }
+}
+
+/// The first serial number and the most rows of a book, and what stands behind them.
+pub(crate) fn book_settings(text: &[u8]) -> Option<(BookSettings, &[u8])> {
+    match named_number(b"serial=", text) {
+        Some((serial, rest)) => settings_from(serial, rest),
+        None => None,
+    }
+}
+
+/// The same behind the first serial number.
+fn settings_from(serial: u64, text: &[u8]) -> Option<(BookSettings, &[u8])> {
+    match capped(text) {
+        Some((cap, rest)) => match BookSettings::new(serial, cap) {
+            Ok(settings) => Some((settings, rest)),
+            Err(_) => None,
+        },
+        None => None,
+    }
+}
+
+/// The most rows or entries, and what stands behind them.
+pub(crate) fn capped(text: &[u8]) -> Option<(u32, &[u8])> {
+    match named_number(b"cap=", text) {
+        Some((cap @ 0..=65_536, rest)) => Some((cap as u32, rest)),
+        _ => None,
+    }
+}
+
 /// The text that a word stands for: `""` is the one without a byte.
 pub(crate) fn text_of(word: &[u8]) -> &[u8] {
     if word == b"\"\"".as_slice() {
@@ -73,21 +188,26 @@ pub(crate) fn text_of(word: &[u8]) -> &[u8] {
     }
 }
 
-/// What stands before and behind the first bar.
-pub(crate) fn halves(argument: &[u8]) -> Option<(&[u8], &[u8])> {
-    match argument.iter().position(|byte| *byte == b'|') {
-        Some(place) => match argument.split_at_checked(place) {
-            Some((front, [_, behind @ ..])) => Some((front, behind)),
-            _ => None,
-        },
-        None => None,
+/// What stands before and behind the arrow `=>`; nothing where it ends the text.
+pub(crate) fn in_two(argument: &[u8]) -> Option<(&[u8], &[u8])> {
+    match argument.strip_suffix(b" =>") {
+        Some(front) => Some((front, b"")),
+        None => cut(argument, b" => "),
     }
 }
 
-/// The amount of so many cents.
-pub(crate) fn amount_of(cents: u64) -> Option<Amount> {
-    match cents {
-        0..=99_999_999 => Amount::new(cents as i64),
-        _ => None,
+/// What stands before and behind the first place of a mark.
+pub(crate) fn cut<'a>(text: &'a [u8], mark: &[u8]) -> Option<(&'a [u8], &'a [u8])> {
+    for at in 0..text.len() {
+        let (front, rest) = text.split_at(at);
+        if let Some(behind) = rest.strip_prefix(mark) {
+            return Some((front, behind));
+        }
     }
+    None
+}
+
+/// Whether two texts are the same.
+pub(crate) fn are_same(one: &[u8], other: &[u8]) -> bool {
+    one == other
 }

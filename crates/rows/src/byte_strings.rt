@@ -1,6 +1,6 @@
 //! Byte strings that can be shared.
 
-use crate::arguments::{place_first, text_of};
+use crate::arguments::{number_first, place_first, text_of};
 use crate::telling::differ;
 use case_files::{Subject, Told};
 use input_text::split_word;
@@ -205,7 +205,7 @@ fn shared_end(alloc: Global, text: &[u8], start: usize) -> Option<Octets> {
 
 /// Puts a number under a key, and tells how many keys there are.
 fn put(told: &mut Told, alloc: Global, map: &mut BTreeMap<Octets, u64>, argument: &[u8]) {
-    match crate::arguments::number_first(argument) {
+    match number_first(argument) {
         Some((number, key)) => match Octets::copy_of(alloc, key) {
             Ok(key) => put_key(told, map, key, number),
             Err(_) => told.refuse(),

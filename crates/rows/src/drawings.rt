@@ -1,6 +1,7 @@
 //! The text of a small picture.
 
-use crate::arguments::{four_first, halves, two_first};
+use crate::arguments::{cut, four_first, two_first};
+use crate::telling::tell_text;
 use case_files::{Subject, Told};
 use std::alloc::{AllocError, Global};
 use svg_text::{Anchor, Drawing, Face, Fill, Frame, Point, Size, Stroke};
@@ -76,29 +77,18 @@ fn drawn(told: &mut Told, done: Result<(), AllocError>) {
 /// Tells the file of the picture, of a size, a title and a description.
 fn file(told: &mut Told, drawing: &Drawing, argument: &[u8]) {
     match two_first(argument) {
-        Some((width, height, told_of)) => match halves(told_of) {
+        Some((width, height, told_of)) => match cut(told_of, b"|") {
             Some((title, description)) => {
                 let size = Size { width, height };
-                tell_file(
-                    told,
-                    drawing,
-                    &Frame {
-                        size,
-                        title,
-                        description,
-                    },
-                );
+                let frame = Frame {
+                    size,
+                    title,
+                    description,
+                };
+                tell_text(told, drawing.file(&frame));
             }
             None => told.refuse(),
         },
         None => told.refuse(),
-    }
-}
-
-/// The same in this frame.
-fn tell_file(told: &mut Told, drawing: &Drawing, frame: &Frame<'_>) {
-    match drawing.file(frame) {
-        Ok(text) => told.bytes(text.as_slice()),
-        Err(_) => told.refuse(),
     }
 }

@@ -4,7 +4,7 @@ ghost use Rattle.std.specs.Prelude.{◌≡◌};
 
 use crate::arguments::number_first;
 use crate::replacing::each_replaced;
-use crate::telling::differ;
+use crate::telling::{differ, tell_text};
 use case_files::{Subject, Told};
 use d0_header::RequestHeader;
 use d0_segments::{
@@ -229,10 +229,7 @@ fn one_field(told: &mut Told, alloc: Global, argument: &[u8]) {
 /// The same behind a header that announces one group.
 fn behind_header(told: &mut Told, alloc: Global, argument: &[u8], field: Field<'_>) {
     match RequestHeader::read(argument) {
-        Ok(header) if header.count() == 1 => match by_hand(alloc, header, field) {
-            Ok(text) => told.bytes(text.as_slice()),
-            Err(_) => told.refuse(),
-        },
+        Ok(header) if header.count() == 1 => tell_text(told, by_hand(alloc, header, field)),
         _ => told.refuse(),
     }
 }

@@ -1,9 +1,10 @@
 //! Lines of an input, words of a line, and decimal words.
 
-use crate::arguments::number_first;
+use crate::arguments::{number_first, unsigned};
+use crate::telling::tell_text;
 use case_files::{Subject, Told};
 use input_text::{Lines, is_skipped, put_decimal, read_decimal, split_word};
-use std::alloc::Global;
+use std::alloc::{AllocError, Global};
 
 /// Rows of lines.
 #[derive(Drop)]
@@ -103,26 +104,17 @@ fn read(told: &mut Told, argument: &[u8]) {
 /// Tells a text with a number appended.
 fn append(told: &mut Told, alloc: Global, argument: &[u8]) {
     match split_word(argument) {
-        Some((front, number)) => match crate::arguments::unsigned(number) {
-            Some(number) => append_number(told, alloc, front, number),
+        Some((front, number)) => match unsigned(number) {
+            Some(number) => tell_text(told, with_number(alloc, front, number)),
             None => told.refuse(),
         },
         None => told.refuse(),
     }
 }
 
-/// The same of this text and number.
-fn append_number(told: &mut Told, alloc: Global, front: &[u8], number: u64) {
-    match Vec::from_slice(alloc, front) {
-        Ok(text) => appended(told, text, number),
-        Err(_) => told.refuse(),
-    }
-}
-
-/// Tells a text when a number was appended to it.
-fn appended(told: &mut Told, mut text: Vec<u8>, number: u64) {
-    match put_decimal(&mut text, number) {
-        Ok(()) => told.bytes(text.as_slice()),
-        Err(_) => told.refuse(),
-    }
+/// A text with a number appended.
+pub(crate) fn with_number(alloc: Global, front: &[u8], number: u64) -> Result<Vec<u8>, AllocError> {
+    let mut text = Vec::from_slice(alloc, front)?;
+    put_decimal(&mut text, number)?;
+    Ok(text)
 }

@@ -1,4 +1,5 @@
-//! Runs the rows of letters and messages: files of calls and what each comes to.
+//! Runs the rows: files of calls on letters and messages, of steps on one node and of documents that open nodes, and
+//! what each comes to.
 #![tactic(auto)]
 
 mod amounts;
@@ -12,6 +13,7 @@ mod envelopes;
 mod framing;
 mod headers;
 mod lines;
+mod nodes;
 mod numbers;
 mod orders;
 mod prices;
@@ -22,12 +24,15 @@ mod rulings;
 mod telling;
 
 use case_files::{CaseFile, Runner, Suite, run};
+use payer_book::HashKeys;
 use std::alloc::AllocError;
 use std::process::ExitCode;
 
-/// The files of letters and messages.
+/// The files of rows, and keys that nobody knows for the maps of books.
 #[derive(Drop)]
-struct Rows;
+struct Rows {
+    drawn: Option<HashKeys>,
+}
 
 impl Suite for Rows {
     fn check(&mut self, runner: &mut Runner, file: &CaseFile) -> Result<(), AllocError> {
@@ -43,27 +48,30 @@ impl Suite for Rows {
             "words" => runner.rows(file, &mut lines::Words),
             "decimals" => runner.rows(file, &mut lines::Decimals),
             "printed-text" => runner.rows(file, &mut printed_text::PrintedText),
-            _ => messages(runner, file),
+            _ => self.messages(runner, file),
         }
     }
 }
 
-/// Runs a file of messages.
-fn messages(runner: &mut Runner, file: &CaseFile) -> Result<(), AllocError> {
-    let alloc = runner.alloc();
-    match file.stem() {
-        "routes" => runner.rows(file, &mut routes::RoutesOf::new(alloc)),
-        "framing" => runner.rows(file, &mut framing::Framing),
-        "orders" | "reversals" => runner.rows(file, &mut orders::Orders),
-        "answers" => runner.rows(file, &mut answers::Answers),
-        "rulings" => runner.rows(file, &mut rulings::Rulings),
-        "codes" => runner.rows(file, &mut codes::Codes),
-        "building" => runner.rows(file, &mut building::Building),
-        "prices" => runner.rows(file, &mut prices::Prices::new()),
-        _ => runner.fail(file, 0, "a file that is not known"),
+impl Rows {
+    /// Runs a file of messages, or else of nodes.
+    fn messages(&self, runner: &mut Runner, file: &CaseFile) -> Result<(), AllocError> {
+        let alloc = runner.alloc();
+        match file.stem() {
+            "routes" => runner.rows(file, &mut routes::RoutesOf::new(alloc)),
+            "framing" => runner.rows(file, &mut framing::Framing),
+            "orders" | "reversals" => runner.rows(file, &mut orders::Orders),
+            "answers" => runner.rows(file, &mut answers::Answers),
+            "rulings" => runner.rows(file, &mut rulings::Rulings),
+            "codes" => runner.rows(file, &mut codes::Codes),
+            "building" => runner.rows(file, &mut building::Building),
+            "prices" => runner.rows(file, &mut prices::Prices::new()),
+            _ => nodes::check(runner, file, &self.drawn),
+        }
     }
 }
 
 fn main(rt: HostRuntime) -> ExitCode {
-    run(&rt, &mut Rows)
+    let drawn = HashKeys::random(&rt).ok();
+    run(&rt, &mut Rows { drawn })
 }

@@ -2,11 +2,12 @@
 
 use crate::answers::tell_amounts;
 use crate::arguments::{number_first, signed, two_first, unsigned};
+use crate::lines::with_number;
 use case_files::{Subject, Told};
 use claim_profile::{Amount, Claim, Fill, Text};
-use input_text::{put_decimal, split_word};
+use input_text::split_word;
 use plan_rules::{Plan, PlanFault};
-use std::alloc::{AllocError, Global};
+use std::alloc::Global;
 
 /// Rows of prices, and the plan that the rows before made.
 #[derive(Drop)]
@@ -146,20 +147,13 @@ fn fill(told: &mut Told, alloc: Global, plan: &mut Plan, argument: &[u8]) {
 
 /// Sets the price of the product of a number to that number, and tells a fault.
 fn set_numbered(told: &mut Told, alloc: Global, plan: &mut Plan, number: u32) {
-    match numbered(alloc, number) {
+    match with_number(alloc, b"N", u64::from(number)) {
         Ok(product) => match plan.set(product.as_slice(), number) {
             Ok(()) => {}
             Err(fault) => told.named(fault),
         },
         Err(_) => told.refuse(),
     }
-}
-
-/// The product of a number.
-fn numbered(alloc: Global, number: u32) -> Result<Vec<u8>, AllocError> {
-    let mut product = Vec::from_slice(alloc, b"N")?;
-    put_decimal(&mut product, u64::from(number))?;
-    Ok(product)
 }
 
 /// Tells the price and the name of the product at a place.

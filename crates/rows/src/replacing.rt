@@ -1,9 +1,9 @@
-//! A request with one of its bytes replaced: it is written as it was read, or has the fault that is told of it.
+//! A text with one byte replaced. A request is then written as it was read, or has the fault that is told of it.
 
 use case_files::Told;
 use d0_header::RequestHeader;
 use d0_segments::{FramingFault, Transmission, check_request, read_request, write};
-use std::alloc::{AllocError, Global};
+use std::alloc::Global;
 
 /// What comes of a request.
 #[derive(Clone, Copy, PartialEq, Eq)]
@@ -34,18 +34,25 @@ pub(crate) fn each_replaced(told: &mut Told, alloc: Global, text: &[u8]) {
 /// What comes of a request with one byte replaced.
 fn replaced(alloc: Global, text: &[u8], place: usize, byte: u8) -> Verdict {
     match with_byte(alloc, text, place, byte) {
-        Ok(text) => judged(alloc, text.as_slice()),
-        Err(_) => Verdict::Wrong,
+        Some(text) => judged(alloc, text.as_slice()),
+        None => Verdict::Wrong,
     }
 }
 
 /// A text with one byte replaced.
-fn with_byte(alloc: Global, text: &[u8], place: usize, byte: u8) -> Result<Vec<u8>, AllocError> {
-    let mut copy = Vec::from_slice(alloc, text)?;
-    if place < copy.len() {
-        copy[place] = byte;
+pub(crate) fn with_byte(alloc: Global, text: &[u8], place: usize, byte: u8) -> Option<Vec<u8>> {
+    match Vec::from_slice(alloc, text) {
+        Ok(text) => Some(put_byte(text, place, byte)),
+        Err(_) => None,
     }
-    Ok(copy)
+}
+
+/// The same of a text that is owned.
+fn put_byte(mut text: Vec<u8>, place: usize, byte: u8) -> Vec<u8> {
+    if place < text.len() {
+        text[place] = byte;
+    }
+    text
 }
 
 /// What comes of a request.

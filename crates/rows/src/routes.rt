@@ -102,6 +102,14 @@ fn tell_row(told: &mut Told, row: &RouteRow) {
     told.field("payer", row.payer());
 }
 
+/// The routes of one row: a BIN goes to payer 1.
+pub(crate) fn routed(alloc: Global, bin: &[u8]) -> Option<Routes> {
+    match Octets::copy_of(alloc, bin) {
+        Ok(bin) => Routes::new(alloc, &[RouteRow::new(bin, None, 1)], 1).ok(),
+        Err(_) => None,
+    }
+}
+
 /// The row of a payer and a BIN number.
 fn bin_row(alloc: Global, argument: &[u8]) -> Option<RouteRow> {
     match number_first(argument) {

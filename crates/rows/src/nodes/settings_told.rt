@@ -1,7 +1,7 @@
 //! How the parts of a world's settings are told.
 
-use crate::journal_told::tell_settings;
-use crate::steps::place_in;
+use crate::arguments::place_in;
+use crate::nodes::journal_told::tell_settings;
 use bin_routes::RouteRow;
 use case_files::Told;
 use world_setup::{PayerSettings, WorldSettings};

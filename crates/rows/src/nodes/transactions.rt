@@ -1,6 +1,7 @@
 //! A transaction of a pharmacy: open with its request, and settled by its answer.
 
-use crate::steps::{id_and_text, refused, tell_id};
+use crate::arguments::id_first;
+use crate::telling::{refused, tell_id};
 use case_files::{Subject, Told};
 use claim_profile::check_readable;
 use envelope::TxnId;
@@ -38,7 +39,7 @@ impl Transactions {
 
     /// Opens a transaction with a readable request: `PHARMACY NUMBER TEXT`.
     fn open(&mut self, told: &mut Told, alloc: Global, argument: &[u8]) {
-        self.open = match id_and_text(argument) {
+        self.open = match id_first(argument) {
             Some((id, text)) => opened(alloc, id, text),
             None => None,
         };

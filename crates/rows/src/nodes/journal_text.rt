@@ -1,13 +1,14 @@
 //! Steps on the journal of pharmacy 1, and its text.
 
-ghost use Rattle.std.specs.Prelude.{◌≡◌, IfSome, length};
-
-use crate::arguments::{capped, first_number};
-use crate::records::{self, Kind};
+use crate::arguments::{capped, number_first};
+use crate::nodes::journal::opened;
+use crate::nodes::journal_settings::pharmacy_settings;
+use crate::nodes::records::{self, Kind};
+use crate::telling::tell_text;
 use case_files::{Subject, Told};
 use kept_records::{RecordFault, read_journal, save_journal, write_journal};
-use pharmacy_journal::{JournalAtRest, Pharmacy, PharmacySettings};
-use std::alloc::{AllocError, Global};
+use pharmacy_journal::{JournalAtRest, Pharmacy};
+use std::alloc::Global;
 
 /// The pharmacy that the next step is for, up or at rest.
 #[derive(Drop)]
@@ -47,7 +48,7 @@ impl Journals {
         match capped(argument) {
             Some((cap, _)) => {
                 self.rest = None;
-                self.up = opened(alloc, cap);
+                self.up = opened(alloc, 6, 2, cap);
                 told.word("ok");
             }
             None => told.refuse(),
@@ -112,7 +113,7 @@ impl Journals {
 
     /// Tells the request and the answer of a number in the journal at rest.
     fn entry(&self, told: &mut Told, argument: &[u8]) {
-        match first_number(argument) {
+        match number_first(argument) {
             Some((number, _)) => match &self.rest {
                 Some(rest) => tell_entry(told, rest, number),
                 None => told.refuse(),
@@ -137,38 +138,9 @@ fn tell_entry(told: &mut Told, rest: &JournalAtRest, number: u64) {
     }
 }
 
-/// Tells a text that was written.
-fn tell_text(told: &mut Told, text: Result<Vec<u8>, AllocError>) {
-    match text {
-        Ok(text) => told.bytes(text.as_slice()),
-        Err(_) => told.refuse(),
-    }
-}
-
-/// The settings of a pharmacy that tries switches 1 and 2.
-fn settings(alloc: Global, cap: u32) -> Option<PharmacySettings>
-    ensures { IfSome result (λ s. length s.nodes ≡ 2) }
-{
-    match Vec::from_slice(alloc, &[1, 2]) {
-        Ok(nodes) => match PharmacySettings::new(*b"01", *b"1234567893     ", nodes, 6, 2, cap) {
-            Ok(settings) => Some(settings),
-            Err(_) => None,
-        },
-        Err(_) => None,
-    }
-}
-
-/// The empty journal of pharmacy 1.
-fn opened(alloc: Global, cap: u32) -> Option<Pharmacy> {
-    match settings(alloc, cap) {
-        Some(settings) => Pharmacy::new(alloc, 1, settings).ok(),
-        None => None,
-    }
-}
-
 /// The journal of pharmacy 1 that the bytes are.
 fn read_as(alloc: Global, cap: u32, bytes: &[u8]) -> Result<JournalAtRest, RecordFault> {
-    match settings(alloc, cap) {
+    match pharmacy_settings(alloc, 6, 2, cap) {
         Some(settings) => read_journal(alloc, bytes, 1, settings),
         None => Err(RecordFault::OutOfMemory),
     }

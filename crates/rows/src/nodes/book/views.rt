@@ -1,6 +1,6 @@
 //! What is seen of a book.
 
-use crate::arguments::{first_number, named_number, numbered};
+use crate::arguments::{named_number, number_first, numbered};
 use case_files::Told;
 use claim_profile::Auth;
 use payer_book::{Book, BookAtRest, BookSettings, PayerNo, PaymentView, Plan, Row};
@@ -50,7 +50,7 @@ fn tell_payment(told: &mut Told, payment: &PaymentView) {
 
 /// Tells the row at a place, from 0.
 pub(crate) fn row(told: &mut Told, rows: &[Row], argument: &[u8]) {
-    match first_number(argument) {
+    match number_first(argument) {
         Some((place, _)) => match rows.get(place as usize) {
             Some(row) => tell_row(told, row),
             None => told.word("none"),

@@ -1,11 +1,13 @@
 //! A pharmacy at work, step by step.
 
-use crate::journal_told::{tell_list, tell_paid, tell_sent};
-use crate::steps::{done, id_and_text, refused, tell_found, three_numbers};
+use crate::arguments::{id_first, three_numbers};
+use crate::nodes::journal_settings::pharmacy_settings;
+use crate::nodes::journal_told::{tell_list, tell_paid, tell_sent};
+use crate::telling::{done, refused, tell_found};
 use case_files::{Subject, Told};
 use envelope::{Envelope, Kind, write};
 use input_text::read_decimal;
-use pharmacy_journal::{Pharmacy, PharmacySettings};
+use pharmacy_journal::Pharmacy;
 use std::alloc::Global;
 
 /// The pharmacy that the steps are taken on: pharmacy 1, which sends to the switches 1 and 2.
@@ -59,11 +61,10 @@ impl Journals {
 }
 
 /// Pharmacy 1 without an entry.
-fn opened(alloc: Global, again: u32, tries: u32, cap: u32) -> Option<Pharmacy> {
-    let nodes = Vec::from_slice(alloc, &[1, 2]).ok()?;
-    match PharmacySettings::new(*b"01", *b"1234567893     ", nodes, again, tries, cap) {
-        Ok(settings) => Pharmacy::new(alloc, 1, settings).ok(),
-        Err(_) => None,
+pub(crate) fn opened(alloc: Global, again: u32, tries: u32, cap: u32) -> Option<Pharmacy> {
+    match pharmacy_settings(alloc, again, tries, cap) {
+        Some(settings) => Pharmacy::new(alloc, 1, settings).ok(),
+        None => None,
     }
 }
 
@@ -72,12 +73,12 @@ fn step(told: &mut Told, alloc: Global, pharmacy: &mut Pharmacy, word: &str, arg
     match word {
         "submit" => submit(told, pharmacy, argument),
         "send" => send(told, pharmacy, argument),
-        "tick" => tick(told, pharmacy),
+        "tick" => tell_sent(told, pharmacy.tick()),
         "hear" => hear(told, alloc, pharmacy, Kind::Answer, argument),
         "hear-request" => hear(told, alloc, pharmacy, Kind::Request, argument),
         "held" => held(told, pharmacy, argument),
-        "paid" => paid(told, pharmacy),
-        "list" => list(told, pharmacy),
+        "paid" => tell_paid(told, pharmacy.paid()),
+        "list" => tell_list(told, pharmacy.list()),
         "tell" => tell(told, pharmacy),
         _ => told.refuse(),
     }
@@ -103,17 +104,9 @@ fn send(told: &mut Told, pharmacy: &mut Pharmacy, text: &[u8]) {
     }
 }
 
-/// Lets time pass, and tells the packets that are sent.
-fn tick(told: &mut Told, pharmacy: &mut Pharmacy) {
-    match pharmacy.tick() {
-        Ok(sent) => tell_sent(told, sent.as_slice()),
-        Err(_) => told.refuse(),
-    }
-}
-
 /// Hands the pharmacy a packet of a kind: `PHARMACY NUMBER TEXT`.
 fn hear(told: &mut Told, alloc: Global, pharmacy: &mut Pharmacy, kind: Kind, argument: &[u8]) {
-    match id_and_text(argument) {
+    match id_first(argument) {
         Some((id, text)) => match write(alloc, kind, id, text) {
             Ok(packet) => hear_packet(told, pharmacy, packet.as_slice()),
             Err(_) => told.refuse(),
@@ -135,22 +128,6 @@ fn held(told: &mut Told, pharmacy: &Pharmacy, argument: &[u8]) {
     match read_decimal(argument, 18) {
         Some(number) => tell_found(told, pharmacy.held(number)),
         None => told.refuse(),
-    }
-}
-
-/// Tells the payments that the pharmacy counts.
-fn paid(told: &mut Told, pharmacy: &Pharmacy) {
-    match pharmacy.paid() {
-        Ok(paid) => tell_paid(told, paid.as_slice()),
-        Err(_) => told.refuse(),
-    }
-}
-
-/// Tells the entries.
-fn list(told: &mut Told, pharmacy: &Pharmacy) {
-    match pharmacy.list() {
-        Ok(views) => tell_list(told, views.as_slice()),
-        Err(_) => told.refuse(),
     }
 }
 

@@ -1,7 +1,8 @@
 //! Settings documents: the lines of one, and pieces of it in place of others.
 
-use crate::settings_told::tell_part;
-use crate::steps::{cut, in_two, refused};
+use crate::arguments::{cut, in_two};
+use crate::nodes::settings_told::tell_part;
+use crate::telling::refused;
 use case_files::{Subject, Told};
 use std::alloc::{AllocError, Global};
 use world_settings::{read_settings, settings_fault};

@@ -1,10 +1,11 @@
 //! A switch, step by step.
 
-use crate::steps::{id_and_text, refused, small, tell_id, tell_packet};
-use bin_routes::{RouteRow, Routes};
+use crate::arguments::{id_first, small};
+use crate::routes::routed;
+use crate::telling::{refused, tell_id, tell_packet};
+use bin_routes::Routes;
 use case_files::{Subject, Told};
 use envelope::{Envelope, Kind, write};
-use octets::Octets;
 use std::alloc::Global;
 use switch_node::{InFlight, Routed, Switch, SwitchSettings};
 
@@ -77,14 +78,6 @@ impl Switches {
     }
 }
 
-/// The routes of one row: a BIN goes to payer 1.
-pub(crate) fn routed(alloc: Global, bin: &[u8]) -> Option<Routes> {
-    match Octets::copy_of(alloc, bin) {
-        Ok(bin) => Routes::new(alloc, &[RouteRow::new(bin, None, 1)], 1).ok(),
-        Err(_) => None,
-    }
-}
-
 /// Takes a step on an open switch.
 fn step(
     told: &mut Told,
@@ -113,7 +106,7 @@ fn request(
     kind: Kind,
     argument: &[u8],
 ) {
-    match id_and_text(argument) {
+    match id_first(argument) {
         Some((id, text)) => match write(alloc, kind, id, text) {
             Ok(packet) => ask(told, switch, routes, packet.as_slice()),
             Err(_) => told.refuse(),
@@ -150,7 +143,7 @@ fn tell_routed(told: &mut Told, routed: &Routed) {
 
 /// Hands the switch a packet of a kind as a response: `PHARMACY NUMBER TEXT`.
 fn response(told: &mut Told, alloc: Global, switch: &mut Switch, kind: Kind, argument: &[u8]) {
-    match id_and_text(argument) {
+    match id_first(argument) {
         Some((id, text)) => match write(alloc, kind, id, text) {
             Ok(packet) => respond(told, switch, packet.as_slice()),
             Err(_) => told.refuse(),

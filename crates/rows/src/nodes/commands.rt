@@ -1,7 +1,7 @@
 //! Lines of a run: commands, faults of links, and what is wrong in a line.
 
-use crate::schedules::{tell_node, tell_plan, tell_submission};
-use crate::steps::refused;
+use crate::nodes::schedules::{tell_node, tell_plan, tell_submission};
+use crate::telling::refused;
 use case_files::{Subject, Told};
 use schedule::{Command, Run, command_fault, read_run};
 use std::alloc::Global;

@@ -1,10 +1,12 @@
 //! What a book at work answers.
 
 use crate::arguments::{are_same, first_word, numbered};
-use crate::book::{each, keys, opening, texts, views};
+use crate::nodes::book::{each, keys, texts, views};
+use crate::routes::routed;
+use crate::telling::{refused, tell_envelope};
 use bin_routes::Routes;
 use case_files::Told;
-use envelope::{Envelope, TxnId};
+use envelope::TxnId;
 use input_text::read_decimal;
 use payer_book::{Book, PlanFault, Reply, Row};
 use std::alloc::Global;
@@ -28,7 +30,7 @@ pub(crate) fn tell(told: &mut Told, alloc: Global, book: &mut Book, word: &str, 
 /// A request comes to the book: `NUMBER REQUEST`.
 fn request(told: &mut Told, alloc: Global, book: &mut Book, word: &str, argument: &[u8]) {
     match numbered(argument) {
-        Some((id, request)) => match opening::routes(alloc) {
+        Some((id, request)) => match routed(alloc, b"610455") {
             Some(routes) => match word {
                 "answer" => answer(told, book, &routes, id, request),
                 "place" => place(told, book, &routes, id, request),
@@ -44,10 +46,7 @@ fn request(told: &mut Told, alloc: Global, book: &mut Book, word: &str, argument
 fn answer(told: &mut Told, book: &mut Book, routes: &Routes, id: TxnId, request: &[u8]) {
     match book.answer(routes, id, request) {
         Ok(reply) => tell_reply(told, book, id, &reply),
-        Err(fault) => {
-            told.word("refused");
-            told.named(fault);
-        }
+        Err(fault) => refused(told, fault),
     }
 }
 
@@ -66,10 +65,7 @@ fn place(told: &mut Told, book: &mut Book, routes: &Routes, id: TxnId, request: 
             told.shown(at.place);
             tell_answer(told, book.row(at.place));
         }
-        Err(fault) => {
-            told.word("refused");
-            told.named(fault);
-        }
+        Err(fault) => refused(told, fault),
     }
 }
 
@@ -101,23 +97,8 @@ fn tell_held(told: &mut Told, held: Option<&[u8]>, answer: &[u8]) {
 /// The book answers with a packet.
 fn packet(told: &mut Told, book: &mut Book, routes: &Routes, id: TxnId, request: &[u8]) {
     match book.answer_packet(routes, id, request) {
-        Ok(packet) => tell_packet(told, packet.as_slice()),
-        Err(fault) => {
-            told.word("refused");
-            told.named(fault);
-        }
-    }
-}
-
-/// Tells the kind, the id and the payload of a packet.
-fn tell_packet(told: &mut Told, packet: &[u8]) {
-    match Envelope::read(packet) {
-        Ok(envelope) => {
-            told.named(envelope.kind());
-            told.shown(envelope.id());
-            told.bytes(envelope.payload());
-        }
-        Err(fault) => told.named(fault),
+        Ok(packet) => tell_envelope(told, packet.as_slice()),
+        Err(fault) => refused(told, fault),
     }
 }
 

@@ -1,7 +1,7 @@
 //! Books that are made again from kept rows, and rows that cannot stand.
 
 use crate::arguments::{are_same, cut, numbered};
-use crate::book::{Books, opening};
+use crate::nodes::book::{Books, opening};
 use case_files::Told;
 use envelope::TxnId;
 use payer_book::{Book, BookAtRest, Row};

@@ -1,9 +1,10 @@
 //! What a pharmacy is opened with, and the limits of it.
 
-ghost use Rattle.std.specs.Prelude.{◌≤◌, length};
+ghost use Rattle.std.specs.Prelude.{◌≡◌, ◌≤◌, IfSome, length};
 
-use crate::journal_told::tell_settings;
-use crate::steps::{refused, three_numbers};
+use crate::arguments::three_numbers;
+use crate::nodes::journal_told::tell_settings;
+use crate::telling::refused;
 use case_files::{Subject, Told};
 use input_text::split_word;
 use pharmacy_journal::PharmacySettings;
@@ -54,5 +55,25 @@ fn copied(told: &mut Told, settings: &PharmacySettings) {
     match settings.copy() {
         Ok(copy) => tell_settings(told, &copy),
         Err(_) => told.refuse(),
+    }
+}
+
+/// Settings of the provider `1234567893` and the switches 1 and 2, where there are some of these numbers.
+pub(crate) fn pharmacy_settings(
+    alloc: Global,
+    again: u32,
+    tries: u32,
+    cap: u32,
+) -> Option<PharmacySettings>
+    ensures { IfSome result (λ s. length s.nodes ≡ 2) }
+{
+    match Vec::from_slice(alloc, &[1, 2]) {
+        Ok(nodes) => {
+            match PharmacySettings::new(*b"01", *b"1234567893     ", nodes, again, tries, cap) {
+                Ok(settings) => Some(settings),
+                Err(_) => None,
+            }
+        }
+        Err(_) => None,
     }
 }

@@ -1,11 +1,9 @@
 //! Opening, stopping and starting books.
 
 use crate::arguments::{book_settings, first_word};
-use crate::book::{Books, keys};
-use bin_routes::{RouteRow, Routes};
+use crate::nodes::book::{Books, keys};
 use case_files::Told;
 use claim_profile::Amount;
-use octets::Octets;
 use payer_book::{Book, BookAtRest, BookSettings, HashKeys, PayerNo, Plan};
 use std::alloc::Global;
 
@@ -106,14 +104,6 @@ fn plan(alloc: Global) -> Option<Plan> {
 fn priced(mut plan: Plan) -> Option<Plan> {
     match plan.set(b"00093721410", 18_567) {
         Ok(()) => Some(plan),
-        Err(_) => None,
-    }
-}
-
-/// The routes by which the BIN number 610455 leads to payer 1.
-pub(crate) fn routes(alloc: Global) -> Option<Routes> {
-    match Octets::copy_of(alloc, b"610455") {
-        Ok(bin) => Routes::new(alloc, &[RouteRow::new(bin, None, 1)], 1).ok(),
         Err(_) => None,
     }
 }

@@ -2,6 +2,7 @@
 //! byte changed.
 
 use crate::arguments::are_same;
+use crate::replacing::with_byte;
 use case_files::Told;
 use kept_records::RecordFault;
 use std::alloc::Global;
@@ -72,7 +73,7 @@ pub(crate) fn alter_each<K: Kind>(told: &mut Told, alloc: Global, kind: &K, byte
     };
     for place in 0..bytes.len() {
         for byte in [0, 1, 0x1c, 0x7f, 0xff] {
-            match changed(alloc, bytes, place, byte) {
+            match with_byte(alloc, bytes, place, byte) {
                 Some(text) => count = judge(told, alloc, kind, text.as_slice(), count),
                 None => told.refuse(),
             }
@@ -113,20 +114,4 @@ fn compare(told: &mut Told, text: &[u8], bytes: &[u8]) {
             told.bytes(bytes);
         }
     }
-}
-
-/// The bytes with another byte at a place.
-pub(crate) fn changed(alloc: Global, bytes: &[u8], place: usize, byte: u8) -> Option<Vec<u8>> {
-    match Vec::from_slice(alloc, bytes) {
-        Ok(bytes) => Some(with_byte(bytes, place, byte)),
-        Err(_) => None,
-    }
-}
-
-/// The same, where the bytes are owned.
-fn with_byte(mut bytes: Vec<u8>, place: usize, byte: u8) -> Vec<u8> {
-    if place < bytes.len() {
-        bytes[place] = byte;
-    }
-    bytes
 }

@@ -1,9 +1,8 @@
 //! Walks of a switch beside a plain list.
 
-use crate::steps::number_and_text;
-use crate::table_walk::Pair;
+use crate::arguments::two_first;
+use crate::nodes::table_walk::Pair;
 use case_files::{Subject, Told};
-use input_text::read_decimal;
 use std::alloc::Global;
 
 /// Rows of walks.
@@ -21,12 +20,9 @@ impl Subject for Walks {
 
 /// Tells how a switch of a cap fares beside a plain list over so many turns: `CAP TURNS`.
 fn against_list(told: &mut Told, alloc: Global, argument: &[u8]) {
-    match number_and_text(argument) {
-        Some((cap @ 1..=65_536, turns)) => match read_decimal(turns, 7) {
-            Some(turns) => match Pair::opened(alloc, cap as u32) {
-                Some(pair) => walk(told, pair, turns),
-                None => told.refuse(),
-            },
+    match two_first(argument) {
+        Some((cap @ 1..=65_536, turns, b"")) => match Pair::opened(alloc, cap as u32) {
+            Some(pair) => walk(told, pair, turns),
             None => told.refuse(),
         },
         _ => told.refuse(),

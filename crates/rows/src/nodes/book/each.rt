@@ -1,7 +1,7 @@
 //! The same request for many prescriptions, one after the other.
 
-use crate::arguments::{cut, first_number};
-use crate::book::opening;
+use crate::arguments::{cut, number_first};
+use crate::routes::routed;
 use bin_routes::Routes;
 use case_files::Told;
 use claim_profile::{Code, Rejects, Ruling};
@@ -40,7 +40,7 @@ struct Form<'a> {
 /// the place of the prescription number.
 pub(crate) fn tell(told: &mut Told, alloc: Global, book: &mut Book, argument: &[u8]) {
     match counted(argument) {
-        Some((count, form)) => match opening::routes(alloc) {
+        Some((count, form)) => match routed(alloc, b"610455") {
             Some(routes) => {
                 let series = answer_all(alloc, book, &routes, count, form);
                 tell_series(told, series);
@@ -53,7 +53,7 @@ pub(crate) fn tell(told: &mut Told, alloc: Global, book: &mut Book, argument: &[
 
 /// How many prescriptions, and what is asked for each.
 fn counted(argument: &[u8]) -> Option<(u64, Form<'_>)> {
-    match first_number(argument) {
+    match number_first(argument) {
         Some((count, text)) => match cut(text, b"@") {
             Some((front, behind)) => Some((count, Form { front, behind })),
             None => None,

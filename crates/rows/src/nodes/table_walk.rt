@@ -1,7 +1,7 @@
 //! A switch and a plain list that are handed the same random calls, half of them with the packet at hand.
 
-use crate::plain_table::{Done, Plain, PlainTable, UNROUTED};
-use crate::switch::routed;
+use crate::nodes::plain_table::{Done, Plain, PlainTable, UNROUTED};
+use crate::routes::routed;
 use bin_routes::Routes;
 use case_files::Told;
 use envelope::{Envelope, Kind, TxnId, write};

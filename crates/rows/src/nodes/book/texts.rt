@@ -1,13 +1,15 @@
 //! Books as texts.
 
-use crate::arguments::{book_settings, first_number};
-use crate::book::{Books, views};
-use crate::records::{self, Kind, changed};
+use crate::arguments::{book_settings, number_first};
+use crate::nodes::book::{Books, views};
+use crate::nodes::records::{self, Kind};
+use crate::replacing::with_byte;
+use crate::telling::tell_text;
 use case_files::Told;
 use d0_segments::check_request;
 use kept_records::{RecordFault, read_book, save_book, write_book};
 use payer_book::{Book, BookAtRest, BookSettings, PayerNo};
-use std::alloc::{AllocError, Global};
+use std::alloc::Global;
 
 /// A book of payer 1 with these settings.
 #[derive(Clone, Copy)]
@@ -39,7 +41,7 @@ impl Books {
     /// Reads a book at rest whose text has another byte at a place: `PLACE BYTE serial=FIRST cap=ROWS TEXT`.
     pub(crate) fn read_altered(&mut self, told: &mut Told, alloc: Global, argument: &[u8]) {
         match altered(argument) {
-            Some((place, byte, settings, text)) => match changed(alloc, text, place, byte) {
+            Some((place, byte, settings, text)) => match with_byte(alloc, text, place, byte) {
                 Some(text) => self.take(told, read_as(alloc, text.as_slice(), settings)),
                 None => told.refuse(),
             },
@@ -62,7 +64,7 @@ impl Books {
 
 /// A place, the byte there, the settings of a book and its text.
 fn altered(argument: &[u8]) -> Option<(usize, u8, BookSettings, &[u8])> {
-    match first_number(argument) {
+    match number_first(argument) {
         Some((place, [byte, b' ', rest @ ..])) => match book_settings(rest) {
             Some((settings, text)) => Some((place as usize, *byte, settings, text)),
             None => None,
@@ -87,14 +89,6 @@ pub(crate) fn written(told: &mut Told, alloc: Global, book: &Book) {
 /// Tells the text of a book at rest.
 pub(crate) fn written_rest(told: &mut Told, alloc: Global, rest: &BookAtRest) {
     tell_text(told, write_book(alloc, rest));
-}
-
-/// Tells a text that was written.
-pub(crate) fn tell_text(told: &mut Told, text: Result<Vec<u8>, AllocError>) {
-    match text {
-        Ok(text) => told.bytes(text.as_slice()),
-        Err(_) => told.refuse(),
-    }
 }
 
 /// Tells what each beginning of a book's text comes to: `serial=FIRST cap=ROWS TEXT`.

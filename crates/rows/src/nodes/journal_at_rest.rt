@@ -1,10 +1,12 @@
 //! A journal at rest: its entries are added one by one, and then it starts.
 
-use crate::journal_told::{tell_entry, tell_list, tell_paid, tell_sent};
-use crate::steps::{done, in_two, small, tell_found};
+use crate::arguments::{in_two, small};
+use crate::nodes::journal_settings::pharmacy_settings;
+use crate::nodes::journal_told::{tell_entry, tell_list, tell_paid, tell_sent};
+use crate::telling::{done, tell_found};
 use case_files::{Subject, Told};
 use input_text::read_decimal;
-use pharmacy_journal::{JournalAtRest, Pharmacy, PharmacySettings};
+use pharmacy_journal::{JournalAtRest, Pharmacy};
 use std::alloc::Global;
 
 /// The journal of pharmacy 1, at rest or started.
@@ -71,12 +73,11 @@ impl Rests {
     }
 }
 
-/// A journal at rest of pharmacy 1, which sends to the switches 1 and 2.
+/// A journal at rest of pharmacy 1, which takes so many entries.
 fn opened(alloc: Global, cap: u32) -> Option<JournalAtRest> {
-    let nodes = Vec::from_slice(alloc, &[1, 2]).ok()?;
-    match PharmacySettings::new(*b"01", *b"1234567893     ", nodes, 1, 1, cap) {
-        Ok(settings) => Some(JournalAtRest::new(alloc, 1, settings)),
-        Err(_) => None,
+    match pharmacy_settings(alloc, 1, 1, cap) {
+        Some(settings) => Some(JournalAtRest::new(alloc, 1, settings)),
+        None => None,
     }
 }
 
@@ -87,8 +88,8 @@ fn at_rest(told: &mut Told, rest: &mut JournalAtRest, word: &str, argument: &[u8
         "settled" => settled(told, rest, argument),
         "entry" => entry(told, rest, argument),
         "held" => held(told, rest, argument),
-        "list" => list(told, rest),
-        "paid" => paid(told, rest),
+        "list" => tell_list(told, rest.list()),
+        "paid" => tell_paid(told, rest.paid()),
         "tell" => tell(told, rest),
         _ => told.refuse(),
     }
@@ -118,22 +119,6 @@ fn held(told: &mut Told, rest: &JournalAtRest, argument: &[u8]) {
     }
 }
 
-/// Tells the entries.
-fn list(told: &mut Told, rest: &JournalAtRest) {
-    match rest.list() {
-        Ok(views) => tell_list(told, views.as_slice()),
-        Err(_) => told.refuse(),
-    }
-}
-
-/// Tells the payments that the journal counts.
-fn paid(told: &mut Told, rest: &JournalAtRest) {
-    match rest.paid() {
-        Ok(paid) => tell_paid(told, paid.as_slice()),
-        Err(_) => told.refuse(),
-    }
-}
-
 /// Tells the pharmacy's number, its cap, and how many entries it has.
 fn tell(told: &mut Told, rest: &JournalAtRest) {
     told.field("number", rest.number());
@@ -146,15 +131,7 @@ fn started(told: &mut Told, pharmacy: &mut Pharmacy, word: &str, argument: &[u8]
     match (word, read_decimal(argument, 18)) {
         ("entry", Some(number)) => tell_entry(told, pharmacy.entry(number)),
         ("held", Some(number)) => tell_found(told, pharmacy.held(number)),
-        ("tick", None) => tick(told, pharmacy),
+        ("tick", None) => tell_sent(told, pharmacy.tick()),
         _ => told.refuse(),
-    }
-}
-
-/// Lets time pass, and tells the packets that are sent.
-fn tick(told: &mut Told, pharmacy: &mut Pharmacy) {
-    match pharmacy.tick() {
-        Ok(sent) => tell_sent(told, sent.as_slice()),
-        Err(_) => told.refuse(),
     }
 }

@@ -1,6 +1,6 @@
 //! Lines of a schedule, what is wrong in one, and where an input divides.
 
-use crate::steps::refused;
+use crate::telling::refused;
 use case_files::{Subject, Told};
 use schedule::{divide, event_fault, read_schedule};
 use std::alloc::Global;

@@ -2,9 +2,18 @@
 
 use case_files::Told;
 use pharmacy_journal::{CountedPayment, EntryView, KeptEntry, PharmacySettings, Sent};
+use std::alloc::AllocError;
 
 /// Tells the packets that a tick sends: the switch of each, and how many bytes it has.
-pub(crate) fn tell_sent(told: &mut Told, sent: &[Sent]) {
+pub(crate) fn tell_sent(told: &mut Told, sent: Result<Vec<Sent>, AllocError>) {
+    match sent {
+        Ok(sent) => each_sent(told, sent.as_slice()),
+        Err(_) => told.refuse(),
+    }
+}
+
+/// The same of these packets.
+fn each_sent(told: &mut Told, sent: &[Sent]) {
     if sent.is_empty() {
         told.word("nothing");
     }
@@ -15,7 +24,15 @@ pub(crate) fn tell_sent(told: &mut Told, sent: &[Sent]) {
 }
 
 /// Tells what all counted payments come to, and of each its serial number and its fill number.
-pub(crate) fn tell_paid(told: &mut Told, paid: &[CountedPayment]) {
+pub(crate) fn tell_paid(told: &mut Told, paid: Result<Vec<CountedPayment>, AllocError>) {
+    match paid {
+        Ok(paid) => each_paid(told, paid.as_slice()),
+        Err(_) => told.refuse(),
+    }
+}
+
+/// The same of these payments.
+fn each_paid(told: &mut Told, paid: &[CountedPayment]) {
     told.field("sum", sum(paid));
     for payment in paid {
         told.field("serial", payment.auth().serial());
@@ -33,7 +50,15 @@ fn sum(paid: &[CountedPayment]) -> u64 {
 }
 
 /// Tells of each entry its number, its code, how many transactions it has, and how many rulings on them.
-pub(crate) fn tell_list(told: &mut Told, views: &[EntryView]) {
+pub(crate) fn tell_list(told: &mut Told, views: Result<Vec<EntryView>, AllocError>) {
+    match views {
+        Ok(views) => each_view(told, views.as_slice()),
+        Err(_) => told.refuse(),
+    }
+}
+
+/// The same of these entries.
+fn each_view(told: &mut Told, views: &[EntryView]) {
     if views.is_empty() {
         told.word("nothing");
     }
