@@ -7,7 +7,7 @@ ghost use Rattle.log_audit.specs.Seen.{field_seen};
 ghost use Rattle.log_audit.specs.Kinds.{kind_word, kind_in, date_in, letters_of, number_of, node_member};
 
 use crate::tables::fields::Field;
-use claim_profile::{TransactionCode, check_readable};
+use claim_profile::{TransactionCode, code_of};
 use payer_book::Row;
 use world_setup::Node;
 
@@ -27,20 +27,16 @@ pub(crate) fn kind_word(code: [u8; 2]) -> &'static [u8]
 pub(crate) fn kind_of(row: &Row) -> &'static [u8]
     ensures { result.now ≡ kind_in (readable_header row.now.request) }
 {
-    match check_readable(row.request()) {
-        Some(framed) => kind_word(framed.header().code()),
-        None => b"",
-    }
+    let _readable = row.answer();
+    kind_word(code_of(row.request()))
 }
 
 /// The date of service (401-D1) of a row's request.
 pub(crate) fn date_of(row: &Row) -> [u8; 8]
     ensures { result ≡ date_in (readable_header row.now.request) }
 {
-    match check_readable(row.request()) {
-        Some(framed) => framed.header().date(),
-        None => [b' '; 8],
-    }
+    let _readable = row.answer();
+    claim_profile::date_of(row.request())
 }
 
 /// A node by its letters and its number, as schedules name it.
