@@ -1,3 +1,5 @@
+//! Where requests and answers come from, whatever events come.
+
 ghost use Rattle.std.specs.Prelude.{List};
 ghost use Rattle.claim_model.specs.Context.{Context};
 ghost use Rattle.claim_model.specs.Settings.{WorldSettings};

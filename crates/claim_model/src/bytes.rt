@@ -1,3 +1,5 @@
+//! What the theorems ask of the crates that read and write bytes.
+
 ghost use Rattle.std.specs.Prelude.{◌≡◌, ◌<◌, ◌≤◌, ℕ, List, length, None, Some};
 ghost use Rattle.bin_routes.specs.Row.{Row};
 ghost use Rattle.bin_routes.specs.Fault.{first_fault};

@@ -1,3 +1,5 @@
+//! What a delivery can be refused for.
+
 ghost use Rattle.claim_model.specs.Context.{Context};
 ghost use Rattle.claim_model.specs.Settings.{WorldSettings};
 ghost use Rattle.claim_model.specs.World.{World};

@@ -1,3 +1,5 @@
+//! Legal interleavings of logs: how one is found, and that all of them agree.
+
 ghost use Rattle.std.specs.Prelude.{◌⊎◌, List};
 ghost use Rattle.std.specs.List.{AllByRecursion};
 ghost use Rattle.claim_model.specs.Context.{Context};

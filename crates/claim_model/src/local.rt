@@ -1,3 +1,5 @@
+//! What a call on one node hangs on, and what it leaves alone.
+
 ghost use Rattle.std.specs.Prelude.{◌≡◌, ℕ, List};
 ghost use Rattle.claim_model.specs.Context.{Context};
 ghost use Rattle.claim_model.specs.Numbered.{numbered};

@@ -1,3 +1,5 @@
+//! What is true of payments, whatever events come.
+
 ghost use Rattle.claim_model.specs.Context.{Context};
 ghost use Rattle.claim_model.specs.Settings.{WorldSettings};
 ghost use Rattle.claim_model.specs.World.{World};

@@ -1,3 +1,5 @@
+//! What the tables of switches keep, whatever events come.
+
 ghost use Rattle.std.specs.Prelude.{◌<◌, List};
 ghost use Rattle.std.specs.List.{AllByRecursion};
 ghost use Rattle.claim_model.specs.Context.{Context};

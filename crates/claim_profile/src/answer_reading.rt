@@ -41,7 +41,7 @@ pub enum AnswerFault {
     /// response status (501-F1) is neither `A` nor `R`, or is `R` beside a status other than `R`.
     #[error("a response status is unknown or contradicts the header")]
     BadStatus,
-    /// One of the four amounts is missing, doubled, no amount or negative, or they don't go together.
+    /// One of the four amounts is missing, doubled, no amount or negative, or they do not go together.
     #[error("the amounts of a transaction are missing or don't go together")]
     BadAmount,
     /// The authorization number (503-F3) is missing, doubled or not sixteen digits of a payer and
@@ -112,7 +112,7 @@ impl Answer {
 }
 
 /// Reads an answer. Fields and segments come in any order, unknown ones and fields that a ruling
-/// does not have are ignored, and empty values don't count.
+/// does not have are ignored, and empty values do not count.
 pub fn read_answer(alloc: Global, bytes: &[u8]) -> Result<Answer, AnswerFault>
     ensures read { IfOk result (λ answer. answer_of bytes.now ≡ Ok answer) }
     // The first fault, unless memory ran out.
@@ -142,7 +142,7 @@ pub fn check_answer(bytes: &[u8]) -> Result<ResponseHeader, AnswerFault>
     Ok(header)
 }
 
-// Tests the rulings of the groups behind a place, so many, in order.
+/// Tests the rulings of the groups behind a place, so many, in order.
 fn check_rulings(header: &ResponseHeader, from: Cursor<'_>, count: usize) -> Result<(), AnswerFault>
     requires { count ≡ length (groups_of from.bytes.now) }
     ensures read { OnOk result ((rulings : List Ruling) × (rulings_in header.now (groups_of from.entry.bytes.now) ≡ Ok rulings)) }
@@ -158,7 +158,7 @@ fn check_rulings(header: &ResponseHeader, from: Cursor<'_>, count: usize) -> Res
     Ok(())
 }
 
-// The rulings of the groups behind a place, so many, in order.
+/// The rulings of the groups behind a place, so many, in order.
 fn rulings_of(
     alloc: Global,
     header: &ResponseHeader,
@@ -181,7 +181,7 @@ fn rulings_of(
     Ok(rulings)
 }
 
-// The place where the next group begins, of so many that are left: behind the last one none is looked for.
+/// The place where the next group begins, of so many that are left: behind the last one none is looked for.
 #[inline(always)]
 fn next_group(rest: Cursor<'_>, left: usize) -> Option<Cursor<'_>>
     requires { left ≡ length (groups_of rest.bytes.now) }
@@ -194,7 +194,7 @@ fn next_group(rest: Cursor<'_>, left: usize) -> Option<Cursor<'_>>
     rest.group()
 }
 
-// The status of a transaction (112-AN).
+/// The status of a transaction (112-AN).
 #[derive(Clone, Copy, Debug, PartialEq, Eq)]
 enum Status {
     Paid,
@@ -210,7 +210,7 @@ pub fn ruling(header: &ResponseHeader, group: Cursor<'_>) -> Result<Ruling, Answ
     ruling_of(header, &AnswerValues::of(group), group)
 }
 
-// The ruling that these values of a group spell.
+/// The ruling that these values of a group spell.
 fn ruling_of(
     header: &ResponseHeader,
     values: &AnswerValues<'_>,
@@ -225,7 +225,7 @@ fn ruling_of(
     }
 }
 
-// The ruling that these values spell, None where the transaction is rejected.
+/// The ruling that these values spell, None where the transaction is rejected.
 fn ruled(header: &ResponseHeader, values: &AnswerValues<'_>) -> Result<Option<Ruling>, AnswerFault>
     ensures { result ≡ ruled_seen header.now (answer_seen values.now) }
 {
@@ -255,7 +255,7 @@ fn ruled(header: &ResponseHeader, values: &AnswerValues<'_>) -> Result<Option<Ru
     }
 }
 
-// The status of the transaction, where it may stand beside the header.
+/// The status of the transaction, where it may stand beside the header.
 fn status_beside(header: &ResponseHeader, found: Found<'_>) -> Result<Status, AnswerFault>
     ensures { result ≡ status_seen header.now (seen found.entry) }
 {
@@ -280,14 +280,14 @@ fn status_of(text: &[u8]) -> Option<Status>
     }
 }
 
-// Whether the header has version `D0` and a status beside which this one may stand.
+/// Whether the header has version `D0` and a status beside which this one may stand.
 fn stands_beside(header: &ResponseHeader, status: Status) -> bool
     ensures { result ≡ stands_beside header.now status }
 {
     is_same(header.version(), *b"D0") && stands_under(header.status(), status)
 }
 
-// Whether a status may stand under this header response status (501-F1).
+/// Whether a status may stand under this header response status (501-F1).
 fn stands_under(header: u8, status: Status) -> bool
     ensures { result ≡ stands_under header status }
 {
@@ -298,7 +298,7 @@ fn stands_under(header: u8, status: Status) -> bool
     }
 }
 
-// What a paid claim has: authorization number, prescription number and amounts.
+/// What a paid claim has: authorization number, prescription number and amounts.
 fn payment(values: &AnswerValues<'_>) -> Result<(Auth, u64, Amounts), AnswerFault>
     ensures { result ≡ payment_seen (answer_seen values.now) }
 {
@@ -332,7 +332,7 @@ fn amounts(values: &AnswerValues<'_>) -> Result<Amounts, AnswerFault>
     all_amounts(values).ok_or(AnswerFault::BadAmount)
 }
 
-// The four amounts, where they go together.
+/// The four amounts, where they go together.
 fn all_amounts(values: &AnswerValues<'_>) -> Option<Amounts>
     ensures { result ≡ all_money_seen (answer_seen values.now) }
 {
@@ -343,7 +343,7 @@ fn all_amounts(values: &AnswerValues<'_>) -> Option<Amounts>
     Amounts::of_cents(cost, fee, copay, total)
 }
 
-// A rejection, where the count is that of the codes.
+/// A rejection, where the count is that of the codes.
 fn rejected(count: Found<'_>, group: Cursor<'_>) -> Result<Ruling, AnswerFault>
     ensures { result ≡ rejection_with (some_codes (codes_counted (Some []) (values_in (codes "21") (codes "FB") (shared_of group.entry.bytes.now)))) (required_seen (number_up_to 2) (seen count.entry)) }
 {

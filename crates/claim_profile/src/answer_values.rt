@@ -35,7 +35,7 @@ impl FoundCodes {
         found
     }
 
-    // Before any field was read.
+    /// Before any field was read.
     fn new() -> FoundCodes
         ensures { codes_seen result ≡ Some [] }
     {
@@ -45,7 +45,7 @@ impl FoundCodes {
         }
     }
 
-    // Counts the fields that are left of a segment, and gives a place from which the same segments follow.
+    /// Counts the fields that are left of a segment, and gives a place from which the same segments follow.
     fn count_inside<'a>(&mut self, id: [u8; 2], inside: Cursor<'a>) -> Cursor<'a>
         ensures values { codes_seen self.new ≡ codes_counted (codes_seen self.old) (values untrimmed (codes "FB") (fields_of (codes "21") (record { id = id; fields = fields_left inside.entry.bytes.now } ∷ []))) }
         ensures segments { shared_of inside.entry.bytes.now ≡ shared_of result.bytes.now }
@@ -57,7 +57,7 @@ impl FoundCodes {
         inside
     }
 
-    // Counts the fields that are left of a response status segment (AM21).
+    /// Counts the fields that are left of a response status segment (AM21).
     fn count_status_from<'a>(&mut self, inside: Cursor<'a>) -> Cursor<'a>
         ensures values { codes_seen self.new ≡ codes_counted (codes_seen self.old) (values untrimmed (codes "FB") (fields_left inside.entry.bytes.now)) }
         ensures segments { shared_of inside.entry.bytes.now ≡ shared_of result.bytes.now }
@@ -71,7 +71,7 @@ impl FoundCodes {
         rest
     }
 
-    // Counts the value of a reject code field. Empty values don't count.
+    /// Counts the value of a reject code field. Empty values do not count.
     #[tactic(auto, unfolding(crate::specs::Fields::values, crate::specs::RulingSeen::codes_counted))]
     fn count(&mut self, field: &Field<'_>)
         ensures { codes_seen self.new ≡ codes_counted (codes_seen self.old) (values untrimmed (codes "FB") (field_parts field.now ∷ [])) }
@@ -82,7 +82,7 @@ impl FoundCodes {
         }
     }
 
-    // One value more.
+    /// One value more.
     fn add(&mut self, value: &[u8])
         ensures { codes_seen self.new ≡ code_more (codes_seen self.old) (code_of value.now) }
     {
@@ -136,7 +136,7 @@ impl<'a> AnswerValues<'a> {
         values
     }
 
-    // Before any segment was read.
+    /// Before any segment was read.
     fn new() -> AnswerValues<'a>
         ensures { answer_seen result ≡ no_answer_seen }
     {
@@ -153,7 +153,7 @@ impl<'a> AnswerValues<'a> {
         }
     }
 
-    // Counts the fields of the segments up to the next group, each in its own segment.
+    /// Counts the fields of the segments up to the next group, each in its own segment.
     #[inline(always)]
     fn count_from(&mut self, from: Cursor<'a>)
         ensures { answer_seen self.new ≡ answer_counted (answer_seen self.old) (shared_of from.entry.bytes.now) }
@@ -164,7 +164,7 @@ impl<'a> AnswerValues<'a> {
         }
     }
 
-    // Counts the fields that are left of a segment, and gives a place from which the same segments follow.
+    /// Counts the fields that are left of a segment, and gives a place from which the same segments follow.
     #[inline(always)]
     fn count_inside(&mut self, id: [u8; 2], inside: Cursor<'a>) -> Cursor<'a>
         ensures values { answer_seen self.new ≡ answer_counted (answer_seen self.old) (record { id = id; fields = fields_left inside.entry.bytes.now } ∷ []) }
@@ -183,7 +183,7 @@ impl<'a> AnswerValues<'a> {
         inside
     }
 
-    // Counts the fields that are left of a response status segment (AM21).
+    /// Counts the fields that are left of a response status segment (AM21).
     #[inline(always)]
     fn count_status_from(&mut self, inside: Cursor<'a>) -> Cursor<'a>
         ensures values { answer_seen self.new ≡ answer_fields_counted (answer_seen self.old) (fields_left inside.entry.bytes.now) [] [] }
@@ -200,7 +200,7 @@ impl<'a> AnswerValues<'a> {
         rest
     }
 
-    // Counts the fields that are left of a response claim segment (AM22).
+    /// Counts the fields that are left of a response claim segment (AM22).
     #[inline(always)]
     fn count_claim_from(&mut self, inside: Cursor<'a>) -> Cursor<'a>
         ensures values { answer_seen self.new ≡ answer_fields_counted (answer_seen self.old) [] (fields_left inside.entry.bytes.now) [] }
@@ -216,7 +216,7 @@ impl<'a> AnswerValues<'a> {
         rest
     }
 
-    // Counts the fields that are left of a response pricing segment (AM23).
+    /// Counts the fields that are left of a response pricing segment (AM23).
     #[inline(always)]
     fn count_pricing_from(&mut self, inside: Cursor<'a>) -> Cursor<'a>
         ensures values { answer_seen self.new ≡ answer_fields_counted (answer_seen self.old) [] [] (fields_left inside.entry.bytes.now) }

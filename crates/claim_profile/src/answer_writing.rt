@@ -58,7 +58,7 @@ pub fn put_answer(
     Ok(())
 }
 
-// The header response status (501-F1).
+/// The header response status (501-F1).
 fn status_byte(status: HeaderStatus) -> u8
     ensures value { result ≡ status_byte_of status }
     ensures plain { IsTrue (is_plain result) }
@@ -69,7 +69,7 @@ fn status_byte(status: HeaderStatus) -> u8
     }
 }
 
-// Appends the group of a ruling.
+/// Appends the group of a ruling.
 fn put_ruling(text: &mut Vec<u8>, ruling: &Ruling) -> Result<(), AllocError>
     ensures { OnOk result (text.new.items ≡ text.old.items ++ group_text (ruling_segments ruling.now)) }
 {
@@ -92,7 +92,7 @@ fn put_ruling(text: &mut Vec<u8>, ruling: &Ruling) -> Result<(), AllocError>
     }
 }
 
-// Appends the group of a paid claim.
+/// Appends the group of a paid claim.
 fn put_payment(
     text: &mut Vec<u8>,
     status: u8,
@@ -107,7 +107,7 @@ fn put_payment(
     put_pricing(text, amounts)
 }
 
-// Appends the group separator and the response status segment (AM21) with an authorization number.
+/// Appends the group separator and the response status segment (AM21) with an authorization number.
 fn put_status(text: &mut Vec<u8>, status: u8, auth: Auth) -> Result<(), AllocError>
     ensures { OnOk result (text.new.items ≡ text.old.items ++ (29 ∷ segment_text (status_segment (status ∷ []) auth))) }
 {
@@ -117,7 +117,7 @@ fn put_status(text: &mut Vec<u8>, status: u8, auth: Auth) -> Result<(), AllocErr
     text.extend_from_slice(&auth.digits())
 }
 
-// Appends the response claim segment (AM22).
+/// Appends the response claim segment (AM22).
 fn put_claim(text: &mut Vec<u8>, prescription: u64) -> Result<(), AllocError>
     ensures { OnOk result (text.new.items ≡ text.old.items ++ segment_text (claim_segment prescription)) }
 {
@@ -127,7 +127,7 @@ fn put_claim(text: &mut Vec<u8>, prescription: u64) -> Result<(), AllocError>
     text.extend_from_slice(&digits[..len])
 }
 
-// Appends the response pricing segment (AM23).
+/// Appends the response pricing segment (AM23).
 fn put_pricing(text: &mut Vec<u8>, amounts: Amounts) -> Result<(), AllocError>
     ensures { OnOk result (text.new.items ≡ text.old.items ++ segment_text (pricing_segment amounts)) }
 {
@@ -138,7 +138,7 @@ fn put_pricing(text: &mut Vec<u8>, amounts: Amounts) -> Result<(), AllocError>
     put_amount(text, b'9', amounts.total())
 }
 
-// Appends the field `F` and this digit with an amount in cents.
+/// Appends the field `F` and this digit with an amount in cents.
 fn put_amount(text: &mut Vec<u8>, name: u8, cents: u32) -> Result<(), AllocError>
     requires { cents ≤ largest }
     ensures { OnOk result (text.new.items ≡ text.old.items ++ field_text (field (70 ∷ name ∷ []) (amount_text (pos cents)))) }
@@ -149,7 +149,7 @@ fn put_amount(text: &mut Vec<u8>, name: u8, cents: u32) -> Result<(), AllocError
     text.extend_from_slice(&digits[..len])
 }
 
-// Appends the group of a rejection.
+/// Appends the group of a rejection.
 fn put_rejects(text: &mut Vec<u8>, rejects: &Rejects) -> Result<(), AllocError>
     ensures { OnOk result (text.new.items ≡ text.old.items ++ group_text (reject_segment rejects.now ∷ [])) }
 {
@@ -163,7 +163,7 @@ fn put_rejects(text: &mut Vec<u8>, rejects: &Rejects) -> Result<(), AllocError>
     Ok(())
 }
 
-// The amount of so many cents.
+/// The amount of so many cents.
 fn amount_of_cents(cents: u32) -> Amount
     requires { cents ≤ largest }
     ensures { result ≡ pos cents }

@@ -83,7 +83,7 @@ impl Auth {
     }
 }
 
-// The authorization of these parts, where there is one.
+/// The authorization of these parts, where there is one.
 fn authorization(payer: u64, serial: u64) -> Option<Auth>
     ensures { result ≡ authorization_with payer serial }
 {
@@ -96,7 +96,7 @@ fn authorization(payer: u64, serial: u64) -> Option<Auth>
     })
 }
 
-// Writes the last decimal digits of a number over zeros, as many as there is room.
+/// Writes the last decimal digits of a number over zeros, as many as there is room.
 fn put_digits(number: u64, digits: &mut [u8])
     requires { digits.old ≡ replicate (length digits.old) 48 }
     ensures { digits.new ≡ padded_number (length digits.old) number }

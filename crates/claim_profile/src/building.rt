@@ -116,7 +116,7 @@ pub fn reversal(alloc: Global, parts: &ReversalParts<'_>) -> Result<Vec<u8>, Bui
     }
 }
 
-// What is wrong with the parts of a billing.
+/// What is wrong with the parts of a billing.
 #[tactic(auto, unfolding(crate::specs::Building::billing_fault))]
 fn fault_of_billing(parts: &BillingParts<'_>) -> Option<BuildFault>
     ensures value { result ≡ billing_fault (billing_said parts.now) }
@@ -131,7 +131,7 @@ fn fault_of_billing(parts: &BillingParts<'_>) -> Option<BuildFault>
     None
 }
 
-// What is wrong with the parts of a reversal.
+/// What is wrong with the parts of a reversal.
 #[tactic(auto, unfolding(crate::specs::Building::reversal_fault))]
 fn fault_of_reversal(parts: &ReversalParts<'_>) -> Option<BuildFault>
     ensures value { result ≡ reversal_fault (reversal_said parts.now) }
@@ -146,7 +146,7 @@ fn fault_of_reversal(parts: &ReversalParts<'_>) -> Option<BuildFault>
     None
 }
 
-// Whether a part of a billing is longer than its field.
+/// Whether a part of a billing is longer than its field.
 fn is_billing_too_long(parts: &BillingParts<'_>) -> bool
     ensures { result ≡ is_billing_too_long (billing_said parts.now) }
 {
@@ -157,7 +157,7 @@ fn is_billing_too_long(parts: &BillingParts<'_>) -> bool
         || parts.quantity >= QUANTITY_END
 }
 
-// Whether a part of a reversal is longer than its field.
+/// Whether a part of a reversal is longer than its field.
 fn is_reversal_too_long(parts: &ReversalParts<'_>) -> bool
     ensures { result ≡ is_reversal_too_long (reversal_said parts.now) }
 {
@@ -166,7 +166,7 @@ fn is_reversal_too_long(parts: &ReversalParts<'_>) -> bool
         || parts.product.len() > PRODUCT_LIMIT
 }
 
-// Whether a fill number, where there is one, has more than two digits.
+/// Whether a fill number, where there is one, has more than two digits.
 fn is_fill_too_long(fill: Option<u8>) -> bool
     ensures { result ≡ is_fill_too_long fill }
 {
@@ -176,7 +176,7 @@ fn is_fill_too_long(fill: Option<u8>) -> bool
     }
 }
 
-// Whether a separator stands in these bytes.
+/// Whether a separator stands in these bytes.
 fn has_separator(bytes: &[u8]) -> bool
     ensures { result ≡ has_separator bytes.now }
 {

@@ -42,7 +42,7 @@ pub fn write_reversal(alloc: Global, parts: &ReversalParts<'_>) -> Result<Vec<u8
     Ok(text)
 }
 
-// Appends the insurance segment (AM04).
+/// Appends the insurance segment (AM04).
 fn put_insurance(text: &mut Vec<u8>, cardholder: &[u8]) -> Result<(), AllocError>
     ensures { OnOk result (text.new.items ≡ text.old.items ++ segment_text (insurance_segment cardholder.now)) }
 {
@@ -50,7 +50,7 @@ fn put_insurance(text: &mut Vec<u8>, cardholder: &[u8]) -> Result<(), AllocError
     text.extend_from_slice(cardholder)
 }
 
-// Appends the group separator and the claim segment (AM07), up to the product.
+/// Appends the group separator and the claim segment (AM07), up to the product.
 fn put_dispensing(
     text: &mut Vec<u8>,
     prescription: u64,
@@ -68,7 +68,7 @@ fn put_dispensing(
     put_product(text, product)
 }
 
-// Appends the product and its qualifier.
+/// Appends the product and its qualifier.
 fn put_product(text: &mut Vec<u8>, product: &[u8]) -> Result<(), AllocError>
     ensures { OnOk result (text.new.items ≡ text.old.items ++ (field_text (field (codes "E1") (codes "03")) ++ field_text (field (codes "D7") product.now))) }
 {
@@ -76,7 +76,7 @@ fn put_product(text: &mut Vec<u8>, product: &[u8]) -> Result<(), AllocError>
     text.extend_from_slice(product)
 }
 
-// Appends the quantity.
+/// Appends the quantity.
 fn put_quantity(text: &mut Vec<u8>, quantity: u64) -> Result<(), AllocError>
     ensures { OnOk result (text.new.items ≡ text.old.items ++ field_text (field (codes "E7") (number_text quantity))) }
 {
@@ -84,7 +84,7 @@ fn put_quantity(text: &mut Vec<u8>, quantity: u64) -> Result<(), AllocError>
     put_number(text, quantity)
 }
 
-// Appends the pricing segment (AM11).
+/// Appends the pricing segment (AM11).
 fn put_pricing(text: &mut Vec<u8>, cost: Amount, fee: Amount) -> Result<(), AllocError>
     ensures { OnOk result (text.new.items ≡ text.old.items ++ segment_text (submitted_segment cost fee)) }
 {
@@ -94,7 +94,7 @@ fn put_pricing(text: &mut Vec<u8>, cost: Amount, fee: Amount) -> Result<(), Allo
     put_amount(text, fee)
 }
 
-// Appends a number in its shortest text.
+/// Appends a number in its shortest text.
 fn put_number(text: &mut Vec<u8>, number: u64) -> Result<(), AllocError>
     ensures { OnOk result (text.new.items ≡ text.old.items ++ number_text number) }
 {
@@ -103,7 +103,7 @@ fn put_number(text: &mut Vec<u8>, number: u64) -> Result<(), AllocError>
     text.extend_from_slice(&digits[..len])
 }
 
-// Appends an amount in its shortest text.
+/// Appends an amount in its shortest text.
 fn put_amount(text: &mut Vec<u8>, amount: Amount) -> Result<(), AllocError>
     ensures { OnOk result (text.new.items ≡ text.old.items ++ amount_text amount) }
 {

@@ -8,7 +8,7 @@ ghost use Rattle.claim_profile.specs.Tally.{seen, tallied, the_one};
 use crate::names::is_same;
 use d0_segments::Field;
 
-/// What stands in the place of a field: nothing, one value or several. Empty values don't count.
+/// What stands in the place of a field: nothing, one value or several. Empty values do not count.
 #[derive(Clone, Copy, Debug)]
 pub enum Found<'a> {
     Nothing,
@@ -27,7 +27,7 @@ impl<'a> Found<'a> {
         }
     }
 
-    /// Counts the value of a field of this name, a text: spaces at its end don't count.
+    /// Counts the value of a field of this name, a text: spaces at its end do not count.
     #[tactic(auto, unfolding(crate::specs::Fields::values, crate::specs::Tally::tallied))]
     pub fn count_text(&mut self, name: &[u8; 2], field: &Field<'a>)
         ensures { seen self.new ≡ tallied (seen self.old) (values trimmed name.now (field_parts field.now ∷ [])) }
@@ -47,7 +47,7 @@ impl<'a> Found<'a> {
         }
     }
 
-    // One value more, unless it is empty.
+    /// One value more, unless it is empty.
     #[tactic(auto, unfolding(crate::specs::Tally::tallied))]
     fn add(&mut self, value: &'a [u8])
         ensures { seen self.new ≡ tallied (seen self.old) (filter is_filled (value.now ∷ [])) }

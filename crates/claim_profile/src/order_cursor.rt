@@ -33,7 +33,7 @@ impl<'a> OrderValues<'a> {
         values
     }
 
-    // Counts the fields of the segments up to the next group.
+    /// Counts the fields of the segments up to the next group.
     #[inline(always)]
     fn count_from(&mut self, level: Level, from: Cursor<'a>)
         ensures { order_seen self.new ≡ segments_counted level (order_seen self.old) (shared_of from.entry.bytes.now) }
@@ -44,7 +44,7 @@ impl<'a> OrderValues<'a> {
         }
     }
 
-    // Counts the fields that are left of a segment, and gives a place from which the same segments follow.
+    /// Counts the fields that are left of a segment, and gives a place from which the same segments follow.
     #[inline(always)]
     fn count_inside(&mut self, level: Level, id: [u8; 2], inside: Cursor<'a>) -> Cursor<'a>
         ensures values { order_seen self.new ≡ segments_counted level (order_seen self.old) (record { id = id; fields = fields_left inside.entry.bytes.now } ∷ []) }
@@ -57,7 +57,7 @@ impl<'a> OrderValues<'a> {
         }
     }
 
-    // The same for a segment in front of all groups.
+    /// The same for a segment in front of all groups.
     #[inline(always)]
     fn count_in_shared(&mut self, id: [u8; 2], inside: Cursor<'a>) -> Cursor<'a>
         ensures values { order_seen self.new ≡ segments_counted Shared (order_seen self.old) (record { id = id; fields = fields_left inside.entry.bytes.now } ∷ []) }
@@ -70,7 +70,7 @@ impl<'a> OrderValues<'a> {
         inside
     }
 
-    // The same for a segment of a group.
+    /// The same for a segment of a group.
     #[inline(always)]
     fn count_in_group(&mut self, id: [u8; 2], inside: Cursor<'a>) -> Cursor<'a>
         ensures values { order_seen self.new ≡ segments_counted Group (order_seen self.old) (record { id = id; fields = fields_left inside.entry.bytes.now } ∷ []) }
@@ -86,7 +86,7 @@ impl<'a> OrderValues<'a> {
         inside
     }
 
-    // Counts the fields that are left of an insurance segment.
+    /// Counts the fields that are left of an insurance segment.
     #[inline(always)]
     fn count_insurance_from(&mut self, inside: Cursor<'a>) -> Cursor<'a>
         ensures values { order_seen self.new ≡ fields_counted (order_seen self.old) (fields_left inside.entry.bytes.now) [] [] }
@@ -101,7 +101,7 @@ impl<'a> OrderValues<'a> {
         rest
     }
 
-    // Counts the fields that are left of a claim segment.
+    /// Counts the fields that are left of a claim segment.
     #[inline(always)]
     fn count_claim_from(&mut self, inside: Cursor<'a>) -> Cursor<'a>
         ensures values { order_seen self.new ≡ fields_counted (order_seen self.old) [] (fields_left inside.entry.bytes.now) [] }
@@ -116,7 +116,7 @@ impl<'a> OrderValues<'a> {
         rest
     }
 
-    // Counts the fields that are left of a pricing segment.
+    /// Counts the fields that are left of a pricing segment.
     #[inline(always)]
     fn count_pricing_from(&mut self, inside: Cursor<'a>) -> Cursor<'a>
         ensures values { order_seen self.new ≡ fields_counted (order_seen self.old) [] [] (fields_left inside.entry.bytes.now) }

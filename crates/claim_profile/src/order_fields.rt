@@ -158,7 +158,7 @@ impl ReversalFields {
     }
 }
 
-// The date of service (401-D1), where it is a day.
+/// The date of service (401-D1), where it is a day.
 fn date_of_service(header: &RequestHeader) -> Option<[u8; 8]>
     ensures { result ≡ day_of_service header.now }
 {
@@ -166,7 +166,7 @@ fn date_of_service(header: &RequestHeader) -> Option<[u8; 8]>
     if is_date(&date) { Some(date) } else { None }
 }
 
-// The prescription number (402-D2), where its qualifier (455-EM) says prescription billing.
+/// The prescription number (402-D2), where its qualifier (455-EM) says prescription billing.
 fn prescription(values: &OrderValues<'_>) -> Option<u64>
     ensures { result ≡ prescription_seen (order_seen values.now) }
 {
@@ -177,7 +177,7 @@ fn prescription(values: &OrderValues<'_>) -> Option<u64>
     }
 }
 
-// The product (407-D7), where its qualifier (436-E1) says national drug code.
+/// The product (407-D7), where its qualifier (436-E1) says national drug code.
 fn product(values: &OrderValues<'_>) -> Option<Text<19>>
     ensures { result ≡ product_seen (order_seen values.now) }
 {
@@ -188,7 +188,7 @@ fn product(values: &OrderValues<'_>) -> Option<Text<19>>
     }
 }
 
-// The dispensing fee submitted (412-DC), 0 where none is.
+/// The dispensing fee submitted (412-DC), 0 where none is.
 fn fee(found: Found<'_>) -> Option<u32>
     ensures { result ≡ fee_seen (seen found.entry) }
 {
@@ -198,7 +198,7 @@ fn fee(found: Found<'_>) -> Option<u32>
     }
 }
 
-// The fill number (403-D3) of a reversal, which may leave it out.
+/// The fill number (403-D3) of a reversal, which may leave it out.
 fn fill_if_given(found: Found<'_>) -> Option<Option<u8>>
     ensures { result ≡ fill_seen (seen found.entry) }
 {

@@ -49,7 +49,7 @@ pub fn read_order(
     )
 }
 
-// Reads the order in the shared segments and those of a group.
+/// Reads the order in the shared segments and those of a group.
 #[tactic(auto, unfolding(crate::specs::Order::order_of))]
 fn read_group_order(
     header: &RequestHeader,
@@ -109,7 +109,7 @@ fn reversal_at(framed: &Framed<'_, RequestHeader>, place: usize) -> Result<Order
     reversal_of(framed.header(), &OrderValues::in_reversal(framed, place))
 }
 
-// What a transaction of no kind that is carried asks for.
+/// What a transaction of no kind that is carried asks for.
 #[inline(never)]
 fn not_covered() -> Result<Order, OrderFault>
     ensures { result ≡ Err (Rejected (NotCovered ∷ [])) }
@@ -117,7 +117,7 @@ fn not_covered() -> Result<Order, OrderFault>
     Err(OrderFault::Rejected(Rejects::one(Code::NotCovered)))
 }
 
-// The claim of these values.
+/// The claim of these values.
 #[inline(always)]
 fn claim_of(header: &RequestHeader, values: &OrderValues<'_>) -> Result<Order, OrderFault>
     ensures { (shared group : List SegmentParts) → order_seen values.now ≡ segments_counted Group (segments_counted Shared nothing_seen shared) group → result ≡ claim_order header.now shared group }
@@ -128,7 +128,7 @@ fn claim_of(header: &RequestHeader, values: &OrderValues<'_>) -> Result<Order, O
     }
 }
 
-// The reject codes of a claim that has fields that are not valid. They are read once more for it.
+/// The reject codes of a claim that has fields that are not valid. They are read once more for it.
 #[inline(never)]
 fn claim_rejects(header: &RequestHeader, values: &OrderValues<'_>) -> Rejects
     requires { 1 ≤ length (claim_codes (claim_seen header.now (order_seen values.now))) }
@@ -137,7 +137,7 @@ fn claim_rejects(header: &RequestHeader, values: &OrderValues<'_>) -> Rejects
     ClaimFields::of(header, values).rejects()
 }
 
-// The reversal of these values.
+/// The reversal of these values.
 fn reversal_of(header: &RequestHeader, values: &OrderValues<'_>) -> Result<Order, OrderFault>
     ensures { (shared group : List SegmentParts) → order_seen values.now ≡ segments_counted Group (segments_counted Shared nothing_seen shared) group → result ≡ reversal_order header.now group }
 {

@@ -50,7 +50,7 @@ impl<'a> OrderValues<'a> {
         values
     }
 
-    // Before any segment was read.
+    /// Before any segment was read.
     pub(crate) fn new() -> OrderValues<'a>
         ensures { order_seen result ≡ nothing_seen }
     {
@@ -67,7 +67,7 @@ impl<'a> OrderValues<'a> {
         }
     }
 
-    // Counts the fields of all these segments, each in its own segment at its own level.
+    /// Counts the fields of all these segments, each in its own segment at its own level.
     fn count_all(&mut self, level: Level, segments: &[Segment<'a>])
         ensures { order_seen self.new ≡ segments_counted level (order_seen self.old) (segments_parts segments.now) }
     {
@@ -76,7 +76,7 @@ impl<'a> OrderValues<'a> {
         }
     }
 
-    // Counts the fields of a segment.
+    /// Counts the fields of a segment.
     fn count_segment(&mut self, level: Level, segment: &Segment<'a>)
         ensures { order_seen self.new ≡ segments_counted level (order_seen self.old) (segment_parts segment.now ∷ []) }
     {
@@ -89,7 +89,7 @@ impl<'a> OrderValues<'a> {
         }
     }
 
-    // Counts the fields of an insurance segment (AM04).
+    /// Counts the fields of an insurance segment (AM04).
     fn count_insurance(&mut self, fields: &[Field<'a>])
         ensures { order_seen self.new ≡ fields_counted (order_seen self.old) (map field_parts fields.now) [] [] }
     {
@@ -98,7 +98,7 @@ impl<'a> OrderValues<'a> {
         }
     }
 
-    // Counts the fields of a claim segment (AM07).
+    /// Counts the fields of a claim segment (AM07).
     fn count_claim(&mut self, fields: &[Field<'a>])
         ensures { order_seen self.new ≡ fields_counted (order_seen self.old) [] (map field_parts fields.now) [] }
     {
@@ -107,7 +107,7 @@ impl<'a> OrderValues<'a> {
         }
     }
 
-    // Counts the fields of a pricing segment (AM11).
+    /// Counts the fields of a pricing segment (AM11).
     fn count_pricing(&mut self, fields: &[Field<'a>])
         ensures { order_seen self.new ≡ fields_counted (order_seen self.old) [] [] (map field_parts fields.now) }
     {
@@ -116,7 +116,7 @@ impl<'a> OrderValues<'a> {
         }
     }
 
-    // Counts a field of an insurance segment.
+    /// Counts a field of an insurance segment.
     #[inline(always)]
     pub(crate) fn count_insurance_field(&mut self, field: &Field<'a>)
         ensures { order_seen self.new ≡ fields_counted (order_seen self.old) (field_parts field.now ∷ []) [] [] }
@@ -124,7 +124,7 @@ impl<'a> OrderValues<'a> {
         self.cardholder.count_text(b"C2", field);
     }
 
-    // Counts a field of a claim segment.
+    /// Counts a field of a claim segment.
     #[inline(always)]
     pub(crate) fn count_claim_field(&mut self, field: &Field<'a>)
         ensures { order_seen self.new ≡ fields_counted (order_seen self.old) [] (field_parts field.now ∷ []) [] }
@@ -137,7 +137,7 @@ impl<'a> OrderValues<'a> {
         self.quantity.count(b"E7", field);
     }
 
-    // Counts a field of a pricing segment.
+    /// Counts a field of a pricing segment.
     #[inline(always)]
     pub(crate) fn count_pricing_field(&mut self, field: &Field<'a>)
         ensures { order_seen self.new ≡ fields_counted (order_seen self.old) [] [] (field_parts field.now ∷ []) }

@@ -30,7 +30,7 @@ impl Model for Amounts {
 }
 
 impl Amounts {
-    /// The four amounts, None where one is negative or where they don't go together.
+    /// The four amounts, None where one is negative or where they do not go together.
     pub fn new(cost: Amount, fee: Amount, copay: Amount, total: Amount) -> Option<Amounts>
         ensures variant { IsSome result ↔ GoTogether cost fee copay total }
         ensures given { IfSome result (λ a. (pos a.cost ≡ cost) × (pos a.fee ≡ fee) × (pos a.copay ≡ copay) × (pos a.total ≡ total)) }
@@ -51,7 +51,7 @@ impl Amounts {
         })
     }
 
-    /// The four amounts in cents, None where they don't go together.
+    /// The four amounts in cents, None where they do not go together.
     pub(crate) fn of_cents(cost: u32, fee: u32, copay: u32, total: u32) -> Option<Amounts>
         requires cost { cost ≤ largest }
         requires fee { fee ≤ largest }

@@ -79,7 +79,7 @@ pub fn check_readable(request: &[u8]) -> Option<Framed<'_, RequestHeader>>
     }
 }
 
-// The fault of a request whose framing has this fault.
+/// The fault of a request whose framing has this fault.
 fn fault_of_framing(fault: FramingFault) -> RequestFault
     ensures { result ≡ fault_of_framing fault }
 {

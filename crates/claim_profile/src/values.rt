@@ -36,7 +36,7 @@ pub fn fill_number(found: Found<'_>) -> Option<u8>
     u8::try_from(number(found, 2)?).ok()
 }
 
-// The one value as an amount.
+/// The one value as an amount.
 fn amount(found: Found<'_>) -> Option<Amount>
     ensures { result ≡ option_and_then (λ value. result_ok (amount_of value)) (the_one (seen found.entry)) }
 {

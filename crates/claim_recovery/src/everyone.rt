@@ -1,3 +1,5 @@
+//! How all open entries can be settled at once.
+
 ghost use Rattle.claim_model.specs.Context.{Context};
 ghost use Rattle.claim_model.specs.Settings.{WorldSettings};
 ghost use Rattle.claim_model.specs.World.{World};

@@ -1,3 +1,5 @@
+//! What is left alone once all is settled.
+
 ghost use Rattle.std.specs.Prelude.{ℕ};
 ghost use Rattle.claim_model.specs.Context.{Context};
 ghost use Rattle.claim_model.specs.World.{World};

@@ -1,3 +1,5 @@
+//! What a full book, or one without serials, means for an open entry.
+
 ghost use Rattle.bin_routes.specs.Table.{RouteMaps};
 ghost use Rattle.std.specs.Prelude.{◌≡◌, ℕ, ◌+◌, ◌<◌, ◌≤◌, List, length, Option, Some, None, Ok};
 ghost use Rattle.plan_rules.specs.Terms.{cleared};

@@ -1,3 +1,5 @@
+//! How one open entry can always be settled.
+
 ghost use Rattle.std.specs.Prelude.{◌≡◌, ℕ, List, Some};
 ghost use Rattle.claim_model.specs.Words.{TxnId};
 ghost use Rattle.claim_model.specs.Context.{Context};

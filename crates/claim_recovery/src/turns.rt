@@ -1,3 +1,5 @@
+//! Which switches an open entry is sent to in turn.
+
 ghost use Rattle.std.specs.Prelude.{◌≡◌, ℕ, List, Some, slice_get};
 ghost use Rattle.claim_model.specs.Words.{TxnId};
 ghost use Rattle.claim_model.specs.Context.{Context};

@@ -112,7 +112,7 @@ anywhere_at : (x b : ℕ) (rest : List ℕ) (p : ℕ) → (eqb b 30 ≡ true) �
 anywhere_at x b rest p (inl e) = rw (eqb-true b 30 e) refl
 anywhere_at x b rest p (inr e) = rw (eqb-true b 29 e) refl
 
--- where a segment or a group begins, what stands before doesn't matter
+-- where a segment or a group begins, what stands before does not matter
 pub anywhere : (x : ℕ) (rest : List ℕ) (p : ℕ) → ends_segment rest ≡ true → first_fault x p rest ≡ first_fault 0 p rest
 anywhere x [] p e = refl
 anywhere x (b ∷ rest) p e = anywhere_at x b rest p (first_of_two (eqb b 30) (eqb b 29) e)

@@ -1,3 +1,5 @@
+//! Decimal words, read and written.
+
 ghost use Rattle.std.specs.Prelude.{◌≡◌, ◌++◌, ◌≤◌, decimal, length, IsTrue, OnOk, OnErr};
 ghost use Rattle.std.specs.List.{list_all};
 ghost use Rattle.input_text.specs.Decimals.{decimal_number, decimal_value, is_digit};

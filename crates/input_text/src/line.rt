@@ -1,3 +1,5 @@
+//! The lines of an input, one after another.
+
 ghost use Rattle.std.specs.Prelude.{◌≡◌, ◌∷◌, ◌<◌, length};
 ghost use Rattle.std.specs.Iterator.{YieldsFirstBy, item_count};
 ghost use Rattle.std.specs.Str.Lines.{lines, strip_carriage_return};

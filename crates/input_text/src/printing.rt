@@ -1,3 +1,5 @@
+//! Bytes as printed text.
+
 ghost use Rattle.std.specs.Prelude.{◌≡◌, ◌∷◌, [], ◌++◌, ◌+◌, ◌*◌, ◌<◌, ◌≤◌, length, take, nat_le, ◌&&◌, IsTrue, IsFalse, OnOk, OnErr};
 ghost use Rattle.input_text.specs.Printing.{hex_digit, printed, printed_byte};
 

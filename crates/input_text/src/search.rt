@@ -1,3 +1,5 @@
+//! The place of a byte.
+
 ghost use Rattle.std.specs.Prelude.{◌≡◌, ◌==◌, ◌<◌, length, position, IfSome};
 
 /// The place of the first byte of this value.

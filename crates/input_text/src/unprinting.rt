@@ -1,3 +1,5 @@
+//! Reading printed text back as bytes.
+
 ghost use Rattle.std.specs.Prelude.{◌≡◌, ◌<◌, ◌≤◌, ◌+◌, ◌^◌, ℕ, All, IfSome, List, MatchResult, Some, Ok, Err, ◌∷◌, length, take, drop};
 ghost use Rattle.input_text.specs.declared.unprinting.PrintedFault.TheVariants.{OutOfMemory};
 ghost use Rattle.input_text.specs.Printing.{escaped, first_spelling, hex_value, printed, spelling_behind_x, unprinted};

@@ -1,3 +1,5 @@
+//! Words, which one space parts.
+
 ghost use Rattle.std.specs.Prelude.{◌≡◌};
 ghost use Rattle.std.specs.Option.{option_map};
 ghost use Rattle.input_text.specs.Words.{split_word};
