@@ -1,6 +1,6 @@
 //! What a replay begins with, for programs that have an output of their own for it.
 
-ghost use Rattle.std.specs.Prelude.{◌≡◌, ◌≢◌, ◌+◌, ◌≤◌, Some, Ok, IfOk, IfErr, IfSome, IsOk, IsErrOf, OnOk};
+ghost use Rattle.std.specs.Prelude.{◌≢◌, ◌+◌, ◌≤◌, Ok, IfOk, IfErr, IfSome, IsOk, IsErrOf, OnOk};
 ghost use Rattle.schedule_cli.specs.Replays.{replay_of, Begins};
 ghost use Rattle.schedule_cli.specs.Stops.{IsTaken, IsUnread, RefusedFor, StopsFor};
 

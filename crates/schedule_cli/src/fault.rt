@@ -1,6 +1,8 @@
 //! Why a program stopped, and the line that says so.
 
 ghost use Rattle.std.specs.Prelude.{◌≡◌};
+ghost use Rattle.schedule_cli.specs.declared.fault.CheckFault.TheVariants as check;
+ghost use Rattle.schedule_cli.specs.declared.fault.ProgramFault.TheVariants as program;
 ghost use Rattle.schedule_cli.specs.Stops.{check_told, schedule_told, settings_told};
 
 use schedule::ScheduleFault;
@@ -48,7 +50,7 @@ pub enum ProgramFault {
 }
 
 impl From<AllocError> for CheckFault {
-    ghost from_gives = { λ _ fault. fault ≡ CheckFault.OutOfMemory };
+    ghost from_gives = { λ _ fault. fault ≡ check.OutOfMemory };
 
     fn from(_refused: AllocError) -> CheckFault {
         CheckFault::OutOfMemory
@@ -56,7 +58,7 @@ impl From<AllocError> for CheckFault {
 }
 
 impl<T: Drop> From<AllocFailed<T>> for CheckFault {
-    ghost from_gives = { λ _ fault. fault ≡ CheckFault.OutOfMemory };
+    ghost from_gives = { λ _ fault. fault ≡ check.OutOfMemory };
 
     fn from(_refused: AllocFailed<T>) -> CheckFault {
         CheckFault::OutOfMemory
@@ -64,7 +66,7 @@ impl<T: Drop> From<AllocFailed<T>> for CheckFault {
 }
 
 impl From<SettingsFault> for CheckFault {
-    ghost from_gives = { λ fault check. check ≡ settings_told fault };
+    ghost from_gives = { λ fault told. told ≡ settings_told fault };
 
     fn from(fault: SettingsFault) -> CheckFault {
         match fault {
@@ -75,7 +77,7 @@ impl From<SettingsFault> for CheckFault {
 }
 
 impl From<AllocError> for ProgramFault {
-    ghost from_gives = { λ _ fault. fault ≡ ProgramFault.OutOfMemory };
+    ghost from_gives = { λ _ fault. fault ≡ program.OutOfMemory };
 
     fn from(_refused: AllocError) -> ProgramFault {
         ProgramFault::OutOfMemory
@@ -83,7 +85,7 @@ impl From<AllocError> for ProgramFault {
 }
 
 impl<T: Drop> From<AllocFailed<T>> for ProgramFault {
-    ghost from_gives = { λ _ fault. fault ≡ ProgramFault.OutOfMemory };
+    ghost from_gives = { λ _ fault. fault ≡ program.OutOfMemory };
 
     fn from(_refused: AllocFailed<T>) -> ProgramFault {
         ProgramFault::OutOfMemory
@@ -91,7 +93,7 @@ impl<T: Drop> From<AllocFailed<T>> for ProgramFault {
 }
 
 impl From<CheckFault> for ProgramFault {
-    ghost from_gives = { λ fault program. program ≡ check_told fault };
+    ghost from_gives = { λ fault told. told ≡ check_told fault };
 
     fn from(fault: CheckFault) -> ProgramFault {
         match fault {
@@ -102,7 +104,7 @@ impl From<CheckFault> for ProgramFault {
 }
 
 impl From<ScheduleFault> for ProgramFault {
-    ghost from_gives = { λ fault program. program ≡ check_told (schedule_told fault) };
+    ghost from_gives = { λ fault told. told ≡ check_told (schedule_told fault) };
 
     fn from(fault: ScheduleFault) -> ProgramFault {
         match fault {

@@ -1,5 +1,5 @@
 -- How a run ends: what was written, and which input it was.
-use Rattle.std.proofs.Common.{◌≡◌, ℕ, ◌≤◌, true, take, drop, List, [], ◌∷◌, ◌++◌, length, replicate, Option, Some, None, Result, Ok, Err, IfSome, refl, sym, ap, subst, ◌∙◌, append-nil, arith, inl, inr}
+use Rattle.std.proofs.Common.{◌≡◌, ℕ, ◌≤◌, true, take, drop, List, [], ◌∷◌, ◌++◌, length, replicate, Option, Some, None, Result, IfSome, refl, sym, ap, subst, ◌∙◌, append-nil, arith, inl, inr}
 use Rattle.std.proofs.lemmas.Bool.{false≢true}
 use Rattle.std.proofs.lemmas.List.{drop_all, length-map, length-set, take_all}
 use Rattle.std.specs.Prelude.{is_ok}

@@ -1,5 +1,5 @@
 -- What a run writes, and why it stops.
-use Rattle.std.specs.Prelude.{◌≡◌, ℕ, ◌≤◌, Bool, true, false, not, ◌⊎◌, List, [], ◌++◌, length, take, Option, Some, Result, Ok, Err, IfErr, IfSome, OnOk, OnErr}
+use Rattle.std.specs.Prelude.{◌≡◌, ℕ, ◌≤◌, Bool, true, false, not, ◌⊎◌, List, [], ◌++◌, length, take, Option, Some, Result, Ok, IfErr, IfSome, OnOk, OnErr}
 use Rattle.std.specs.Io.KnownBytes.{Appends}
 use Rattle.world_setup.specs.declared.world_fault.WorldFault.TheVariants as world
 use Rattle.world_setup.specs.declared.settings.WorldSettings.{WorldSettings}
