@@ -1,10 +1,11 @@
 //! What is told on standard error of an input that the program refuses, the words of its command line, and how it ends.
 
+use crate::programs::{line_refused, tell_fault};
 use crate::texts::part_words;
 use case_files::{ALL, Paper, Pieces, Subject, Told};
 use input_text::{read_decimal, split_word};
 use schedule_cli::{
-    KeptReader, ProgramFault, Stop, Word, read_claims, replay, why_refused, word_of,
+    InputFault, KeptReader, ProgramFault, Stop, Word, read_claims, replay, why_refused, word_of,
 };
 use std::alloc::Global;
 
@@ -48,7 +49,7 @@ fn explain(told: &mut Told, alloc: Global, word: Word, input: &[u8]) {
 
 /// Tells a fault and what is explained of it.
 fn tell_why(told: &mut Told, alloc: Global, word: Word, input: &[u8], fault: ProgramFault) {
-    told.named(fault);
+    tell_fault(told, fault);
     match why_refused(alloc, word, input, fault) {
         Ok(Some(why)) => told.shown(why),
         Ok(None) => told.word("nothing"),
@@ -60,7 +61,7 @@ fn tell_why(told: &mut Told, alloc: Global, word: Word, input: &[u8], fault: Pro
 fn explain_line(told: &mut Told, alloc: Global, argument: &[u8]) {
     match numbered(argument) {
         Some((line, input)) => {
-            tell_why(told, alloc, Word::Run, input, ProgramFault::Line(line));
+            tell_why(told, alloc, Word::Run, input, line_refused(line));
         }
         None => told.refuse(),
     }
@@ -90,7 +91,7 @@ fn fault_of(name: &[u8]) -> Option<ProgramFault> {
     match name {
         b"OutOfMemory" => Some(ProgramFault::OutOfMemory),
         b"Read" => Some(ProgramFault::Read),
-        b"Settings" => Some(ProgramFault::Settings),
+        b"Settings" => Some(ProgramFault::Input(InputFault::Settings)),
         b"Write" => Some(ProgramFault::Write),
         _ => None,
     }
@@ -128,7 +129,7 @@ fn tell_stop(told: &mut Told, argument: &[u8]) {
 fn stop_of(name: &[u8]) -> Option<Stop> {
     match name {
         b"Usage" => Some(Stop::Usage),
-        b"Line 7" => Some(Stop::Fault(ProgramFault::Line(7))),
+        b"Line 7" => Some(Stop::Fault(line_refused(7))),
         _ => match fault_of(name) {
             Some(fault) => Some(Stop::Fault(fault)),
             None => None,

@@ -4,10 +4,11 @@ use crate::day::parts_named;
 use crate::drawings::{
     Extent, Mark, PictureStop, Wish, begun, draw, draw_marks, marks_of, wish_of,
 };
+use crate::programs::{line_refused, tell_fault};
 use crate::words::{both, read_count, word_and_count};
 use case_files::{CaseFile, Subject, Told};
 use input_text::split_word;
-use schedule_cli::{ProgramFault, Scheduled};
+use schedule_cli::{InputFault, ProgramFault, Scheduled};
 use std::alloc::Global;
 
 /// Rows of the pictures of days.
@@ -49,7 +50,7 @@ fn begins(told: &mut Told, alloc: Global, days: &[CaseFile], name: &[u8]) {
             told.field("packets", run.world.packets().len());
             told.field("switches", run.world.switches().len());
         }
-        Err(fault) => told.named(fault),
+        Err(fault) => tell_fault(told, fault),
     }
 }
 
@@ -125,7 +126,7 @@ fn shows(told: &mut Told, alloc: Global, days: &[CaseFile], argument: &[u8], ext
     let mut file = Vec::new(alloc);
     match draw(alloc, input_of(days, name), &mut file, extent) {
         Ok(()) => told.shown(count_of(&file, text)),
-        Err(fault) => told.named(fault),
+        Err(fault) => tell_fault(told, fault),
     }
 }
 
@@ -206,8 +207,11 @@ fn stop(told: &mut Told, argument: &[u8]) {
     match argument {
         b"usage" => tell_stop(told, PictureStop::Usage),
         b"read" => tell_stop(told, PictureStop::Fault(ProgramFault::Read)),
-        b"settings" => tell_stop(told, PictureStop::Fault(ProgramFault::Settings)),
-        b"line" => tell_stop(told, PictureStop::Fault(ProgramFault::Line(7))),
+        b"settings" => tell_stop(
+            told,
+            PictureStop::Fault(ProgramFault::Input(InputFault::Settings)),
+        ),
+        b"line" => tell_stop(told, PictureStop::Fault(line_refused(7))),
         b"write" => tell_stop(told, PictureStop::Fault(ProgramFault::Write)),
         _ => told.refuse(),
     }

@@ -1,7 +1,7 @@
 //! The programs of the product that days go through.
 
 use case_files::Told;
-use schedule_cli::{Stop, Word, read_claims, replay};
+use schedule_cli::{InputFault, ProgramFault, Stop, Word, read_claims, replay};
 use std::alloc::Global;
 use world_core::World;
 
@@ -27,6 +27,19 @@ fn put_stop(alloc: Global, out: &mut Vec<u8>, stop: Stop) {
     put(out, b"\nclaimswitch: ");
     put(out, told.as_slice());
     put(out, b"\n");
+}
+
+/// The fault of an input that has a bad line.
+pub(crate) fn line_refused(number: u64) -> ProgramFault {
+    ProgramFault::Input(InputFault::Line(number))
+}
+
+/// Tells the name of a fault, or of what is bad in the input.
+pub(crate) fn tell_fault(told: &mut Told, fault: ProgramFault) {
+    match fault {
+        ProgramFault::Input(why) => told.named(why),
+        _ => told.named(fault),
+    }
 }
 
 /// Appends bytes, where there is memory for them.

@@ -1,14 +1,15 @@
 //! From the input of a replay to the picture of its run.
 
-ghost use Rattle.std.specs.Prelude.{◌≡◌, ◌≢◌, ◌+◌, ◌<◌, ◌≤◌, ◌⊎◌, ℕ, length, IfOk, IfErr, IfSome, IsTrue, IsErrOf, OnOk, OnErr};
-ghost use Rattle.schedule_cli.specs.Replays.{replay_of, IsRefused};
+ghost use Rattle.std.specs.Prelude.{◌≡◌, ◌≢◌, ◌+◌, ◌≤◌, IfOk, IfErr, IfSome, IsTrue, IsErrOf, OnOk};
+ghost use Rattle.schedule_cli.specs.Replays.{replay_of};
+ghost use Rattle.schedule_cli.specs.Stops.{IsUnread, StopsFor};
 ghost use Rattle.run_picture.specs.Drawn.{IsDrawn, DrawnBehind, BeginningBehind};
 
 use crate::extent::Extent;
 use crate::mark_run;
 use crate::sheet::picture;
 use schedule_cli::{
-    MOST_CALLS, MOST_INPUT, ProgramFault, Scheduled, Sink, Source, read_scheduled, write_output,
+    MOST_CALLS, ProgramFault, Scheduled, Sink, Source, read_scheduled, write_output,
 };
 use std::alloc::{AllocError, Global};
 
@@ -28,10 +29,9 @@ pub fn draw_replay<S: Source, K: Sink>(
     // The file of a picture was written, whose words are no markup.
     ensures drawn { OnOk result (DrawnBehind (K.contents sink.old) (K.contents sink.new)) }
     // A call of the source failed, or the input is too long.
-    ensures read { IsErrOf result ProgramFault.Read → IsTrue (S.has_failed source.new)
-        ⊎ IfSome (S.remaining source.old) (λ input. MOST_INPUT < length input) }
+    ensures read { IsErrOf result ProgramFault.Read → IsUnread (S.has_failed source.new) (S.remaining source.old) }
     // Settings are refused only where they open no world, and a line only where it is the first that spells no event.
-    ensures refused { IfErr result (λ fault. IfSome (S.remaining source.old) (λ input. IsRefused fault (replay_of input))) }
+    ensures stops { IfErr result (λ fault. IfSome (S.remaining source.old) (λ input. StopsFor fault input (replay_of input))) }
     // Nothing is written before all is checked, run and drawn.
     ensures quiet { IfErr result (λ fault. fault ≢ ProgramFault.Write → sink.new ≡ sink.old) }
     // What was written is flushed.

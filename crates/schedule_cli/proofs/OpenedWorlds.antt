@@ -1,6 +1,6 @@
 -- When settings open a world, and what a replay of them tells.
 use Rattle.std.proofs.Common.{◌≡◌, ℕ, Bool, true, false, ◌&&◌, List, length, map, Option, Some, None, is_none, option_map, Result, Ok, Err, refl, sym, ap, ◌∙◌}
-use Rattle.std.specs.Prelude.{if◌then◌else◌}
+use Rattle.std.specs.Prelude.{IsOk, if◌then◌else◌, is_ok}
 use Rattle.std.specs.Option.{option_or}
 use Rattle.std.specs.Str.Lines.{lines}
 use Rattle.std.proofs.lemmas.List.{length-map}
@@ -17,9 +17,12 @@ use Rattle.world_core.specs.Parts.{WorldParts}
 use Rattle.world_settings.specs.Document.{document_seen}
 use Rattle.schedule.specs.Division.{settings_text, schedule_lines}
 use Rattle.schedule.specs.Reading.{events_of}
-use Rattle.schedule_cli.specs.declared.fault.ProgramFault.{ProgramFault}
-use Rattle.schedule_cli.specs.declared.fault.ProgramFault.TheVariants as stop
-use Rattle.schedule_cli.specs.Replays.{NoReport, BadSettings, BadLine, is_taken, opened_world, opened_by, world_in, report_from, replay_from, replay_of, OpensNone, HasNone}
+use Rattle.world_settings.specs.declared.fault.SettingsFault.{SettingsFault}
+use Rattle.world_settings.specs.declared.fault.SettingsFault.TheVariants as settings
+use Rattle.schedule_cli.specs.declared.fault.InputFault.{InputFault}
+use Rattle.schedule_cli.specs.declared.fault.InputFault.TheVariants.{Line}
+use Rattle.schedule_cli.specs.Replays.{Begins, is_taken, opened_world, opened_by, world_in, report_from, replay_from, replay_of, OpensNone}
+use Rattle.schedule_cli.specs.Stops.{RefusedFor, settings_told}
 
 none_both : (a : Option SettingsFault) (b : Option RoutesFault) → option_or (option_map named a) (option_map fault.BadRoute b) ≡ None → (is_none a && is_none b) ≡ true
 none_both None None is = refl
@@ -52,16 +55,17 @@ replay_is input w events report opens spells is =
     ap (λ (o : Option WorldParts). replay_from o (events_of (schedule_lines (lines input)))) opens ∙ (ap (replay_from (Some w)) spells ∙ ap (λ (r : List ℕ). Ok r) (sym is))
 
 -- a line that spells none
-pub replay_stops : (input : List ℕ) (w : WorldParts) (number : ℕ) → world_in (settings_text input) ≡ Some w → events_of (schedule_lines (lines input)) ≡ Err number → replay_of input ≡ Err (BadLine number)
+pub replay_stops : (input : List ℕ) (w : WorldParts) (number : ℕ) → world_in (settings_text input) ≡ Some w → events_of (schedule_lines (lines input)) ≡ Err number → replay_of input ≡ Err (Line number)
 unfolding replay_of
 replay_stops input w number opens spells =
     ap (λ (o : Option WorldParts). replay_from o (events_of (schedule_lines (lines input)))) opens ∙ ap (replay_from (Some w)) spells
 
 -- settings that open none
-pub replay_never : (input : List ℕ) (why : ProgramFault) → OpensNone why (world_in (settings_text input)) → HasNone why (replay_of input)
+pub replay_never : (input : List ℕ) (why : SettingsFault) → OpensNone why (world_in (settings_text input)) → RefusedFor (settings_told why) (replay_of input)
 unfolding replay_of
-replay_never input stop.OutOfMemory none = tt
-replay_never input stop.Settings none = ap (λ (o : Option WorldParts). replay_from o (events_of (schedule_lines (lines input)))) none
-replay_never input (stop.Line number) none = absurd none
-replay_never input stop.Read none = absurd none
-replay_never input stop.Write none = absurd none
+replay_never input settings.OutOfMemory none = tt
+replay_never input settings.Settings none = ap (λ (o : Option WorldParts). replay_from o (events_of (schedule_lines (lines input)))) none
+
+-- what a replay begins with has a report
+pub begun_is_taken : (input : List ℕ) (w : WorldParts) (events : List Event) → Begins input w events → IsOk (replay_of input)
+begun_is_taken input w events begun = ap (λ (told : Result (List ℕ) InputFault). is_ok told) (replay_is input w events (report_from w events) begun.opens begun.spells refl)

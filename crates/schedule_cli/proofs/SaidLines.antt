@@ -1,5 +1,5 @@
 -- What is printed of the book's own answer is what is printed of the model's, and lines follow one another.
-use Rattle.std.proofs.Common.{Vec, Global, ◌≡◌, ℕ, ◌+◌, ◌<◌, ◌≤◌, List, [], ◌∷◌, ◌++◌, drop, length, get_or, Result, Ok, Err, IfOk, IfErr, refl, sym, ap, ◌∙◌, append_assoc, append-nil, arith}
+use Rattle.std.proofs.Common.{◌≡◌, ℕ, ◌+◌, ◌<◌, ◌≤◌, List, [], ◌∷◌, ◌++◌, drop, length, get_or, Result, Ok, Err, IfOk, IfErr, refl, sym, ap, ◌∙◌, append_assoc, append-nil, arith}
 use Rattle.std.specs.Prelude.{codes, decimal}
 use Rattle.std.proofs.lemmas.List.{at_drop_more, drop_all}
 use Rattle.bin_routes.specs.Table.{RouteMaps}
@@ -11,11 +11,11 @@ use Rattle.payer_book.specs.declared.book.Reply.{Reply}
 use Rattle.payer_book.specs.declared.fault.BookFault.{BookFault}
 use Rattle.payer_book.specs.declared.fault.BookFault.TheVariants.{OutOfMemory, Unreadable, NotOurs, NumberReused, BookFull, SerialsUsedUp}
 use Rattle.schedule_cli.specs.declared.entries.Entry.{Entry}
-use Rattle.schedule_cli.specs.declared.fault.ProgramFault.{ProgramFault}
-use Rattle.schedule_cli.specs.declared.fault.ProgramFault.TheVariants as stop
+use Rattle.schedule_cli.specs.declared.fault.CheckFault.{CheckFault}
+use Rattle.schedule_cli.specs.declared.fault.CheckFault.TheVariants as check
 use Rattle.schedule_cli.specs.Entries.{entries_of}
 use Rattle.schedule_cli.specs.Sample.{sample_routes, opening_book}
-use Rattle.schedule_cli.specs.Stops.{StopsFor}
+use Rattle.schedule_cli.specs.Stops.{RefusedFor}
 use Rattle.schedule_cli.specs.Lines.{told, line_of, book_after, said_to, answer_lines, lines_for, output_of}
 use Rattle.schedule_cli.specs.Said.{said_text}
 
@@ -58,20 +58,12 @@ pub lines_are_done : (maps : RouteMaps) (book : Book) (entries : List Entry) (i 
 lines_are_done maps book entries i front all le so_far =
     sym (append-nil front) ∙ (ap (λ (left : List Entry). front ++ answer_lines maps book left) (sym (drop_all i entries le)) ∙ so_far)
 
--- what stops the entries stops the output
-pub output_stops : (fault : ProgramFault) (input : List ℕ) → StopsFor fault (entries_of input) → StopsFor fault (output_of input)
+-- an input whose entries are refused has no output
+pub output_refused : (fault : CheckFault) (input : List ℕ) → RefusedFor fault (entries_of input) → RefusedFor fault (output_of input)
 unfolding output_of
-output_stops stop.OutOfMemory input h = tt
-output_stops (stop.Line number) input h = ap lines_for h
-output_stops stop.Read input h = absurd h
-output_stops stop.Settings input h = absurd h
-output_stops stop.Write input h = absurd h
+output_refused check.OutOfMemory input h = tt
+output_refused (check.Input why) input h = ap lines_for h
 
-output_is : (input : List ℕ) (entries : List Entry) (output : List ℕ) → entries_of input ≡ Ok entries → output ≡ answer_lines sample_routes opening_book entries → output_of input ≡ Ok output
+pub output_is : (input : List ℕ) (entries : List Entry) (output : List ℕ) → entries_of input ≡ Ok entries → output ≡ answer_lines sample_routes opening_book entries → output_of input ≡ Ok output
 unfolding output_of
 output_is input entries output read is = ap lines_for read ∙ ap (λ (o : List ℕ). Ok o) (sym is)
-
-pub outputs_are : (input : List ℕ) (entries : List Entry) (lines : Result (Vec ℕ Global) ProgramFault) → entries_of input ≡ Ok entries
-    → IfOk lines (λ output. output.items ≡ answer_lines sample_routes opening_book entries) → IfOk lines (λ output. output_of input ≡ Ok output.items)
-outputs_are input entries (Ok output) read is = output_is input entries output.items read is
-outputs_are input entries (Err fault) read is = tt

@@ -1,5 +1,5 @@
 -- The entries that the lines of an input spell.
-use Rattle.std.specs.Prelude.{ℕ, zero, suc, List, Option, Some, None, option_and_then, Result}
+use Rattle.std.specs.Prelude.{ℕ, zero, suc, List, Option, Some, None, option_and_then, Result, Ok, Err}
 use Rattle.std.specs.Result.{result_ok}
 use Rattle.input_text.specs.Options.{◌>>=◌}
 use Rattle.input_text.specs.Lines.{numbered_lines}
@@ -9,6 +9,8 @@ use Rattle.input_text.specs.Printing.{unprinted}
 use Rattle.envelope.specs.Txn.{Txn}
 use Rattle.schedule.specs.Reading.{told_lines, spelled_in}
 use Rattle.schedule_cli.specs.declared.entries.Entry.{Entry}
+use Rattle.schedule_cli.specs.declared.fault.InputFault.{InputFault}
+use Rattle.schedule_cli.specs.declared.fault.InputFault.TheVariants.{Line}
 
 -- all lines stand under pharmacy 1, and no number is zero
 abbrev pub id_with : ℕ → Option Txn
@@ -27,6 +29,15 @@ entry_of line = do
   request ← result_ok (unprinted words.1)
   Some (record { id = id; request = request })
 
--- the entries of an input, in order, or the number of the first line that spells none; skipped lines are counted
-abbrev pub entries_of : List ℕ → Result (List Entry) ℕ
-entries_of input = spelled_in entry_of (told_lines (numbered_lines (record { number = 1; bytes = input })))
+-- the entries of the lines of an input, in order, or the number of the first line that spells none; skipped lines are counted
+abbrev pub entries_in : List ℕ → Result (List Entry) ℕ
+entries_in input = spelled_in entry_of (told_lines (numbered_lines (record { number = 1; bytes = input })))
+
+-- what lines spell, or the line that is bad
+abbrev pub by_line : {A : Type 0} → Result A ℕ → Result A InputFault
+by_line (Ok all) = Ok all
+by_line (Err number) = Err (Line number)
+
+-- the entries of an input, or what is bad in it
+abbrev pub entries_of : List ℕ → Result (List Entry) InputFault
+entries_of input = by_line (entries_in input)

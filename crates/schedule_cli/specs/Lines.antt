@@ -7,6 +7,7 @@ use Rattle.claim_model.specs.Rows.{Book}
 use Rattle.claim_model.specs.Book.{Answered, answered}
 use Rattle.claim_model.specs.Bytes.{bytes_with}
 use Rattle.schedule_cli.specs.declared.entries.Entry.{Entry}
+use Rattle.schedule_cli.specs.declared.fault.InputFault.{InputFault}
 use Rattle.schedule_cli.specs.Entries.{entries_of}
 use Rattle.schedule_cli.specs.Sample.{sample_routes, opening_book}
 
@@ -43,10 +44,10 @@ answer_lines maps book [] = []
 answer_lines maps book (e ∷ more) = line_of e.id.number (said_to maps book e) ++ answer_lines maps (book_after book (said_to maps book e)) more
 
 -- the lines for the entries of an input
-abbrev pub lines_for : Result (List Entry) ℕ → Result (List ℕ) ℕ
+abbrev pub lines_for : Result (List Entry) InputFault → Result (List ℕ) InputFault
 lines_for (Ok entries) = Ok (answer_lines sample_routes opening_book entries)
-lines_for (Err line) = Err line
+lines_for (Err why) = Err why
 
--- the output for an input: a line for each entry, or the number of the first line that spells none
-unfoldable pub output_of : List ℕ → Result (List ℕ) ℕ
+-- the output for an input: a line for each entry, or the first line that spells none
+unfoldable pub output_of : List ℕ → Result (List ℕ) InputFault
 output_of input = lines_for (entries_of input)

@@ -12,13 +12,10 @@ use Rattle.schedule.specs.Division.{settings_text, schedule_lines}
 use Rattle.schedule.specs.Reading.{events_of}
 use Rattle.world_report.specs.Words.{lines_text}
 use Rattle.world_report.specs.Events.{run_lines}
-use Rattle.schedule_cli.specs.declared.fault.ProgramFault.{ProgramFault}
-use Rattle.schedule_cli.specs.declared.fault.ProgramFault.TheVariants.{OutOfMemory, Read, Settings, Line, Write}
-
--- why an input has no report: its settings are none, or the first line of its schedule that spells no event
-pub data NoReport : Type 0 where
-  BadSettings : NoReport
-  BadLine : (number : ℕ) → NoReport
+use Rattle.world_settings.specs.declared.fault.SettingsFault.{SettingsFault}
+use Rattle.world_settings.specs.declared.fault.SettingsFault.TheVariants as settings
+use Rattle.schedule_cli.specs.declared.fault.InputFault.{InputFault}
+use Rattle.schedule_cli.specs.declared.fault.InputFault.TheVariants.{Settings, Line}
 
 -- a world takes the settings: neither its nodes nor a row of routes is at fault
 abbrev pub is_taken : Document → Bool
@@ -44,13 +41,13 @@ abbrev pub report_from : WorldParts → List Event → List ℕ
 report_from w events = lines_text (run_lines (context_of w) w.world (map event_seen events))
 
 -- the settings come first
-abbrev pub replay_from : Option WorldParts → Result (List Event) ℕ → Result (List ℕ) NoReport
-replay_from None spelled = Err BadSettings
+abbrev pub replay_from : Option WorldParts → Result (List Event) ℕ → Result (List ℕ) InputFault
+replay_from None spelled = Err Settings
 replay_from (Some w) (Ok events) = Ok (report_from w events)
-replay_from (Some w) (Err number) = Err (BadLine number)
+replay_from (Some w) (Err number) = Err (Line number)
 
--- the report of an input: settings, a line `---`, and a schedule
-unfoldable pub replay_of : List ℕ → Result (List ℕ) NoReport
+-- the report of an input, which is settings, a line `---`, and a schedule; or what is bad in it
+unfoldable pub replay_of : List ℕ → Result (List ℕ) InputFault
 replay_of input = replay_from (world_in (settings_text input)) (events_of (schedule_lines (lines input)))
 
 -- what a replay of an input begins with: the opening world of its settings, and the events that its lines spell
@@ -59,25 +56,6 @@ pub record Begins (input : List ℕ) (w : WorldParts) (events : List Event) : Ty
   pub spells : events_of (schedule_lines (lines input)) ≡ Ok events
 
 -- settings open no world for this cause; want of memory says nothing
-abbrev pub OpensNone : ProgramFault → Option WorldParts → Type 0
-OpensNone OutOfMemory opened = Unit {0}
-OpensNone Settings opened = opened ≡ None
-OpensNone (Line number) opened = ⊥
-OpensNone Read opened = ⊥
-OpensNone Write opened = ⊥
-
--- an input has no report for this cause; want of memory says nothing
-abbrev pub HasNone : ProgramFault → Result (List ℕ) NoReport → Type 0
-HasNone OutOfMemory told = Unit {0}
-HasNone Settings told = told ≡ Err BadSettings
-HasNone (Line number) told = told ≡ Err (BadLine number)
-HasNone Read told = ⊥
-HasNone Write told = ⊥
-
--- settings and lines are refused only where they are bad; other faults say nothing of the input
-abbrev pub IsRefused : ProgramFault → Result (List ℕ) NoReport → Type 0
-IsRefused OutOfMemory told = Unit {0}
-IsRefused Settings told = told ≡ Err BadSettings
-IsRefused (Line number) told = told ≡ Err (BadLine number)
-IsRefused Read told = Unit {0}
-IsRefused Write told = Unit {0}
+abbrev pub OpensNone : SettingsFault → Option WorldParts → Type 0
+OpensNone settings.OutOfMemory opened = Unit {0}
+OpensNone settings.Settings opened = opened ≡ None

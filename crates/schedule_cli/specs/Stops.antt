@@ -1,9 +1,17 @@
 -- Why a program stops, and what was written until then.
-use Rattle.std.specs.Prelude.{ℕ, ◌≡◌, ◌≤◌, List, length, take, Option, Result, Ok, Err}
+use Rattle.std.specs.Prelude.{ℕ, ◌≡◌, ◌<◌, ◌≤◌, ◌⊎◌, Bool, List, length, take, Option, Result, Ok, Err, IfSome, IsOk, IsTrue}
 use Rattle.std.specs.Io.KnownBytes.{Appends}
+use Rattle.world_settings.specs.declared.fault.SettingsFault.{SettingsFault}
+use Rattle.world_settings.specs.declared.fault.SettingsFault.TheVariants as settings
+use Rattle.schedule.specs.declared.fault.ScheduleFault.{ScheduleFault}
+use Rattle.schedule.specs.declared.fault.ScheduleFault.TheVariants as lines
 use Rattle.schedule_cli.specs.declared.input.TheConstants.{MOST_INPUT}
+use Rattle.schedule_cli.specs.declared.fault.InputFault.{InputFault}
+use Rattle.schedule_cli.specs.declared.fault.InputFault.TheVariants.{Settings, Line}
+use Rattle.schedule_cli.specs.declared.fault.CheckFault.{CheckFault}
+use Rattle.schedule_cli.specs.declared.fault.CheckFault.TheVariants as check
 use Rattle.schedule_cli.specs.declared.fault.ProgramFault.{ProgramFault}
-use Rattle.schedule_cli.specs.declared.fault.ProgramFault.TheVariants.{OutOfMemory, Read, Settings, Line, Write}
+use Rattle.schedule_cli.specs.declared.fault.ProgramFault.TheVariants.{OutOfMemory, Read, Input, Write}
 use Rattle.schedule_cli.specs.declared.words.Stop.{Stop}
 use Rattle.schedule_cli.specs.declared.words.Stop.TheVariants.{Usage, Fault}
 
@@ -12,13 +20,40 @@ abbrev pub exit_status : Stop → ℕ
 exit_status Usage = 2
 exit_status (Fault fault) = 1
 
--- what is spelled line by line stops at the first line that spells nothing, or for want of memory, which says nothing
-abbrev pub StopsFor : {A : Type 0} → ProgramFault → Result A ℕ → Type 0
-StopsFor OutOfMemory spelled = Unit {0}
-StopsFor (Line number) spelled = spelled ≡ Err number
-StopsFor Read spelled = ⊥
-StopsFor Settings spelled = ⊥
-StopsFor Write spelled = ⊥
+-- why a text is no settings, as a check of the input tells it
+abbrev pub settings_told : SettingsFault → CheckFault
+settings_told settings.OutOfMemory = check.OutOfMemory
+settings_told settings.Settings = check.Input Settings
+
+-- why lines spell nothing, as a check of the input tells it
+abbrev pub schedule_told : ScheduleFault → CheckFault
+schedule_told lines.OutOfMemory = check.OutOfMemory
+schedule_told (lines.Line number) = check.Input (Line number)
+
+-- what a check finds, as a program tells it
+abbrev pub check_told : CheckFault → ProgramFault
+check_told check.OutOfMemory = OutOfMemory
+check_told (check.Input why) = Input why
+
+-- a call of the source failed, or the input is too long
+abbrev pub IsUnread : Bool → Option (List ℕ) → Type 0
+IsUnread failed input = IsTrue failed ⊎ IfSome input (λ bytes. MOST_INPUT < length bytes)
+
+-- a check refuses an input for what is bad in it; want of memory says nothing
+abbrev pub RefusedFor : {A : Type 0} → CheckFault → Result A InputFault → Type 0
+RefusedFor check.OutOfMemory told = Unit {0}
+RefusedFor (check.Input why) told = told ≡ Err why
+
+-- an input that was read to its end is not too long, and nothing is bad in it
+abbrev pub IsTaken : {A : Type 0} → List ℕ → Result A InputFault → Type 0
+IsTaken input told = (length input ≤ MOST_INPUT) × IsOk told
+
+-- what a fault says of the input; want of memory and a failed read say nothing
+abbrev pub StopsFor : {A : Type 0} → ProgramFault → List ℕ → Result A InputFault → Type 0
+StopsFor OutOfMemory input told = Unit {0}
+StopsFor Read input told = Unit {0}
+StopsFor (Input why) input told = (length input ≤ MOST_INPUT) × (told ≡ Err why)
+StopsFor Write input told = IsTaken input told
 
 -- an input has this output, and all of it was written
 abbrev pub Written : {E : Type 0} → Option (List ℕ) → Option (List ℕ) → Result (List ℕ) E → Type 0
@@ -29,23 +64,3 @@ Written before after (Err why) = ⊥
 abbrev pub BeginningWritten : {E : Type 0} → Option (List ℕ) → Option (List ℕ) → Result (List ℕ) E → Type 0
 BeginningWritten before after (Ok output) = (count : ℕ) × Appends before after (take count output)
 BeginningWritten before after (Err why) = ⊥
-
--- where a line is refused, it is the first that spells no entry; other faults say nothing of lines
-abbrev pub IsBadLine : {A : Type 0} → ProgramFault → Result A ℕ → Type 0
-IsBadLine OutOfMemory spelled = Unit {0}
-IsBadLine (Line number) spelled = spelled ≡ Err number
-IsBadLine Read spelled = Unit {0}
-IsBadLine Settings spelled = Unit {0}
-IsBadLine Write spelled = Unit {0}
-
--- a program that has checked its input has all of it, and it is not too long; want of memory says nothing
-abbrev pub FitsBehind : ProgramFault → List ℕ → Type 0
-FitsBehind OutOfMemory input = Unit {0}
-FitsBehind Read input = Unit {0}
-FitsBehind Settings input = length input ≤ MOST_INPUT
-FitsBehind (Line number) input = length input ≤ MOST_INPUT
-FitsBehind Write input = length input ≤ MOST_INPUT
-
-abbrev pub Fits : {A : Type 0} → Result A ProgramFault → List ℕ → Type 0
-Fits (Ok done) input = length input ≤ MOST_INPUT
-Fits (Err fault) input = FitsBehind fault input

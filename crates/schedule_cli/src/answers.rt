@@ -2,44 +2,38 @@
 
 ghost use Rattle.std.specs.Prelude.{◌≡◌, ◌≢◌, ◌++◌, Ok, Err, IfOk, IfErr, OnOk};
 ghost use Rattle.payer_book.specs.declared.fault.BookFault.TheVariants.{OutOfMemory as NoMemory};
-ghost use Rattle.schedule_cli.specs.declared.fault.ProgramFault.TheVariants.{OutOfMemory};
 ghost use Rattle.schedule_cli.specs.Lines.{answer_lines, book_after, line_of, output_of, said_to};
 ghost use Rattle.schedule_cli.specs.Sample.{opening_book, sample_routes};
 ghost use Rattle.schedule_cli.specs.Said.{fault_name, said_text};
-ghost use Rattle.schedule_cli.specs.Stops.{StopsFor};
+ghost use Rattle.schedule_cli.specs.Stops.{RefusedFor, schedule_told};
 
 use crate::entries::{Entry, entries};
-use crate::fault::ProgramFault;
 use crate::sample;
 use bin_routes::Routes;
 use input_text::{put_decimal, put_printed};
 use payer_book::{Book, BookFault, HashKeys, Reply};
-use std::alloc::Global;
+use schedule::ScheduleFault as LineFault;
+use std::alloc::{AllocError, Global};
 
 /// The whole output for an input, which is given back once its entries are read.
 ///
 /// # Errors
 /// `Line` of the first line that spells no entry; `OutOfMemory`.
-pub(crate) fn answers(
-    alloc: Global,
-    keys: &HashKeys,
-    input: Vec<u8>,
-) -> Result<Vec<u8>, ProgramFault>
+pub(crate) fn answers(alloc: Global, keys: &HashKeys, input: Vec<u8>) -> Result<Vec<u8>, LineFault>
     ensures all { IfOk result (λ output. output_of input.items ≡ Ok output.items) }
-    ensures fault { IfErr result (λ fault. StopsFor fault (output_of input.items)) }
+    ensures fault { IfErr result (λ fault. RefusedFor (schedule_told fault) (output_of input.items)) }
 {
     let read = entries(alloc, input.as_slice());
     drop(input);
     match read {
-        Ok(entries) => all_lines(alloc, keys, entries.as_slice()),
+        Ok(entries) => Ok(all_lines(alloc, keys, entries.as_slice())?),
         Err(fault) => Err(fault),
     }
 }
 
 /// The lines of all entries, from the book as it opens.
-fn all_lines(alloc: Global, keys: &HashKeys, entries: &[Entry]) -> Result<Vec<u8>, ProgramFault>
-    ensures ok { IfOk result (λ output. output.items ≡ answer_lines sample_routes opening_book entries.now) }
-    ensures err { IfErr result (λ fault. fault ≡ OutOfMemory) }
+fn all_lines(alloc: Global, keys: &HashKeys, entries: &[Entry]) -> Result<Vec<u8>, AllocError>
+    ensures { IfOk result (λ output. output.items ≡ answer_lines sample_routes opening_book entries.now) }
 {
     let routes = sample::routes(alloc)?;
     let mut book = sample::book(alloc, keys)?;
@@ -56,10 +50,9 @@ fn put_line(
     book: &mut Book,
     routes: &Routes,
     entry: &Entry,
-) -> Result<(), ProgramFault>
+) -> Result<(), AllocError>
     ensures line { OnOk result (output.new.items ≡ output.old.items ++ line_of entry.now.id.number (said_to routes.now book.old entry.now)) }
     ensures book { OnOk result (book.new ≡ book_after book.old (said_to routes.now book.old entry.now)) }
-    ensures err { IfErr result (λ fault. fault ≡ OutOfMemory) }
 {
     put_decimal(output, entry.id.number())?;
     let said = book.answer(routes, entry.id, entry.request.as_slice());
@@ -69,17 +62,16 @@ fn put_line(
 }
 
 /// Appends what stands behind the number: the answer, or the name of the refusal.
-fn put_said(output: &mut Vec<u8>, said: &Result<Reply, BookFault>) -> Result<(), ProgramFault>
+fn put_said(output: &mut Vec<u8>, said: &Result<Reply, BookFault>) -> Result<(), AllocError>
     ensures text { OnOk result (output.new.items ≡ output.old.items ++ said_text said.now) }
     ensures known { OnOk result (said.now ≢ Err NoMemory) }
-    ensures err { IfErr result (λ fault. fault ≡ OutOfMemory) }
 {
     match said {
         Ok(reply) => {
             output.extend_from_slice(b" ")?;
             put_printed(output, reply.bytes.as_slice())?;
         }
-        Err(BookFault::OutOfMemory) => return Err(ProgramFault::OutOfMemory),
+        Err(BookFault::OutOfMemory) => return Err(AllocError),
         Err(fault) => {
             output.extend_from_slice(b" refused ")?;
             output.extend_from_slice(name_of(*fault))?;

@@ -2,12 +2,12 @@
 
 ghost use Rattle.std.specs.Prelude.{◌≡◌, IfOk, IfErr};
 ghost use Rattle.schedule_cli.specs.Entries.{id_in, entry_of, entries_of};
-ghost use Rattle.schedule_cli.specs.Stops.{StopsFor};
+ghost use Rattle.schedule_cli.specs.Stops.{RefusedFor, schedule_told};
 
-use crate::fault::ProgramFault;
 use envelope::TxnId;
 use input_text::{Lines, PrintedFault, is_skipped, read_decimal, split_word, unprint};
 use octets::Octets;
+use schedule::ScheduleFault as LineFault;
 use std::alloc::{AllocError, Global};
 
 /// The pharmacy under whose number all lines stand (own).
@@ -26,16 +26,16 @@ pub(crate) struct Entry {
 ///
 /// # Errors
 /// `Line` of the first line that spells no entry; `OutOfMemory`.
-pub(crate) fn entries(alloc: Global, input: &[u8]) -> Result<Vec<Entry>, ProgramFault>
+pub(crate) fn entries(alloc: Global, input: &[u8]) -> Result<Vec<Entry>, LineFault>
     ensures read { IfOk result (λ entries. entries_of input.now ≡ Ok entries.items) }
-    ensures fault { IfErr result (λ fault. StopsFor fault (entries_of input.now)) }
+    ensures fault { IfErr result (λ fault. RefusedFor (schedule_told fault) (entries_of input.now)) }
 {
     let mut entries = Vec::new(alloc);
     for line in Lines::new(input) {
         if !is_skipped(line.text) {
             match entry_of(alloc, line.text)? {
                 Some(entry) => entries.push(entry)?,
-                None => return Err(ProgramFault::Line(line.number as u64)),
+                None => return Err(LineFault::Line(line.number as u64)),
             }
         }
     }

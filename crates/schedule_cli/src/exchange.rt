@@ -1,15 +1,12 @@
-//! What a replay begins with, and the exchange of a program that has its own output for it.
+//! What a replay begins with, for programs that have an output of their own for it.
 
-ghost use Rattle.std.specs.Prelude.{◌≡◌, ◌≢◌, ◌+◌, ◌<◌, ◌≤◌, ◌⊎◌, ℕ, length, take, Some, Ok, IfOk, IfErr, IfSome, IsTrue, IsErrOf, OnOk, OnErr};
-ghost use Rattle.std.specs.Io.KnownBytes.{Appends};
-ghost use Rattle.schedule_cli.specs.Replays.{replay_of, HasNone, IsRefused, Begins};
-ghost use Rattle.schedule_cli.specs.Stops.{Fits};
+ghost use Rattle.std.specs.Prelude.{◌≢◌, ◌+◌, ◌≤◌, Ok, IfOk, IfErr, IfSome, IsOk, IsErrOf, OnOk};
+ghost use Rattle.schedule_cli.specs.Replays.{replay_of, Begins};
+ghost use Rattle.schedule_cli.specs.Stops.{IsTaken, IsUnread, RefusedFor, StopsFor};
 
-use crate::fault::ProgramFault;
-use crate::input::{MOST_CALLS, MOST_INPUT, read_all};
-use crate::output::write_all;
+use crate::fault::{CheckFault, InputFault, ProgramFault};
+use crate::input::{MOST_CALLS, read_all};
 use crate::replaying::opened;
-use crate::sink::Sink;
 use crate::source::Source;
 use payer_book::HashKeys;
 use schedule::{ScheduleFault, divide, read_schedule};
@@ -28,20 +25,17 @@ pub struct Scheduled {
 ///
 /// # Errors
 /// `Settings` where the settings are none; then `Line` of the first line that spells no event; `OutOfMemory`.
-pub(crate) fn begin(
-    alloc: Global,
-    keys: &HashKeys,
-    input: Vec<u8>,
-) -> Result<Scheduled, ProgramFault>
+pub(crate) fn begin(alloc: Global, keys: &HashKeys, input: Vec<u8>) -> Result<Scheduled, CheckFault>
     ensures begins { IfOk result (λ s. Begins input.items s.world s.events.items) }
-    ensures fault { IfErr result (λ fault. HasNone fault (replay_of input.items)) }
+    ensures taken { OnOk result (IsOk (replay_of input.items)) }
+    ensures fault { IfErr result (λ fault. RefusedFor fault (replay_of input.items)) }
 {
     let parts = divide(alloc, input.as_slice())?;
     let world = opened(alloc, keys, parts.settings.as_slice())?;
     match read_schedule(alloc, parts.schedule) {
         Ok(events) => Ok(Scheduled { world, events }),
-        Err(ScheduleFault::OutOfMemory) => Err(ProgramFault::OutOfMemory),
-        Err(ScheduleFault::Line(number)) => Err(ProgramFault::Line(number)),
+        Err(ScheduleFault::OutOfMemory) => Err(CheckFault::OutOfMemory),
+        Err(ScheduleFault::Line(number)) => Err(CheckFault::Input(InputFault::Line(number))),
     }
 }
 
@@ -53,31 +47,15 @@ pub(crate) fn begin(
 pub fn read_scheduled<S: Source>(alloc: Global, source: &mut S) -> Result<Scheduled, ProgramFault>
     ensures begins { IfOk result (λ s. IfSome (S.remaining source.old) (λ input. Begins input s.world s.events.items)) }
     // A call of the source failed, or the input is too long.
-    ensures read { IsErrOf result ProgramFault.Read → IsTrue (S.has_failed source.new)
-        ⊎ IfSome (S.remaining source.old) (λ input. MOST_INPUT < length input) }
-    // What is checked was read to its end, and is not too long.
-    ensures fits { IfSome (S.remaining source.old) (λ input. Fits result input) }
+    ensures read { IsErrOf result ProgramFault.Read → IsUnread (S.has_failed source.new) (S.remaining source.old) }
+    // What is taken was read to its end, is not too long, and has a report.
+    ensures taken { OnOk result (IfSome (S.remaining source.old) (λ input. IsTaken input (replay_of input))) }
     // Settings are refused only where they open no world, and a line only where it is the first that spells no event.
-    ensures refused { IfErr result (λ fault. IfSome (S.remaining source.old) (λ input. IsRefused fault (replay_of input))) }
+    ensures stops { IfErr result (λ fault. IfSome (S.remaining source.old) (λ input. StopsFor fault input (replay_of input))) }
     // Nothing is written.
     ensures faults { IfErr result (λ fault. fault ≢ ProgramFault.Write) }
     ensures calls { S.calls source.new ≤ S.calls source.old + MOST_CALLS }
 {
     let input = read_all(alloc, source)?;
-    begin(alloc, &HashKeys::fixed(), input)
-}
-
-/// Writes a finished output, and flushes it.
-///
-/// # Errors
-/// `Write` where a call of the sink failed; what was written until then is a beginning of the bytes.
-pub fn write_output<K: Sink>(sink: &mut K, bytes: &[u8]) -> Result<(), ProgramFault>
-    ensures all { OnOk result (Appends (K.contents sink.old) (K.contents sink.new) bytes.now) }
-    ensures front { OnErr result ((count : ℕ) × Appends (K.contents sink.old) (K.contents sink.new) (take count bytes.now)) }
-    ensures flushed { OnOk result (IsTrue (K.is_flushed sink.new)) }
-    ensures same_reference { K.loan sink.new ≡ K.loan sink.old }
-    ensures faults { IfErr result (λ fault. fault ≡ ProgramFault.Write) }
-    ensures failed { OnErr result (IsTrue (K.has_failed sink.new)) }
-{
-    write_all(sink, bytes)
+    Ok(begin(alloc, &HashKeys::fixed(), input)?)
 }

@@ -1,7 +1,8 @@
 //! The whole input, read before anything is done with it.
 
-ghost use Rattle.std.specs.Prelude.{◌≡◌, ◌+◌, ◌<◌, ◌≤◌, ◌⊎◌, length, IfOk, IfErr, IfSome, IsTrue, IsErrOf, vec_len};
+ghost use Rattle.std.specs.Prelude.{◌≡◌, ◌+◌, ◌≤◌, ◌⊎◌, IfOk, IfErr, IfSome, IsErrOf, vec_len};
 ghost use Rattle.std.specs.Io.KnownBytes.{ReadConsumes};
+ghost use Rattle.schedule_cli.specs.Stops.{IsUnread};
 
 use crate::fault::ProgramFault;
 use crate::source::Source;
@@ -21,8 +22,7 @@ const CHUNK: usize = 65_536;
 pub fn read_all<S: Source>(alloc: Global, source: &mut S) -> Result<Vec<u8>, ProgramFault>
     ensures all { IfOk result (λ input. IfSome (S.remaining source.old) (λ bytes. input.items ≡ bytes)) }
     ensures fits { IfOk result (λ input. vec_len input ≤ MOST_INPUT) }
-    ensures fault { IsErrOf result ProgramFault.Read → IsTrue (S.has_failed source.new)
-        ⊎ IfSome (S.remaining source.old) (λ bytes. MOST_INPUT < length bytes) }
+    ensures fault { IsErrOf result ProgramFault.Read → IsUnread (S.has_failed source.new) (S.remaining source.old) }
     ensures faults { IfErr result (λ fault. (fault ≡ ProgramFault.Read) ⊎ (fault ≡ ProgramFault.OutOfMemory)) }
     ensures calls { S.calls source.new ≤ S.calls source.old + MOST_CALLS }
 {

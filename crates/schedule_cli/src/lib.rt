@@ -20,10 +20,11 @@ mod whole;
 mod why;
 mod words;
 
-pub use exchange::{Scheduled, read_scheduled, write_output};
-pub use fault::ProgramFault;
+pub use exchange::{Scheduled, read_scheduled};
+pub use fault::{CheckFault, InputFault, ProgramFault};
 pub use input::{MOST_CALLS, MOST_INPUT, read_all};
 pub use kept::KeptReader;
+pub use output::write_output;
 pub use payer_book::HashKeys;
 pub use read::read_claims_over;
 pub use sink::{Sink, WriterSink};

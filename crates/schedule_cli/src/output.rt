@@ -6,11 +6,11 @@ ghost use Rattle.std.specs.Io.KnownBytes.{Appends};
 use crate::fault::ProgramFault;
 use crate::sink::Sink;
 
-/// Writes all of the bytes, in as many calls as the sink wants, and flushes them.
+/// Writes a finished output, in as many calls as the sink wants, and flushes it.
 ///
 /// # Errors
 /// `Write` where a call of the sink failed; what was written until then is a beginning of the bytes.
-pub(crate) fn write_all<K: Sink>(sink: &mut K, bytes: &[u8]) -> Result<(), ProgramFault>
+pub fn write_output<K: Sink>(sink: &mut K, bytes: &[u8]) -> Result<(), ProgramFault>
     ensures all { OnOk result (Appends (K.contents sink.old) (K.contents sink.new) bytes.now) }
     ensures front { OnErr result ((count : ℕ) × Appends (K.contents sink.old) (K.contents sink.new) (take count bytes.now)) }
     ensures flushed { OnOk result (IsTrue (K.is_flushed sink.new)) }

@@ -1,14 +1,14 @@
 //! Lines of billings and reversals for one book: each line's answer, or the name of its refusal.
 
-ghost use Rattle.std.specs.Prelude.{◌≡◌, ◌≢◌, ◌+◌, ◌<◌, ◌≤◌, ◌⊎◌, length, IfErr, IfSome, IsTrue, IsErrOf, OnOk};
+ghost use Rattle.std.specs.Prelude.{◌≡◌, ◌+◌, ◌≤◌, IsTrue, IsErrOf, OnOk};
 ghost use Rattle.schedule_cli.specs.Lines.{output_of};
-ghost use Rattle.schedule_cli.specs.Serving.{Serves};
-ghost use Rattle.schedule_cli.specs.Stops.{IsBadLine};
+ghost use Rattle.schedule_cli.specs.Serving.{RefusesNoSettings, Serves};
+ghost use Rattle.schedule_cli.specs.Stops.{IsUnread};
 
 use crate::answers::answers;
 use crate::fault::ProgramFault;
-use crate::input::{MOST_CALLS, MOST_INPUT, read_all};
-use crate::output::write_all;
+use crate::input::{MOST_CALLS, read_all};
+use crate::output::write_output;
 use crate::sink::Sink;
 use crate::source::Source;
 use payer_book::HashKeys;
@@ -31,20 +31,19 @@ pub fn read_claims_over<S: Source, K: Sink>(
     sink: &mut K,
 ) -> Result<(), ProgramFault>
     // Exactly the lines that the book's answers give were written, or a line or a write is at fault.
-    ensures serves { Serves output_of IsBadLine result (S.remaining source.old) K.contents sink.old sink.new }
+    ensures serves { Serves output_of result (S.remaining source.old) K.contents sink.old sink.new }
     // A call of the source failed, or the input is too long.
-    ensures read { IsErrOf result ProgramFault.Read → IsTrue (S.has_failed source.new)
-        ⊎ IfSome (S.remaining source.old) (λ input. MOST_INPUT < length input) }
+    ensures read { IsErrOf result ProgramFault.Read → IsUnread (S.has_failed source.new) (S.remaining source.old) }
     // What was written is flushed.
     ensures flushed { OnOk result (IsTrue (K.is_flushed sink.new)) }
     ensures same_reference { K.loan sink.new ≡ K.loan sink.old }
     // A call of the sink failed.
     ensures write { IsErrOf result ProgramFault.Write → IsTrue (K.has_failed sink.new) }
     // There are no settings that could be refused.
-    ensures faults { IfErr result (λ fault. fault ≢ ProgramFault.Settings) }
+    ensures faults { RefusesNoSettings result }
     ensures calls { S.calls source.new ≤ S.calls source.old + MOST_CALLS }
 {
     let input = read_all(alloc, source)?;
     let output = answers(alloc, keys, input)?;
-    write_all(sink, output.as_slice())
+    write_output(sink, output.as_slice())
 }

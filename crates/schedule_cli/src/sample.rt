@@ -1,16 +1,14 @@
 //! The one book that `read` answers from.
 
-ghost use Rattle.std.specs.Prelude.{◌≡◌, [], IfOk, IfErr};
-ghost use Rattle.schedule_cli.specs.declared.fault.ProgramFault.TheVariants.{OutOfMemory};
+ghost use Rattle.std.specs.Prelude.{◌≡◌, [], IfOk};
 ghost use Rattle.schedule_cli.specs.Sample.{opening_book, sample_plan, sample_routes};
 
-use crate::fault::ProgramFault;
 use bin_routes::{PayerNo, RouteRow, Routes};
 use octets::Octets;
 use overpunch::Amount;
 use payer_book::{Book, BookSettings, HashKeys};
 use plan_rules::Plan;
-use std::alloc::Global;
+use std::alloc::{AllocError, Global};
 
 /// Dispensing fee that the plan pays at most, and the patient's part, in cents.
 const FEE: i64 = 150;
@@ -28,9 +26,8 @@ const FIRST_SERIAL: u64 = 1;
 const MOST_ROWS: u32 = 1_000;
 
 /// An empty book of payer 1, of at most 1,000 rows, whose plan has the one product and whose maps hash with these keys.
-pub(crate) fn book(alloc: Global, keys: &HashKeys) -> Result<Book, ProgramFault>
-    ensures made { IfOk result (λ book. book ≡ opening_book) }
-    ensures fault { IfErr result (λ fault. fault ≡ OutOfMemory) }
+pub(crate) fn book(alloc: Global, keys: &HashKeys) -> Result<Book, AllocError>
+    ensures { IfOk result (λ book. book ≡ opening_book) }
 {
     let Some(payer) = PayerNo::new(1) else {
         unreachable!()
@@ -43,14 +40,13 @@ pub(crate) fn book(alloc: Global, keys: &HashKeys) -> Result<Book, ProgramFault>
 }
 
 /// The plan with the one product.
-fn plan(alloc: Global) -> Result<Plan, ProgramFault>
-    ensures made { IfOk result (λ plan. plan ≡ sample_plan) }
-    ensures fault { IfErr result (λ fault. fault ≡ OutOfMemory) }
+fn plan(alloc: Global) -> Result<Plan, AllocError>
+    ensures { IfOk result (λ plan. plan ≡ sample_plan) }
 {
     let mut plan = empty_plan(alloc);
     match plan.set(PRODUCT, PRICE) {
         Ok(()) => Ok(plan),
-        Err(_) => Err(ProgramFault::OutOfMemory),
+        Err(_) => Err(AllocError),
     }
 }
 
@@ -68,14 +64,13 @@ fn empty_plan(alloc: Global) -> Plan
 }
 
 /// The routes: the one BIN to payer 1.
-pub(crate) fn routes(alloc: Global) -> Result<Routes, ProgramFault>
-    ensures made { IfOk result (λ routes. routes ≡ sample_routes) }
-    ensures fault { IfErr result (λ fault. fault ≡ OutOfMemory) }
+pub(crate) fn routes(alloc: Global) -> Result<Routes, AllocError>
+    ensures { IfOk result (λ routes. routes ≡ sample_routes) }
 {
     let bin = Octets::copy_of(alloc, BIN)?;
     let row = RouteRow::new(bin, None, 1);
     match Routes::new(alloc, &[row], 1) {
         Ok(routes) => Ok(routes),
-        Err(_) => Err(ProgramFault::OutOfMemory),
+        Err(_) => Err(AllocError),
     }
 }

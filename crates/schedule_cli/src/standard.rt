@@ -1,10 +1,8 @@
 //! The programs over any standard reader and writer.
 
-ghost use Rattle.std.specs.Prelude.{◌≢◌, IfErr};
 ghost use Rattle.schedule_cli.specs.Lines.{output_of};
-ghost use Rattle.schedule_cli.specs.Replays.{replay_of, IsRefused};
-ghost use Rattle.schedule_cli.specs.Serving.{Serves};
-ghost use Rattle.schedule_cli.specs.Stops.{IsBadLine};
+ghost use Rattle.schedule_cli.specs.Replays.{replay_of};
+ghost use Rattle.schedule_cli.specs.Serving.{RefusesNoSettings, Serves};
 
 use crate::fault::ProgramFault;
 use crate::read::read_claims_over;
@@ -28,9 +26,9 @@ pub fn read_claims<R: Read, W: Write>(
     writer: &mut W,
 ) -> Result<(), ProgramFault>
     // Exactly the lines that the book's answers give were written, or a line or a write is at fault.
-    ensures serves { Serves output_of IsBadLine result (R.remaining reader.old) W.contents writer.old writer.new }
+    ensures serves { Serves output_of result (R.remaining reader.old) W.contents writer.old writer.new }
     // There are no settings that could be refused.
-    ensures faults { IfErr result (λ fault. fault ≢ ProgramFault.Settings) }
+    ensures faults { RefusesNoSettings result }
 {
     read_claims_keyed(alloc, &HashKeys::fixed(), reader, writer)
 }
@@ -46,9 +44,9 @@ pub fn read_claims_keyed<R: Read, W: Write>(
     writer: &mut W,
 ) -> Result<(), ProgramFault>
     // Exactly the lines that the book's answers give were written, or a line or a write is at fault.
-    ensures serves { Serves output_of IsBadLine result (R.remaining reader.old) W.contents writer.old writer.new }
+    ensures serves { Serves output_of result (R.remaining reader.old) W.contents writer.old writer.new }
     // There are no settings that could be refused.
-    ensures faults { IfErr result (λ fault. fault ≢ ProgramFault.Settings) }
+    ensures faults { RefusesNoSettings result }
 {
     let mut source = ReaderSource::new(reader);
     let mut sink = WriterSink::new(writer);
@@ -68,7 +66,7 @@ pub fn replay<R: Read, W: Write>(
     writer: &mut W,
 ) -> Result<(), ProgramFault>
     // Exactly the report of the input was written, or the input or a write is at fault.
-    ensures { Serves replay_of IsRefused result (R.remaining reader.old) W.contents writer.old writer.new }
+    ensures { Serves replay_of result (R.remaining reader.old) W.contents writer.old writer.new }
 {
     replay_keyed(alloc, &HashKeys::fixed(), reader, writer)
 }
@@ -84,7 +82,7 @@ pub fn replay_keyed<R: Read, W: Write>(
     writer: &mut W,
 ) -> Result<(), ProgramFault>
     // Exactly the report of the input was written, or the input or a write is at fault.
-    ensures { Serves replay_of IsRefused result (R.remaining reader.old) W.contents writer.old writer.new }
+    ensures { Serves replay_of result (R.remaining reader.old) W.contents writer.old writer.new }
 {
     let mut source = ReaderSource::new(reader);
     let mut sink = WriterSink::new(writer);

@@ -1,12 +1,13 @@
 //! A schedule of events over all nodes: a line for each event, and then each node.
 
-ghost use Rattle.std.specs.Prelude.{◌≡◌, ◌+◌, ◌<◌, ◌≤◌, ◌⊎◌, length, IfSome, IsTrue, IsErrOf, OnOk};
-ghost use Rattle.schedule_cli.specs.Replays.{replay_of, IsRefused};
+ghost use Rattle.std.specs.Prelude.{◌≡◌, ◌+◌, ◌≤◌, IsTrue, IsErrOf, OnOk};
+ghost use Rattle.schedule_cli.specs.Replays.{replay_of};
 ghost use Rattle.schedule_cli.specs.Serving.{Serves};
+ghost use Rattle.schedule_cli.specs.Stops.{IsUnread};
 
 use crate::fault::ProgramFault;
-use crate::input::{MOST_CALLS, MOST_INPUT, read_all};
-use crate::output::write_all;
+use crate::input::{MOST_CALLS, read_all};
+use crate::output::write_output;
 use crate::replaying::report_on;
 use crate::sink::Sink;
 use crate::source::Source;
@@ -29,10 +30,9 @@ pub fn replay_over<S: Source, K: Sink>(
     sink: &mut K,
 ) -> Result<(), ProgramFault>
     // Exactly the report of the input was written, or the input or a write is at fault.
-    ensures serves { Serves replay_of IsRefused result (S.remaining source.old) K.contents sink.old sink.new }
+    ensures serves { Serves replay_of result (S.remaining source.old) K.contents sink.old sink.new }
     // A call of the source failed, or the input is too long.
-    ensures read { IsErrOf result ProgramFault.Read → IsTrue (S.has_failed source.new)
-        ⊎ IfSome (S.remaining source.old) (λ input. MOST_INPUT < length input) }
+    ensures read { IsErrOf result ProgramFault.Read → IsUnread (S.has_failed source.new) (S.remaining source.old) }
     // What was written is flushed.
     ensures flushed { OnOk result (IsTrue (K.is_flushed sink.new)) }
     ensures same_reference { K.loan sink.new ≡ K.loan sink.old }
@@ -42,5 +42,5 @@ pub fn replay_over<S: Source, K: Sink>(
 {
     let input = read_all(alloc, source)?;
     let report = report_on(alloc, keys, input)?;
-    write_all(sink, report.as_slice())
+    write_output(sink, report.as_slice())
 }

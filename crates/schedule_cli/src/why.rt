@@ -4,7 +4,7 @@ ghost use Rattle.std.specs.Prelude.{◌≡◌, is_none, is_some, IfOk};
 ghost use Rattle.schedule_cli.specs.Entries.{entry_of};
 
 use crate::entries::{entry_of, id_in};
-use crate::fault::ProgramFault;
+use crate::fault::{InputFault, ProgramFault};
 use crate::words::Word;
 use input_text::{Lines, PrintedFault, split_word, unprint};
 use schedule::{command_fault, divide, event_fault};
@@ -64,11 +64,11 @@ pub fn why_refused(
     fault: ProgramFault,
 ) -> Result<Option<String>, AllocError> {
     match fault {
-        ProgramFault::Settings => {
+        ProgramFault::Input(InputFault::Settings) => {
             let parts = divide(alloc, input)?;
             settings_fault(alloc, parts.settings.as_slice())
         }
-        ProgramFault::Line(number) => line_told(alloc, word, input, number),
+        ProgramFault::Input(InputFault::Line(number)) => line_told(alloc, word, input, number),
         ProgramFault::OutOfMemory | ProgramFault::Read | ProgramFault::Write => Ok(None),
     }
 }

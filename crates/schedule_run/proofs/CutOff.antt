@@ -1,7 +1,8 @@
 -- What was written when a run stopped.
-use Rattle.std.proofs.Common.{◌≡◌, ℕ, suc, ◌+◌, take, List, [], ◌∷◌, ◌++◌, length, replicate, Option, Some, None, Result, Ok, Err, IfSome, refl, sym, ap, subst, ◌∙◌, append-nil, arith, inl, inr}
+use Rattle.std.proofs.Common.{◌≡◌, ℕ, suc, ◌+◌, take, List, [], ◌∷◌, ◌++◌, length, replicate, Option, Some, None, Result, Ok, Err, IfSome, ◌≤◌, refl, sym, ap, subst, ◌∙◌, append-nil, arith, inl, inr}
+use Rattle.std.proofs.lemmas.Bool.{false≢true}
 use Rattle.std.proofs.lemmas.List.{take_all}
-use Rattle.std.specs.Prelude.{IfErr, OnErr}
+use Rattle.std.specs.Prelude.{IfErr, OnErr, OnOk, ◌⊎◌}
 use Rattle.std.specs.List.{AllByRecursion}
 use Rattle.std.specs.Io.KnownBytes.{Appends}
 use Rattle.schedule.specs.declared.commands.Command.{Command}
@@ -13,11 +14,18 @@ use Rattle.world_setup.specs.declared.settings.WorldSettings.{WorldSettings}
 use Rattle.world_settings.specs.Document.{document_seen}
 use Rattle.schedule.specs.Division.{settings_text}
 use Rattle.schedule_cli.specs.Replays.{opened_world, world_in}
+use Rattle.schedule_cli.specs.Stops.{RefusedFor, StopsFor, check_told}
+use Rattle.schedule_cli.specs.declared.input.TheConstants.{MOST_INPUT}
+use Rattle.schedule_cli.specs.declared.fault.CheckFault.{CheckFault}
+use Rattle.schedule_cli.specs.declared.fault.CheckFault.TheVariants as check
+use Rattle.schedule_cli.specs.declared.fault.ProgramFault.{ProgramFault}
+use Rattle.schedule_cli.specs.declared.fault.ProgramFault.TheVariants as program
 use Rattle.schedule_cli.proofs.KnownOutput.{Appends-append}
 use Rattle.node_logged.specs.Tills.{Till}
 use Rattle.schedule_run.specs.Told.{AreTold, IsCutOff, IsEmpty, RunCutOff, RunTold, done_line}
 use Rattle.schedule_run.specs.Asked.{asked_in}
-use Rattle.schedule_run.specs.Output.{AllAreTold, AppendsFront, EndsAs, IsBeginning, IsStopped, node_lines}
+use Rattle.schedule_run.specs.Output.{AllAreTold, AppendsFront, EndsAs, IsBeginning, IsStopped, Runs, node_lines}
+use Rattle.schedule_run.specs.declared.fault.RunFault.TheVariants.{Program}
 
 -- what is true at any fault
 pub on_fault : {V E P : Type 0} (r : Result V E) → P → OnErr r P
@@ -27,6 +35,11 @@ on_fault (Err e) p = p
 pub if_fault : {V E : Type 0} {P : E → Type 0} (r : Result V E) → ((e : E) → P e) → IfErr r P
 if_fault (Ok v) p = tt
 if_fault (Err e) p = p e
+
+-- what is true of any success
+pub on_success : {V E P : Type 0} (r : Result V E) → P → OnOk r P
+on_success (Ok v) p = p
+on_success (Err e) p = tt
 
 -- nothing was written
 pub none_written : (known : Option (List ℕ)) → Appends known known []
@@ -158,3 +171,26 @@ begun_by old new input s run asked opens stopped = (stopped.0, by stopped.1, sto
           count = out.count;
           is = out.is;
         }))
+
+-- a run that could not be read
+pub unread_stops : (why : ProgramFault) (input : Option (List ℕ)) → (why ≡ program.Read) ⊎ (why ≡ program.OutOfMemory) → IfSome input (λ bytes. StopsFor why bytes (asked_in bytes))
+unread_stops why None cause = tt
+unread_stops why (Some bytes) (inl is) = rw is tt
+unread_stops why (Some bytes) (inr is) = rw is tt
+
+-- an input that is refused
+pub refused_stops : (why : CheckFault) (input : List ℕ) → length input ≤ MOST_INPUT → RefusedFor why (asked_in input) → StopsFor (check_told why) input (asked_in input)
+refused_stops check.OutOfMemory input within refused = tt
+refused_stops (check.Input why) input within refused = (within, refused)
+
+-- no node was started, and nothing was written
+pub never_ran : {W : Type 0} (input : Option (List ℕ)) (contents : W → Option (List ℕ)) (w : W) (why : ProgramFault)
+    → IfSome input (λ bytes. StopsFor why bytes (asked_in bytes)) → Runs (Err (Program why)) input contents w w
+never_ran input contents w why stops = record {
+  output = tt;
+  stops = stops;
+  fits = tt;
+  quiet = λ early. refl;
+  beginning = begun_before (contents w) input;
+  told = λ yes. absurd (false≢true yes);
+}

@@ -1,7 +1,8 @@
 -- How a run ends: what was written, and which input it was.
-use Rattle.std.proofs.Common.{◌≡◌, ℕ, ◌≤◌, true, take, drop, List, [], ◌∷◌, ◌++◌, length, replicate, Option, Some, None, Result, Ok, Err, IfSome, refl, sym, ap, subst, ◌∙◌, append-nil, arith, inl, inr}
+use Rattle.std.proofs.Common.{◌≡◌, ℕ, ◌≤◌, true, take, drop, List, [], ◌∷◌, ◌++◌, length, replicate, Option, Some, None, Result, IfSome, refl, sym, ap, subst, ◌∙◌, append-nil, arith, inl, inr}
 use Rattle.std.proofs.lemmas.Bool.{false≢true}
 use Rattle.std.proofs.lemmas.List.{drop_all, length-map, length-set, take_all}
+use Rattle.std.specs.Prelude.{is_ok}
 use Rattle.std.specs.List.{AllByRecursion}
 use Rattle.std.specs.Io.KnownBytes.{Appends}
 use Rattle.schedule.specs.declared.commands.Command.{Command}
@@ -12,13 +13,13 @@ use Rattle.node_logged.specs.Tills as tills
 use Rattle.node_logged.specs.TillSeen.{till_seen}
 use Rattle.node_logged.specs.LedgerSeen.{tills_seen}
 use Rattle.node_logged.specs.declared.till.Till.{Till}
-use Rattle.schedule_cli.specs.Replays.{NoReport}
 use Rattle.schedule_cli.specs.declared.input.TheConstants.{MOST_INPUT}
+use Rattle.schedule_cli.specs.declared.fault.InputFault.{InputFault}
 use Rattle.schedule_cli.specs.declared.fault.ProgramFault.TheVariants as program
 use Rattle.schedule_run.specs.declared.fault.RunFault.{RunFault}
 use Rattle.schedule_run.specs.declared.fault.RunFault.TheVariants.{Program, Finish, NoThread}
 use Rattle.schedule_run.specs.Told.{AreTold, IsEmpty, IsTold, RunTold, Tells, TillChanges, done_line}
-use Rattle.schedule_run.specs.Output.{FitsRun, StopsRun, is_start}
+use Rattle.schedule_run.specs.Output.{StopsRun, is_start}
 use Rattle.schedule_run.proofs.Turns.{written_more}
 
 -- what is true of the bytes that were read is true of those that the source has, where it tells them
@@ -27,25 +28,13 @@ known_is P None input same p = tt
 known_is P (Some bytes) input same p = subst P same p
 
 -- a run that was asked for
-pub started_stops : (fault : RunFault) (asked : Result RunParts NoReport) (run : RunParts) → asked ≡ Ok run → is_start fault ≡ true → StopsRun fault asked
-started_stops (Program program.OutOfMemory) asked run is start = tt
-started_stops (Program program.Read) asked run is start = tt
-started_stops (Program program.Settings) asked run is start = absurd (false≢true start)
-started_stops (Program (program.Line number)) asked run is start = absurd (false≢true start)
-started_stops (Program program.Write) asked run is start = (run, is)
-started_stops (Finish why) asked run is start = (run, is)
-started_stops NoThread asked run is start = (run, is)
-
--- an input that is not too long
-pub all_fits : {A : Type 0} (r : Result A RunFault) (input : List ℕ) → length input ≤ MOST_INPUT → FitsRun r input
-all_fits (Ok done) input within = within
-all_fits (Err (Program program.OutOfMemory)) input within = tt
-all_fits (Err (Program program.Read)) input within = tt
-all_fits (Err (Program program.Settings)) input within = within
-all_fits (Err (Program (program.Line number))) input within = within
-all_fits (Err (Program program.Write)) input within = within
-all_fits (Err (Finish why)) input within = within
-all_fits (Err NoThread) input within = within
+pub started_stops : (fault : RunFault) (input : List ℕ) (asked : Result RunParts InputFault) → length input ≤ MOST_INPUT → is_ok asked ≡ true → is_start fault ≡ true → StopsRun fault input asked
+started_stops (Program program.OutOfMemory) input asked within is start = tt
+started_stops (Program program.Read) input asked within is start = tt
+started_stops (Program (program.Input why)) input asked within is start = absurd (false≢true start)
+started_stops (Program program.Write) input asked within is start = (within, is)
+started_stops (Finish why) input asked within is start = (within, is)
+started_stops NoThread input asked within is start = (within, is)
 
 -- no command takes a till away or adds one
 change_keeps : (pharmacy : ℕ) (Change : tills.Till → tills.Till → Type 0) (before after : List tills.Till) → TillChanges pharmacy Change before after → length after ≡ length before

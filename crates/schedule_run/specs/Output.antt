@@ -1,5 +1,5 @@
 -- What a run writes, and why it stops.
-use Rattle.std.specs.Prelude.{◌≡◌, ℕ, ◌≤◌, Bool, true, false, ◌⊎◌, List, [], ◌++◌, length, take, Option, Some, Result, Ok, Err, IfErr, IfSome, OnOk, OnErr}
+use Rattle.std.specs.Prelude.{◌≡◌, ℕ, ◌≤◌, Bool, true, false, not, ◌⊎◌, List, [], ◌++◌, length, take, Option, Some, Result, Ok, IfErr, IfSome, OnOk, OnErr}
 use Rattle.std.specs.Io.KnownBytes.{Appends}
 use Rattle.world_setup.specs.declared.world_fault.WorldFault.TheVariants as world
 use Rattle.world_setup.specs.declared.settings.WorldSettings.{WorldSettings}
@@ -16,11 +16,13 @@ use Rattle.node_logged.specs.declared.judging.finish_fault.FinishFault.{FinishFa
 use Rattle.node_logged.specs.declared.judging.finish_fault.FinishFault.TheVariants as finish
 use Rattle.world_report.specs.Words.{Line, lines_text}
 use Rattle.world_report.specs.Nodes.{world_lines}
-use Rattle.schedule_cli.specs.Replays.{NoReport, BadSettings, BadLine, world_in, opened_world}
-use Rattle.schedule_cli.specs.Stops.{FitsBehind}
+use Rattle.schedule_cli.specs.Replays.{world_in, opened_world}
+use Rattle.schedule_cli.specs.Stops.{IsTaken, StopsFor}
 use Rattle.schedule_cli.specs.declared.input.TheConstants.{MOST_INPUT}
-use Rattle.schedule_cli.specs.declared.fault.ProgramFault.TheVariants.{OutOfMemory, Read, Settings, Write}
-use Rattle.schedule_cli.specs.declared.fault.ProgramFault.TheVariants as program
+use Rattle.schedule_cli.specs.declared.fault.InputFault.{InputFault}
+use Rattle.schedule_cli.specs.declared.fault.InputFault.TheVariants.{Settings}
+use Rattle.schedule_cli.specs.declared.fault.ProgramFault.{ProgramFault}
+use Rattle.schedule_cli.specs.declared.fault.ProgramFault.TheVariants.{OutOfMemory, Read, Input, Write}
 use Rattle.schedule_run.specs.declared.fault.RunFault.{RunFault}
 use Rattle.schedule_run.specs.declared.fault.RunFault.TheVariants.{Program, Finish, NoThread}
 use Rattle.schedule_run.specs.declared.fault.Unjudged.TheVariants as unjudged
@@ -97,10 +99,10 @@ pub record AllAreTold (old new : Option (List ℕ)) (run : RunParts) : Type 0 wh
 -- why the nodes do not start, as the run tells it
 abbrev pub start_told : StartFault → RunFault
 start_told (start.World world.OutOfMemory) = Program OutOfMemory
-start_told (start.World world.TooMany) = Program Settings
-start_told (start.World world.NoNode) = Program Settings
-start_told (start.World world.SameProvider) = Program Settings
-start_told (start.World (world.BadRoute fault)) = Program Settings
+start_told (start.World world.TooMany) = Program (Input Settings)
+start_told (start.World world.NoNode) = Program (Input Settings)
+start_told (start.World world.SameProvider) = Program (Input Settings)
+start_told (start.World (world.BadRoute fault)) = Program (Input Settings)
 start_told start.NoThread = NoThread
 
 -- why what the nodes did is no run, as the run tells it
@@ -111,25 +113,24 @@ finish_told (finish.ReceiptMissing logs) = Finish unjudged.ReceiptMissing
 finish_told (finish.HeardDiffers logs) = Finish unjudged.HeardDiffers
 finish_told (finish.Tangled logs) = Finish unjudged.Tangled
 
+-- threads that have started end for these causes
+abbrev pub is_late : ProgramFault → Bool
+is_late OutOfMemory = true
+is_late Read = false
+is_late (Input why) = false
+is_late Write = true
+
 -- a run stops for these causes before anything is written
 abbrev pub is_early : RunFault → Bool
-is_early (Program OutOfMemory) = false
-is_early (Program Read) = true
-is_early (Program Settings) = true
-is_early (Program (program.Line number)) = true
-is_early (Program Write) = false
+is_early (Program why) = not (is_late why)
 is_early (Finish why) = false
 is_early NoThread = true
 
--- a run whose commands are being made stops for these causes
-abbrev pub is_late : RunFault → Bool
-is_late (Program OutOfMemory) = true
-is_late (Program Read) = false
-is_late (Program Settings) = false
-is_late (Program (program.Line number)) = false
-is_late (Program Write) = true
-is_late (Finish why) = true
-is_late NoThread = false
+-- a run that was asked for stops for these causes
+abbrev pub is_start : RunFault → Bool
+is_start (Program why) = is_late why
+is_start (Finish why) = true
+is_start NoThread = true
 
 -- what the nodes did is not judged to be a run
 abbrev pub is_unjudged : RunFault → Bool
@@ -137,44 +138,20 @@ is_unjudged (Program why) = false
 is_unjudged (Finish why) = true
 is_unjudged NoThread = false
 
--- a run that was asked for stops for these causes: a thread is missing, or a later one
-abbrev pub is_start : RunFault → Bool
-is_start (Program why) = is_late (Program why)
-is_start (Finish why) = true
-is_start NoThread = true
-
--- an input asks for a run
-abbrev pub AsksOne : Result RunParts NoReport → Type 0
-AsksOne asked = (run : RunParts) × (asked ≡ Ok run)
-
--- settings and lines are refused only where they are bad, and nodes start only where they are not; want of memory and a failed read say nothing of the input
-abbrev pub StopsRun : RunFault → Result RunParts NoReport → Type 0
-StopsRun (Program OutOfMemory) asked = Unit {0}
-StopsRun (Program Read) asked = Unit {0}
-StopsRun (Program Settings) asked = asked ≡ Err BadSettings
-StopsRun (Program (program.Line number)) asked = asked ≡ Err (BadLine number)
-StopsRun (Program Write) asked = AsksOne asked
-StopsRun (Finish why) asked = AsksOne asked
-StopsRun NoThread asked = AsksOne asked
-
--- what is checked was read to its end, and is not too long
-abbrev pub FitsBehindRun : RunFault → List ℕ → Type 0
-FitsBehindRun (Program why) input = FitsBehind why input
-FitsBehindRun (Finish why) input = length input ≤ MOST_INPUT
-FitsBehindRun NoThread input = length input ≤ MOST_INPUT
-
-abbrev pub FitsRun : {A : Type 0} → Result A RunFault → List ℕ → Type 0
-FitsRun (Ok done) input = length input ≤ MOST_INPUT
-FitsRun (Err fault) input = FitsBehindRun fault input
+-- what a fault says of the input; nodes start only where nothing is bad in it
+abbrev pub StopsRun : RunFault → List ℕ → Result RunParts InputFault → Type 0
+StopsRun (Program why) input asked = StopsFor why input asked
+StopsRun (Finish why) input asked = IsTaken input asked
+StopsRun NoThread input asked = IsTaken input asked
 
 -- what a run does from its input to its output, where its reader and its writer tell their bytes
 pub record Runs {W : Type 0} (result : Result (Unit {0}) RunFault) (input : Option (List ℕ)) (contents : W → Option (List ℕ)) (old new : W) : Type 0 where
   -- what the commands were told was written, and behind it the lines of the nodes, which bear out the numbers and answers that were told
   pub output : OnOk result (IfSome input (λ bytes. (output : List ℕ) × IsOutput bytes output × Appends (contents old) (contents new) output))
-  -- settings are refused only where they open no world, and a line only where it is the first that spells nothing in its place
-  pub refused : IfErr result (λ fault. IfSome input (λ bytes. StopsRun fault (asked_in bytes)))
-  -- what is checked was read to its end, and is not too long
-  pub fits : IfSome input (λ bytes. FitsRun result bytes)
+  -- an input is refused only for what is bad in it, and nodes start only where nothing is
+  pub stops : IfErr result (λ fault. IfSome input (λ bytes. StopsRun fault bytes (asked_in bytes)))
+  -- what is run was read to its end, and is not too long
+  pub fits : OnOk result (IfSome input (λ bytes. length bytes ≤ MOST_INPUT))
   -- nothing is written before all is checked and the threads have started
   pub quiet : IfErr result (λ fault. is_early fault ≡ true → new ≡ old)
   -- where the run stops, nothing was written, or a beginning of what its first commands were told, or of an output

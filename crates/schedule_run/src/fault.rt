@@ -2,11 +2,12 @@
 
 ghost use Rattle.std.specs.Prelude.{◌≡◌};
 ghost use Rattle.schedule_cli.specs.declared.fault.ProgramFault.TheVariants.{OutOfMemory};
+ghost use Rattle.schedule_cli.specs.Stops.{check_told};
 ghost use Rattle.schedule_run.specs.declared.fault.RunFault.TheVariants.{Program};
 ghost use Rattle.schedule_run.specs.Output.{start_told, finish_told};
 
 use node_threads::{FinishFault, StartFault};
-use schedule_cli::ProgramFault;
+use schedule_cli::{CheckFault, InputFault, ProgramFault};
 use std::alloc::{AllocError, AllocFailed};
 use thiserror::Error;
 use world_setup::WorldFault;
@@ -67,6 +68,14 @@ impl From<ProgramFault> for RunFault {
     }
 }
 
+impl From<CheckFault> for RunFault {
+    ghost from_gives = { λ fault run. run ≡ Program (check_told fault) };
+
+    fn from(fault: CheckFault) -> RunFault {
+        RunFault::Program(ProgramFault::from(fault))
+    }
+}
+
 impl From<StartFault> for RunFault {
     ghost from_gives = { λ fault run. run ≡ start_told fault };
 
@@ -75,7 +84,7 @@ impl From<StartFault> for RunFault {
             StartFault::World(WorldFault::OutOfMemory) => {
                 RunFault::Program(ProgramFault::OutOfMemory)
             }
-            StartFault::World(_) => RunFault::Program(ProgramFault::Settings),
+            StartFault::World(_) => RunFault::Program(ProgramFault::Input(InputFault::Settings)),
             StartFault::NoThread => RunFault::NoThread,
         }
     }

@@ -1,15 +1,14 @@
 //! A run from its input to its report.
 
-ghost use Rattle.std.specs.Prelude.{◌≡◌, ◌⊎◌, ◌+◌, ◌≤◌, ℕ, true, None, Ok, List, [], length, replicate, take, IfOk, IfErr, IfSome, OnOk, OnErr};
+ghost use Rattle.std.specs.Prelude.{◌≡◌, ◌⊎◌, ◌+◌, ◌≤◌, ℕ, true, false, None, List, [], length, replicate, take, IfOk, IfErr, OnOk, OnErr};
 ghost use Rattle.std.specs.Io.KnownBytes.{Appends};
 ghost use Rattle.std.specs.List.{AllByRecursion};
 ghost use Rattle.world_setup.specs.Taken.{world_fault};
 ghost use Rattle.world_report.specs.Words.{Line, lines_text};
-ghost use Rattle.schedule.specs.Runs.{RunParts, run_seen};
+ghost use Rattle.schedule.specs.Runs.{run_seen};
 ghost use Rattle.node_logged.specs.LedgerSeen.{tills_seen};
-ghost use Rattle.schedule_run.specs.Asked.{asked_in};
 ghost use Rattle.schedule_run.specs.Told.{IsEmpty, RunCutOff, RunTold, done_line};
-ghost use Rattle.schedule_run.specs.Output.{AllAreTold, AppendsFront, IsBeginning, IsOutput, IsReported, IsStopped, Runs, EndsAs, StopsRun, FitsRun, is_early, is_start, is_late, is_unjudged, node_lines};
+ghost use Rattle.schedule_run.specs.Output.{AllAreTold, AppendsFront, IsReported, IsStopped, Runs, EndsAs, is_early, is_start, is_unjudged, node_lines};
 
 use crate::asked::{Asked, asked_of};
 use crate::commands::make_commands;
@@ -99,12 +98,8 @@ pub fn run_schedule_over<T, S: Source, K: Sink>(
 ) -> Result<(), RunFault>
 where
     T: Threads + Wait + Clock + Copy + Send + 'static,
-    ensures output { OnOk result (IfSome (S.remaining source.old) (λ input. (output : List ℕ) × IsOutput input output × Appends (K.contents sink.old) (K.contents sink.new) output)) }
-    ensures refused { IfErr result (λ fault. IfSome (S.remaining source.old) (λ input. StopsRun fault (asked_in input))) }
-    ensures fits { IfSome (S.remaining source.old) (λ input. FitsRun result input) }
-    ensures quiet { IfErr result (λ fault. is_early fault ≡ true → sink.new ≡ sink.old) }
-    ensures beginning { OnErr result (IfSome (S.remaining source.old) (λ input. AppendsFront (K.contents sink.old) (K.contents sink.new) (IsBeginning input))) }
-    ensures told { IfErr result (λ fault. is_unjudged fault ≡ true → IfSome (S.remaining source.old) (λ input. (run : RunParts) × (asked_in input ≡ Ok run) × AllAreTold (K.contents sink.old) (K.contents sink.new) run)) }
+    // What the commands were told and the nodes as they ended were written, or the input, a thread, the end or a write is at fault.
+    ensures runs { Runs result (S.remaining source.old) K.contents sink.old sink.new }
     ensures calls { S.calls source.new ≤ S.calls source.old + MOST_CALLS }
     ensures same_reference { K.loan sink.new ≡ K.loan sink.old }
 {
@@ -147,7 +142,7 @@ fn run_to_end<T, K: Sink>(
 where
     T: Threads + Wait + Clock,
     ensures ended { IfOk result (λ world. (lines : List Line) × Appends (K.contents sink.old) (K.contents sink.new) (lines_text lines) × EndsAs system (run_seen run.now) lines world) }
-    ensures faults { IfErr result (λ fault. is_late fault ≡ true) }
+    ensures faults { IfErr result (λ fault. is_early fault ≡ false) }
     ensures cut_off { OnErr result (AppendsFront (K.contents sink.old) (K.contents sink.new) (RunCutOff (run_seen run.now))) }
     ensures unjudged { IfErr result (λ fault. is_unjudged fault ≡ true → AllAreTold (K.contents sink.old) (K.contents sink.new) (run_seen run.now)) }
     ensures same_reference { K.loan sink.new ≡ K.loan sink.old }

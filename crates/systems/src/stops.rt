@@ -1,7 +1,7 @@
 //! Why `run` stops, as it is told on standard error.
 
 use case_files::{Subject, Told};
-use schedule_cli::ProgramFault;
+use schedule_cli::{InputFault, ProgramFault};
 use schedule_run::{RunFault, Unjudged};
 use std::alloc::Global;
 
@@ -12,7 +12,7 @@ pub(crate) struct Stops;
 impl Subject for Stops {
     fn tell(&mut self, told: &mut Told, _alloc: Global, word: &str, _argument: &[u8]) {
         match word {
-            "line-7" => told.shown(RunFault::Program(ProgramFault::Line(7))),
+            "line-7" => told.shown(line_refused(7)),
             "no-thread" => told.shown(RunFault::NoThread),
             "TillMissing" => told.shown(RunFault::Finish(Unjudged::TillMissing)),
             "ReceiptMissing" => told.shown(RunFault::Finish(Unjudged::ReceiptMissing)),
@@ -21,4 +21,9 @@ impl Subject for Stops {
             _ => told.refuse(),
         }
     }
+}
+
+/// A line is bad.
+fn line_refused(number: u64) -> RunFault {
+    RunFault::Program(ProgramFault::Input(InputFault::Line(number)))
 }

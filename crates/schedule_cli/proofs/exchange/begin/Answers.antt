@@ -1,5 +1,5 @@
 use Rattle.std.proofs.lemmas.Result.{err_from_is_err_and}
-use Rattle.schedule_cli.proofs.OpenedWorlds.{replay_stops, replay_never}
+use Rattle.schedule_cli.proofs.OpenedWorlds.{begun_is_taken, replay_stops, replay_never}
 use Rattle.schedule_cli.proofs.exchange.begin.Goals as goal
 
 pub returns-in_err-world-clause-fault : goal.returns-in_err-world-clause-fault
@@ -13,6 +13,13 @@ returns-in-Ok-clause-begins c = record {
   opens = rw (c.as_slice-2.ensures.value, c.in_ok-parts.ensures.settings, c.as_slice.ensures.value) at c.in_ok-world.ensures.made;
   spells = rw (c.in_ok-parts.ensures.schedule, c.as_slice.ensures.value) at c.in-Ok.ensures.read;
 }
+
+pub returns-in-Ok-clause-taken : goal.returns-in-Ok-clause-taken
+returns-in-Ok-clause-taken c =
+    begun_is_taken c.args.input.items c.in_ok-world.world c.in-Ok.events.items (record {
+      opens = rw (c.as_slice-2.ensures.value, c.in_ok-parts.ensures.settings, c.as_slice.ensures.value) at c.in_ok-world.ensures.made;
+      spells = rw (c.in_ok-parts.ensures.schedule, c.as_slice.ensures.value) at c.in-Ok.ensures.read;
+    })
 
 pub returns-clause-fault : goal.returns-clause-fault
 returns-clause-fault c =

@@ -1,55 +1,68 @@
-use Rattle.std.proofs.Common.{◌≡◌, length, ap, sym, ◌∙◌, arith}
-use Rattle.std.proofs.lemmas.Result.{on_err_weaker, on_ok_weaker, IfErr-weaker}
-use Rattle.schedule.specs.Runs.{run_seen}
+use Rattle.std.proofs.Common.{◌≡◌, ◌≤◌, Result, length, ap, sym, ◌∙◌, arith}
+use Rattle.std.specs.Prelude.{is_ok}
+use Rattle.std.proofs.lemmas.Result.{err_from_is_err_and, on_err_weaker, on_ok_weaker, IfErr-weaker}
+use Rattle.schedule.specs.Runs.{RunParts, run_seen}
+use Rattle.schedule_cli.specs.declared.input.TheConstants.{MOST_INPUT}
+use Rattle.schedule_cli.specs.declared.fault.InputFault.{InputFault}
+use Rattle.schedule_cli.specs.Stops.{StopsFor, check_told}
 use Rattle.schedule_run.specs.Asked.{asked_in}
 use Rattle.schedule_run.specs.Output.{StopsRun}
-use Rattle.schedule_run.proofs.Endings.{all_fits, known_is, started_stops}
-use Rattle.schedule_run.proofs.CutOff.{begun_before, begun_by, on_fault}
+use Rattle.schedule_run.proofs.Endings.{known_is, started_stops}
+use Rattle.schedule_run.proofs.CutOff.{begun_by, never_ran, on_success, refused_stops, unread_stops}
 use Rattle.schedule_run.proofs.running.run_schedule_over.Goals as goal
 
-pub returns-clause-output : goal.returns-clause-output
-returns-clause-output g c =
-    on_ok_weaker c.run_asked.result
-    (λ written. known_is _ _ c.in_ok-input.input.items c.in_ok-input.ensures.all (
-      written.0,
-      record {
-        run = run_seen c.in_ok-asked.asked.run;
-        asked = rw c.as_slice.ensures.value at c.in_ok-asked.ensures.asked;
-        settings = c.in_ok-asked.asked.settings;
-        opens = rw c.as_slice.ensures.value at c.in_ok-asked.ensures.opens;
-        reported = written.1;
-      },
-      written.2,
-    ))
-    c.run_asked.ensures.output
+pub returns-in_err-input-clause-runs : goal.returns-in_err-input-clause-runs
+returns-in_err-input-clause-runs g c =
+    let known = g.S.Source.remaining c.args.source.now in
+    let why = c.in_err-input.field-0.0 in
+    let p = err_from_is_err_and c.from_residual.result c.from_residual.ensures.1 in
+    rw (p.1, p.2) (never_ran known g.K.Sink.contents c.args.sink.now why (unread_stops why known c.in_err-input.ensures.faults))
 
-pub returns-clause-refused : goal.returns-clause-refused
-returns-clause-refused g c =
-    let asked = rw c.as_slice.ensures.value at c.in_ok-asked.ensures.asked in
-    IfErr-weaker c.run_asked.result _ _
-    (λ fault start. known_is (λ input. StopsRun fault (asked_in input)) _ c.in_ok-input.input.items c.in_ok-input.ensures.all (started_stops fault _ (run_seen c.in_ok-asked.asked.run) asked start))
-    c.run_asked.ensures.started
-
-pub returns-clause-fits : goal.returns-clause-fits
-returns-clause-fits g c =
+pub returns-in_err-asked-clause-runs : goal.returns-in_err-asked-clause-runs
+returns-in_err-asked-clause-runs g c =
+    let known = g.S.Source.remaining c.args.source.now in
+    let why = c.in_err-asked.field-0.0 in
     let whole : length c.in_ok-input.input.items ≡ c.in_ok-input.input.len = sym (ap length c.as_slice.ensures.value) ∙ c.as_slice.ensures.len in
-    known_is _ _ c.in_ok-input.input.items c.in_ok-input.ensures.all (all_fits c.run_asked.result c.in_ok-input.input.items (omega (arith, c.in_ok-input.ensures.fits, whole)))
+    let within : length c.in_ok-input.input.items ≤ MOST_INPUT = omega (arith, c.in_ok-input.ensures.fits, whole) in
+    let refused = rw c.as_slice.ensures.value at c.in_err-asked.ensures.fault in
+    let p = err_from_is_err_and c.from_residual-in_err-asked.result c.from_residual-in_err-asked.ensures.1 in
+    rw (p.1, p.2) (never_ran known g.K.Sink.contents c.args.sink.now (check_told why)
+    (known_is (λ input. StopsFor (check_told why) input (asked_in input)) known c.in_ok-input.input.items c.in_ok-input.ensures.all (refused_stops why c.in_ok-input.input.items within refused)))
 
-pub returns-in_err-input-clause-beginning : goal.returns-in_err-input-clause-beginning
-returns-in_err-input-clause-beginning g c = on_fault c.from_residual.result (begun_before (g.K.Sink.contents c.args.sink.now) (g.S.Source.remaining c.args.source.now))
-
-pub returns-in_err-asked-clause-beginning : goal.returns-in_err-asked-clause-beginning
-returns-in_err-asked-clause-beginning g c = on_fault c.from_residual-in_err-asked.result (begun_before (g.K.Sink.contents c.args.sink.now) (g.S.Source.remaining c.args.source.now))
-
-pub returns-clause-beginning : goal.returns-clause-beginning
-returns-clause-beginning g c =
-    on_err_weaker c.run_asked.result
-    (λ stopped. known_is _ _ c.in_ok-input.input.items c.in_ok-input.ensures.all
-    (begun_by _ _ c.in_ok-input.input.items c.in_ok-asked.asked.settings (run_seen c.in_ok-asked.asked.run) (rw c.as_slice.ensures.value at c.in_ok-asked.ensures.asked) (rw c.as_slice.ensures.value at c.in_ok-asked.ensures.opens) stopped))
-    c.run_asked.ensures.stopped
-
-pub returns-clause-told : goal.returns-clause-told
-returns-clause-told g c =
-    IfErr-weaker c.run_asked.result _ _
-    (λ fault told why. known_is _ _ c.in_ok-input.input.items c.in_ok-input.ensures.all (run_seen c.in_ok-asked.asked.run, rw c.as_slice.ensures.value at c.in_ok-asked.ensures.asked, told why))
-    c.run_asked.ensures.told
+pub returns-clause-runs : goal.returns-clause-runs
+returns-clause-runs g c =
+    let whole : length c.in_ok-input.input.items ≡ c.in_ok-input.input.len = sym (ap length c.as_slice.ensures.value) ∙ c.as_slice.ensures.len in
+    let within : length c.in_ok-input.input.items ≤ MOST_INPUT = omega (arith, c.in_ok-input.ensures.fits, whole) in
+    let asked = rw c.as_slice.ensures.value at c.in_ok-asked.ensures.asked in
+    let opens = rw c.as_slice.ensures.value at c.in_ok-asked.ensures.opens in record {
+      output =
+          on_ok_weaker c.run_asked.result
+          (λ written. known_is _ _ c.in_ok-input.input.items c.in_ok-input.ensures.all (
+            written.0,
+            record {
+              run = run_seen c.in_ok-asked.asked.run;
+              asked = asked;
+              settings = c.in_ok-asked.asked.settings;
+              opens = opens;
+              reported = written.1;
+            },
+            written.2,
+          ))
+          c.run_asked.ensures.output;
+      stops =
+          IfErr-weaker c.run_asked.result _ _
+          (λ fault start. known_is (λ input. StopsRun fault input (asked_in input)) _ c.in_ok-input.input.items c.in_ok-input.ensures.all
+          (started_stops fault c.in_ok-input.input.items (asked_in c.in_ok-input.input.items) within (ap (λ (told : Result RunParts InputFault). is_ok told) asked) start))
+          c.run_asked.ensures.started;
+      fits = on_success c.run_asked.result (known_is (λ input. length input ≤ MOST_INPUT) _ c.in_ok-input.input.items c.in_ok-input.ensures.all within);
+      quiet = c.run_asked.ensures.unwritten;
+      beginning =
+          on_err_weaker c.run_asked.result
+          (λ stopped. known_is _ _ c.in_ok-input.input.items c.in_ok-input.ensures.all
+          (begun_by _ _ c.in_ok-input.input.items c.in_ok-asked.asked.settings (run_seen c.in_ok-asked.asked.run) asked opens stopped))
+          c.run_asked.ensures.stopped;
+      told =
+          IfErr-weaker c.run_asked.result _ _
+          (λ fault told why. known_is _ _ c.in_ok-input.input.items c.in_ok-input.ensures.all (run_seen c.in_ok-asked.asked.run, asked, told why))
+          c.run_asked.ensures.told;
+    }

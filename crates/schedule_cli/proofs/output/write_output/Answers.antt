@@ -2,7 +2,7 @@ use Rattle.std.proofs.Common.{◌≡◌, ◌+◌, ◌≤◌, ◌++◌, List, ℕ
 use Rattle.std.proofs.lemmas.Grind.{common_steps}
 use Rattle.std.specs.Io.KnownBytes.{Appends}
 use Rattle.schedule_cli.proofs.KnownOutput.{Appends-append, Appends-keeps, take-next}
-use Rattle.schedule_cli.proofs.output.write_all.Goals as goal
+use Rattle.schedule_cli.proofs.output.write_output.Goals as goal
 
 pub loop-written-preserved : goal.loop-written-preserved
 loop-written-preserved g c = record {

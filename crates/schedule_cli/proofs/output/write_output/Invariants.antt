@@ -1,6 +1,6 @@
 use Rattle.std.proofs.Common.{◌≡◌, ℕ, ◌-◌, ◌≤◌, length, take}
 use Rattle.std.specs.Io.KnownBytes.{Appends}
-use Rattle.schedule_cli.proofs.output.write_all.Given as goal
+use Rattle.schedule_cli.proofs.output.write_output.Given as goal
 
 -- what was written is a beginning of the bytes
 abbrev pub invariant-loop-written : goal.invariant-loop-written
