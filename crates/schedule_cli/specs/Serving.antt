@@ -11,15 +11,15 @@ use Rattle.schedule_cli.specs.declared.fault.ProgramFault.TheVariants.{Input, Wr
 pub record Serves {W : Type 0} (output_of : List ℕ → Result (List ℕ) InputFault)
     (result : Result (Unit {0}) ProgramFault) (input : Option (List ℕ)) (contents : W → Option (List ℕ)) (old new : W) : Type 0 where
   -- exactly the output of the input was written
-  output : OnOk result (IfSome input (λ bytes. Written (contents old) (contents new) (output_of bytes)))
+  pub output : OnOk result (IfSome input (λ bytes. Written (contents old) (contents new) (output_of bytes)))
   -- an input is refused only for what is bad in it, and a write fails only where nothing is
-  stops : IfErr result (λ fault. IfSome input (λ bytes. StopsFor fault bytes (output_of bytes)))
+  pub stops : IfErr result (λ fault. IfSome input (λ bytes. StopsFor fault bytes (output_of bytes)))
   -- what is served was read to its end, and is not too long
-  fits : OnOk result (IfSome input (λ bytes. length bytes ≤ MOST_INPUT))
+  pub fits : OnOk result (IfSome input (λ bytes. length bytes ≤ MOST_INPUT))
   -- nothing is written before all is checked and answered
-  quiet : IfErr result (λ fault. fault ≢ Write → new ≡ old)
+  pub quiet : IfErr result (λ fault. fault ≢ Write → new ≡ old)
   -- where a write failed, a beginning of the output was written
-  beginning : IsErrOf result Write → IfSome input (λ bytes. BeginningWritten (contents old) (contents new) (output_of bytes))
+  pub beginning : IsErrOf result Write → IfSome input (λ bytes. BeginningWritten (contents old) (contents new) (output_of bytes))
 
 -- there are no settings that could be refused
 abbrev pub RefusesNoSettings : Result (Unit {0}) ProgramFault → Type 0
