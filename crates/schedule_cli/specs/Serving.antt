@@ -12,14 +12,16 @@ pub record Serves {W : Type 0} (output_of : List ℕ → Result (List ℕ) Input
     (result : Result (Unit {0}) ProgramFault) (input : Option (List ℕ)) (contents : W → Option (List ℕ)) (old new : W) : Type 0 where
   -- exactly the output of the input was written
   pub output : OnOk result (IfSome input (λ bytes. Written (contents old) (contents new) (output_of bytes)))
-  -- an input is refused only for what is bad in it, and a write fails only where nothing is
-  pub stops : IfErr result (λ fault. IfSome input (λ bytes. StopsFor fault bytes (output_of bytes)))
   -- what is served was read to its end, and is not too long
   pub fits : OnOk result (IfSome input (λ bytes. length bytes ≤ MOST_INPUT))
   -- nothing is written before all is checked and answered
   pub quiet : IfErr result (λ fault. fault ≢ Write → new ≡ old)
   -- where a write failed, a beginning of the output was written
   pub beginning : IsErrOf result Write → IfSome input (λ bytes. BeginningWritten (contents old) (contents new) (output_of bytes))
+
+-- an input is refused only for what is bad in it, and a write fails only where nothing is
+abbrev pub StopsSoundly : (List ℕ → Result (List ℕ) InputFault) → Result (Unit {0}) ProgramFault → Option (List ℕ) → Type 0
+StopsSoundly output_of result input = IfErr result (λ fault. IfSome input (λ bytes. StopsFor fault bytes (output_of bytes)))
 
 -- there are no settings that could be refused
 abbrev pub RefusesNoSettings : Result (Unit {0}) ProgramFault → Type 0

@@ -2,7 +2,7 @@
 
 ghost use Rattle.std.specs.Prelude.{◌≡◌, ◌+◌, ◌≤◌, IsTrue, IsErrOf, OnOk};
 ghost use Rattle.schedule_cli.specs.Lines.{output_of};
-ghost use Rattle.schedule_cli.specs.Serving.{RefusesNoSettings, Serves};
+ghost use Rattle.schedule_cli.specs.Serving.{RefusesNoSettings, Serves, StopsSoundly};
 ghost use Rattle.schedule_cli.specs.Stops.{IsUnread};
 
 use crate::answers::answers;
@@ -32,6 +32,8 @@ pub fn read_claims_over<S: Source, K: Sink>(
 ) -> Result<(), ProgramFault>
     // Exactly the lines that the book's answers give were written, or a line or a write is at fault.
     ensures serves { Serves output_of result (S.remaining source.old) K.contents sink.old sink.new }
+    // An input is refused only for what is bad in it, and a write fails only where nothing is.
+    ensures stops { StopsSoundly output_of result (S.remaining source.old) }
     // A call of the source failed, or the input is too long.
     ensures read { IsErrOf result ProgramFault.Read → IsUnread (S.has_failed source.new) (S.remaining source.old) }
     // What was written is flushed.

@@ -2,7 +2,7 @@
 
 ghost use Rattle.schedule_cli.specs.Lines.{output_of};
 ghost use Rattle.schedule_cli.specs.Replays.{replay_of};
-ghost use Rattle.schedule_cli.specs.Serving.{RefusesNoSettings, Serves};
+ghost use Rattle.schedule_cli.specs.Serving.{RefusesNoSettings, Serves, StopsSoundly};
 
 use crate::fault::ProgramFault;
 use crate::read::read_claims_over;
@@ -27,6 +27,8 @@ pub fn read_claims<R: Read, W: Write>(
 ) -> Result<(), ProgramFault>
     // Exactly the lines that the book's answers give were written, or a line or a write is at fault.
     ensures serves { Serves output_of result (R.remaining reader.old) W.contents writer.old writer.new }
+    // An input is refused only for what is bad in it, and a write fails only where nothing is.
+    ensures stops { StopsSoundly output_of result (R.remaining reader.old) }
     // There are no settings that could be refused.
     ensures faults { RefusesNoSettings result }
 {
@@ -45,6 +47,8 @@ pub fn read_claims_keyed<R: Read, W: Write>(
 ) -> Result<(), ProgramFault>
     // Exactly the lines that the book's answers give were written, or a line or a write is at fault.
     ensures serves { Serves output_of result (R.remaining reader.old) W.contents writer.old writer.new }
+    // An input is refused only for what is bad in it, and a write fails only where nothing is.
+    ensures stops { StopsSoundly output_of result (R.remaining reader.old) }
     // There are no settings that could be refused.
     ensures faults { RefusesNoSettings result }
 {
@@ -66,7 +70,9 @@ pub fn replay<R: Read, W: Write>(
     writer: &mut W,
 ) -> Result<(), ProgramFault>
     // Exactly the report of the input was written, or the input or a write is at fault.
-    ensures { Serves replay_of result (R.remaining reader.old) W.contents writer.old writer.new }
+    ensures serves { Serves replay_of result (R.remaining reader.old) W.contents writer.old writer.new }
+    // An input is refused only for what is bad in it, and a write fails only where nothing is.
+    ensures stops { StopsSoundly replay_of result (R.remaining reader.old) }
 {
     replay_keyed(alloc, &HashKeys::fixed(), reader, writer)
 }
@@ -82,7 +88,9 @@ pub fn replay_keyed<R: Read, W: Write>(
     writer: &mut W,
 ) -> Result<(), ProgramFault>
     // Exactly the report of the input was written, or the input or a write is at fault.
-    ensures { Serves replay_of result (R.remaining reader.old) W.contents writer.old writer.new }
+    ensures serves { Serves replay_of result (R.remaining reader.old) W.contents writer.old writer.new }
+    // An input is refused only for what is bad in it, and a write fails only where nothing is.
+    ensures stops { StopsSoundly replay_of result (R.remaining reader.old) }
 {
     let mut source = ReaderSource::new(reader);
     let mut sink = WriterSink::new(writer);

@@ -2,7 +2,7 @@
 
 ghost use Rattle.std.specs.Prelude.{◌≡◌, ◌+◌, ◌≤◌, IsTrue, IsErrOf, OnOk};
 ghost use Rattle.schedule_cli.specs.Replays.{replay_of};
-ghost use Rattle.schedule_cli.specs.Serving.{Serves};
+ghost use Rattle.schedule_cli.specs.Serving.{Serves, StopsSoundly};
 ghost use Rattle.schedule_cli.specs.Stops.{IsUnread};
 
 use crate::fault::ProgramFault;
@@ -31,6 +31,8 @@ pub fn replay_over<S: Source, K: Sink>(
 ) -> Result<(), ProgramFault>
     // Exactly the report of the input was written, or the input or a write is at fault.
     ensures serves { Serves replay_of result (S.remaining source.old) K.contents sink.old sink.new }
+    // An input is refused only for what is bad in it, and a write fails only where nothing is.
+    ensures stops { StopsSoundly replay_of result (S.remaining source.old) }
     // A call of the source failed, or the input is too long.
     ensures read { IsErrOf result ProgramFault.Read → IsUnread (S.has_failed source.new) (S.remaining source.old) }
     // What was written is flushed.
