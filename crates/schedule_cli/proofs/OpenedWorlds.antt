@@ -17,7 +17,7 @@ use Rattle.world_core.specs.Parts.{WorldParts}
 use Rattle.world_settings.specs.Document.{document_seen}
 use Rattle.schedule.specs.Division.{settings_text, schedule_lines}
 use Rattle.schedule.specs.Reading.{events_of}
-use Rattle.world_settings.specs.declared.fault.SettingsFault.{SettingsFault}
+use Rattle.world_settings.specs.declared.fault.SettingsFault.{SettingsFault as ReadingFault}
 use Rattle.world_settings.specs.declared.fault.SettingsFault.TheVariants as settings
 use Rattle.schedule_cli.specs.declared.fault.InputFault.{InputFault}
 use Rattle.schedule_cli.specs.declared.fault.InputFault.TheVariants.{Line}
@@ -61,7 +61,7 @@ replay_stops input w number opens spells =
     ap (λ (o : Option WorldParts). replay_from o (events_of (schedule_lines (lines input)))) opens ∙ ap (replay_from (Some w)) spells
 
 -- settings that open none
-pub replay_never : (input : List ℕ) (why : SettingsFault) → OpensNone why (world_in (settings_text input)) → RefusedFor (settings_told why) (replay_of input)
+pub replay_never : (input : List ℕ) (why : ReadingFault) → OpensNone why (world_in (settings_text input)) → RefusedFor (settings_told why) (replay_of input)
 unfolding replay_of
 replay_never input settings.OutOfMemory none = tt
 replay_never input settings.Settings none = ap (λ (o : Option WorldParts). replay_from o (events_of (schedule_lines (lines input)))) none

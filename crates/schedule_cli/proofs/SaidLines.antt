@@ -15,7 +15,7 @@ use Rattle.schedule_cli.specs.declared.fault.CheckFault.{CheckFault}
 use Rattle.schedule_cli.specs.declared.fault.CheckFault.TheVariants as check
 use Rattle.schedule_cli.specs.Entries.{entries_of}
 use Rattle.schedule_cli.specs.Sample.{sample_routes, opening_book}
-use Rattle.schedule_cli.specs.Stops.{RefusedFor}
+use Rattle.schedule_cli.specs.Stops.{RefusedFor as InputRefusedFor}
 use Rattle.schedule_cli.specs.Lines.{told, line_of, book_after, said_to, answer_lines, lines_for, output_of}
 use Rattle.schedule_cli.specs.Said.{said_text}
 
@@ -59,7 +59,7 @@ lines_are_done maps book entries i front all le so_far =
     sym (append-nil front) ∙ (ap (λ (left : List Entry). front ++ answer_lines maps book left) (sym (drop_all i entries le)) ∙ so_far)
 
 -- an input whose entries are refused has no output
-pub output_refused : (fault : CheckFault) (input : List ℕ) → RefusedFor fault (entries_of input) → RefusedFor fault (output_of input)
+pub output_refused : (fault : CheckFault) (input : List ℕ) → InputRefusedFor fault (entries_of input) → InputRefusedFor fault (output_of input)
 unfolding output_of
 output_refused check.OutOfMemory input h = tt
 output_refused (check.Input why) input h = ap lines_for h
