@@ -12,4 +12,4 @@ returns-clause-seen c =
     let text = c.request-request.result.now in
     let framed = (IsReadable-from text (request_of text) (readable_cut text c.request-request.ensures.readable).1).framed in
     let header : header_of (kept_of c.args.slot.now).request ≡ Some (request_of text) = ap header_of (sym c.request-request.ensures.value) ∙ framed in
-    ap (listed_by c.args.number (kept_of c.args.slot.now).answer) header ∙ cc (c.code_of.ensures, c.count_of.ensures, c.in_ok-rulings.ensures)
+    ap (listed_by c.args.number (kept_of c.args.slot.now).answer) header ∙ cc (c.code_of.ensures.value, c.count_of.ensures.value, c.in_ok-rulings.ensures)
