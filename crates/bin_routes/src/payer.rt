@@ -8,7 +8,7 @@ use std::fmt::{Display, Formatter};
 use std::marker::Model;
 
 /// The number of a payer, the processor that adjudicates claims: 1 to 9,999.
-#[derive(Clone, Copy, Debug, PartialEq, Eq, PartialOrd, Ord)]
+#[derive(Clone, Copy, PartialEq, Eq, PartialOrd, Ord)]
 pub struct PayerNo {
     number: u16,
 }

@@ -9,7 +9,7 @@ use std::alloc::AllocError;
 use std::marker::Model;
 
 /// A row as a settings document spells it. Nothing of it is tested yet.
-#[derive(Debug, Drop, PartialEq, Eq)]
+#[derive(Drop, PartialEq, Eq)]
 pub struct RouteRow {
     bin: Octets,
     pcn: Option<Octets>,

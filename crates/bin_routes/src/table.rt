@@ -15,7 +15,7 @@ use std::collections::BTreeMap;
 use std::marker::Model;
 
 /// The routes of the rows that it was made from.
-#[derive(Debug, Drop)]
+#[derive(Drop)]
 pub struct Routes {
     exact: BTreeMap<(Bin, Pcn), PayerNo>,
     others: BTreeMap<Bin, PayerNo>,

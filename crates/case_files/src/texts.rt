@@ -42,15 +42,24 @@ impl Texts {
 
     /// Takes the line `NAME = TEXT`, in whose text names that stand already are filled in. Some where it is one.
     pub(crate) fn take(&mut self, line: &[u8]) -> Result<Option<()>, AllocError> {
-        let Some((name, text)) = cut(line, b" = ") else {
-            return Ok(None);
-        };
-        let Some(text) = self.filled(text)? else {
-            return Ok(None);
-        };
-        let name = Vec::from_slice(self.alloc, name)?;
-        self.named.push(Named { name, text })?;
-        Ok(Some(()))
+        match cut(line, b" = ") {
+            Some((name, text)) => match self.filled(text)? {
+                Some(text) => self.keep(name, text),
+                None => Ok(None),
+            },
+            None => Ok(None),
+        }
+    }
+
+    /// Keeps a text under a name.
+    fn keep(&mut self, name: &[u8], text: Vec<u8>) -> Result<Option<()>, AllocError> {
+        match Vec::from_slice(self.alloc, name) {
+            Ok(name) => match self.named.push(Named { name, text }) {
+                Ok(()) => Ok(Some(())),
+                Err(_) => Err(AllocError),
+            },
+            Err(_) => Err(AllocError),
+        }
     }
 
     /// A text with each name in angle brackets filled in; None where one is no name.
@@ -58,15 +67,13 @@ impl Texts {
         let mut out = Vec::new(self.alloc);
         let mut rest = text;
         for _ in 0..text.len() {
-            let Some(start) = rest.iter().position(|byte| *byte == b'<') else {
+            let Some((front, inside)) = cut(rest, b"<") else {
                 break;
             };
-            let (front, inside) = rest.split_at(start.min(rest.len()));
-            out.extend_from_slice(front)?;
-            let inside = inside.get(1..).unwrap_or(b"");
             let Some((name, behind)) = cut(inside, b">") else {
                 return Ok(None);
             };
+            out.extend_from_slice(front)?;
             if self.fill(&mut out, name)?.is_none() {
                 return Ok(None);
             }
@@ -81,21 +88,20 @@ impl Texts {
         if let Some((text, count)) = cut(name, b"*") {
             return repeat(out, text, count);
         }
-        let found = self.named.iter().rev().find(|n| n.name.as_slice() == name);
-        match found {
-            Some(found) => {
-                out.extend_from_slice(found.text.as_slice())?;
-                Ok(Some(()))
+        for named in self.named.iter().rev() {
+            if named.name.as_slice() == name {
+                out.extend_from_slice(named.text.as_slice())?;
+                return Ok(Some(()));
             }
-            None => Ok(None),
         }
+        Ok(None)
     }
 }
 
 /// Appends a text as often as a decimal number says.
 fn repeat(out: &mut Vec<u8>, text: &[u8], count: &[u8]) -> Result<Option<()>, AllocError> {
     match read_decimal(count, 7) {
-        Some(count) if count <= MOST_REPEATS => {
+        Some(count @ 0..=MOST_REPEATS) => {
             for _ in 0..count {
                 out.extend_from_slice(text)?;
             }
@@ -106,9 +112,12 @@ fn repeat(out: &mut Vec<u8>, text: &[u8], count: &[u8]) -> Result<Option<()>, Al
 }
 
 /// What stands before and behind the first place of a mark.
-pub(crate) fn cut<'a>(text: &'a [u8], mark: &[u8]) -> Option<(&'a [u8], &'a [u8])> {
-    let place = (0..text.len()).find(|at| text.get(*at..).unwrap_or(b"").starts_with(mark))?;
-    let front = text.get(..place)?;
-    let behind = text.get(place.saturating_add(mark.len())..)?;
-    Some((front, behind))
+pub fn cut<'a>(text: &'a [u8], mark: &[u8]) -> Option<(&'a [u8], &'a [u8])> {
+    for at in 0..text.len() {
+        let (front, rest) = text.split_at(at);
+        if let Some(behind) = rest.strip_prefix(mark) {
+            return Some((front, behind));
+        }
+    }
+    None
 }

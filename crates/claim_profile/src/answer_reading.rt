@@ -73,7 +73,7 @@ impl<T: Drop> From<AllocFailed<T>> for AnswerFault {
 }
 
 /// An answer: its header, and one ruling for each transaction, in order.
-#[derive(Debug, Drop)]
+#[derive(Drop)]
 pub struct Answer {
     header: ResponseHeader,
     rulings: Vec<Ruling>,
@@ -195,7 +195,7 @@ fn next_group(rest: Cursor<'_>, left: usize) -> Option<Cursor<'_>>
 }
 
 /// The status of a transaction (112-AN).
-#[derive(Clone, Copy, Debug, PartialEq, Eq)]
+#[derive(Clone, Copy, PartialEq, Eq)]
 enum Status {
     Paid,
     Duplicate,

@@ -11,7 +11,7 @@ use crate::reject::{Code, FewCodes, Rejects};
 use d0_segments::{Cursor, Field};
 
 /// The reject codes (511-FB) of an answer, as far as fields were read.
-#[derive(Clone, Copy, Debug)]
+#[derive(Clone, Copy)]
 pub struct FoundCodes {
     codes: FewCodes,
     // Every value so far is a code, and there are at most five.
@@ -102,7 +102,7 @@ impl FoundCodes {
 
 /// The values of the fields of an answer, as far as segments were read. Its reject codes (511-FB),
 /// of which there are several, stand apart.
-#[derive(Clone, Copy, Debug)]
+#[derive(Clone, Copy)]
 pub struct AnswerValues<'a> {
     /// Transaction response status (112-AN).
     pub status: Found<'a>,

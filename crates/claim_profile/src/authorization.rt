@@ -13,7 +13,7 @@ const LARGEST_SERIAL: u64 = 999_999_999_999;
 
 /// An authorization number (503-F3): the payer that gave it, from 1 to 9,999, and its serial there,
 /// from 1 to 999,999,999,999 (own).
-#[derive(Clone, Copy, Debug, PartialEq, Eq, PartialOrd, Ord)]
+#[derive(Clone, Copy, PartialEq, Eq, PartialOrd, Ord)]
 pub struct Auth {
     payer: u16,
     serial: u64,

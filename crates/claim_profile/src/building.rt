@@ -36,7 +36,7 @@ impl From<AllocError> for BuildFault {
 
 /// What a billing says: a header with code `B1`, count 1 and a day as its date, texts that are not
 /// empty and end in no space, and amounts that are not negative.
-#[derive(Clone, Copy, Debug)]
+#[derive(Clone, Copy)]
 pub struct BillingParts<'a> {
     pub header: RequestHeader,
     /// Cardholder ID (302-C2).
@@ -57,7 +57,7 @@ pub struct BillingParts<'a> {
 
 /// What a reversal says: a header with code `B2`, count 1 and a day as its date, and a product that
 /// is not empty and ends in no space.
-#[derive(Clone, Copy, Debug)]
+#[derive(Clone, Copy)]
 pub struct ReversalParts<'a> {
     pub header: RequestHeader,
     /// Prescription/service reference number (402-D2).

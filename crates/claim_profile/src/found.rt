@@ -9,7 +9,7 @@ use crate::names::is_same;
 use d0_segments::Field;
 
 /// What stands in the place of a field: nothing, one value or several. Empty values do not count.
-#[derive(Clone, Copy, Debug)]
+#[derive(Clone, Copy)]
 pub enum Found<'a> {
     Nothing,
     One(&'a [u8]),

@@ -5,7 +5,7 @@ use crate::texts::Text;
 /// One dispensing of a prescription, as the transmission names it: the header's BIN (101-A1),
 /// processor control number (104-A4), service provider qualifier and ID (202-B2, 201-B1), all
 /// padded, the prescription number (402-D2) and the fill number (403-D3).
-#[derive(Clone, Copy, Debug, PartialEq, Eq, PartialOrd, Ord)]
+#[derive(Clone, Copy, PartialEq, Eq, PartialOrd, Ord)]
 pub struct Fill {
     pub bin: [u8; 6],
     pub pcn: [u8; 10],
@@ -16,7 +16,7 @@ pub struct Fill {
 }
 
 /// A billing: what was dispensed to whom on which day, and what is asked for it.
-#[derive(Clone, Copy, Debug, PartialEq, Eq)]
+#[derive(Clone, Copy, PartialEq, Eq)]
 pub struct Claim {
     pub fill: Fill,
     /// Date of service (401-D1), a day of the calendar as `CCYYMMDD`.
@@ -35,7 +35,7 @@ pub struct Claim {
 
 /// A reversal: reverses the payment of a fill. Without a fill number it names every fill of its
 /// prescription on its day.
-#[derive(Clone, Copy, Debug, PartialEq, Eq)]
+#[derive(Clone, Copy, PartialEq, Eq)]
 pub struct Reversal {
     pub bin: [u8; 6],
     pub pcn: [u8; 10],
@@ -48,7 +48,7 @@ pub struct Reversal {
 }
 
 /// What one transaction asks for.
-#[derive(Clone, Copy, Debug, PartialEq, Eq)]
+#[derive(Clone, Copy, PartialEq, Eq)]
 pub enum Order {
     /// Transaction code B1.
     Claim(Claim),

@@ -8,14 +8,14 @@ use crate::found::Found;
 use d0_segments::{Field, Segment};
 
 /// Where a segment stands: before all groups, or in the group of a transaction.
-#[derive(Clone, Copy, Debug, PartialEq, Eq)]
+#[derive(Clone, Copy, PartialEq, Eq)]
 pub enum Level {
     Shared,
     Group,
 }
 
 /// The values of the fields of an order, as far as segments were read.
-#[derive(Clone, Copy, Debug)]
+#[derive(Clone, Copy)]
 pub struct OrderValues<'a> {
     /// Cardholder ID (302-C2).
     pub cardholder: Found<'a>,

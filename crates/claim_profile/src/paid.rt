@@ -9,7 +9,7 @@ use std::marker::Model;
 /// What is paid for a claim, in cents: ingredient cost paid (506-F6), dispensing fee paid (507-F7),
 /// patient pay amount (505-F5) and total amount paid (509-F9). None is negative, and the total is
 /// cost and fee less the patient's part.
-#[derive(Clone, Copy, Debug, PartialEq, Eq)]
+#[derive(Clone, Copy, PartialEq, Eq)]
 pub struct Amounts {
     cost: u32,
     fee: u32,

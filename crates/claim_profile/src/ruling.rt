@@ -5,7 +5,7 @@ use crate::paid::Amounts;
 use crate::reject::Rejects;
 
 /// The ruling about one transaction.
-#[derive(Clone, Copy, Debug, PartialEq, Eq)]
+#[derive(Clone, Copy, PartialEq, Eq)]
 pub enum Ruling {
     /// A claim is paid.
     Paid {
@@ -31,7 +31,7 @@ pub enum Ruling {
 }
 
 /// The status of a whole response (501-F1).
-#[derive(Clone, Copy, Debug, PartialEq, Eq)]
+#[derive(Clone, Copy, PartialEq, Eq)]
 pub enum HeaderStatus {
     /// `A`: the transmission is taken.
     Accepted,

@@ -6,7 +6,7 @@ ghost use Rattle.claim_profile.specs.Transaction.{code_bytes, transaction_code};
 use crate::names::is_same;
 
 /// What kind of transaction a request is, by its transaction code (103-A3).
-#[derive(Clone, Copy, Debug, PartialEq, Eq)]
+#[derive(Clone, Copy, PartialEq, Eq)]
 pub enum TransactionCode {
     /// `B1`: it asks that claims are paid.
     Billing,

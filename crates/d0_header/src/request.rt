@@ -10,7 +10,7 @@ use std::marker::Model;
 
 /// The header of a request transmission: 56 bytes that passed every test of [`RequestHeader::read`].
 /// Fields keep their padding.
-#[derive(Clone, Copy, Debug, PartialEq, Eq)]
+#[derive(Clone, Copy, PartialEq, Eq)]
 pub struct RequestHeader {
     bin: [u8; 6],
     version: [u8; 2],

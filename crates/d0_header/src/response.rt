@@ -12,7 +12,7 @@ use std::marker::Model;
 
 /// The header of a response transmission: 31 bytes that passed every test of [`ResponseHeader::read`].
 /// Fields keep their padding. [`ResponseHeader::answering`] makes one too.
-#[derive(Clone, Copy, Debug, PartialEq, Eq)]
+#[derive(Clone, Copy, PartialEq, Eq)]
 pub struct ResponseHeader {
     version: [u8; 2],
     code: [u8; 2],

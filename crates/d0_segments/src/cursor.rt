@@ -15,7 +15,7 @@ use memchr::memchr;
 
 /// A place behind the header of framed bytes: where a field, a segment or a group begins, or the end.
 /// It lends the fields from there on and takes no memory.
-#[derive(Clone, Copy, Debug)]
+#[derive(Clone, Copy)]
 pub struct Cursor<'a> {
     bytes: &'a [u8],
     pub ghost framed: { is_inside bytes.now ≡ true },
@@ -23,7 +23,7 @@ pub struct Cursor<'a> {
 
 /// A segment in place: its identification, and where its fields begin. The segments behind it follow
 /// from there too.
-#[derive(Clone, Copy, Debug)]
+#[derive(Clone, Copy)]
 pub struct SegmentAt<'a> {
     first: u8,
     second: u8,

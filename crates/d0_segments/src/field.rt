@@ -9,7 +9,7 @@ use crate::separator::separator_in;
 
 /// A field of a segment, whose value is lent. Neither the identifier nor the value has a separator
 /// in it.
-#[derive(Clone, Copy, Debug)]
+#[derive(Clone, Copy)]
 pub struct Field<'a> {
     id: [u8; 2],
     value: &'a [u8],

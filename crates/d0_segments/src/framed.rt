@@ -8,7 +8,7 @@ use crate::header::Header;
 
 /// Bytes that are framed: their header, and where the body begins behind it. No group is empty, and
 /// the header announces as many groups as there are.
-#[derive(Debug, Drop)]
+#[derive(Drop)]
 pub struct Framed<'a, H: Header> {
     header: H,
     body: Cursor<'a>,

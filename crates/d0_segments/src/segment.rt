@@ -7,7 +7,7 @@ use crate::field::Field;
 
 /// A segment of a transmission or of a group. Its identification, the value of its first field
 /// (111-AM), has no separator in it.
-#[derive(Debug, Drop)]
+#[derive(Drop)]
 pub struct Segment<'a> {
     id: [u8; 2],
     fields: Vec<Field<'a>>,

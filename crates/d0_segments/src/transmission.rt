@@ -10,7 +10,7 @@ use crate::segment::Segment;
 /// A transmission whose fields are lent. The segments before the first group belong to the whole
 /// transmission, and each group has the segments of one transaction. No group is empty, and the
 /// header announces as many groups as there are.
-#[derive(Debug, Drop)]
+#[derive(Drop)]
 pub struct Transmission<'a, H: Header> {
     header: H,
     shared: Vec<Segment<'a>>,

@@ -62,7 +62,7 @@ pub enum EnvelopeFault {
 }
 
 /// An envelope that was read; its payload is lent from the bytes.
-#[derive(Debug, Drop)]
+#[derive(Drop)]
 pub struct Envelope<'a> {
     kind: Kind,
     id: TxnId,

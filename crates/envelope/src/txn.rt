@@ -7,7 +7,7 @@ use std::fmt::{Display, Formatter};
 use std::marker::Model;
 
 /// Which transaction it is: the pharmacy that numbered it, and the number there, neither zero.
-#[derive(Clone, Copy, Debug, PartialEq, Eq, PartialOrd, Ord, Hash)]
+#[derive(Clone, Copy, PartialEq, Eq, PartialOrd, Ord, Hash)]
 pub struct TxnId {
     pharmacy: u16,
     number: u64,

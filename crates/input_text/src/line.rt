@@ -9,7 +9,7 @@ use crate::search::place_of;
 use std::marker::Model;
 
 /// One line of an input.
-#[derive(Clone, Copy, Debug)]
+#[derive(Clone, Copy)]
 pub struct Line<'a> {
     /// Which line it is, counted from 1.
     pub number: usize,

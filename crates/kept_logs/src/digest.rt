@@ -8,7 +8,7 @@ use sha2::{Digest, Sha256};
 use std::marker::Model;
 
 /// The SHA-256 digest of the text of settings. Each log names the settings that its node was opened with by it.
-#[derive(Clone, Copy, Debug, PartialEq, Eq)]
+#[derive(Clone, Copy, PartialEq, Eq)]
 pub struct SettingsDigest {
     bytes: [u8; 32],
 }

@@ -24,7 +24,7 @@ use std::alloc::{AllocError, Global};
 use world_setup::Node;
 
 /// A log that was read.
-#[derive(Debug, Drop)]
+#[derive(Drop)]
 pub struct ReadLog {
     /// The log: the calls whose records stand whole in the bytes.
     pub log: NodeLog,

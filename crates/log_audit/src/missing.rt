@@ -56,7 +56,7 @@ fn put_line(out: &mut Vec<u8>, node: Node, said: &str) -> Result<(), AllocError>
 }
 
 /// What is wrong with the number of a node's logs.
-#[derive(Clone, Copy, Debug, PartialEq, Eq)]
+#[derive(Clone, Copy, PartialEq, Eq)]
 pub(crate) enum Lack {
     /// There is none.
     NoLog,

@@ -31,7 +31,7 @@ pub struct Report {
 }
 
 /// How logs are told of.
-#[derive(Clone, Copy, Debug, PartialEq, Eq)]
+#[derive(Clone, Copy, PartialEq, Eq)]
 pub enum Form {
     /// A line for each log, then `one legal run of N events` and what it left, or `no legal run` and why.
     Lines,

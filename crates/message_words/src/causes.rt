@@ -33,7 +33,7 @@ use d0_segments::{Cursor, Framed};
 use std::alloc::{AllocError, Global};
 
 /// Why a transaction is rejected: the code that tells it, the field that is not good, and what stands in it.
-#[derive(Clone, Copy, Debug)]
+#[derive(Clone, Copy)]
 pub struct Cause<'a> {
     /// The code (511-FB) that tells it.
     pub code: Code,

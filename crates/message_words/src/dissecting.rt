@@ -11,7 +11,7 @@ use crate::transmissions::cut_transmission;
 use std::alloc::{AllocError, Global};
 
 /// What a message is.
-#[derive(Clone, Copy, Debug, PartialEq, Eq)]
+#[derive(Clone, Copy, PartialEq, Eq)]
 pub enum MessageKind {
     /// A request of a pharmacy.
     Request,
@@ -24,7 +24,7 @@ pub enum MessageKind {
 }
 
 /// A request or an answer in a message: where it stands, and how many bytes it has.
-#[derive(Clone, Copy, Debug)]
+#[derive(Clone, Copy)]
 pub struct Carried {
     /// Whether it is a request or an answer.
     pub form: Form,

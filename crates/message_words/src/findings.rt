@@ -23,7 +23,7 @@ use d0_segments::Framed;
 use std::alloc::{AllocError, Global};
 
 /// Why a framed request is none that the product carries.
-#[derive(Clone, Copy, Debug, PartialEq, Eq)]
+#[derive(Clone, Copy, PartialEq, Eq)]
 pub enum Uncarried {
     /// It has more than 32,768 bytes.
     TooLong,
@@ -34,7 +34,7 @@ pub enum Uncarried {
 }
 
 /// One thing that is found of a framed request. Transactions are numbered from 1.
-#[derive(Clone, Copy, Debug)]
+#[derive(Clone, Copy)]
 pub enum Finding<'a> {
     /// The product does not carry it, for this reason.
     NotCarried(Uncarried),

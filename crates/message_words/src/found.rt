@@ -12,7 +12,7 @@ use claim_profile::trimmed;
 use d0_segments::{Cursor, Field, SegmentAt};
 
 /// What stands in the place of a field: nothing, one value or several. Empty values do not count.
-#[derive(Clone, Copy, Debug)]
+#[derive(Clone, Copy)]
 pub enum Found<'a> {
     /// No value.
     Nothing,

@@ -7,7 +7,7 @@ use crate::part::PartKind;
 use d0_segments::{FIELD_SEPARATOR, GROUP_SEPARATOR, SEGMENT_SEPARATOR};
 
 /// Which way a transmission goes.
-#[derive(Clone, Copy, Debug, PartialEq, Eq)]
+#[derive(Clone, Copy, PartialEq, Eq)]
 pub enum Form {
     /// From a pharmacy to a payer.
     Request,

@@ -10,7 +10,7 @@ pub const LONGEST_LINE: usize = 16_777_216;
 const CHUNK: usize = 65_536;
 
 /// Why no further line was read.
-#[derive(Clone, Copy, Debug, PartialEq, Eq)]
+#[derive(Clone, Copy, PartialEq, Eq)]
 pub enum InputFault {
     /// Memory was refused.
     OutOfMemory,

@@ -1,7 +1,7 @@
 //! The fields that the product knows, by the standard's numbers and names.
 
 /// A field of a header, of an order or of a ruling.
-#[derive(Clone, Copy, Debug, PartialEq, Eq)]
+#[derive(Clone, Copy, PartialEq, Eq)]
 pub enum FieldName {
     /// 101-A1, six digits.
     Bin,
@@ -60,7 +60,7 @@ pub enum FieldName {
 }
 
 /// How a field is called.
-#[derive(Clone, Copy, Debug, PartialEq, Eq)]
+#[derive(Clone, Copy, PartialEq, Eq)]
 pub struct Named {
     /// The standard's number, as `401-D1`.
     pub number: &'static str,

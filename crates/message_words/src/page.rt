@@ -7,7 +7,7 @@ use crate::text::{Text, digit, is_plain};
 use std::alloc::Global;
 
 /// How a description is written.
-#[derive(Clone, Copy, Debug, PartialEq, Eq)]
+#[derive(Clone, Copy, PartialEq, Eq)]
 pub enum Style {
     /// Lines for people, with an empty line at the end.
     Lines,

@@ -4,7 +4,7 @@ use crate::marks::Mark;
 use crate::names::FieldName;
 
 /// What a stretch of bytes is.
-#[derive(Clone, Copy, Debug, PartialEq, Eq)]
+#[derive(Clone, Copy, PartialEq, Eq)]
 pub enum PartKind {
     /// A field of a header, at its fixed place.
     Header(FieldName),
@@ -22,7 +22,7 @@ pub enum PartKind {
 }
 
 /// A stretch of a message's bytes.
-#[derive(Clone, Copy, Debug)]
+#[derive(Clone, Copy)]
 pub struct Part<'a> {
     /// The place of its first byte, from 0.
     pub place: usize,

@@ -4,7 +4,7 @@ use input_text::{PrintedFault, unprint};
 use std::alloc::{AllocError, Global};
 
 /// How messages are spelled in the input.
-#[derive(Clone, Copy, Debug, PartialEq, Eq)]
+#[derive(Clone, Copy, PartialEq, Eq)]
 pub enum Spelling {
     /// A message a line, as bytes are printed.
     Printed,
@@ -15,7 +15,7 @@ pub enum Spelling {
 }
 
 /// Why a line spells no bytes.
-#[derive(Clone, Copy, Debug, PartialEq, Eq)]
+#[derive(Clone, Copy, PartialEq, Eq)]
 pub enum SpellingFault {
     /// Memory was refused.
     OutOfMemory,

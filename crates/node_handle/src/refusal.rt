@@ -8,7 +8,7 @@ use kept_logs::LogFault;
 use node_service::ServiceFault;
 
 /// Why a call on a handle is refused.
-#[derive(Clone, Copy, Debug, PartialEq, Eq)]
+#[derive(Clone, Copy, PartialEq, Eq)]
 pub enum Refusal {
     /// Memory was refused. The handle has no node.
     OutOfMemory,

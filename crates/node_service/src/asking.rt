@@ -15,7 +15,7 @@ use world_setup::Call;
 const MOST_NUMBER_DIGITS: usize = 18;
 
 /// What a line asks of a node.
-#[derive(Debug, Drop, PartialEq, Eq)]
+#[derive(Drop, PartialEq, Eq)]
 pub(crate) enum Asked {
     /// A call on the node.
     Call(Call),

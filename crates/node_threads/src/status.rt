@@ -12,7 +12,7 @@ use std::alloc::AllocError;
 use thiserror::Error;
 
 /// What a caller is told of a request.
-#[derive(Debug, Drop, PartialEq, Eq)]
+#[derive(Drop, PartialEq, Eq)]
 pub enum Status {
     /// No answer is there yet.
     Open,

@@ -9,7 +9,7 @@ use std::marker::Model;
 use thiserror::Error;
 
 /// An amount in cents, from -99,999,999 to 99,999,999: the picture `s9(6)v99`.
-#[derive(Clone, Copy, Debug, PartialEq, Eq, PartialOrd, Ord, Hash)]
+#[derive(Clone, Copy, PartialEq, Eq, PartialOrd, Ord, Hash)]
 pub struct Amount {
     cents: i64,
 }

@@ -67,7 +67,7 @@ impl Model for Book {
 }
 
 /// The answer to a request, and whether the book had it already.
-#[derive(Debug, Drop)]
+#[derive(Drop)]
 pub struct Reply {
     /// The answer's bytes, with header status `A` (501-F1).
     pub bytes: Vec<u8>,
@@ -76,7 +76,7 @@ pub struct Reply {
 }
 
 /// What is known of a payment.
-#[derive(Clone, Copy, Debug, PartialEq, Eq)]
+#[derive(Clone, Copy, PartialEq, Eq)]
 pub struct PaymentView {
     /// What was paid for.
     pub fill: Fill,

@@ -13,7 +13,7 @@ pub const LAST_SERIAL: u64 = 999_999_999_999;
 pub const MOST_ROWS: u32 = 65_536;
 
 /// The first serial number and the most rows of a book (own).
-#[derive(Clone, Copy, Debug, PartialEq, Eq)]
+#[derive(Clone, Copy, PartialEq, Eq)]
 pub struct BookSettings {
     serial: u64,
     cap: u32,

@@ -28,7 +28,7 @@ use std::collections::BTreeSet;
 use std::marker::Model;
 
 /// A payment as the pharmacy was told of it.
-#[derive(Clone, Copy, Debug)]
+#[derive(Clone, Copy)]
 pub struct CountedPayment {
     auth: Auth,
     fill: Fill,

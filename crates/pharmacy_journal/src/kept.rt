@@ -11,7 +11,7 @@ use crate::pharmacy::Pharmacy;
 use crate::slot::Slot;
 
 /// An entry as it is kept: its request, and its answer if there is one.
-#[derive(Clone, Copy, Debug)]
+#[derive(Clone, Copy)]
 pub struct KeptEntry<'a> {
     /// The request's bytes.
     pub request: &'a [u8],

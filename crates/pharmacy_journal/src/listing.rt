@@ -16,7 +16,7 @@ use std::marker::Model;
 
 /// What is told of an entry: its number, the code (103-A3) and the count (109-A9) of its request, and
 /// the rulings of its answer, none where it is open.
-#[derive(Debug, Drop)]
+#[derive(Drop)]
 pub struct EntryView {
     number: u64,
     code: [u8; 2],

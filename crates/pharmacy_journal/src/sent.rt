@@ -6,7 +6,7 @@ use octets::Octets;
 use std::marker::Model;
 
 /// A packet for a switch.
-#[derive(Debug, Drop)]
+#[derive(Drop)]
 pub struct Sent {
     to: u16,
     bytes: Octets,

@@ -16,7 +16,7 @@ const MOST_ENTRIES: u32 = 65_536;
 
 /// The identity of a pharmacy, the switches that it tries in turn, its rule of retries and the most
 /// entries of its journal (own).
-#[derive(Debug, Drop)]
+#[derive(Drop)]
 pub struct PharmacySettings {
     qualifier: [u8; 2],
     provider: [u8; 15],

@@ -21,7 +21,7 @@ use std::alloc::{AllocError, Global};
 use std::marker::Model;
 
 /// A transaction that waits for its answer: its number and a readable request. It alone has a packet.
-#[derive(Debug, Drop)]
+#[derive(Drop)]
 pub struct OpenTxn {
     id: TxnId,
     request: Octets,
@@ -45,7 +45,7 @@ impl Model for OpenTxn {
 }
 
 /// A transaction that has its answer. It has no packet.
-#[derive(Debug, Drop)]
+#[derive(Drop)]
 pub struct SettledTxn {
     id: TxnId,
     request: Octets,

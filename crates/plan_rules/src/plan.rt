@@ -16,7 +16,7 @@ use std::marker::Model;
 
 /// A processor's plan: the most it pays as a dispensing fee, what a patient pays, and the price of each product that
 /// it covers. Fee, copay and prices are at most 99,999,999, and there are at most 4,096 products.
-#[derive(Debug, Drop)]
+#[derive(Drop)]
 pub struct Plan {
     fee: u32,
     copay: u32,

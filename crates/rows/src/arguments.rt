@@ -1,5 +1,6 @@
 //! The words of a row's argument.
 
+use case_files::cut;
 use envelope::TxnId;
 use input_text::{read_decimal, split_word};
 use overpunch::Amount;
@@ -194,17 +195,6 @@ pub(crate) fn in_two(argument: &[u8]) -> Option<(&[u8], &[u8])> {
         Some(front) => Some((front, b"")),
         None => cut(argument, b" => "),
     }
-}
-
-/// What stands before and behind the first place of a mark.
-pub(crate) fn cut<'a>(text: &'a [u8], mark: &[u8]) -> Option<(&'a [u8], &'a [u8])> {
-    for at in 0..text.len() {
-        let (front, rest) = text.split_at(at);
-        if let Some(behind) = rest.strip_prefix(mark) {
-            return Some((front, behind));
-        }
-    }
-    None
 }
 
 /// Whether two texts are the same.

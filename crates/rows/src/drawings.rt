@@ -1,8 +1,8 @@
 //! The text of a small picture.
 
-use crate::arguments::{cut, four_first, two_first};
+use crate::arguments::{four_first, two_first};
 use crate::telling::tell_text;
-use case_files::{Subject, Told};
+use case_files::{Subject, Told, cut};
 use std::alloc::{AllocError, Global};
 use svg_text::{Anchor, Drawing, Face, Fill, Frame, Point, Size, Stroke};
 

@@ -1,5 +1,5 @@
 //! Runs the rows: files of calls on letters and messages, of steps on one node and of documents that open nodes, and
-//! what each comes to.
+//! what each comes to. With words it does the work that they name, to be measured.
 #![tactic(auto)]
 
 mod amounts;
@@ -13,6 +13,7 @@ mod envelopes;
 mod framing;
 mod headers;
 mod lines;
+mod measured;
 mod nodes;
 mod numbers;
 mod orders;
@@ -26,6 +27,7 @@ mod telling;
 use case_files::{CaseFile, Runner, Suite, run};
 use payer_book::HashKeys;
 use std::alloc::AllocError;
+use std::env;
 use std::process::ExitCode;
 
 /// The files of rows, and keys that nobody knows for the maps of books.
@@ -72,6 +74,23 @@ impl Rows {
 }
 
 fn main(rt: HostRuntime) -> ExitCode {
-    let drawn = HashKeys::random(&rt).ok();
-    run(&rt, &mut Rows { drawn })
+    match words_of(&rt) {
+        Some(words) if words.len() > 1 => match measured::work(&rt, &words) {
+            Some(()) => ExitCode::SUCCESS,
+            None => ExitCode::FAILURE,
+        },
+        Some(_) => {
+            let drawn = HashKeys::random(&rt).ok();
+            run(&rt, &mut Rows { drawn })
+        }
+        None => ExitCode::FAILURE,
+    }
+}
+
+/// The words of the command line; none where they could not be had.
+fn words_of(rt: &HostRuntime) -> Option<Vec<String>> {
+    match env::args(rt) {
+        Ok(words) => words.collect(rt.alloc()).ok(),
+        Err(_) => None,
+    }
 }

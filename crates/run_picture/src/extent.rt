@@ -17,14 +17,14 @@ pub enum Extent {
 }
 
 /// Events one after another that are not drawn: those from `first` to `last`, none where `last` is less.
-#[derive(Clone, Copy, Debug, PartialEq, Eq)]
+#[derive(Clone, Copy, PartialEq, Eq)]
 pub(crate) struct Gap {
     pub(crate) first: u64,
     pub(crate) last: u64,
 }
 
 /// The events that are not drawn: at most two gaps, one before the other.
-#[derive(Clone, Copy, Debug, PartialEq, Eq)]
+#[derive(Clone, Copy, PartialEq, Eq)]
 pub(crate) struct Hidden {
     pub(crate) early: Gap,
     pub(crate) late: Gap,

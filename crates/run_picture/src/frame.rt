@@ -21,7 +21,7 @@ const LEGEND_TOP: u64 = 58;
 const LEGEND_LINE: u64 = 20;
 
 /// How many of each kind a run has.
-#[derive(Clone, Copy, Debug)]
+#[derive(Clone, Copy)]
 struct Counts {
     sent: u64,
     taken: u64,

@@ -4,7 +4,7 @@ use world_core::World;
 use world_setup::Node;
 
 /// How many nodes of each kind have a column.
-#[derive(Clone, Copy, Debug, PartialEq, Eq)]
+#[derive(Clone, Copy, PartialEq, Eq)]
 pub(crate) struct Lanes {
     pharmacies: usize,
     switches: usize,
@@ -12,7 +12,7 @@ pub(crate) struct Lanes {
 }
 
 /// A side of a lifeline.
-#[derive(Clone, Copy, Debug, PartialEq, Eq)]
+#[derive(Clone, Copy, PartialEq, Eq)]
 pub(crate) enum Side {
     Left,
     Right,

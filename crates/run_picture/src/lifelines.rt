@@ -9,7 +9,7 @@ use svg_text::{Anchor, Drawing, Face, Fill, Point, Size, Stroke};
 use world_setup::Node;
 
 /// How far a lifeline is drawn, and whether its node is up there.
-#[derive(Clone, Copy, Debug)]
+#[derive(Clone, Copy)]
 struct Reach {
     y: u64,
     up: bool,

@@ -7,7 +7,7 @@ use std::alloc::{AllocError, Global};
 use world_setup::{Event, Node, StepFault};
 
 /// The row of an event.
-#[derive(Clone, Copy, Debug)]
+#[derive(Clone, Copy)]
 pub(crate) struct Row {
     /// The line on which an arrow ends.
     pub(crate) y: u64,
@@ -18,7 +18,7 @@ pub(crate) struct Row {
 }
 
 /// The sending of a packet.
-#[derive(Clone, Copy, Debug)]
+#[derive(Clone, Copy)]
 pub(crate) struct Departure {
     pub(crate) from: Node,
     pub(crate) to: Node,

@@ -13,7 +13,7 @@ const VERSION: &str = "0.7.0";
 const MOST_DIGITS: usize = 18;
 
 /// What the words of the command line ask for.
-#[derive(Debug, Drop)]
+#[derive(Drop)]
 pub enum Wish {
     /// A picture of a run.
     Draw(Extent),

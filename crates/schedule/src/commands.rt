@@ -17,7 +17,7 @@ use world_setup::{Event, Node};
 const MOST_DIGITS: usize = 18;
 
 /// A command to nodes on threads (own).
-#[derive(Debug, Drop, PartialEq, Eq)]
+#[derive(Drop, PartialEq, Eq)]
 pub enum Command {
     /// A pharmacy submits a request.
     Submit {

@@ -12,7 +12,7 @@ use std::alloc::{AllocError, Global};
 const DIVIDER: &[u8] = b"---";
 
 /// The two parts of an input.
-#[derive(Debug, Drop)]
+#[derive(Drop)]
 pub struct Division<'a> {
     /// The text of the settings: their lines without the carriage returns that belong to line ends.
     pub settings: Vec<u8>,

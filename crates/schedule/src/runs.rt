@@ -12,7 +12,7 @@ use std::alloc::{AllocError, Global};
 use world_setup::LinkFault;
 
 /// What a schedule of `run` says.
-#[derive(Debug, Drop)]
+#[derive(Drop)]
 pub struct Run {
     /// The faults of links, in the order of their lines.
     pub faults: Vec<LinkFault>,

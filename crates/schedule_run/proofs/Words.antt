@@ -11,19 +11,12 @@ use Rattle.world_report.specs.Words.{Line, behind_spaces, line_text, lines_text}
 use Rattle.world_report.proofs.JoinedWords.{texts_join}
 use Rattle.schedule_run.specs.Told.{IsRefusal, answer_lines, is_unreadable, refusal_line}
 
--- a space and a word
-pub spaced : (a b c word : List ℕ) → b ≡ a ++ codes " " → c ≡ b ++ word → c ≡ a ++ behind_spaces (word ∷ [])
+-- more of the last word of a line
+pub word_more : (a b c word more : List ℕ) → b ≡ a ++ behind_spaces (word ∷ []) → c ≡ b ++ more → c ≡ a ++ behind_spaces ((word ++ more) ∷ [])
 unfolding behind_spaces
-spaced a b c word one two = texts_join a b c (codes " ") word one two ∙ ap (λ (t : List ℕ). a ++ (32 ∷ t)) (sym (append-nil word))
-
--- a word with its space before it
-pub open_word : (a b : List ℕ) → b ≡ a ++ codes " open" → b ≡ a ++ behind_spaces (codes "open" ∷ [])
-unfolding behind_spaces
-open_word a b one = one
-
-pub settled_word : (a b : List ℕ) → b ≡ a ++ codes " settled" → b ≡ a ++ behind_spaces (codes "settled" ∷ [])
-unfolding behind_spaces
-settled_word a b one = one
+word_more a b c word more one two =
+    texts_join a b c (behind_spaces (word ∷ [])) more one two
+    ∙ ap (λ (t : List ℕ). a ++ (32 ∷ t)) (ap (λ (t : List ℕ). t ++ more) (append-nil word) ∙ sym (append-nil (word ++ more)))
 
 -- one line is the text of a list of one
 pub one_line_text : (line : Line) → lines_text (line ∷ []) ≡ line_text line

@@ -12,7 +12,7 @@ ghost use Rattle.schedule_run.specs.Told.{IsRefusal, is_unreadable, done_line, n
 use claim_profile::{AnswerFault, Ruling, read_answer};
 use input_text::put_decimal;
 use std::alloc::{AllocError, Global};
-use world_report::put_ruling;
+use world_report::{end_line, put_mark, put_number, put_ruling, put_word};
 use world_setup::StepFault;
 
 /// Appends the line of a command that was made, or of its refusal.
@@ -36,7 +36,7 @@ pub(crate) fn put_submitted(
     ensures { OnOk result ((line : Line) × (out.new.items ≡ out.old.items ++ line_text line) × MatchResult outcome (λ number. line ≡ number_line number) (λ _. IsRefusal line)) }
 {
     match outcome {
-        Ok(number) => put_number(out, number),
+        Ok(number) => put_entered(out, number),
         Err(fault) => put_fault(out, fault),
     }
 }
@@ -50,12 +50,11 @@ pub(crate) fn put_done(out: &mut Vec<u8>) -> Result<(), AllocError>
 }
 
 /// Appends the line of a submission that was taken.
-fn put_number(out: &mut Vec<u8>, number: u64) -> Result<(), AllocError>
+fn put_entered(out: &mut Vec<u8>, number: u64) -> Result<(), AllocError>
     ensures { OnOk result (out.new.items ≡ out.old.items ++ line_text (number_line number)) }
 {
     out.extend_from_slice(b"number")?;
-    out.extend_from_slice(b" ")?;
-    put_decimal(out, number)?;
+    put_number(out, number)?;
     end_line(out)
 }
 
@@ -75,8 +74,7 @@ pub(crate) fn put_refused(out: &mut Vec<u8>, name: &[u8]) -> Result<(), AllocErr
     ensures { OnOk result (out.new.items ≡ out.old.items ++ line_text (refusal_line name.now)) }
 {
     out.extend_from_slice(b"refused")?;
-    out.extend_from_slice(b" ")?;
-    out.extend_from_slice(name)?;
+    put_word(out, name)?;
     end_line(out)
 }
 
@@ -108,7 +106,7 @@ fn put_open_place(
 {
     put_pharmacy(out, pharmacy)?;
     put_place(out, number, place, count)?;
-    out.extend_from_slice(b" open")?;
+    put_word(out, b"open")?;
     end_line(out)
 }
 
@@ -168,7 +166,7 @@ fn put_settled_place(
 {
     put_pharmacy(out, pharmacy)?;
     put_place(out, number, place, count)?;
-    out.extend_from_slice(b" settled")?;
+    put_word(out, b"settled")?;
     put_ruling(out, ruling)?;
     end_line(out)
 }
@@ -185,26 +183,6 @@ fn put_pharmacy(out: &mut Vec<u8>, pharmacy: u16) -> Result<(), AllocError>
 fn put_place(out: &mut Vec<u8>, number: u64, place: u64, count: u64) -> Result<(), AllocError>
     ensures { OnOk result (out.new.items ≡ out.old.items ++ behind_spaces ((decimal number ++ place_mark count place) ∷ [])) }
 {
-    out.extend_from_slice(b" ")?;
-    put_decimal(out, number)?;
-    put_mark(out, place, count)
-}
-
-/// Appends the place of a request that has several.
-fn put_mark(out: &mut Vec<u8>, place: u64, count: u64) -> Result<(), AllocError>
-    ensures { OnOk result (out.new.items ≡ out.old.items ++ place_mark count place) }
-{
-    if count == 1 {
-        return Ok(());
-    }
-    out.extend_from_slice(b"/")?;
-    put_decimal(out, place)
-}
-
-/// Ends a line.
-fn end_line(out: &mut Vec<u8>) -> Result<(), AllocError>
-    ensures { OnOk result (out.new.items ≡ out.old.items ++ codes "\n") }
-{
-    out.push(b'\n')?;
-    Ok(())
+    put_number(out, number)?;
+    put_mark(out, count, place)
 }

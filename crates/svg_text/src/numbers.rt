@@ -7,7 +7,7 @@ use input_text::put_decimal;
 use std::alloc::AllocError;
 
 /// The name of an attribute whose value is a number.
-#[derive(Clone, Copy, Debug, PartialEq, Eq)]
+#[derive(Clone, Copy, PartialEq, Eq)]
 pub(crate) enum Name {
     X,
     Y,
@@ -20,7 +20,7 @@ pub(crate) enum Name {
 }
 
 /// An attribute whose value is a number, in pixels.
-#[derive(Clone, Copy, Debug, PartialEq, Eq)]
+#[derive(Clone, Copy, PartialEq, Eq)]
 pub(crate) struct Number {
     pub(crate) name: Name,
     pub(crate) value: u64,

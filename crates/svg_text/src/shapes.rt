@@ -9,7 +9,7 @@ use crate::styles::{Anchor, Face, Fill, Stroke};
 use std::alloc::AllocError;
 
 /// A point, in pixels from the upper left corner.
-#[derive(Clone, Copy, Debug, PartialEq, Eq)]
+#[derive(Clone, Copy, PartialEq, Eq)]
 pub struct Point {
     /// To the right.
     pub x: u64,
@@ -18,7 +18,7 @@ pub struct Point {
 }
 
 /// The size of a box or of the whole picture, in pixels.
-#[derive(Clone, Copy, Debug, PartialEq, Eq)]
+#[derive(Clone, Copy, PartialEq, Eq)]
 pub struct Size {
     pub width: u64,
     pub height: u64,

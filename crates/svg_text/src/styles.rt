@@ -4,7 +4,7 @@ ghost use Rattle.std.specs.Prelude.{◌≡◌};
 ghost use Rattle.svg_text.specs.Styles.{anchor_style, face_style, fill_style, stroke_style};
 
 /// How a line is drawn.
-#[derive(Clone, Copy, Debug, PartialEq, Eq)]
+#[derive(Clone, Copy, PartialEq, Eq)]
 pub enum Stroke {
     /// A plain line.
     Solid,
@@ -21,7 +21,7 @@ pub enum Stroke {
 }
 
 /// How a box is drawn.
-#[derive(Clone, Copy, Debug, PartialEq, Eq)]
+#[derive(Clone, Copy, PartialEq, Eq)]
 pub enum Fill {
     /// White, with a border.
     Bordered,
@@ -32,7 +32,7 @@ pub enum Fill {
 }
 
 /// How words are drawn.
-#[derive(Clone, Copy, Debug, PartialEq, Eq)]
+#[derive(Clone, Copy, PartialEq, Eq)]
 pub enum Face {
     /// Large and bold.
     Heading,
@@ -45,7 +45,7 @@ pub enum Face {
 }
 
 /// Which part of words stands at their place.
-#[derive(Clone, Copy, Debug, PartialEq, Eq)]
+#[derive(Clone, Copy, PartialEq, Eq)]
 pub enum Anchor {
     /// Their beginning.
     Start,

@@ -20,7 +20,7 @@ use octets::Octets;
 use std::alloc::{AllocError, Global};
 
 /// Where a request goes.
-#[derive(Debug, PartialEq, Eq, Drop)]
+#[derive(PartialEq, Eq, Drop)]
 pub enum Routed {
     /// To this payer, as the envelope in which it came.
     Forward(PayerNo, Octets),

@@ -10,7 +10,7 @@ use std::marker::Model;
 pub const MOST_ENTRIES: u32 = 65_536;
 
 /// How many requests a switch has in its table at most (own).
-#[derive(Clone, Copy, Debug, PartialEq, Eq)]
+#[derive(Clone, Copy, PartialEq, Eq)]
 pub struct SwitchSettings {
     cap: u32,
 }

@@ -8,7 +8,7 @@ use octets::Octets;
 use std::marker::Model;
 
 /// A request that was forwarded, and its answer once that came. An answer has at most 32,768 bytes.
-#[derive(Debug, Drop)]
+#[derive(Drop)]
 pub struct Slot {
     request: Octets,
     answer: Option<Octets>,

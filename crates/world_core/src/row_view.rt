@@ -11,7 +11,7 @@ use std::alloc::{AllocError, Global};
 use std::marker::Model;
 
 /// What is told of a row: its number, the code (103-A3) of its request, and the ruling of each place.
-#[derive(Debug, Drop)]
+#[derive(Drop)]
 pub struct RowView {
     id: TxnId,
     code: [u8; 2],

@@ -47,7 +47,7 @@ fn put_open_place(out: &mut Vec<u8>, number: u64, place: &Place) -> Result<(), A
     ensures { OnOk result (out.new.items ≡ out.old.items ++ line_text (place_line (decimal number) place.now.count place.now.number place.now.code (codes "open" ∷ []))) }
 {
     put_decimal(out, number)?;
-    put_mark(out, place)?;
+    put_mark(out, place.count, place.number)?;
     put_word(out, &place.code)?;
     put_word(out, b"open")?;
     end_line(out)
@@ -80,7 +80,7 @@ fn put_told_place(
     ensures { OnOk result (out.new.items ≡ out.old.items ++ line_text (place_line (decimal number) place.now.count place.now.number place.now.code (ruling_words ruling.now))) }
 {
     put_decimal(out, number)?;
-    put_mark(out, place)?;
+    put_mark(out, place.count, place.number)?;
     put_word(out, &place.code)?;
     put_ruling(out, ruling)?;
     end_line(out)

@@ -21,6 +21,8 @@ mod words;
 pub use book_rows::put_row;
 pub use entries::put_entry;
 pub use heads::{put_done, put_head, put_refused};
+pub use places::put_mark;
 pub use rows::put_in_flight;
 pub use rulings::{put_paid, put_ruling};
 pub use whole::{put_nodes, put_report};
+pub use words::{end_line, put_number, put_word};

@@ -17,13 +17,14 @@ pub(crate) struct Place {
     pub(crate) code: [u8; 2],
 }
 
-/// Appends what names a place behind the number of its request: nothing where the request has one transaction.
-pub(crate) fn put_mark(out: &mut Vec<u8>, place: &Place) -> Result<(), AllocError>
-    ensures { OnOk result (out.new.items ≡ out.old.items ++ place_mark place.now.count place.now.number) }
+/// Appends what names one of so many places, from 1, behind the number of its request: nothing where the request has one
+/// transaction.
+pub fn put_mark(out: &mut Vec<u8>, count: u64, place: u64) -> Result<(), AllocError>
+    ensures { OnOk result (out.new.items ≡ out.old.items ++ place_mark count place) }
 {
-    if place.count == 1 {
+    if count == 1 {
         return Ok(());
     }
     out.push(b'/')?;
-    put_decimal(out, place.number)
+    put_decimal(out, place)
 }

@@ -40,7 +40,7 @@ pub(crate) fn put_row_place(
     ensures { OnOk result (out.new.items ≡ out.old.items ++ line_text (place_line (txn_name id) place.now.count place.now.number place.now.code (row_words ruling.now reversed))) }
 {
     put_txn(out, id)?;
-    put_mark(out, place)?;
+    put_mark(out, place.count, place.number)?;
     put_word(out, &place.code)?;
     put_ruled(out, ruling, reversed)?;
     end_line(out)

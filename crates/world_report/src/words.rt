@@ -8,7 +8,7 @@ use std::alloc::AllocError;
 
 /// Appends a space and a word.
 #[tactic(auto, unfolding(crate::specs::Words::behind_spaces))]
-pub(crate) fn put_word(out: &mut Vec<u8>, word: &[u8]) -> Result<(), AllocError>
+pub fn put_word(out: &mut Vec<u8>, word: &[u8]) -> Result<(), AllocError>
     ensures { OnOk result (out.new.items ≡ out.old.items ++ behind_spaces (word.now ∷ [])) }
 {
     out.push(b' ')?;
@@ -17,7 +17,7 @@ pub(crate) fn put_word(out: &mut Vec<u8>, word: &[u8]) -> Result<(), AllocError>
 
 /// Appends a space and a number in decimal.
 #[tactic(auto, unfolding(crate::specs::Words::behind_spaces))]
-pub(crate) fn put_number(out: &mut Vec<u8>, number: u64) -> Result<(), AllocError>
+pub fn put_number(out: &mut Vec<u8>, number: u64) -> Result<(), AllocError>
     ensures { OnOk result (out.new.items ≡ out.old.items ++ behind_spaces (decimal number ∷ [])) }
 {
     out.push(b' ')?;
@@ -25,7 +25,7 @@ pub(crate) fn put_number(out: &mut Vec<u8>, number: u64) -> Result<(), AllocErro
 }
 
 /// Ends a line.
-pub(crate) fn end_line(out: &mut Vec<u8>) -> Result<(), AllocError>
+pub fn end_line(out: &mut Vec<u8>) -> Result<(), AllocError>
     ensures { OnOk result (out.new.items ≡ out.old.items ++ codes "\n") }
 {
     out.push(b'\n')?;

@@ -5,7 +5,7 @@ use octets::Octets;
 
 /// An event: one call on one node of a world (own). Losing a packet is never delivering it, repeating it is
 /// delivering it again.
-#[derive(Debug, Drop, PartialEq, Eq)]
+#[derive(Drop, PartialEq, Eq)]
 pub enum Event {
     /// A pharmacy submits a request.
     Submit {

@@ -7,7 +7,7 @@ use std::alloc::{AllocFailed, Global};
 use std::marker::Model;
 
 /// What a link does to one packet (own).
-#[derive(Clone, Copy, Debug, PartialEq, Eq)]
+#[derive(Clone, Copy, PartialEq, Eq)]
 pub enum Action {
     /// It arrives.
     Deliver,
@@ -20,7 +20,7 @@ pub enum Action {
 }
 
 /// Actions in the order of a link's packets.
-#[derive(Debug, Drop)]
+#[derive(Drop)]
 pub struct Actions {
     list: Vec<Action>,
 }
@@ -61,7 +61,7 @@ impl Actions {
 
 /// The faults of the link from one node to another: the i-th of its packets takes the i-th of these actions, and
 /// packets beyond them arrive (own).
-#[derive(Debug, Drop)]
+#[derive(Drop)]
 pub struct LinkFault {
     /// The node that sends.
     pub from: Node,

@@ -13,7 +13,7 @@ use crate::tables::values::{put_csv_value, put_json_value};
 use std::alloc::AllocError;
 
 /// How rows are written.
-#[derive(Clone, Copy, Debug, PartialEq, Eq)]
+#[derive(Clone, Copy, PartialEq, Eq)]
 pub(crate) enum Style {
     /// A line for each row: its values with commas between them.
     Csv,

@@ -23,7 +23,7 @@ use std::collections::BTreeSet;
 use world_core::World;
 
 /// Which table.
-#[derive(Clone, Copy, Debug, PartialEq, Eq)]
+#[derive(Clone, Copy, PartialEq, Eq)]
 pub enum Table {
     /// Each payment of each book.
     Payments,

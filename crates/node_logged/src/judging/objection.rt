@@ -20,7 +20,7 @@ use std::alloc::{AllocError, Global};
 use world_setup::WorldSettings;
 
 /// What speaks against the tills.
-#[derive(Clone, Copy, Debug, PartialEq, Eq)]
+#[derive(Clone, Copy, PartialEq, Eq)]
 pub(crate) enum Objection {
     /// The first pharmacy whose tills do not have as many receipts as its journal has entries.
     TillMissing(u16),

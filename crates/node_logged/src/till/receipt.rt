@@ -6,7 +6,7 @@ use octets::Octets;
 use std::marker::Model;
 
 /// What a caller has of a submission: the number that the pharmacy gave it, and the request.
-#[derive(Debug, Drop)]
+#[derive(Drop)]
 pub struct Receipt {
     number: u64,
     request: Octets,

@@ -7,7 +7,7 @@ use thiserror::Error;
 use world_setup::Packet;
 
 /// What an inbox holds.
-#[derive(Debug, Drop, PartialEq, Eq)]
+#[derive(Drop, PartialEq, Eq)]
 pub enum Mail {
     /// A packet for the inbox's node.
     Packet(Packet),

@@ -20,7 +20,7 @@ pub enum EnterFault {
 
 /// The places of an inbox, and whether it was closed. A packet takes its place before it is put, and gives it back
 /// after it was taken (own).
-#[derive(Debug, Drop)]
+#[derive(Drop)]
 pub struct Places {
     cap: usize,
     taken: usize,

@@ -6,7 +6,7 @@ use claim_profile::{Amounts, Auth, Claim};
 use envelope::TxnId;
 
 /// A payment that no later request has reversed.
-#[derive(Debug, Drop, PartialEq, Eq)]
+#[derive(Drop, PartialEq, Eq)]
 pub struct Standing {
     auth: Auth,
     claim: Claim,
@@ -14,7 +14,7 @@ pub struct Standing {
 }
 
 /// A payment and the request that reversed it.
-#[derive(Debug, Drop, PartialEq, Eq)]
+#[derive(Drop, PartialEq, Eq)]
 pub struct Reversed {
     auth: Auth,
     claim: Claim,
@@ -23,7 +23,7 @@ pub struct Reversed {
 }
 
 /// A payment of a book.
-#[derive(Debug, Drop, PartialEq, Eq)]
+#[derive(Drop, PartialEq, Eq)]
 pub enum Payment {
     /// No later request has reversed it.
     Standing(Standing),

@@ -14,7 +14,7 @@ use envelope::TxnId;
 use std::alloc::Global;
 
 /// Where the answer to a request stands, and whether the book had it already.
-#[derive(Clone, Copy, Debug, PartialEq, Eq)]
+#[derive(Clone, Copy, PartialEq, Eq)]
 pub struct Placed {
     /// The place of the row that has the answer, from 0: [`Book::row`] lends it.
     pub place: usize,

@@ -1,9 +1,9 @@
 //! Settings documents: the lines of one, and pieces of it in place of others.
 
-use crate::arguments::{cut, in_two};
+use crate::arguments::in_two;
 use crate::nodes::settings_told::tell_part;
 use crate::telling::refused;
-use case_files::{Subject, Told};
+use case_files::{Subject, Told, cut};
 use std::alloc::{AllocError, Global};
 use world_settings::{read_settings, settings_fault};
 use world_setup::WorldSettings;

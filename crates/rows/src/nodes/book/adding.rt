@@ -1,8 +1,8 @@
 //! Books that are made again from kept rows, and rows that cannot stand.
 
-use crate::arguments::{are_same, cut, numbered};
+use crate::arguments::{are_same, numbered};
 use crate::nodes::book::{Books, opening};
-use case_files::Told;
+use case_files::{Told, cut};
 use envelope::TxnId;
 use payer_book::{Book, BookAtRest, Row};
 use std::alloc::Global;

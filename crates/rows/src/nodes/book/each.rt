@@ -1,9 +1,9 @@
 //! The same request for many prescriptions, one after the other.
 
-use crate::arguments::{cut, number_first};
+use crate::arguments::number_first;
 use crate::routes::routed;
 use bin_routes::Routes;
-use case_files::Told;
+use case_files::{Told, cut};
 use claim_profile::{Code, Rejects, Ruling};
 use envelope::TxnId;
 use input_text::put_decimal;

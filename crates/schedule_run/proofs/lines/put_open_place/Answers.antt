@@ -4,16 +4,14 @@ use Rattle.std.proofs.lemmas.Result.{on_ok_weaker}
 use Rattle.world_report.specs.Places.{place_mark}
 use Rattle.world_report.proofs.JoinedWords.{words_join, line_joins}
 use Rattle.schedule_run.specs.Told.{pharmacy_word}
-use Rattle.schedule_run.proofs.Words.{open_word}
 use Rattle.schedule_run.proofs.lines.put_open_place.Goals as goal
 
 pub returns : goal.returns
 returns c =
     let pharmacy = c.put_pharmacy.new.out.items in
     let name = decimal c.args.number ++ place_mark c.args.count c.args.place in
-    let last_word = c.extend_from_slice.new.self.items in
-    let words = words_join pharmacy c.put_place.new.out.items last_word (name ∷ []) (codes "open" ∷ []) c.in_ok-put_place.ensures
-    (open_word c.put_place.new.out.items last_word c.in_ok-extend_from_slice.ensures.items) in
+    let told = c.put_word.new.out.items in
+    let words = words_join pharmacy c.put_place.new.out.items told (name ∷ []) (codes "open" ∷ []) c.in_ok-put_place.ensures c.in_ok-put_word.ensures in
     on_ok_weaker c.end_line.result
-    (λ last. line_joins c.args.out.now.items pharmacy last_word _ (pharmacy_word c.args.pharmacy) (name ∷ codes "open" ∷ []) c.in_ok-put_pharmacy.ensures words last)
+    (λ last. line_joins c.args.out.now.items pharmacy told _ (pharmacy_word c.args.pharmacy) (name ∷ codes "open" ∷ []) c.in_ok-put_pharmacy.ensures words last)
     c.end_line.ensures

@@ -1,6 +1,6 @@
 //! The processor's book.
 
-use crate::texts::{billing_of, chosen_billing, reversal_of};
+use crate::measured::texts::{billing_of, chosen_billing, reversal_of};
 use bin_routes::{PayerNo, RouteRow, Routes};
 use claim_profile::Amount;
 use envelope::TxnId;

@@ -1,6 +1,6 @@
 //! The pharmacy's journal.
 
-use crate::texts::{billing_of, paid_of};
+use crate::measured::texts::{billing_of, paid_of};
 use envelope::{Envelope, Kind, TxnId, write};
 use octets::Octets;
 use pharmacy_journal::{Pharmacy, PharmacySettings};

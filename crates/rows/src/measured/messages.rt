@@ -1,6 +1,6 @@
 //! Messages that are read so many times, another number in each.
 
-use crate::texts::{billing, paid, put_digit};
+use crate::measured::texts::{billing, paid, put_digit};
 use claim_profile::{Claim, Order, check_readable, order_at, read_answer, read_order};
 use d0_segments::{check_request, read_request};
 use std::alloc::Global;

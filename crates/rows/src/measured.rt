@@ -1,10 +1,9 @@
-//! Work for valgrind to count: a node that has `size` entries does one thing `times` more.
-//! Usage: bench WORK SIZE TIMES, where WORK is claims, kept, turns, submits, hears, ticks, settled, table, exchanges, books,
-//! saved, journals; a message that is read, TIMES over: checks, lists, orders, listed, answers;
-//! or a flood: full-new, full-repeats, full-reused, full-unreadable, full-submissions, full-heard or full-differs; or
-//! chosen or chosen-secret, which pay SIZE claims of the prescriptions on standard input, one of 12 digits a line, in a
-//! book whose maps hash with the fixed keys or with random ones.
-#![tactic(auto)]
+//! Work for valgrind to count: a node that has `SIZE` entries does one thing `TIMES` more, or a message is read so often.
+//!
+//! The first of three words is claims, kept, turns, submits, hears, ticks, settled, table, exchanges, books, saved or journals; of a
+//! message checks, lists, orders, listed or answers; of a full node full-new, full-repeats, full-reused, full-unreadable,
+//! full-submissions, full-heard or full-differs; or chosen or chosen-secret, which pay SIZE claims of the prescriptions on
+//! standard input, one of 12 digits a line, in a book whose maps hash with the fixed keys or with random ones.
 
 mod book;
 mod floods;
@@ -16,30 +15,20 @@ mod texts;
 
 use payer_book::HashKeys;
 use std::alloc::Global;
-use std::env;
 use std::io::Read;
-use std::process::ExitCode;
 
-fn main(rt: HostRuntime) -> ExitCode {
-    match run(&rt) {
-        Some(()) => ExitCode::SUCCESS,
-        None => ExitCode::FAILURE,
-    }
-}
-
-/// Does the work that the command line names; None where it names none, or where a call is refused.
-fn run(rt: &HostRuntime) -> Option<()> {
-    let alloc = rt.alloc();
-    let words: Vec<String> = env::args(rt).ok()?.collect(alloc).ok()?;
+/// Does the work that three words name; None where they name none, or where a call is refused.
+pub(crate) fn work(rt: &HostRuntime, words: &[String]) -> Option<()> {
+    let name = words.get(1)?.as_str();
     let size: u32 = words.get(2)?.parse().ok()?;
     let times: u32 = words.get(3)?.parse().ok()?;
-    match words.get(1)?.as_str() {
+    match name {
         "chosen" => chosen(rt, &HashKeys::fixed(), size),
         "chosen-secret" => chosen(rt, &HashKeys::random(rt).ok()?, size),
         "checks" | "lists" | "orders" | "listed" | "answers" => {
-            messages::work(alloc, words.get(1)?.as_str(), times)
+            messages::work(rt.alloc(), name, times)
         }
-        name => work(alloc, name, size, times),
+        _ => on_nodes(rt.alloc(), name, size, times),
     }
 }
 
@@ -50,8 +39,8 @@ fn chosen(rt: &HostRuntime, keys: &HashKeys, count: u32) -> Option<()> {
     book::chosen(rt.alloc(), keys, &text, count)
 }
 
-/// Does the work of that name.
-fn work(alloc: Global, name: &str, size: u32, times: u32) -> Option<()> {
+/// Does the work of that name on a node.
+fn on_nodes(alloc: Global, name: &str, size: u32, times: u32) -> Option<()> {
     match name {
         "claims" => book::claims(alloc, size.saturating_add(times)),
         "kept" => book::repeats(alloc, size, times),

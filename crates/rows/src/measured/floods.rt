@@ -1,8 +1,8 @@
 //! What a full book and a full journal do with requests and answers that they refuse or have had.
 
-use crate::book::{full, routes};
-use crate::journal::full_of_answers;
-use crate::texts::{billing_of, paid_of, reversal_of};
+use crate::measured::book::{full, routes};
+use crate::measured::journal::full_of_answers;
+use crate::measured::texts::{billing_of, paid_of, reversal_of};
 use bin_routes::Routes;
 use envelope::{Envelope, Kind, TxnId, write};
 use payer_book::{Book, BookFault};

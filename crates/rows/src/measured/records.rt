@@ -1,7 +1,7 @@
 //! Journals and books at rest as bytes.
 
-use crate::book::with_claims;
-use crate::journal::{settings, with_answers};
+use crate::measured::book::with_claims;
+use crate::measured::journal::{settings, with_answers};
 use kept_records::{read_book, read_journal, save_book, save_journal};
 use std::alloc::Global;
 

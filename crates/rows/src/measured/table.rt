@@ -1,7 +1,7 @@
 //! The in-flight table of a switch.
 
-use crate::book::routes;
-use crate::texts::{billing_of, paid_of};
+use crate::measured::book::routes;
+use crate::measured::texts::{billing_of, paid_of};
 use bin_routes::Routes;
 use envelope::{Envelope, Kind, TxnId, write};
 use octets::Octets;
