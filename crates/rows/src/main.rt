@@ -75,10 +75,13 @@ impl Rows {
 
 fn main(rt: HostRuntime) -> ExitCode {
     match words_of(&rt) {
-        Some(words) if words.len() > 1 => match measured::work(&rt, &words) {
-            Some(()) => ExitCode::SUCCESS,
-            None => ExitCode::FAILURE,
-        },
+        Some(words) if words.len() > 1 => {
+            if measured::is_done(&rt, &words) {
+                ExitCode::SUCCESS
+            } else {
+                ExitCode::FAILURE
+            }
+        }
         Some(_) => {
             let drawn = HashKeys::random(&rt).ok();
             run(&rt, &mut Rows { drawn })

@@ -1,10 +1,10 @@
 //! Nodes one at a time, their records, and the settings and schedules that open and drive them.
 
-mod book;
+pub(crate) mod book;
 mod commands;
-mod journal;
+pub(crate) mod journal;
 mod journal_at_rest;
-mod journal_settings;
+pub(crate) mod journal_settings;
 mod journal_text;
 mod journal_told;
 mod plain_table;

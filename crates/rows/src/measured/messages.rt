@@ -5,69 +5,91 @@ use claim_profile::{Claim, Order, check_readable, order_at, read_answer, read_or
 use d0_segments::{check_request, read_request};
 use std::alloc::Global;
 
-/// Does the work of that name.
-pub(crate) fn work(alloc: Global, name: &str, times: u32) -> Option<()> {
+/// How a message is read.
+#[derive(Clone, Copy)]
+pub(crate) enum Reading {
+    /// Whether a billing is framed.
+    Checks,
+    /// The same, framed into lists.
+    Lists,
+    /// Whether a billing is readable, and its order.
+    Orders,
+    /// The same from lists.
+    Listed,
+    /// A paid answer.
+    Answers,
+}
+
+/// The reading of a name.
+pub(crate) fn reading_of(name: &str) -> Option<Reading> {
     match name {
-        "checks" => checks(alloc, times),
-        "lists" => lists(alloc, times),
-        "orders" => orders(alloc, times),
-        "listed" => listed(alloc, times),
-        "answers" => answers(alloc, times),
+        "checks" => Some(Reading::Checks),
+        "lists" => Some(Reading::Lists),
+        "orders" => Some(Reading::Orders),
+        "listed" => Some(Reading::Listed),
+        "answers" => Some(Reading::Answers),
         _ => None,
     }
 }
 
-/// Whether a billing is framed.
-fn checks(alloc: Global, times: u32) -> Option<()> {
-    let mut text = Vec::from_slice(alloc, billing()).ok()?;
-    for number in 0..times {
-        put_digit(&mut text, 90, number)?;
-        let Ok(framed) = check_request(&text) else {
-            return None;
-        };
-        if framed.header().count() != 1 {
-            return None;
+/// Reads a message so often; whether it says each time what it says.
+pub(crate) fn is_read(alloc: Global, reading: Reading, times: u32) -> bool {
+    let (text, place) = match reading {
+        Reading::Answers => (paid(), 76),
+        _ => (billing(), 90),
+    };
+    match (Vec::from_slice(alloc, text), order_of(billing())) {
+        (Ok(mut text), Some(first)) => {
+            for number in 0..times {
+                put_digit(&mut text, place, number);
+                if !says_the_same(alloc, reading, &text, &first) {
+                    return false;
+                }
+            }
+            true
         }
+        _ => false,
     }
-    Some(())
 }
 
-/// The same, framed into lists.
-fn lists(alloc: Global, times: u32) -> Option<()> {
-    let mut text = Vec::from_slice(alloc, billing()).ok()?;
-    for number in 0..times {
-        put_digit(&mut text, 90, number)?;
-        let transmission = read_request(alloc, &text).ok()?;
-        if transmission.header().count() != 1 {
-            return None;
+/// Whether a message of one transaction is one, and asks for the same as the first claim.
+fn says_the_same(alloc: Global, reading: Reading, text: &[u8], first: &Claim) -> bool {
+    match reading {
+        Reading::Checks => match check_request(text) {
+            Ok(framed) => framed.header().count() == 1,
+            Err(_) => false,
+        },
+        Reading::Lists => match read_request(alloc, text) {
+            Ok(transmission) => transmission.header().count() == 1,
+            Err(_) => false,
+        },
+        Reading::Orders => asks_the_same(order_of(text), first),
+        Reading::Listed => asks_the_same(order_in_lists(alloc, text), first),
+        Reading::Answers => match read_answer(alloc, text) {
+            Ok(answer) => answer.rulings().len() == 1,
+            Err(_) => false,
+        },
+    }
+}
+
+/// Whether there is a claim that is equal to another but for its prescription.
+#[inline(always)]
+fn asks_the_same(claim: Option<Claim>, other: &Claim) -> bool {
+    match claim {
+        Some(claim) => {
+            claim.date == other.date
+                && claim.cardholder == other.cardholder
+                && claim.product == other.product
+                && claim.quantity == other.quantity
+                && claim.cost == other.cost
+                && claim.fee == other.fee
         }
+        None => false,
     }
-    Some(())
 }
 
-/// Whether a billing is readable, and its order.
-fn orders(alloc: Global, times: u32) -> Option<()> {
-    let mut text = Vec::from_slice(alloc, billing()).ok()?;
-    let first = order_of(&text)?;
-    for number in 0..times {
-        put_digit(&mut text, 90, number)?;
-        if !asks_the_same(&order_of(&text)?, &first) {
-            return None;
-        }
-    }
-    Some(())
-}
-
-/// Whether two claims are equal but for their prescriptions.
-fn asks_the_same(a: &Claim, b: &Claim) -> bool {
-    a.date == b.date
-        && a.cardholder == b.cardholder
-        && a.product == b.product
-        && a.quantity == b.quantity
-        && a.cost == b.cost
-        && a.fee == b.fee
-}
-
+/// The claim that a billing asks for.
+#[inline(always)]
 fn order_of(text: &[u8]) -> Option<Claim> {
     let Some(framed) = check_readable(text) else {
         return None;
@@ -82,38 +104,17 @@ fn order_of(text: &[u8]) -> Option<Claim> {
 }
 
 /// The same from lists.
-fn listed(alloc: Global, times: u32) -> Option<()> {
-    let mut text = Vec::from_slice(alloc, billing()).ok()?;
-    let first = order_in_lists(alloc, &text)?;
-    for number in 0..times {
-        put_digit(&mut text, 90, number)?;
-        if !asks_the_same(&order_in_lists(alloc, &text)?, &first) {
-            return None;
-        }
-    }
-    Some(())
-}
-
 fn order_in_lists(alloc: Global, text: &[u8]) -> Option<Claim> {
-    let transmission = read_request(alloc, text).ok()?;
-    if transmission.groups().is_empty() {
-        return None;
-    }
-    match read_order(&transmission, 0) {
-        Ok(Order::Claim(claim)) => Some(claim),
-        _ => None,
-    }
-}
-
-/// A paid answer.
-fn answers(alloc: Global, times: u32) -> Option<()> {
-    let mut text = Vec::from_slice(alloc, paid()).ok()?;
-    for number in 0..times {
-        put_digit(&mut text, 76, number)?;
-        let answer = read_answer(alloc, &text).ok()?;
-        if answer.rulings().len() != 1 {
-            return None;
+    match read_request(alloc, text) {
+        Ok(transmission) => {
+            if transmission.groups().is_empty() {
+                return None;
+            }
+            match read_order(&transmission, 0) {
+                Ok(Order::Claim(claim)) => Some(claim),
+                _ => None,
+            }
         }
+        Err(_) => None,
     }
-    Some(())
 }

@@ -1,9 +1,9 @@
 //! The in-flight table of a switch.
 
-use crate::measured::book::routes;
-use crate::measured::texts::{billing_of, paid_of};
+use crate::measured::texts::packet_of;
+use crate::routes::routed;
 use bin_routes::Routes;
-use envelope::{Envelope, Kind, TxnId, write};
+use envelope::{Envelope, Kind};
 use octets::Octets;
 use std::alloc::Global;
 use switch_node::{Switch, SwitchSettings};
@@ -14,66 +14,104 @@ const MOST_EXCHANGES: u32 = 1000;
 const MOST_ENTRIES: u32 = 65_536;
 
 /// Takes so many new requests more than the table has room for.
-pub(crate) fn requests(alloc: Global, cap: u32, times: u32) -> Option<()> {
-    with_requests(alloc, cap, cap.saturating_add(times))?;
-    Some(())
+pub(crate) fn is_full(alloc: Global, cap: u32, times: u32) -> bool {
+    with_requests(alloc, cap, cap.saturating_add(times)).is_some()
 }
 
 /// Takes so many requests, each with its answer, behind `size` requests in flight. The packets of 1,000 are made in any
 /// case.
-pub(crate) fn exchanges(alloc: Global, size: u32, times: u32) -> Option<()> {
-    let routes = routes(alloc)?;
-    let mut switch = with_requests(alloc, MOST_ENTRIES, size)?;
+pub(crate) fn exchanges(alloc: Global, size: u32, times: u32) -> bool {
+    match (
+        with_requests(alloc, MOST_ENTRIES, size),
+        packets_from(alloc, size),
+    ) {
+        (Some(mut node), Some(packets)) => {
+            for (request, answer) in packets.iter().take(times as usize) {
+                if !node.takes(request) || !node.answers(answer) {
+                    return false;
+                }
+            }
+            true
+        }
+        _ => false,
+    }
+}
+
+/// The packets of 1,000 requests and of their answers, from a place on.
+fn packets_from(alloc: Global, first: u32) -> Option<Vec<(Octets, Octets)>> {
     let mut packets = Vec::new(alloc);
     for extra in 0..MOST_EXCHANGES {
-        let place = size.saturating_add(extra);
-        let request = packet(alloc, Kind::Request, place, &billing_of(alloc, place)?)?;
-        let answer = packet(alloc, Kind::Answer, place, &paid_of(alloc, place)?)?;
-        packets.push((request, answer)).ok()?;
+        let place = first.saturating_add(extra);
+        let request = packet_of(alloc, Kind::Request, place);
+        if !is_kept(&mut packets, request, packet_of(alloc, Kind::Answer, place)) {
+            return None;
+        }
     }
-    for (request, answer) in packets.iter().take(times as usize) {
-        ask(&mut switch, &routes, request)?;
-        tell(&mut switch, answer)?;
+    Some(packets)
+}
+
+/// Whether two packets are there and are kept behind the others.
+fn is_kept(
+    packets: &mut Vec<(Octets, Octets)>,
+    request: Option<Octets>,
+    answer: Option<Octets>,
+) -> bool {
+    match (request, answer) {
+        (Some(request), Some(answer)) => packets.push((request, answer)).is_ok(),
+        _ => false,
     }
-    Some(())
+}
+
+/// A switch, and its routes.
+#[derive(Drop)]
+struct Node {
+    switch: Switch,
+    routes: Routes,
 }
 
 /// A switch with room for `cap` requests that took so many.
-fn with_requests(alloc: Global, cap: u32, count: u32) -> Option<Switch> {
-    let routes = routes(alloc)?;
-    let mut switch = Switch::new(alloc, SwitchSettings::new(cap).ok()?);
-    for place in 0..count {
-        let request = packet(alloc, Kind::Request, place, &billing_of(alloc, place)?)?;
-        ask(&mut switch, &routes, &request)?;
-    }
-    Some(switch)
-}
-
-/// Takes the packet of a request.
-fn ask(switch: &mut Switch, routes: &Routes, packet: &Octets) -> Option<()> {
-    match Envelope::read(packet.as_slice()) {
-        Ok(envelope) => {
-            switch.request_packet(routes, &envelope, packet).ok()?;
-            Some(())
+fn with_requests(alloc: Global, cap: u32, count: u32) -> Option<Node> {
+    match (SwitchSettings::new(cap), routed(alloc, b"610455")) {
+        (Ok(settings), Some(routes)) => {
+            let switch = Switch::new(alloc, settings);
+            Node { switch, routes }.filled(alloc, count)
         }
-        Err(_) => None,
+        _ => None,
     }
 }
 
-/// Takes the packet of a response.
-fn tell(switch: &mut Switch, packet: &Octets) -> Option<()> {
-    match Envelope::read(packet.as_slice()) {
-        Ok(envelope) => {
-            switch.response_packet(&envelope, packet).ok()?;
-            Some(())
+impl Node {
+    /// The same once it took so many requests.
+    fn filled(mut self, alloc: Global, count: u32) -> Option<Node> {
+        for place in 0..count {
+            match packet_of(alloc, Kind::Request, place) {
+                Some(packet) => {
+                    if !self.takes(&packet) {
+                        return None;
+                    }
+                }
+                None => return None,
+            }
         }
-        Err(_) => None,
+        Some(self)
     }
-}
 
-/// The packet of a kind under the number of a place, from 0.
-fn packet(alloc: Global, kind: Kind, place: u32, payload: &[u8]) -> Option<Octets> {
-    let id = TxnId::new(1, u64::from(place) + 1)?;
-    let packet = write(alloc, kind, id, payload).ok()?;
-    Some(Octets::from_vec(packet).shared())
+    /// Whether it takes the packet of a request.
+    fn takes(&mut self, packet: &Octets) -> bool {
+        match Envelope::read(packet.as_slice()) {
+            Ok(envelope) => self
+                .switch
+                .request_packet(&self.routes, &envelope, packet)
+                .is_ok(),
+            Err(_) => false,
+        }
+    }
+
+    /// Whether it takes the packet of a response.
+    fn answers(&mut self, packet: &Octets) -> bool {
+        match Envelope::read(packet.as_slice()) {
+            Ok(envelope) => self.switch.response_packet(&envelope, packet).is_ok(),
+            Err(_) => false,
+        }
+    }
 }

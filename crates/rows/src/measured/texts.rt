@@ -1,5 +1,7 @@
-//! The texts that are sent, each with a prescription number of its own.
+//! The texts that are sent, each with a prescription number of its own, and their packets.
 
+use envelope::{Kind, TxnId, write};
+use octets::Octets;
 use std::alloc::Global;
 
 /// A billing of 144 bytes.
@@ -24,12 +26,19 @@ pub(crate) fn billing_of(alloc: Global, prescription: u32) -> Option<Vec<u8>> {
 
 /// The billing of a prescription that these digits spell.
 pub(crate) fn chosen_billing(alloc: Global, digits: &[u8]) -> Option<Vec<u8>> {
-    let text = billing();
+    match (billing().get(..88), billing().get(94..)) {
+        (Some(front), Some(behind)) => joined(alloc, front, digits, behind),
+        _ => None,
+    }
+}
+
+/// Three texts, one behind the other.
+fn joined(alloc: Global, front: &[u8], middle: &[u8], behind: &[u8]) -> Option<Vec<u8>> {
     let mut copy = Vec::new(alloc);
-    copy.extend_from_slice(text.get(..88)?).ok()?;
-    copy.extend_from_slice(digits).ok()?;
-    copy.extend_from_slice(text.get(94..)?).ok()?;
-    Some(copy)
+    let done = copy.extend_from_slice(front).is_ok()
+        && copy.extend_from_slice(middle).is_ok()
+        && copy.extend_from_slice(behind).is_ok();
+    if done { Some(copy) } else { None }
 }
 
 /// The reversal of that prescription.
@@ -42,21 +51,40 @@ pub(crate) fn paid_of(alloc: Global, prescription: u32) -> Option<Vec<u8>> {
     numbered(alloc, paid(), 74, prescription)
 }
 
-/// A copy of the text with six digits at a place.
-fn numbered(alloc: Global, text: &[u8], place: usize, number: u32) -> Option<Vec<u8>> {
-    let mut copy = Vec::from_slice(alloc, text).ok()?;
-    let mut rest = number;
-    for from_right in 0..6usize {
-        let digit = copy.get_mut(place.saturating_add(5).saturating_sub(from_right))?;
-        *digit = b'0' + (rest % 10) as u8;
-        rest /= 10;
+/// The packet with the billing or the paid answer for an entry, by its place from 0.
+pub(crate) fn packet_of(alloc: Global, kind: Kind, place: u32) -> Option<Octets> {
+    let payload = match kind {
+        Kind::Request => billing_of(alloc, place),
+        Kind::Answer => paid_of(alloc, place),
+    };
+    match (TxnId::new(1, u64::from(place) + 1), payload) {
+        (Some(id), Some(payload)) => match write(alloc, kind, id, &payload) {
+            Ok(packet) => Some(Octets::from_vec(packet).shared()),
+            Err(_) => None,
+        },
+        _ => None,
     }
-    Some(copy)
 }
 
-/// Puts the last digit of a number at a place.
-pub(crate) fn put_digit(text: &mut Vec<u8>, place: usize, number: u32) -> Option<()> {
-    let digit = text.get_mut(place)?;
-    *digit = b'0' + (number % 10) as u8;
-    Some(())
+/// A copy of the text with six digits at a place.
+fn numbered(alloc: Global, text: &[u8], place: usize, number: u32) -> Option<Vec<u8>> {
+    match Vec::from_slice(alloc, text) {
+        Ok(mut copy) => {
+            let mut rest = number;
+            for from_right in 0..6usize {
+                let at = place.saturating_add(5).saturating_sub(from_right);
+                put_digit(&mut copy, at, rest);
+                rest /= 10;
+            }
+            Some(copy)
+        }
+        Err(_) => None,
+    }
+}
+
+/// Puts the last digit of a number at a place, where there is one.
+pub(crate) fn put_digit(text: &mut [u8], place: usize, number: u32) {
+    if let Some(digit) = text.get_mut(place) {
+        *digit = b'0' + (number % 10) as u8;
+    }
 }

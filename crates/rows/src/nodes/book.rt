@@ -4,7 +4,7 @@ mod adding;
 mod answers;
 mod each;
 mod keys;
-mod opening;
+pub(crate) mod opening;
 mod texts;
 mod views;
 

@@ -82,7 +82,7 @@ pub(crate) fn opened(alloc: Global, settings: BookSettings) -> Option<Book> {
 }
 
 /// The same, and its maps hash with these keys.
-fn keyed(alloc: Global, settings: BookSettings, keys: &HashKeys) -> Option<Book> {
+pub(crate) fn keyed(alloc: Global, settings: BookSettings, keys: &HashKeys) -> Option<Book> {
     let payer = PayerNo::new(1)?;
     match plan(alloc) {
         Some(plan) => Some(Book::keyed(alloc, payer, settings, plan, keys)),
