@@ -55,7 +55,7 @@ pub struct Runner {
 
 impl Runner {
     /// No text, and nothing compared.
-    pub fn new(alloc: Global) -> Runner {
+    fn new(alloc: Global) -> Runner {
         Runner {
             alloc,
             texts: Texts::new(alloc),
@@ -73,12 +73,12 @@ impl Runner {
     }
 
     /// Whether something differed.
-    pub fn has_failed(&self) -> bool {
+    fn has_failed(&self) -> bool {
         self.failed
     }
 
     /// All lines to print.
-    pub fn printed(&self) -> &str {
+    fn printed(&self) -> &str {
         self.out.as_str()
     }
 
@@ -111,11 +111,7 @@ impl Runner {
     }
 
     /// The row of a line. None where the line is skipped or names a text, and where it is no row, which is printed.
-    pub fn row<'a>(
-        &mut self,
-        file: &CaseFile,
-        line: Line<'a>,
-    ) -> Result<Option<Row<'a>>, AllocError> {
+    fn row<'a>(&mut self, file: &CaseFile, line: Line<'a>) -> Result<Option<Row<'a>>, AllocError> {
         if is_skipped(line.text) {
             return Ok(None);
         }
@@ -135,18 +131,13 @@ impl Runner {
     }
 
     /// Where the call of the next row is told; nothing is told yet.
-    pub fn told(&mut self) -> &mut Told {
+    fn told(&mut self) -> &mut Told {
         self.told.clear();
         &mut self.told
     }
 
     /// Compares what was told with what the row at a line says; where it should be the same and is not, that is printed.
-    pub fn compare(
-        &mut self,
-        file: &CaseFile,
-        line: usize,
-        row: &Row<'_>,
-    ) -> Result<(), AllocError> {
+    fn compare(&mut self, file: &CaseFile, line: usize, row: &Row<'_>) -> Result<(), AllocError> {
         let place = Place {
             file: file.name(),
             line,
@@ -160,7 +151,7 @@ impl Runner {
     }
 
     /// Forgets the texts of a file and prints how many rows it had.
-    pub fn end(&mut self, file: &CaseFile) -> Result<(), AllocError> {
+    fn end(&mut self, file: &CaseFile) -> Result<(), AllocError> {
         let count = self.count;
         self.count = Count::nothing();
         self.texts.truncate(self.shared);
@@ -217,7 +208,7 @@ impl Runner {
     }
 
     /// Takes the texts of a file for all files, a line each: `NAME = TEXT`.
-    pub fn texts(&mut self, file: &CaseFile) -> Result<(), AllocError> {
+    fn texts(&mut self, file: &CaseFile) -> Result<(), AllocError> {
         for line in Lines::new(file.bytes()) {
             let place = Place {
                 file: file.name(),

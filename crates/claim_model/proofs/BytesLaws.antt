@@ -1,10 +1,9 @@
 -- The reading of bytes by the crates below keeps the laws.
-use Rattle.std.proofs.Common.{◌≡◌, ℕ, ℤ, pos, negsuc, suc, ◌+◌, ◌-◌, ◌^◌, ◌<◌, ◌≤◌, min, Bool, true, false, ◌&&◌, ◌==◌, cond, List, [], ◌∷◌, map, drop, length, Option, Some, None, Result, Ok, Err, refl, sym, ap, ◌∙◌, subst, arith, ◌⊎◌, inl, inr, eqb-true, length-take, length-drop}
-use Rattle.std.specs.Prelude.{option_map, option_and_then, bytes_eq, codes, is_none, is_some, unsigned_abs}
+use Rattle.std.proofs.Common.{◌≡◌, ℕ, ℤ, pos, negsuc, suc, ◌+◌, ◌-◌, ◌^◌, ◌<◌, ◌≤◌, min, Bool, true, false, ◌==◌, cond, List, [], ◌∷◌, map, drop, length, Option, Some, None, Result, Ok, Err, refl, sym, ap, ◌∙◌, subst, arith, ◌⊎◌, inl, inr, eqb-true, length-take, length-drop}
+use Rattle.std.specs.Prelude.{option_map, codes, is_none, is_some}
 use Rattle.std.specs.List.{AllByRecursion}
 use Rattle.std.specs.Result.{result_ok}
 use Rattle.std.proofs.lemmas.List.{length-map}
-use Rattle.std.proofs.lemmas.Bool.{or_cases, cases_Bool}
 use Rattle.overpunch.specs.Number.{number_of}
 use Rattle.overpunch.specs.Amount.{IsAmount, amount_of}
 use Rattle.d0_segments.specs.declared.fault.FramingFault.{FramingFault}
@@ -29,12 +28,11 @@ use Rattle.claim_profile.proofs.TransactionLemmas.{only}
 use Rattle.plan_rules.specs.Prices.{price_of}
 use Rattle.plan_rules.specs.Pricing.{amounts_at, paid, worth}
 use Rattle.claim_model.specs.Words.{Amounts, Claim, Reversal, Bills, Reverses, Code, RequestHeader, Kind, Envelope, Plan}
-use Rattle.claim_model.specs.Context.{Context}
-use Rattle.claim_model.specs.Readable.{readable, has_version, has_code, billing_code, reversal_code, if_carried, longest}
+use Rattle.claim_model.specs.Readable.{readable, billing_code, reversal_code}
 use Rattle.claim_model.specs.Laws.{IsEnvelope, IsPrescription, IsClaimOf, IsReversalOf, IsRejects, IsOrderOf, IsAmounts, AnswersReadBack, Laws}
 use Rattle.claim_model.specs.Bytes.{order_in, orders_in, envelope_in, bytes_with}
 use Rattle.claim_model.proofs.Options.{map_some, then_some, same_some}
-use Rattle.claim_model.proofs.Tests.{bytes_same, readable_parts, carried_parts, if_short_parts}
+use Rattle.claim_model.proofs.Tests.{readable_parts}
 
 -- envelopes
 

@@ -1,12 +1,11 @@
 //! The words of the command line.
 
-use crate::end::End;
+use crate::Unjudged;
+use crate::finding::Finding;
 use clap::{Arg, ArgAction, Command};
+use command_line::{End, VERSION};
 use log_audit::{Form, Table};
 use std::alloc::Global;
-
-/// The version that `-V` tells: that of the repository's change log.
-const VERSION: &str = "0.7.0";
 
 /// What the command line names.
 #[derive(Drop)]
@@ -20,7 +19,7 @@ pub(crate) struct Words<'a> {
 }
 
 /// What the command line names; its first word is the program's own name.
-pub(crate) fn words_of<'a>(alloc: Global, given: &'a [String]) -> Result<Words<'a>, End> {
+pub(crate) fn words_of<'a>(alloc: Global, given: &'a [String]) -> Result<Words<'a>, Unjudged> {
     let schedule = Arg::new(alloc, "schedule")
         .long("schedule")
         .action(ArgAction::SetTrue)
@@ -65,21 +64,21 @@ pub(crate) fn words_of<'a>(alloc: Global, given: &'a [String]) -> Result<Words<'
             logs: Vec::from_slice(alloc, logs)?,
             form,
         }),
-        _ => Err(End::Usage),
+        _ => Err(End::Own(Finding::Usage)),
     }
 }
 
 /// How the logs are told of; one way at most is asked for.
-fn form_of(schedule: bool, json: bool, csv: Option<&str>) -> Result<Form, End> {
+fn form_of(schedule: bool, json: bool, csv: Option<&str>) -> Result<Form, Unjudged> {
     match (schedule, json, csv) {
         (false, false, None) => Ok(Form::Lines),
         (true, false, None) => Ok(Form::Schedule),
         (false, true, None) => Ok(Form::Json),
         (false, false, Some(name)) => match table_named(name) {
             Some(table) => Ok(Form::Csv(table)),
-            None => Err(End::Usage),
+            None => Err(End::Own(Finding::Usage)),
         },
-        _ => Err(End::Usage),
+        _ => Err(End::Own(Finding::Usage)),
     }
 }
 

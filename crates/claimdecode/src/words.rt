@@ -1,11 +1,9 @@
 //! The words of the command line.
 
 use clap::{Arg, ArgAction, Command, Error};
+use command_line::VERSION;
 use message_words::{MessageKind, Spelling, Style};
 use std::alloc::Global;
-
-/// The version that `-V` tells: that of the repository's change log.
-const VERSION: &str = "0.7.0";
 
 /// What the program is asked to do.
 #[derive(Clone, Copy)]

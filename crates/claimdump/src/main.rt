@@ -2,59 +2,68 @@
 //! settings, the log of each node, and the record of each journal and book.
 #![tactic(auto)]
 
-mod end;
 mod fault;
 mod file;
 mod files;
+mod finding;
 mod names;
 mod recorded;
 mod words;
 
-use crate::end::End;
+use crate::fault::DumpFault;
 use crate::files::dump;
+use crate::finding::Finding;
 use crate::words::folder_of;
+use command_line::{End, given_words};
+use std::fs;
 use std::io::Read;
 use std::process::ExitCode;
-use std::{env, fs};
 
 /// The most bytes of an input: 16 MiB.
 const MOST_INPUT: usize = 16_777_216;
 /// How many bytes are asked for in a call.
 const CHUNK: usize = 65_536;
 
+/// Why the program ends without having written all.
+type Undumped = End<Finding>;
+
 fn main(rt: HostRuntime) -> ExitCode {
     match run(&rt) {
         Ok(()) => ExitCode::SUCCESS,
-        Err(End::Words(error)) => {
-            let _ = error.print(&rt);
-            ExitCode::from(if error.use_stderr() { 2 } else { 0 })
-        }
-        Err(end) => {
-            let _ = eprintln!(rt; "claimdump: {end}");
-            ExitCode::from(1)
-        }
+        Err(end) => end.told(&rt, "claimdump", 1),
     }
 }
 
 /// Writes the files of the replay on standard input into the folder that the command line names, which is there.
-fn run(rt: &HostRuntime) -> Result<(), End> {
+fn run(rt: &HostRuntime) -> Result<(), Undumped> {
     let alloc = rt.alloc();
-    let given: Vec<String> = match env::args(rt) {
-        Ok(words) => words.collect(alloc)?,
-        Err(_) => return Err(End::OutOfMemory),
-    };
+    let given = given_words(rt)?;
     let folder = folder_of(alloc, given.as_slice())?;
     let input = read_input(rt)?;
-    for file in dump(alloc, input.as_slice())? {
+    let files = match dump(alloc, input.as_slice()) {
+        Ok(files) => files,
+        Err(fault) => return Err(undumped(fault)),
+    };
+    for file in files {
         let name = &file.name;
         let path = format!(in alloc; "{folder}/{name}")?;
-        fs::write(rt, path.as_str(), file.bytes.as_slice())?;
+        if let Err(error) = fs::write(rt, path.as_str(), file.bytes.as_slice()) {
+            return Err(End::of_file(alloc, path.as_str(), error));
+        }
     }
     Ok(())
 }
 
+/// Why a replay has no files.
+fn undumped(fault: DumpFault) -> Undumped {
+    match fault {
+        DumpFault::OutOfMemory => End::OutOfMemory,
+        fault => End::Own(Finding::Fault(fault)),
+    }
+}
+
 /// All of standard input.
-fn read_input(rt: &HostRuntime) -> Result<Vec<u8>, End> {
+fn read_input(rt: &HostRuntime) -> Result<Vec<u8>, Undumped> {
     let mut reader = rt.stdin();
     let mut chunk = Vec::from_elem(rt.alloc(), 0u8, CHUNK)?;
     let mut input = Vec::new(rt.alloc());
@@ -64,9 +73,9 @@ fn read_input(rt: &HostRuntime) -> Result<Vec<u8>, End> {
             return Ok(input);
         }
         if input.len().saturating_add(count) > MOST_INPUT {
-            return Err(End::LongInput);
+            return Err(End::Own(Finding::LongInput));
         }
         input.extend_from_slice(&chunk.as_slice()[..count])?;
     }
-    Err(End::LongInput)
+    Err(End::Own(Finding::LongInput))
 }

@@ -1,14 +1,13 @@
 //! The words of the command line.
 
-use crate::end::End;
+use crate::Undumped;
+use crate::finding::Finding;
 use clap::{Arg, ArgAction, Command};
+use command_line::{End, VERSION};
 use std::alloc::Global;
 
-/// The version that `-V` tells: that of the repository's change log.
-const VERSION: &str = "0.7.0";
-
 /// The folder that the command line names; its first word is the program's own name.
-pub(crate) fn folder_of<'a>(alloc: Global, given: &'a [String]) -> Result<&'a str, End> {
+pub(crate) fn folder_of<'a>(alloc: Global, given: &'a [String]) -> Result<&'a str, Undumped> {
     let folder = Arg::new(alloc, "DIR")
         .required(true)
         .action(ArgAction::Set)
@@ -20,6 +19,6 @@ pub(crate) fn folder_of<'a>(alloc: Global, given: &'a [String]) -> Result<&'a st
     let matches = command.try_get_matches_from(given)?;
     match matches.get_str("DIR") {
         Some(folder) => Ok(folder),
-        None => Err(End::Usage),
+        None => Err(End::Own(Finding::Usage)),
     }
 }

@@ -2,7 +2,9 @@
 
 ghost use Rattle.std.specs.Prelude.{◌≤◌, length};
 
-use crate::end::End;
+use crate::Unserved;
+use crate::finding::Finding;
+use command_line::End;
 use input_text::Lines as WholeLines;
 use node_service::Service;
 use std::alloc::{AllocError, Global};
@@ -25,19 +27,19 @@ impl Lines {
     }
 
     /// Adds what was read.
-    pub(crate) fn add(&mut self, bytes: &[u8]) -> Result<(), End> {
+    pub(crate) fn add(&mut self, bytes: &[u8]) -> Result<(), Unserved> {
         self.pending.extend_from_slice(bytes)?;
         Ok(())
     }
 
     /// Serves the lines that have come whole, and keeps the rest.
-    pub(crate) fn serve(&mut self, alloc: Global, service: &mut Service) -> Result<(), End> {
+    pub(crate) fn serve(&mut self, alloc: Global, service: &mut Service) -> Result<(), Unserved> {
         let end = end_of_lines(self.pending.as_slice());
         serve_all(alloc, service, &self.pending[..end])?;
         let mut rest = Vec::new(alloc);
         rest.extend_from_slice(&self.pending[end..])?;
         if rest.len() > MOST_BYTES {
-            return Err(End::LongLine);
+            return Err(End::Own(Finding::LongLine));
         }
         self.pending = rest;
         Ok(())

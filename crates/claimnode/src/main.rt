@@ -2,62 +2,53 @@
 //! what it says goes to standard output, and each call is on disk before what it sent is said.
 #![tactic(auto)]
 
-mod end;
 mod file;
+mod finding;
 mod lines;
 mod words;
 
-use crate::end::End;
 use crate::file::LogFile;
+use crate::finding::Finding;
 use crate::lines::Lines;
 use crate::words::{Words, words_of};
+use command_line::{End, given_words, read_file};
 use node_service::Service;
 use payer_book::HashKeys;
 use std::io::{Read, Write};
 use std::process::ExitCode;
-use std::{env, fs};
 
 /// The most bytes that are read at once. All lines that wait in them are served, and synced once.
 const CHUNK: usize = 65_536;
 
+/// Why the program ends before its input does. Where memory was refused, what was not said is in no log.
+type Unserved = End<Finding>;
+
 fn main(rt: HostRuntime) -> ExitCode {
     match run(&rt) {
         Ok(()) => ExitCode::SUCCESS,
-        Err(End::Words(error)) => {
-            let _ = error.print(&rt);
-            ExitCode::from(if error.use_stderr() { 2 } else { 0 })
-        }
-        Err(end) => {
-            let _ = eprintln!(rt; "claimnode: {end}");
-            ExitCode::from(1)
-        }
+        Err(end) => end.told(&rt, "claimnode", 1),
     }
 }
 
 /// Serves the node that the command line names, from its log.
-fn run(rt: &HostRuntime) -> Result<(), End> {
+fn run(rt: &HostRuntime) -> Result<(), Unserved> {
     let alloc = rt.alloc();
-    let given: Vec<String> = match env::args(rt) {
-        Ok(words) => words.collect(alloc)?,
-        Err(_) => return Err(End::OutOfMemory),
-    };
+    let given = given_words(rt)?;
     let words = words_of(alloc, given.as_slice())?;
-    match fs::read(rt, words.settings) {
-        Ok(text) => run_node(rt, &words, text.as_slice()),
-        Err(error) => Err(End::of_file(alloc, words.settings, error)),
-    }
+    let text = read_file(rt, words.settings)?;
+    run_node(rt, &words, text.as_slice())
 }
 
 /// Refuses settings that have no such node, before a file is made for its log.
-fn check_settings(rt: &HostRuntime, words: &Words<'_>, text: &[u8]) -> Result<(), End> {
+fn check_settings(rt: &HostRuntime, words: &Words<'_>, text: &[u8]) -> Result<(), Unserved> {
     match Service::open(rt.alloc(), &HashKeys::fixed(), text, words.node, b"") {
         Ok(_) => Ok(()),
-        Err(fault) => Err(End::from(fault)),
+        Err(fault) => Err(End::Own(Finding::Service(fault))),
     }
 }
 
 /// Serves a node under settings from its log.
-fn run_node(rt: &HostRuntime, words: &Words<'_>, text: &[u8]) -> Result<(), End> {
+fn run_node(rt: &HostRuntime, words: &Words<'_>, text: &[u8]) -> Result<(), Unserved> {
     check_settings(rt, words, text)?;
     let mut log = LogFile::open(rt, words.log)?;
     let bytes = log.read(rt.alloc())?;
@@ -72,7 +63,7 @@ fn run_node(rt: &HostRuntime, words: &Words<'_>, text: &[u8]) -> Result<(), End>
             let is_torn = kept < bytes.len();
             run_service(rt, words, &mut service, &mut log, is_torn.then_some(kept))
         }
-        Err(fault) => Err(End::from(fault)),
+        Err(fault) => Err(End::Own(Finding::Service(fault))),
     }
 }
 
@@ -93,7 +84,7 @@ fn run_service(
     service: &mut Service,
     log: &mut LogFile,
     whole: Option<usize>,
-) -> Result<(), End> {
+) -> Result<(), Unserved> {
     if let Some(size) = whole {
         log.cut(size as u64)?;
     }
@@ -106,7 +97,7 @@ fn run_service(
 }
 
 /// Serves lines until standard input ends.
-fn serve(rt: &HostRuntime, service: &mut Service, log: &mut LogFile) -> Result<(), End> {
+fn serve(rt: &HostRuntime, service: &mut Service, log: &mut LogFile) -> Result<(), Unserved> {
     let mut writer = rt.stdout();
     write_ready(rt, &mut writer, service.calls())?;
     let mut reader = rt.stdin();
@@ -125,7 +116,7 @@ fn serve(rt: &HostRuntime, service: &mut Service, log: &mut LogFile) -> Result<(
 }
 
 /// Says that lines are served, and how many calls the log has.
-fn write_ready<W: Write>(rt: &HostRuntime, writer: &mut W, calls: u64) -> Result<(), End> {
+fn write_ready<W: Write>(rt: &HostRuntime, writer: &mut W, calls: u64) -> Result<(), Unserved> {
     let ready = format!(in rt.alloc(); "ready {calls}\n")?;
     writer.write_all(ready.as_bytes())?;
     writer.flush()?;
@@ -137,7 +128,7 @@ fn write_served<W: Write>(
     writer: &mut W,
     service: &mut Service,
     log: &mut LogFile,
-) -> Result<(), End> {
+) -> Result<(), Unserved> {
     if !service.records().is_empty() {
         log.append(service.records())?;
     }

@@ -1,13 +1,12 @@
 //! The words of the command line.
 
-use crate::end::End;
+use crate::Unserved;
+use crate::finding::Finding;
 use clap::{Arg, ArgAction, Command};
+use command_line::{End, VERSION};
 use node_service::node_in;
 use std::alloc::Global;
 use world_setup::Node;
-
-/// The version that `-V` tells: that of the repository's change log.
-const VERSION: &str = "0.7.0";
 
 /// What the command line names.
 #[derive(Drop)]
@@ -21,7 +20,7 @@ pub(crate) struct Words<'a> {
 }
 
 /// What the command line names; its first word is the program's own name.
-pub(crate) fn words_of<'a>(alloc: Global, given: &'a [String]) -> Result<Words<'a>, End> {
+pub(crate) fn words_of<'a>(alloc: Global, given: &'a [String]) -> Result<Words<'a>, Unserved> {
     let command = Command::new(alloc, "claimnode")
         .version(VERSION)
         .about(
@@ -46,9 +45,9 @@ pub(crate) fn words_of<'a>(alloc: Global, given: &'a [String]) -> Result<Words<'
                 node,
                 log,
             }),
-            None => Err(End::Node),
+            None => Err(End::Own(Finding::Node)),
         },
-        _ => Err(End::Node),
+        _ => Err(End::Own(Finding::Node)),
     }
 }
 

@@ -3,7 +3,7 @@ use Rattle.std.proofs.Common.{◌≡◌, ℕ, zero, suc, ◌+◌, ◌<◌, ◌�
 use Rattle.std.proofs.lemmas.Bool.{eqb-true}
 use Rattle.d0_segments.specs.declared.fault.FramingFault.{FramingFault}
 use Rattle.d0_segments.specs.declared.fault.FramingFault.TheVariants.{NoSegmentStart, NoSegmentId, BadFieldId, EmptyGroup}
-use Rattle.d0_segments.specs.Separators.{is_separator, is_plain, is_id, ends_here, ends_segment, ends_group, begins_with}
+use Rattle.d0_segments.specs.Separators.{is_separator, is_plain, ends_here, ends_segment, ends_group, begins_with}
 use Rattle.d0_segments.specs.Faults.{starts_nothing, is_empty_group, has_segment_id, has_field_id, is_later_field, fault_at, or_else, first_fault}
 use Rattle.d0_segments.specs.Inside.{is_inside}
 use Rattle.d0_segments.proofs.Walking.{both, not_true, anywhere, ends_here_of, walk_field_of, segment_start}

@@ -1,8 +1,7 @@
 -- From the mask of sixteen bytes to the place of the first separator.
-use Rattle.std.proofs.Common.{◌≡◌, ℕ, ◌+◌, ◌*◌, ◌-◌, ◌%◌, ◌^◌, ◌<◌, ◌≤◌, Bool, true, false, not, cond, ltb, eqb, ◌&&◌, List, [], ◌∷◌, ◌++◌, map, length, take, drop, replicate, Option, Some, None, refl, sym, ap, ap₂, ◌∙◌, arith, w8, Fits, zero, suc, take-append-drop, length-take-le, length-drop}
-use Rattle.std.specs.Prelude.{option_map}
+use Rattle.std.proofs.Common.{◌≡◌, ℕ, ◌+◌, ◌*◌, ◌-◌, ◌%◌, ◌^◌, ◌<◌, ◌≤◌, Bool, true, false, not, cond, ltb, eqb, ◌&&◌, List, [], ◌∷◌, map, length, take, drop, replicate, Some, None, refl, sym, ap, ap₂, ◌∙◌, arith, w8, Fits, zero, suc, take-append-drop, length-take-le, length-drop}
 use Rattle.std.specs.List.{prefix_len}
-use Rattle.std.proofs.lemmas.Bool.{agree_below, agree_below_at, eq-eqb, ne_eqb}
+use Rattle.std.proofs.lemmas.Bool.{agree_below_at, eq-eqb, ne_eqb}
 use Rattle.std.proofs.lemmas.Simd.{zip2_splat, map-map, mask_l-mod, leading_from_mask_l, trailing_mask_l}
 use Rattle.std.proofs.Math.Seq.{take-length}
 use Rattle.std.proofs.lemmas.List.{length-map}

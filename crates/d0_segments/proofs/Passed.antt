@@ -1,12 +1,11 @@
 -- What is passed over, and what a check that passed over everything knows.
-use Rattle.std.proofs.Common.{◌≡◌, ℕ, ◌+◌, ◌-◌, ◌<◌, ◌≤◌, Bool, true, false, cond, eqb, ◌&&◌, List, [], ◌∷◌, ◌++◌, length, drop, Option, Some, None, refl, sym, ap, ◌∙◌, arith, length-append}
-use Rattle.d0_header.specs.declared.fault.HeaderFault.{HeaderFault}
+use Rattle.std.proofs.Common.{◌≡◌, ℕ, ◌+◌, ◌-◌, ◌<◌, Bool, true, false, cond, eqb, ◌&&◌, List, [], ◌∷◌, ◌++◌, length, drop, Some, None, refl, sym, ap, ◌∙◌, arith, length-append}
 use Rattle.d0_segments.specs.declared.fault.FramingFault.{FramingFault}
 use Rattle.d0_segments.specs.declared.fault.FramingFault.TheVariants.{CountMismatch}
 use Rattle.d0_segments.specs.declared.field.Field.{Field}
 use Rattle.d0_segments.specs.declared.rest.Rest.{Rest}
 use Rattle.d0_segments.specs.Separators.{is_id, ends_here}
-use Rattle.d0_segments.specs.Parts.{SegmentParts, TransmissionParts}
+use Rattle.d0_segments.specs.Parts.{SegmentParts}
 use Rattle.d0_segments.specs.Texts.{field_text}
 use Rattle.d0_segments.specs.Views.{field_parts}
 use Rattle.d0_segments.specs.Faults.{first_fault, or_else, count_groups}
@@ -17,7 +16,7 @@ use Rattle.d0_segments.specs.Passing.{Passes}
 use Rattle.d0_segments.proofs.Walking.{walk_field, carried}
 use Rattle.d0_segments.proofs.Typed.{field_typed}
 use Rattle.d0_segments.proofs.Taken.{entered_segment}
-use Rattle.d0_segments.proofs.Cutting.{lacks, lacks-head, lacks-nil, lacks-cons, inner, inner_lacks, name_lacks}
+use Rattle.d0_segments.proofs.Cutting.{lacks, lacks-head, lacks-cons, inner, inner_lacks, name_lacks}
 
 -- no group begins in bytes without a group separator
 count_over_byte : (t : Bool) (n m : ℕ) → t ≡ false → n ≡ m → cond t 1 0 + n ≡ m

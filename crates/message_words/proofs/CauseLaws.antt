@@ -1,6 +1,5 @@
 -- All causes, and the codes that an answer gives.
 use Rattle.std.proofs.Common.{◌≡◌, ℕ, Bool, true, false, List, [], ◌∷◌, take, map, Option, Some, None, Ok, Err, is_none, is_some, option_map, codes, if◌then◌else◌, refl, ap, sym, ◌∙◌}
-use Rattle.std.specs.Str.{bytes_eq}
 use Rattle.d0_header.specs.Request.{Request}
 use Rattle.d0_segments.specs.Parts.{SegmentParts}
 use Rattle.claim_profile.specs.declared.reject.Code.{Code}

@@ -1,7 +1,6 @@
 -- Every cause for which a transaction is rejected, and not the first five alone.
 use Rattle.std.specs.Prelude.{ℕ, Bool, true, List, [], ◌∷◌, map, filter, codes, slice_index_or, if◌then◌else◌}
 use Rattle.std.specs.Prelude.{Option, Some, None, is_none, is_some, option_map}
-use Rattle.std.specs.Str.{bytes_eq}
 use Rattle.d0_header.specs.Request.{Request}
 use Rattle.d0_segments.specs.Parts.{SegmentParts, TransmissionParts}
 use Rattle.claim_profile.specs.declared.reject.Code.{Code}

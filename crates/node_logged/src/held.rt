@@ -5,11 +5,11 @@ ghost use Rattle.std.specs.Option.{option_copied};
 ghost use Rattle.std.specs.Arc.{arc_value};
 ghost use Rattle.claim_model.specs.Node.{Pharmacy, Submit, Stop};
 ghost use Rattle.claim_model.specs.Nodes.{node_step, same_node};
+ghost use Rattle.node_state.specs.Outcomes.{Refuses};
 ghost use Rattle.node_state.specs.Nodes.{entries_of, held_of};
 ghost use Rattle.run_merge.specs.LogSeen.{log_seen};
 ghost use Rattle.run_merge.specs.Merged.{FitsAlone};
 ghost use Rattle.world_setup.specs.Seen.{node_seen, call_seen, sent_seen, settings_seen};
-ghost use Rattle.world_setup.specs.Refused.{refusal_of, RefusedAs};
 ghost use Rattle.world_setup.specs.declared.fault.StepFault.TheVariants.{OutOfMemory};
 ghost use Rattle.node_logged.specs.Setting.{context_of, opened};
 ghost use Rattle.node_logged.specs.Holding.{after_call, after_restart, last_record, last_sent};
@@ -72,7 +72,7 @@ impl Held {
     /// the node. Node and log are then as they were, and so they are where memory is refused.
     pub fn call(&mut self, alloc: Global, call: Call) -> Result<(), StepFault>
         ensures ok { OnOk result (after_call self.old (call_seen call) ≡ Some self.new) }
-        ensures fault { IfErr result (λ fault. RefusedAs (refusal_of fault) (node_step (context_of self.old.settings) self.old.state (call_seen call))) }
+        ensures fault { Refuses (node_step (context_of self.old.settings) self.old.state (call_seen call)) result }
         ensures err { OnErr result (self.new ≡ self.old) }
     {
         self.log.reserve()?;
@@ -132,7 +132,7 @@ impl Held {
         ensures step { OnOk result (after_call self.old (Submit request.now) ≡ Some self.new) }
         ensures number { IfOk result (λ number. number ≡ entries_of self.new.state) }
         ensures receipt { IfOk result (λ number. till_seen till.new ≡ with_receipt number request.now (till_seen till.old)) }
-        ensures fault { IfErr result (λ fault. RefusedAs (refusal_of fault) (node_step (context_of self.old.settings) self.old.state (Submit request.now))) }
+        ensures fault { Refuses (node_step (context_of self.old.settings) self.old.state (Submit request.now)) result }
         ensures same_node { OnErr result (self.new ≡ self.old) }
         ensures same_till { OnErr result (till_seen till.new ≡ till_seen till.old) }
     {

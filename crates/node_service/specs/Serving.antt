@@ -1,7 +1,7 @@
 -- What a line makes of a node that is served: the node, the records for its log, and what is written.
 use Rattle.std.specs.Prelude.{ℕ, zero, ◌+◌, ◌&&◌, nat_lt, List, ◌++◌, codes, Option, Some, None, if◌then◌else◌}
 use Rattle.claim_model.specs.Context.{Context}
-use Rattle.claim_model.specs.Node.{Node, Pharmacy, Switch, Payer, Call, Submit, Tick, Take, Stop, Start, Reprice, Sent, Outcome, Done, Refused}
+use Rattle.claim_model.specs.Node.{Node, Pharmacy, Switch, Payer, Call, Submit, Tick, Take, Stop, Start, Reprice, Outcome, Done, Refused}
 use Rattle.claim_model.specs.Nodes.{AnyNode, node_step}
 use Rattle.node_state.specs.Nodes.{entries_of, request_of, held_of}
 use Rattle.world_setup.specs.Names.{refusal_name}

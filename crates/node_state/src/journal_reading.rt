@@ -1,6 +1,6 @@
 //! What is read of a pharmacy's journal, up or at rest.
 
-ghost use Rattle.std.specs.Prelude.{◌≡◌, length, None, Some, IfOk, MatchOption, option_and_then};
+ghost use Rattle.std.specs.Prelude.{◌≡◌, length, None, Some, IfOk, option_and_then};
 ghost use Rattle.std.specs.Option.{option_copied, option_map};
 ghost use Rattle.bin_routes.specs.Table.{RouteMaps};
 ghost use Rattle.claim_model.specs.Bytes.{bytes_with};
@@ -8,6 +8,7 @@ ghost use Rattle.claim_model.specs.Counted.{counted};
 ghost use Rattle.claim_model.specs.Journal.{stopped};
 ghost use Rattle.claim_model.specs.Numbered.{numbered};
 ghost use Rattle.pharmacy_journal.specs.Listing.{listed};
+ghost use Rattle.pharmacy_journal.specs.Entries.{IsEntryOf};
 
 use pharmacy_journal::{CountedPayment, EntryView, JournalAtRest, KeptEntry, Pharmacy};
 use std::alloc::AllocError;
@@ -77,7 +78,7 @@ impl<'a> JournalReading<'a> {
 
     /// The entry of a number, from 1: its request, and its answer if there is one.
     pub fn entry(&self, number: u64) -> Option<KeptEntry<'_>>
-        ensures { MatchOption result (numbered self.now.entries number ≡ None) (λ e. numbered self.now.entries number ≡ Some (record { request = e.request.now; answer = option_copied e.answer })) }
+        ensures { IsEntryOf self.now.entries number result }
     {
         match &self.source {
             JournalSource::Running(pharmacy) => pharmacy.entry(number),

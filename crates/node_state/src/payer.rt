@@ -1,13 +1,12 @@
 //! One payer, up or at rest.
 
-ghost use Rattle.std.specs.Prelude.{◌≡◌, ◌≤◌, [], length, map, IfOk, IfErr, OnErr};
+ghost use Rattle.std.specs.Prelude.{◌≡◌, ◌≤◌, [], length, IfOk, OnErr};
 ghost use Rattle.std.specs.Option.{option_copied};
 ghost use Rattle.bin_routes.specs.Table.{RouteMaps};
-ghost use Rattle.claim_model.specs.Bytes.{bytes_with};
-ghost use Rattle.claim_model.specs.Node.{Up, Done, Take, Stop, Start, Reprice, payer_step};
+ghost use Rattle.claim_model.specs.Node.{Up, Take, Stop, Start, Reprice};
 ghost use Rattle.claim_model.specs.Held.{book_in};
-ghost use Rattle.world_setup.specs.Seen.{node_seen, sent_seen, call_seen};
-ghost use Rattle.world_setup.specs.Refused.{refusal_of, RefusedAs};
+ghost use Rattle.world_setup.specs.Seen.{node_seen, call_seen};
+ghost use Rattle.node_state.specs.Outcomes.{PayerMakes, PayerRefuses};
 ghost use Rattle.node_state.specs.Records.{book_record};
 ghost use Rattle.node_state.specs.Sends.{is_up};
 
@@ -89,8 +88,8 @@ impl PayerNode {
         routes: &Routes,
         call: &Call,
     ) -> Result<Vec<Sent>, StepFault>
-        ensures ok { IfOk result (λ sent. payer_step (bytes_with routes.now) self.old (call_seen call.now) ≡ Done self.new (map sent_seen sent.items)) }
-        ensures fault { IfErr result (λ fault. RefusedAs (refusal_of fault) (payer_step (bytes_with routes.now) self.old (call_seen call.now))) }
+        ensures ok { PayerMakes routes.now self.old (call_seen call.now) self.new result }
+        ensures fault { PayerRefuses routes.now self.old (call_seen call.now) result }
         ensures err { OnErr result (self.new ≡ self.old) }
     {
         match call {
@@ -115,8 +114,8 @@ impl PayerNode {
         from: Node,
         packet: &Octets,
     ) -> Result<Vec<Sent>, StepFault>
-        ensures ok { IfOk result (λ sent. payer_step (bytes_with routes.now) self.old (Take (node_seen from) packet.now) ≡ Done self.new (map sent_seen sent.items)) }
-        ensures fault { IfErr result (λ fault. RefusedAs (refusal_of fault) (payer_step (bytes_with routes.now) self.old (Take (node_seen from) packet.now))) }
+        ensures ok { PayerMakes routes.now self.old (Take (node_seen from) packet.now) self.new result }
+        ensures fault { PayerRefuses routes.now self.old (Take (node_seen from) packet.now) result }
         ensures few { IfOk result (λ sent. length sent.items ≤ 1) }
         ensures err { OnErr result (self.new ≡ self.old) }
     {
@@ -137,8 +136,8 @@ impl PayerNode {
         product: &[u8],
         price: Option<u32>,
     ) -> Result<Vec<Sent>, StepFault>
-        ensures ok { (routes : RouteMaps) → IfOk result (λ sent. payer_step (bytes_with routes) self.old (Reprice product.now price) ≡ Done self.new (map sent_seen sent.items)) }
-        ensures fault { (routes : RouteMaps) → IfErr result (λ fault. RefusedAs (refusal_of fault) (payer_step (bytes_with routes) self.old (Reprice product.now price))) }
+        ensures ok { (routes : RouteMaps) → PayerMakes routes self.old (Reprice product.now price) self.new result }
+        ensures fault { (routes : RouteMaps) → PayerRefuses routes self.old (Reprice product.now price) result }
         ensures few { IfOk result (λ sent. length sent.items ≤ 1) }
         ensures err { OnErr result (self.new ≡ self.old) }
     {
@@ -153,8 +152,8 @@ impl PayerNode {
     /// # Errors
     /// `Down`. The payer is then as it was.
     pub fn stop(&mut self, alloc: Global) -> Result<Vec<Sent>, StepFault>
-        ensures ok { (routes : RouteMaps) → IfOk result (λ sent. payer_step (bytes_with routes) self.old Stop ≡ Done self.new (map sent_seen sent.items)) }
-        ensures fault { (routes : RouteMaps) → IfErr result (λ fault. RefusedAs (refusal_of fault) (payer_step (bytes_with routes) self.old Stop)) }
+        ensures ok { (routes : RouteMaps) → PayerMakes routes self.old Stop self.new result }
+        ensures fault { (routes : RouteMaps) → PayerRefuses routes self.old Stop result }
         ensures few { IfOk result (λ sent. length sent.items ≤ 1) }
         ensures err { OnErr result (self.new ≡ self.old) }
     {
@@ -171,8 +170,8 @@ impl PayerNode {
     /// # Errors
     /// `AlreadyUp`. The payer is then as it was.
     pub fn start(&mut self, alloc: Global) -> Result<Vec<Sent>, StepFault>
-        ensures ok { (routes : RouteMaps) → IfOk result (λ sent. payer_step (bytes_with routes) self.old Start ≡ Done self.new (map sent_seen sent.items)) }
-        ensures fault { (routes : RouteMaps) → IfErr result (λ fault. RefusedAs (refusal_of fault) (payer_step (bytes_with routes) self.old Start)) }
+        ensures ok { (routes : RouteMaps) → PayerMakes routes self.old Start self.new result }
+        ensures fault { (routes : RouteMaps) → PayerRefuses routes self.old Start result }
         ensures few { IfOk result (λ sent. length sent.items ≤ 1) }
         ensures err { OnErr result (self.new ≡ self.old) }
     {

@@ -1,13 +1,13 @@
 //! The calls on a payer that is up.
 
-ghost use Rattle.std.specs.Prelude.{◌≡◌, ◌≤◌, length, map, Ok, IfOk, IfErr, OnErr};
+ghost use Rattle.std.specs.Prelude.{◌≡◌, ◌≤◌, length, Ok, IfOk, OnErr};
 ghost use Rattle.bin_routes.specs.Table.{RouteMaps};
 ghost use Rattle.claim_model.specs.Bytes.{bytes_with};
 ghost use Rattle.claim_model.specs.Book.{answered};
-ghost use Rattle.claim_model.specs.Node.{Up, Done, Take, Reprice, payer_up, payer_takes, after_answer};
+ghost use Rattle.claim_model.specs.Node.{Up, Take, Reprice, payer_takes, after_answer};
 ghost use Rattle.switch_node.specs.Sent.{content};
-ghost use Rattle.world_setup.specs.Seen.{node_seen, sent_seen};
-ghost use Rattle.world_setup.specs.Refused.{refusal_of, RefusedAs};
+ghost use Rattle.world_setup.specs.Seen.{node_seen};
+ghost use Rattle.node_state.specs.Outcomes.{Makes, Refuses, PayerMakes, PayerRefuses};
 
 use crate::faults::{book_fault, envelope_fault, plan_fault};
 use crate::opening::{is_request, read_envelope};
@@ -26,8 +26,8 @@ pub fn take(
     from: Node,
     packet: &Octets,
 ) -> Result<Vec<Sent>, StepFault>
-    ensures ok { IfOk result (λ sent. payer_up (bytes_with routes.now) book.old (Take (node_seen from) packet.now) ≡ Done (Up book.new) (map sent_seen sent.items)) }
-    ensures fault { IfErr result (λ fault. RefusedAs (refusal_of fault) (payer_up (bytes_with routes.now) book.old (Take (node_seen from) packet.now))) }
+    ensures ok { PayerMakes routes.now (Up book.old) (Take (node_seen from) packet.now) (Up book.new) result }
+    ensures fault { PayerRefuses routes.now (Up book.old) (Take (node_seen from) packet.now) result }
     ensures few { IfOk result (λ sent. length sent.items ≤ 1) }
     ensures err { OnErr result (book.new ≡ book.old) }
 {
@@ -45,8 +45,8 @@ fn take_envelope(
     from: Node,
     envelope: &Envelope<'_>,
 ) -> Result<Vec<Sent>, StepFault>
-    ensures ok { IfOk result (λ sent. payer_takes (bytes_with routes.now) book.old (node_seen from) (Ok (content envelope.now)) ≡ Done (Up book.new) (map sent_seen sent.items)) }
-    ensures fault { IfErr result (λ fault. RefusedAs (refusal_of fault) (payer_takes (bytes_with routes.now) book.old (node_seen from) (Ok (content envelope.now)))) }
+    ensures ok { Makes (payer_takes (bytes_with routes.now) book.old (node_seen from) (Ok (content envelope.now))) (Up book.new) result }
+    ensures fault { Refuses (payer_takes (bytes_with routes.now) book.old (node_seen from) (Ok (content envelope.now))) result }
     ensures few { IfOk result (λ sent. length sent.items ≤ 1) }
     ensures err { OnErr result (book.new ≡ book.old) }
 {
@@ -65,8 +65,8 @@ fn answer(
     from: Node,
     envelope: &Envelope<'_>,
 ) -> Result<Vec<Sent>, StepFault>
-    ensures ok { IfOk result (λ sent. after_answer (bytes_with routes.now) (node_seen from) envelope.now.id (answered (bytes_with routes.now) book.old envelope.now.id envelope.now.payload) ≡ Done (Up book.new) (map sent_seen sent.items)) }
-    ensures fault { IfErr result (λ fault. RefusedAs (refusal_of fault) (after_answer (bytes_with routes.now) (node_seen from) envelope.now.id (answered (bytes_with routes.now) book.old envelope.now.id envelope.now.payload))) }
+    ensures ok { Makes (after_answer (bytes_with routes.now) (node_seen from) envelope.now.id (answered (bytes_with routes.now) book.old envelope.now.id envelope.now.payload)) (Up book.new) result }
+    ensures fault { Refuses (after_answer (bytes_with routes.now) (node_seen from) envelope.now.id (answered (bytes_with routes.now) book.old envelope.now.id envelope.now.payload)) result }
     ensures few { IfOk result (λ sent. length sent.items ≤ 1) }
     ensures err { OnErr result (book.new ≡ book.old) }
 {
@@ -88,8 +88,8 @@ pub fn change_plan(
     product: &[u8],
     price: Option<u32>,
 ) -> Result<Vec<Sent>, StepFault>
-    ensures ok { (routes : RouteMaps) → IfOk result (λ sent. payer_up (bytes_with routes) book.old (Reprice product.now price) ≡ Done (Up book.new) (map sent_seen sent.items)) }
-    ensures fault { (routes : RouteMaps) → IfErr result (λ fault. RefusedAs (refusal_of fault) (payer_up (bytes_with routes) book.old (Reprice product.now price))) }
+    ensures ok { (routes : RouteMaps) → PayerMakes routes (Up book.old) (Reprice product.now price) (Up book.new) result }
+    ensures fault { (routes : RouteMaps) → PayerRefuses routes (Up book.old) (Reprice product.now price) result }
     ensures few { IfOk result (λ sent. length sent.items ≤ 1) }
     ensures err { OnErr result (book.new ≡ book.old) }
 {

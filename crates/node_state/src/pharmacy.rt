@@ -1,13 +1,11 @@
 //! One pharmacy, up or at rest.
 
-ghost use Rattle.std.specs.Prelude.{◌≡◌, ◌<◌, ◌≤◌, [], length, map, IfOk, IfErr, OnErr};
+ghost use Rattle.std.specs.Prelude.{◌≡◌, ◌<◌, ◌≤◌, [], length, IfOk, OnErr};
 ghost use Rattle.std.specs.Option.{option_copied};
-ghost use Rattle.bin_routes.specs.Table.{RouteMaps};
-ghost use Rattle.claim_model.specs.Bytes.{bytes_with};
-ghost use Rattle.claim_model.specs.Node.{Node as ModelNode, Up, Done, Submit, Tick, Take, Stop, Start, pharmacy_step};
+ghost use Rattle.claim_model.specs.Node.{Node as ModelNode, Up, Submit, Tick, Take, Stop, Start};
 ghost use Rattle.claim_model.specs.Held.{journal_in};
-ghost use Rattle.world_setup.specs.Seen.{sent_seen, call_seen};
-ghost use Rattle.world_setup.specs.Refused.{refusal_of, RefusedAs};
+ghost use Rattle.world_setup.specs.Seen.{call_seen};
+ghost use Rattle.node_state.specs.Outcomes.{PharmacyMakes, PharmacyRefuses};
 ghost use Rattle.node_state.specs.Records.{journal_record};
 ghost use Rattle.node_state.specs.Sends.{is_up, most_due};
 
@@ -87,8 +85,8 @@ impl PharmacyNode {
     /// `NoSuchNode` for a change of a plan; then `Down` or `AlreadyUp`; then the refusal of the pharmacy. The pharmacy
     /// is then as it was.
     pub fn step(&mut self, alloc: Global, call: &Call) -> Result<Vec<Sent>, StepFault>
-        ensures ok { (routes : RouteMaps) → IfOk result (λ sent. pharmacy_step (bytes_with routes) self.old (call_seen call.now) ≡ Done self.new (map sent_seen sent.items)) }
-        ensures fault { (routes : RouteMaps) → IfErr result (λ fault. RefusedAs (refusal_of fault) (pharmacy_step (bytes_with routes) self.old (call_seen call.now))) }
+        ensures ok { PharmacyMakes self.old (call_seen call.now) self.new result }
+        ensures fault { PharmacyRefuses self.old (call_seen call.now) result }
         ensures err { OnErr result (self.new ≡ self.old) }
     {
         match call {
@@ -106,8 +104,8 @@ impl PharmacyNode {
     /// # Errors
     /// `Down`, or the refusal of [`Pharmacy::submit`]. The pharmacy is then as it was.
     pub fn submit(&mut self, alloc: Global, text: &[u8]) -> Result<Vec<Sent>, StepFault>
-        ensures ok { (routes : RouteMaps) → IfOk result (λ sent. pharmacy_step (bytes_with routes) self.old (Submit text.now) ≡ Done self.new (map sent_seen sent.items)) }
-        ensures fault { (routes : RouteMaps) → IfErr result (λ fault. RefusedAs (refusal_of fault) (pharmacy_step (bytes_with routes) self.old (Submit text.now))) }
+        ensures ok { PharmacyMakes self.old (Submit text.now) self.new result }
+        ensures fault { PharmacyRefuses self.old (Submit text.now) result }
         ensures few { IfOk result (λ sent. length sent.items ≤ 1) }
         ensures err { OnErr result (self.new ≡ self.old) }
     {
@@ -122,8 +120,8 @@ impl PharmacyNode {
     /// # Errors
     /// `Down`. The pharmacy is then as it was.
     pub fn tick(&mut self, alloc: Global) -> Result<Vec<Sent>, StepFault>
-        ensures ok { (routes : RouteMaps) → IfOk result (λ sent. pharmacy_step (bytes_with routes) self.old Tick ≡ Done self.new (map sent_seen sent.items)) }
-        ensures fault { (routes : RouteMaps) → IfErr result (λ fault. RefusedAs (refusal_of fault) (pharmacy_step (bytes_with routes) self.old Tick)) }
+        ensures ok { PharmacyMakes self.old Tick self.new result }
+        ensures fault { PharmacyRefuses self.old Tick result }
         ensures few { IfOk result (λ sent. length sent.items ≤ most_due self.old) }
         ensures err { OnErr result (self.new ≡ self.old) }
     {
@@ -139,8 +137,8 @@ impl PharmacyNode {
     /// `Down`, then what is wrong with the envelope, then the refusal of [`Pharmacy::hear`]. The pharmacy is then as
     /// it was.
     pub fn take(&mut self, alloc: Global, packet: &Octets) -> Result<Vec<Sent>, StepFault>
-        ensures ok { (routes : RouteMaps) (from : ModelNode) → IfOk result (λ sent. pharmacy_step (bytes_with routes) self.old (Take from packet.now) ≡ Done self.new (map sent_seen sent.items)) }
-        ensures fault { (routes : RouteMaps) (from : ModelNode) → IfErr result (λ fault. RefusedAs (refusal_of fault) (pharmacy_step (bytes_with routes) self.old (Take from packet.now))) }
+        ensures ok { (from : ModelNode) → PharmacyMakes self.old (Take from packet.now) self.new result }
+        ensures fault { (from : ModelNode) → PharmacyRefuses self.old (Take from packet.now) result }
         ensures few { IfOk result (λ sent. length sent.items ≤ 1) }
         ensures err { OnErr result (self.new ≡ self.old) }
     {
@@ -155,8 +153,8 @@ impl PharmacyNode {
     /// # Errors
     /// `Down`. The pharmacy is then as it was.
     pub fn stop(&mut self, alloc: Global) -> Result<Vec<Sent>, StepFault>
-        ensures ok { (routes : RouteMaps) → IfOk result (λ sent. pharmacy_step (bytes_with routes) self.old Stop ≡ Done self.new (map sent_seen sent.items)) }
-        ensures fault { (routes : RouteMaps) → IfErr result (λ fault. RefusedAs (refusal_of fault) (pharmacy_step (bytes_with routes) self.old Stop)) }
+        ensures ok { PharmacyMakes self.old Stop self.new result }
+        ensures fault { PharmacyRefuses self.old Stop result }
         ensures few { IfOk result (λ sent. length sent.items ≤ 1) }
         ensures err { OnErr result (self.new ≡ self.old) }
     {
@@ -173,8 +171,8 @@ impl PharmacyNode {
     /// # Errors
     /// `AlreadyUp`. The pharmacy is then as it was.
     pub fn start(&mut self, alloc: Global) -> Result<Vec<Sent>, StepFault>
-        ensures ok { (routes : RouteMaps) → IfOk result (λ sent. pharmacy_step (bytes_with routes) self.old Start ≡ Done self.new (map sent_seen sent.items)) }
-        ensures fault { (routes : RouteMaps) → IfErr result (λ fault. RefusedAs (refusal_of fault) (pharmacy_step (bytes_with routes) self.old Start)) }
+        ensures ok { PharmacyMakes self.old Start self.new result }
+        ensures fault { PharmacyRefuses self.old Start result }
         ensures few { IfOk result (λ sent. length sent.items ≤ 1) }
         ensures err { OnErr result (self.new ≡ self.old) }
     {

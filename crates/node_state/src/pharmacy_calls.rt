@@ -1,14 +1,14 @@
 //! The calls on a pharmacy that is up.
 
-ghost use Rattle.std.specs.Prelude.{◌≡◌, ◌≤◌, length, map, None, IfOk, IfErr, OnErr};
+ghost use Rattle.std.specs.Prelude.{◌≡◌, ◌≤◌, length, None, IfOk, IfErr, OnErr};
 ghost use Rattle.envelope.specs.Envelope.{envelope_text};
 ghost use Rattle.bin_routes.specs.Table.{RouteMaps};
 ghost use Rattle.claim_model.specs.Bytes.{bytes_with};
 ghost use Rattle.claim_model.specs.Journal.{submitted, heard};
-ghost use Rattle.claim_model.specs.Node.{Node as ModelNode, Up, Done, Submit, Tick, Take, pharmacy_up, after_hearing};
+ghost use Rattle.claim_model.specs.Node.{Node as ModelNode, Up, Submit, Tick, Take, after_hearing};
 ghost use Rattle.switch_node.specs.Sent.{content};
-ghost use Rattle.world_setup.specs.Seen.{sent_seen};
-ghost use Rattle.world_setup.specs.Refused.{refusal_of, RefusedAs};
+ghost use Rattle.world_setup.specs.Refused.{refusal_of};
+ghost use Rattle.node_state.specs.Outcomes.{Makes, Refuses, PharmacyMakes, PharmacyRefuses};
 
 use crate::faults::{envelope_fault, hear_fault, submit_fault};
 use crate::opening::read_envelope;
@@ -21,8 +21,8 @@ use world_setup::{Sent, StepFault};
 
 /// Submits a text. The room for what is sent is had first.
 pub fn submit(alloc: Global, pharmacy: &mut Pharmacy, text: &[u8]) -> Result<Vec<Sent>, StepFault>
-    ensures ok { (routes : RouteMaps) → IfOk result (λ sent. pharmacy_up (bytes_with routes) pharmacy.old (Submit text.now) ≡ Done (Up pharmacy.new) (map sent_seen sent.items)) }
-    ensures fault { (routes : RouteMaps) → IfErr result (λ fault. RefusedAs (refusal_of fault) (pharmacy_up (bytes_with routes) pharmacy.old (Submit text.now))) }
+    ensures ok { PharmacyMakes (Up pharmacy.old) (Submit text.now) (Up pharmacy.new) result }
+    ensures fault { PharmacyRefuses (Up pharmacy.old) (Submit text.now) result }
     ensures few { IfOk result (λ sent. length sent.items ≤ 1) }
     ensures err { OnErr result (pharmacy.new ≡ pharmacy.old) }
 {
@@ -39,7 +39,7 @@ pub fn submit(alloc: Global, pharmacy: &mut Pharmacy, text: &[u8]) -> Result<Vec
 
 /// One tick. There is room for a packet of each entry before it, which is enough.
 pub fn tick(alloc: Global, pharmacy: &mut Pharmacy) -> Result<Vec<Sent>, StepFault>
-    ensures ok { (routes : RouteMaps) → IfOk result (λ sent. pharmacy_up (bytes_with routes) pharmacy.old Tick ≡ Done (Up pharmacy.new) (map sent_seen sent.items)) }
+    ensures ok { PharmacyMakes (Up pharmacy.old) Tick (Up pharmacy.new) result }
     ensures fault { IfErr result (λ fault. refusal_of fault ≡ None) }
     ensures few { IfOk result (λ sent. length sent.items ≤ length pharmacy.old.entries) }
     ensures err { OnErr result (pharmacy.new ≡ pharmacy.old) }
@@ -53,8 +53,8 @@ pub fn tick(alloc: Global, pharmacy: &mut Pharmacy) -> Result<Vec<Sent>, StepFau
 
 /// Takes a packet.
 pub fn take(alloc: Global, pharmacy: &mut Pharmacy, packet: &Octets) -> Result<Vec<Sent>, StepFault>
-    ensures ok { (routes : RouteMaps) (from : ModelNode) → IfOk result (λ sent. pharmacy_up (bytes_with routes) pharmacy.old (Take from packet.now) ≡ Done (Up pharmacy.new) (map sent_seen sent.items)) }
-    ensures fault { (routes : RouteMaps) (from : ModelNode) → IfErr result (λ fault. RefusedAs (refusal_of fault) (pharmacy_up (bytes_with routes) pharmacy.old (Take from packet.now))) }
+    ensures ok { (from : ModelNode) → PharmacyMakes (Up pharmacy.old) (Take from packet.now) (Up pharmacy.new) result }
+    ensures fault { (from : ModelNode) → PharmacyRefuses (Up pharmacy.old) (Take from packet.now) result }
     ensures few { IfOk result (λ sent. length sent.items ≤ 1) }
     ensures err { OnErr result (pharmacy.new ≡ pharmacy.old) }
 {
@@ -72,8 +72,8 @@ fn hear(
     packet: &Octets,
 ) -> Result<Vec<Sent>, StepFault>
     requires { packet.now ≡ envelope_text envelope.now.kind envelope.now.id envelope.now.payload }
-    ensures ok { (routes : RouteMaps) → IfOk result (λ sent. after_hearing (heard (bytes_with routes) pharmacy.old (content envelope.now)) ≡ Done (Up pharmacy.new) (map sent_seen sent.items)) }
-    ensures fault { (routes : RouteMaps) → IfErr result (λ fault. RefusedAs (refusal_of fault) (after_hearing (heard (bytes_with routes) pharmacy.old (content envelope.now)))) }
+    ensures ok { (routes : RouteMaps) → Makes (after_hearing (heard (bytes_with routes) pharmacy.old (content envelope.now))) (Up pharmacy.new) result }
+    ensures fault { (routes : RouteMaps) → Refuses (after_hearing (heard (bytes_with routes) pharmacy.old (content envelope.now))) result }
     ensures few { IfOk result (λ sent. length sent.items ≤ 1) }
     ensures err { OnErr result (pharmacy.new ≡ pharmacy.old) }
 {

@@ -1,11 +1,10 @@
 //! One node of any kind.
 
-ghost use Rattle.std.specs.Prelude.{◌≡◌, map, IfOk, IfErr, OnErr};
+ghost use Rattle.std.specs.Prelude.{◌≡◌, IfOk, OnErr};
 ghost use Rattle.bin_routes.specs.Table.{RouteMaps};
 ghost use Rattle.claim_model.specs.Bytes.{bytes_with};
-ghost use Rattle.claim_model.specs.Node.{Done};
-ghost use Rattle.world_setup.specs.Seen.{sent_seen, call_seen};
-ghost use Rattle.world_setup.specs.Refused.{refusal_of, RefusedAs};
+ghost use Rattle.world_setup.specs.Seen.{call_seen};
+ghost use Rattle.node_state.specs.Outcomes.{Makes, Refuses};
 ghost use Rattle.node_state.specs.Nodes.{OfPharmacy, OfSwitch, OfPayer, node_step, entries_of, size_of, journal_of, book_of, request_of, held_of};
 
 use crate::book_reading::BookReading;
@@ -85,8 +84,8 @@ impl NodeState {
         routes: &Routes,
         call: &Call,
     ) -> Result<Vec<Sent>, StepFault>
-        ensures ok { IfOk result (λ sent. node_step (bytes_with routes.now) self.old (call_seen call.now) ≡ Done self.new (map sent_seen sent.items)) }
-        ensures fault { IfErr result (λ fault. RefusedAs (refusal_of fault) (node_step (bytes_with routes.now) self.old (call_seen call.now))) }
+        ensures ok { Makes (node_step (bytes_with routes.now) self.old (call_seen call.now)) self.new result }
+        ensures fault { Refuses (node_step (bytes_with routes.now) self.old (call_seen call.now)) result }
         ensures err { OnErr result (self.new ≡ self.old) }
     {
         match &mut self.kind {

@@ -1,13 +1,12 @@
 //! One switch, up or at rest.
 
-ghost use Rattle.std.specs.Prelude.{◌≡◌, ◌≤◌, [], length, map, IfOk, IfErr, OnErr};
+ghost use Rattle.std.specs.Prelude.{◌≡◌, ◌≤◌, [], length, IfOk, OnErr};
 ghost use Rattle.std.specs.Option.{option_copied};
 ghost use Rattle.bin_routes.specs.Table.{RouteMaps};
-ghost use Rattle.claim_model.specs.Bytes.{bytes_with};
-ghost use Rattle.claim_model.specs.Node.{Node as ModelNode, Up, Done, Take, Stop, Start, switch_step};
+ghost use Rattle.claim_model.specs.Node.{Node as ModelNode, Up, Take, Stop, Start};
 ghost use Rattle.claim_model.specs.Held.{held_in_table};
-ghost use Rattle.world_setup.specs.Seen.{sent_seen, call_seen};
-ghost use Rattle.world_setup.specs.Refused.{refusal_of, RefusedAs};
+ghost use Rattle.world_setup.specs.Seen.{call_seen};
+ghost use Rattle.node_state.specs.Outcomes.{SwitchMakes, SwitchRefuses};
 ghost use Rattle.node_state.specs.Sends.{is_up, in_flight_at};
 ghost use Rattle.node_state.specs.Nodes.{slots_in};
 
@@ -76,8 +75,8 @@ impl SwitchNode {
         routes: &Routes,
         call: &Call,
     ) -> Result<Vec<Sent>, StepFault>
-        ensures ok { IfOk result (λ sent. switch_step (bytes_with routes.now) self.old (call_seen call.now) ≡ Done self.new (map sent_seen sent.items)) }
-        ensures fault { IfErr result (λ fault. RefusedAs (refusal_of fault) (switch_step (bytes_with routes.now) self.old (call_seen call.now))) }
+        ensures ok { SwitchMakes routes.now self.old (call_seen call.now) self.new result }
+        ensures fault { SwitchRefuses routes.now self.old (call_seen call.now) result }
         ensures err { OnErr result (self.new ≡ self.old) }
     {
         match call {
@@ -102,8 +101,8 @@ impl SwitchNode {
         routes: &Routes,
         packet: &Octets,
     ) -> Result<Vec<Sent>, StepFault>
-        ensures ok { (from : ModelNode) → IfOk result (λ sent. switch_step (bytes_with routes.now) self.old (Take from packet.now) ≡ Done self.new (map sent_seen sent.items)) }
-        ensures fault { (from : ModelNode) → IfErr result (λ fault. RefusedAs (refusal_of fault) (switch_step (bytes_with routes.now) self.old (Take from packet.now))) }
+        ensures ok { (from : ModelNode) → SwitchMakes routes.now self.old (Take from packet.now) self.new result }
+        ensures fault { (from : ModelNode) → SwitchRefuses routes.now self.old (Take from packet.now) result }
         ensures few { IfOk result (λ sent. length sent.items ≤ 1) }
         ensures err { OnErr result (self.new ≡ self.old) }
     {
@@ -118,8 +117,8 @@ impl SwitchNode {
     /// # Errors
     /// `Down`. The switch is then as it was.
     pub fn stop(&mut self, alloc: Global) -> Result<Vec<Sent>, StepFault>
-        ensures ok { (routes : RouteMaps) → IfOk result (λ sent. switch_step (bytes_with routes) self.old Stop ≡ Done self.new (map sent_seen sent.items)) }
-        ensures fault { (routes : RouteMaps) → IfErr result (λ fault. RefusedAs (refusal_of fault) (switch_step (bytes_with routes) self.old Stop)) }
+        ensures ok { (routes : RouteMaps) → SwitchMakes routes self.old Stop self.new result }
+        ensures fault { (routes : RouteMaps) → SwitchRefuses routes self.old Stop result }
         ensures few { IfOk result (λ sent. length sent.items ≤ 1) }
         ensures err { OnErr result (self.new ≡ self.old) }
     {
@@ -136,8 +135,8 @@ impl SwitchNode {
     /// # Errors
     /// `AlreadyUp`. The switch is then as it was.
     pub fn start(&mut self, alloc: Global) -> Result<Vec<Sent>, StepFault>
-        ensures ok { (routes : RouteMaps) → IfOk result (λ sent. switch_step (bytes_with routes) self.old Start ≡ Done self.new (map sent_seen sent.items)) }
-        ensures fault { (routes : RouteMaps) → IfErr result (λ fault. RefusedAs (refusal_of fault) (switch_step (bytes_with routes) self.old Start)) }
+        ensures ok { (routes : RouteMaps) → SwitchMakes routes self.old Start self.new result }
+        ensures fault { (routes : RouteMaps) → SwitchRefuses routes self.old Start result }
         ensures few { IfOk result (λ sent. length sent.items ≤ 1) }
         ensures err { OnErr result (self.new ≡ self.old) }
     {

@@ -1,14 +1,13 @@
 //! The calls on a switch that is up.
 
-ghost use Rattle.std.specs.Prelude.{◌≡◌, ◌≤◌, length, map, Ok, IfOk, IfErr, OnErr};
+ghost use Rattle.std.specs.Prelude.{◌≡◌, ◌≤◌, length, Ok, IfOk, OnErr};
 ghost use Rattle.envelope.specs.Envelope.{envelope_text};
 ghost use Rattle.bin_routes.specs.Table.{RouteMaps};
 ghost use Rattle.claim_model.specs.Bytes.{bytes_with};
 ghost use Rattle.claim_model.specs.Table.{requested, responded};
-ghost use Rattle.claim_model.specs.Node.{Node as ModelNode, Up, Done, Take, switch_up, switch_takes, after_request, after_response};
+ghost use Rattle.claim_model.specs.Node.{Node as ModelNode, Up, Take, switch_takes, after_request, after_response};
 ghost use Rattle.switch_node.specs.Sent.{content};
-ghost use Rattle.world_setup.specs.Seen.{sent_seen};
-ghost use Rattle.world_setup.specs.Refused.{refusal_of, RefusedAs};
+ghost use Rattle.node_state.specs.Outcomes.{Makes, Refuses, SwitchMakes, SwitchRefuses};
 
 use crate::faults::{envelope_fault, request_fault, response_fault};
 use crate::opening::{is_request, read_envelope};
@@ -27,8 +26,8 @@ pub fn take(
     routes: &Routes,
     packet: &Octets,
 ) -> Result<Vec<Sent>, StepFault>
-    ensures ok { (from : ModelNode) → IfOk result (λ sent. switch_up (bytes_with routes.now) switch.old (Take from packet.now) ≡ Done (Up switch.new) (map sent_seen sent.items)) }
-    ensures fault { (from : ModelNode) → IfErr result (λ fault. RefusedAs (refusal_of fault) (switch_up (bytes_with routes.now) switch.old (Take from packet.now))) }
+    ensures ok { (from : ModelNode) → SwitchMakes routes.now (Up switch.old) (Take from packet.now) (Up switch.new) result }
+    ensures fault { (from : ModelNode) → SwitchRefuses routes.now (Up switch.old) (Take from packet.now) result }
     ensures few { IfOk result (λ sent. length sent.items ≤ 1) }
     ensures err { OnErr result (switch.new ≡ switch.old) }
 {
@@ -47,8 +46,8 @@ fn take_envelope(
     packet: &Octets,
 ) -> Result<Vec<Sent>, StepFault>
     requires { packet.now ≡ envelope_text envelope.now.kind envelope.now.id envelope.now.payload }
-    ensures ok { IfOk result (λ sent. switch_takes (bytes_with routes.now) switch.old (Ok (content envelope.now)) ≡ Done (Up switch.new) (map sent_seen sent.items)) }
-    ensures fault { IfErr result (λ fault. RefusedAs (refusal_of fault) (switch_takes (bytes_with routes.now) switch.old (Ok (content envelope.now)))) }
+    ensures ok { Makes (switch_takes (bytes_with routes.now) switch.old (Ok (content envelope.now))) (Up switch.new) result }
+    ensures fault { Refuses (switch_takes (bytes_with routes.now) switch.old (Ok (content envelope.now))) result }
     ensures few { IfOk result (λ sent. length sent.items ≤ 1) }
     ensures err { OnErr result (switch.new ≡ switch.old) }
 {
@@ -68,8 +67,8 @@ fn request(
     packet: &Octets,
 ) -> Result<Vec<Sent>, StepFault>
     requires { packet.now ≡ envelope_text envelope.now.kind envelope.now.id envelope.now.payload }
-    ensures ok { IfOk result (λ sent. after_request envelope.now.id (requested (bytes_with routes.now) switch.old (content envelope.now)) ≡ Done (Up switch.new) (map sent_seen sent.items)) }
-    ensures fault { IfErr result (λ fault. RefusedAs (refusal_of fault) (after_request envelope.now.id (requested (bytes_with routes.now) switch.old (content envelope.now)))) }
+    ensures ok { Makes (after_request envelope.now.id (requested (bytes_with routes.now) switch.old (content envelope.now))) (Up switch.new) result }
+    ensures fault { Refuses (after_request envelope.now.id (requested (bytes_with routes.now) switch.old (content envelope.now))) result }
     ensures few { IfOk result (λ sent. length sent.items ≤ 1) }
     ensures err { OnErr result (switch.new ≡ switch.old) }
 {
@@ -92,8 +91,8 @@ fn response(
     packet: &Octets,
 ) -> Result<Vec<Sent>, StepFault>
     requires { packet.now ≡ envelope_text envelope.now.kind envelope.now.id envelope.now.payload }
-    ensures ok { (routes : RouteMaps) → IfOk result (λ sent. after_response envelope.now.id (responded (bytes_with routes) switch.old (content envelope.now)) ≡ Done (Up switch.new) (map sent_seen sent.items)) }
-    ensures fault { (routes : RouteMaps) → IfErr result (λ fault. RefusedAs (refusal_of fault) (after_response envelope.now.id (responded (bytes_with routes) switch.old (content envelope.now)))) }
+    ensures ok { (routes : RouteMaps) → Makes (after_response envelope.now.id (responded (bytes_with routes) switch.old (content envelope.now))) (Up switch.new) result }
+    ensures fault { (routes : RouteMaps) → Refuses (after_response envelope.now.id (responded (bytes_with routes) switch.old (content envelope.now))) result }
     ensures few { IfOk result (λ sent. length sent.items ≤ 1) }
     ensures err { OnErr result (switch.new ≡ switch.old) }
 {

@@ -77,6 +77,10 @@ with_kept b id request answer = with_answer b id request answer (readable_header
 unfoldable pub added : Book → TxnId → List ℕ → List ℕ → Option Book
 added b id request answer = if nat_lt (length b.rows) b.settings.cap && is_none (row_of id b.rows) then with_kept b id request answer else None
 
+-- the book without its rows
+abbrev pub without_rows : Book → Book
+without_rows b = record { payer = b.payer; settings = b.settings; plan = b.plan; rows = [] }
+
 -- the book with all these rows more, in order
 abbrev pub added_all : Option Book → List KeptRow → Option Book
 added_all None rows = None

@@ -1,6 +1,7 @@
 -- In the order in which one explains them.
 pub mod Settings
 pub mod Faults
+pub mod Answers
 pub mod Kept
 pub mod Posted
 pub mod Ledger

@@ -25,7 +25,7 @@ ghost use Rattle.claim_model.specs.Rows.{ruled_rows};
 ghost use Rattle.claim_model.specs.Book.{row_of};
 ghost use Rattle.claim_model.specs.Held.{row_answer};
 ghost use Rattle.payer_book.specs.Views.{payment_view, view_of};
-ghost use Rattle.payer_book.specs.Added.{kept_row, added_all};
+ghost use Rattle.payer_book.specs.Added.{kept_row, added_all, without_rows};
 ghost use Rattle.payer_book.specs.RowPlaces.{IsPlaceOf};
 
 use crate::book::payment::Payment;
@@ -152,7 +152,7 @@ impl Book {
         ensures value { result.now ≡ self.now.rows }
         ensures in_limit { length self.now.rows ≤ self.now.settings.cap }
         // The book is what adding its rows one by one to an empty book makes.
-        ensures made { added_all (Some (record { payer = self.now.payer; settings = self.now.settings; plan = self.now.plan; rows = [] })) (map kept_row self.now.rows) ≡ Some self.now }
+        ensures made { added_all (Some (without_rows self.now)) (map kept_row self.now.rows) ≡ Some self.now }
     {
         self.rows.as_slice()
     }

@@ -8,7 +8,7 @@ use Rattle.d0_segments.specs.Framing.{request_kind, transmission_of, framing_fau
 use Rattle.claim_profile.specs.Readable.{readable_header, is_carried, if_carried, framed_header, longest_request}
 use Rattle.claim_profile.specs.Ruling.{AnswerParts, answer_of}
 use Rattle.claim_profile.specs.declared.answer_reading.AnswerFault.{AnswerFault}
-use Rattle.claim_profile.proofs.Headers.{found, readable_cut}
+use Rattle.claim_profile.proofs.Headers.{found}
 use Rattle.claim_model.specs.Readable.{fits, has_version, has_code, longest}
 use Rattle.std.proofs.Common.{cond, not}
 use Rattle.claim_model.specs.Refusal.{Refusal, Unreadable, Version, CodeNotCarried, NotOwnProvider, TooLong, JournalFull}

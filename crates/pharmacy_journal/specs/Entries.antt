@@ -1,11 +1,14 @@
 -- The entries of a journal: as the code keeps them, and as the model sees them.
-use Rattle.std.specs.Prelude.{◌≡◌, ℕ, ◌+◌, ◌<◌, ◌≤◌, Bool, true, false, List, [], ◌∷◌, length, map, Option, Some, None, is_some}
+use Rattle.std.specs.Prelude.{◌≡◌, ℕ, ◌+◌, ◌<◌, ◌≤◌, Bool, true, false, List, [], ◌∷◌, length, map, Option, Some, None, is_some, MatchOption}
+use Rattle.std.specs.Option.{option_copied}
 use Rattle.claim_model.specs.Words.{TxnId}
+use Rattle.claim_model.specs.Numbered.{numbered}
 use Rattle.claim_model.specs.Journal.{PharmacySettings, Waits, Has, Entry, Kept}
 use Rattle.envelope.specs.Envelope.{longest_payload}
 use Rattle.pharmacy_journal.specs.Reading.{is_own_request, settles_with}
 use Rattle.pharmacy_journal.specs.Settings.{AreSettings, rule_of}
 use Rattle.pharmacy_journal.specs.Timetable.{Rounds}
+use Rattle.pharmacy_journal.specs.declared.kept.KeptEntry.{KeptEntry}
 use Rattle.pharmacy_journal.specs.declared.slot.Slot.{Slot}
 use Rattle.pharmacy_journal.specs.declared.slot.Slot.TheVariants.{Waiting, Settled}
 
@@ -28,6 +31,14 @@ entries_of (slot ∷ slots) (phase ∷ phases) = entry_of slot phase ∷ entries
 abbrev pub kept_of : Slot → Kept
 kept_of (Waiting t) = record { request = t.request; answer = None }
 kept_of (Settled t) = record { request = t.request; answer = Some t.answer }
+
+-- an entry as it is lent
+abbrev pub kept_seen : KeptEntry → Kept
+kept_seen e = record { request = e.request.now; answer = option_copied e.answer }
+
+-- the entry of a number, or that there is none
+abbrev pub IsEntryOf : List Kept → ℕ → Option KeptEntry → Type 0
+IsEntryOf entries number found = MatchOption found (numbered entries number ≡ None) (λ e. numbered entries number ≡ Some (kept_seen e))
 
 abbrev pub is_waiting : Slot → Bool
 is_waiting (Waiting t) = true

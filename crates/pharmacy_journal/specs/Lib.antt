@@ -8,6 +8,8 @@ pub mod Refusing
 pub mod Entries
 pub mod Sendings
 pub mod Hearing
+pub mod Steps
 pub mod Resting
 pub mod Counting
+pub mod Telling
 pub mod Listing

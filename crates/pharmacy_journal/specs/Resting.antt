@@ -23,6 +23,10 @@ added j request answer =
     then Some (record { number = j.number; settings = j.settings; entries = j.entries ++ record { request = request; answer = answer } ∷ [] })
     else None
 
+-- the journal without its entries
+abbrev pub without_entries : JournalAtRest → JournalAtRest
+without_entries j = record { number = j.number; settings = j.settings; entries = [] }
+
 -- the journal with all these entries more, in order
 abbrev pub added_all : Option JournalAtRest → List Kept → Option JournalAtRest
 added_all None entries = None

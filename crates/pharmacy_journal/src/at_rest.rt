@@ -7,7 +7,7 @@ ghost use Rattle.claim_model.specs.Journal.{stopped, started, is_own};
 ghost use Rattle.pharmacy_journal.specs.Settings.{rule_of};
 ghost use Rattle.pharmacy_journal.specs.Retry.{phases_of};
 ghost use Rattle.pharmacy_journal.specs.Reading.{is_own_request};
-ghost use Rattle.pharmacy_journal.specs.Resting.{added, added_all, is_row, is_kept_answer, restarted_phase};
+ghost use Rattle.pharmacy_journal.specs.Resting.{added, added_all, is_row, is_kept_answer, restarted_phase, without_entries};
 ghost use Rattle.pharmacy_journal.specs.Entries.{kept_of, IsEntry};
 ghost use Rattle.pharmacy_journal.specs.declared.fault.RowFault.TheVariants.{OutOfMemory};
 
@@ -140,7 +140,7 @@ impl JournalAtRest {
         ensures in_limit { result ≤ self.now.settings.cap }
         ensures small { result ≤ 65536 }
         // The entries are such that the journal at rest is made by adding them one by one.
-        ensures made { added_all (Some (record { number = self.now.number; settings = self.now.settings; entries = [] })) self.now.entries ≡ Some self.now }
+        ensures made { added_all (Some (without_entries self.now)) self.now.entries ≡ Some self.now }
     {
         self.slots.len()
     }

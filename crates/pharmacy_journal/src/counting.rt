@@ -14,8 +14,9 @@ ghost use Rattle.claim_model.specs.Counted.{counted, firsts};
 ghost use Rattle.claim_model.specs.Journal.{stopped};
 ghost use Rattle.pharmacy_journal.specs.Entries.{kept_of};
 ghost use Rattle.pharmacy_journal.specs.Listing.{rulings_of};
-ghost use Rattle.pharmacy_journal.specs.Counting.{fill_billed, outcomes_between, fills_in, rulings_told, outcomes_of, outcomes, payment_of, named_in, outcome_reverses, has_auth, without, counted_in};
+ghost use Rattle.pharmacy_journal.specs.Counting.{fill_billed, outcomes_between, fills_in, rulings_told, outcomes, payment_of, named_in, outcome_reverses, has_auth, without, counted_in};
 ghost use Rattle.claim_profile.specs.declared.answer_reading.AnswerFault.TheVariants.{OutOfMemory as NoAnswerMemory};
+ghost use Rattle.pharmacy_journal.specs.Telling.{told_by, NamesMore, ReversesMore};
 
 use crate::at_rest::JournalAtRest;
 use crate::pharmacy::Pharmacy;
@@ -136,8 +137,8 @@ fn read_all(alloc: Global, slots: &[Slot]) -> Result<Told, AllocError>
 
 /// Adds what an entry tells.
 fn read_slot(alloc: Global, slot: &Slot, told: &mut Told) -> Result<(), AllocError>
-    ensures named { OnOk result (told.new.named.items ≡ told.old.named.items ++ filter_map named_in (outcomes_of (kept_of slot.now).request (kept_of slot.now).answer)) }
-    ensures reversed { OnOk result ((a : AuthSeen) → has_auth told.new.reversed.keys a ≡ (has_auth told.old.reversed.keys a || list_any (outcome_reverses a) (outcomes_of (kept_of slot.now).request (kept_of slot.now).answer))) }
+    ensures named { OnOk result (NamesMore told.old told.new (told_by slot.now)) }
+    ensures reversed { OnOk result (ReversesMore told.old told.new (told_by slot.now)) }
 {
     let rulings = rulings_of(alloc, slot)?;
     take_slot(told, slot, rulings.as_slice())
@@ -156,8 +157,8 @@ pub(crate) fn rulings_of(alloc: Global, slot: &Slot) -> Result<Vec<Ruling>, Allo
 /// Adds what an entry with these rulings tells.
 pub(crate) fn take_slot(told: &mut Told, slot: &Slot, rulings: &[Ruling]) -> Result<(), AllocError>
     requires { rulings.now ≡ rulings_of (kept_of slot.now).answer }
-    ensures named { OnOk result (told.new.named.items ≡ told.old.named.items ++ filter_map named_in (outcomes_of (kept_of slot.now).request (kept_of slot.now).answer)) }
-    ensures reversed { OnOk result ((a : AuthSeen) → has_auth told.new.reversed.keys a ≡ (has_auth told.old.reversed.keys a || list_any (outcome_reverses a) (outcomes_of (kept_of slot.now).request (kept_of slot.now).answer))) }
+    ensures named { OnOk result (NamesMore told.old told.new (told_by slot.now)) }
+    ensures reversed { OnOk result (ReversesMore told.old told.new (told_by slot.now)) }
 {
     match slot {
         Slot::Waiting(_) => Ok(()),
@@ -167,8 +168,8 @@ pub(crate) fn take_slot(told: &mut Told, slot: &Slot, rulings: &[Ruling]) -> Res
 
 /// Adds what the rulings on the groups of a request tell.
 fn take_all(told: &mut Told, request: &[u8], rulings: &[Ruling]) -> Result<(), AllocError>
-    ensures named { OnOk result (told.new.named.items ≡ told.old.named.items ++ filter_map named_in (outcomes_between (fills_in request.now) rulings.now)) }
-    ensures reversed { OnOk result ((a : AuthSeen) → has_auth told.new.reversed.keys a ≡ (has_auth told.old.reversed.keys a || list_any (outcome_reverses a) (outcomes_between (fills_in request.now) rulings.now))) }
+    ensures named { OnOk result (NamesMore told.old told.new (outcomes_between (fills_in request.now) rulings.now)) }
+    ensures reversed { OnOk result (ReversesMore told.old told.new (outcomes_between (fills_in request.now) rulings.now)) }
 {
     match check_request(request) {
         Ok(framed) => take_groups(told, &framed, rulings),
@@ -182,8 +183,8 @@ fn take_groups(
     framed: &Framed<'_, RequestHeader>,
     rulings: &[Ruling],
 ) -> Result<(), AllocError>
-    ensures named { OnOk result (told.new.named.items ≡ told.old.named.items ++ filter_map named_in (outcomes_between (map fill_billed (orders_in (Some (framed_parts framed.now)))) rulings.now)) }
-    ensures reversed { OnOk result ((a : AuthSeen) → has_auth told.new.reversed.keys a ≡ (has_auth told.old.reversed.keys a || list_any (outcome_reverses a) (outcomes_between (map fill_billed (orders_in (Some (framed_parts framed.now)))) rulings.now))) }
+    ensures named { OnOk result (NamesMore told.old told.new (outcomes_between (map fill_billed (orders_in (Some (framed_parts framed.now)))) rulings.now)) }
+    ensures reversed { OnOk result (ReversesMore told.old told.new (outcomes_between (map fill_billed (orders_in (Some (framed_parts framed.now)))) rulings.now)) }
 {
     let count = framed.group_count().min(rulings.len());
     for place in 0..count {

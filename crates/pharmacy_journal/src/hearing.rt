@@ -1,16 +1,14 @@
 //! Hearing an answer.
 
-ghost use Rattle.std.specs.Prelude.{◌≡◌, ◌<◌, ◌≤◌, ℕ, length, true, Option, Some, Ok, IfOk, IfErr, IfSome, OnOk, OnErr, bytes_eq, if◌then◌else◌};
+ghost use Rattle.std.specs.Prelude.{◌≡◌, ◌<◌, ◌≤◌, ℕ, length, true, Option, Some, Ok, IfOk, IfSome, OnOk, OnErr, bytes_eq, if◌then◌else◌};
 ghost use Rattle.std.specs.List.{slice_get};
 ghost use Rattle.envelope.specs.Envelope.{envelope_text, longest_payload};
-ghost use Rattle.bin_routes.specs.Table.{RouteMaps};
-ghost use Rattle.claim_model.specs.Bytes.{bytes_with};
-ghost use Rattle.claim_model.specs.Journal.{Has, heard, settle_by};
+ghost use Rattle.claim_model.specs.Journal.{Has, settle_by};
 ghost use Rattle.claim_model.specs.Refusal.{AlreadySettled, Differs};
-ghost use Rattle.pharmacy_journal.specs.Reading.{settles_with};
-ghost use Rattle.pharmacy_journal.specs.Refusing.{IsRefused, refusal_to_hear};
+ghost use Rattle.pharmacy_journal.specs.Refusing.{refusal_to_hear};
 ghost use Rattle.pharmacy_journal.specs.Entries.{entry_of, is_waiting, kept_of};
 ghost use Rattle.pharmacy_journal.specs.Hearing.{envelope_seen, state_after, IsAnsweredBy, state_by, settled_slot, settled_at};
+ghost use Rattle.pharmacy_journal.specs.Steps.{Hears, RefusesToHear, RefusesAs};
 
 use crate::fault::{HearFault, SettleFault};
 use crate::kept::place_of;
@@ -29,9 +27,9 @@ impl Pharmacy {
     /// `NotMine`, `NoSuchNumber`, `Unreadable`, `AlreadySettled`, `Differs`, the first of these that
     /// stands; the journal is then as it was.
     pub fn hear(&mut self, envelope: &Envelope<'_>) -> Result<(), HearFault>
-        ensures ok { (routes : RouteMaps) → OnOk result (heard (bytes_with routes) self.old (envelope_seen envelope.now) ≡ Ok self.new) }
+        ensures ok { Hears self.old envelope.now self.new result }
         ensures err { OnErr result (self.new ≡ self.old) }
-        ensures fault { (routes : RouteMaps) → IfErr result (λ e. IsRefused (refusal_to_hear e) (heard (bytes_with routes) self.old (envelope_seen envelope.now))) }
+        ensures fault { RefusesToHear self.old envelope.now result }
     {
         self.settle(envelope, None)
     }
@@ -40,9 +38,9 @@ impl Pharmacy {
     /// end, which takes no memory where the packet is shared.
     pub fn hear_packet(&mut self, envelope: &Envelope<'_>, packet: &Octets) -> Result<(), HearFault>
         requires { packet.now ≡ envelope_text envelope.now.kind envelope.now.id envelope.now.payload }
-        ensures ok { (routes : RouteMaps) → OnOk result (heard (bytes_with routes) self.old (envelope_seen envelope.now) ≡ Ok self.new) }
+        ensures ok { Hears self.old envelope.now self.new result }
         ensures err { OnErr result (self.new ≡ self.old) }
-        ensures fault { (routes : RouteMaps) → IfErr result (λ e. IsRefused (refusal_to_hear e) (heard (bytes_with routes) self.old (envelope_seen envelope.now))) }
+        ensures fault { RefusesToHear self.old envelope.now result }
     {
         self.settle(envelope, Some(packet))
     }
@@ -50,9 +48,9 @@ impl Pharmacy {
     /// Settles the entry of an answer's number.
     fn settle(&mut self, envelope: &Envelope<'_>, packet: Option<&Octets>) -> Result<(), HearFault>
         requires { IfSome packet (λ packet. packet.now ≡ envelope_text envelope.now.kind envelope.now.id envelope.now.payload) }
-        ensures ok { (routes : RouteMaps) → OnOk result (heard (bytes_with routes) self.old (envelope_seen envelope.now) ≡ Ok self.new) }
+        ensures ok { Hears self.old envelope.now self.new result }
         ensures err { OnErr result (self.new ≡ self.old) }
-        ensures fault { (routes : RouteMaps) → IfErr result (λ e. IsRefused (refusal_to_hear e) (heard (bytes_with routes) self.old (envelope_seen envelope.now))) }
+        ensures fault { RefusesToHear self.old envelope.now result }
     {
         let id = envelope.id();
         if id.pharmacy() != self.number {
@@ -91,7 +89,7 @@ fn answer_of(
 fn verdict(slot: &Slot, envelope: &Envelope<'_>) -> Result<(), HearFault>
     ensures open { OnOk result (IsAnsweredBy slot.now envelope.now.payload) }
     ensures ok { (phase : Option ℕ) → OnOk result (state_after (kept_of slot.now).request (entry_of slot.now phase).state (envelope_seen envelope.now) ≡ Ok (Has envelope.now.payload)) }
-    ensures fault { (phase : Option ℕ) → IfErr result (λ e. IsRefused (refusal_to_hear e) (state_after (kept_of slot.now).request (entry_of slot.now phase).state (envelope_seen envelope.now))) }
+    ensures fault { (phase : Option ℕ) → RefusesAs (state_after (kept_of slot.now).request (entry_of slot.now phase).state (envelope_seen envelope.now)) result }
 {
     match envelope.kind() {
         Kind::Request => Err(HearFault::Unreadable),
@@ -103,7 +101,7 @@ fn verdict(slot: &Slot, envelope: &Envelope<'_>) -> Result<(), HearFault>
 fn verdict_on(slot: &Slot, payload: &[u8]) -> Result<(), HearFault>
     ensures open { OnOk result (IsAnsweredBy slot.now payload.now) }
     ensures ok { (phase : Option ℕ) → OnOk result (state_by (kept_of slot.now).request (entry_of slot.now phase).state payload.now ≡ Ok (Has payload.now)) }
-    ensures fault { (phase : Option ℕ) → IfErr result (λ e. IsRefused (refusal_to_hear e) (state_by (kept_of slot.now).request (entry_of slot.now phase).state payload.now)) }
+    ensures fault { (phase : Option ℕ) → RefusesAs (state_by (kept_of slot.now).request (entry_of slot.now phase).state payload.now) result }
 {
     match judge(slot.request(), payload) {
         Ok(()) => beside(slot, payload),
@@ -116,7 +114,7 @@ fn verdict_on(slot: &Slot, payload: &[u8]) -> Result<(), HearFault>
 fn beside(slot: &Slot, answer: &[u8]) -> Result<(), HearFault>
     ensures open { OnOk result (is_waiting slot.now ≡ true) }
     ensures ok { (phase : Option ℕ) → OnOk result (settle_by answer.now (entry_of slot.now phase).state ≡ Ok (Has answer.now)) }
-    ensures fault { (phase : Option ℕ) → IfErr result (λ e. IsRefused (refusal_to_hear e) (settle_by answer.now (entry_of slot.now phase).state)) }
+    ensures fault { (phase : Option ℕ) → RefusesAs (settle_by answer.now (entry_of slot.now phase).state) result }
 {
     match slot {
         Slot::Waiting(_) => Ok(()),

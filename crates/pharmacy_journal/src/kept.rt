@@ -1,10 +1,10 @@
 //! What is read of a journal, up or at rest.
 
-ghost use Rattle.std.specs.Prelude.{◌≡◌, ◌<◌, ◌≤◌, ◌-◌, length, map, None, Some, MatchOption, SomeIff, option_and_then};
+ghost use Rattle.std.specs.Prelude.{◌≡◌, ◌<◌, ◌≤◌, ◌-◌, map, None, Some, SomeIff, option_and_then};
 ghost use Rattle.std.specs.Option.{option_copied};
 ghost use Rattle.claim_model.specs.Numbered.{numbered};
 ghost use Rattle.claim_model.specs.Journal.{stopped};
-ghost use Rattle.pharmacy_journal.specs.Entries.{kept_of};
+ghost use Rattle.pharmacy_journal.specs.Entries.{kept_of, IsEntryOf};
 
 use crate::at_rest::JournalAtRest;
 use crate::pharmacy::Pharmacy;
@@ -22,7 +22,7 @@ pub struct KeptEntry<'a> {
 impl Pharmacy {
     /// The entry of a number, from 1.
     pub fn entry(&self, number: u64) -> Option<KeptEntry<'_>>
-        ensures { MatchOption result (numbered (stopped self.now).entries number ≡ None) (λ e. numbered (stopped self.now).entries number ≡ Some (record { request = e.request.now; answer = option_copied e.answer })) }
+        ensures { IsEntryOf (stopped self.now).entries number result }
     {
         entry_at(self.slots.as_slice(), number)
     }
@@ -38,7 +38,7 @@ impl Pharmacy {
 impl JournalAtRest {
     /// The entry of a number, from 1.
     pub fn entry(&self, number: u64) -> Option<KeptEntry<'_>>
-        ensures { MatchOption result (numbered self.now.entries number ≡ None) (λ e. numbered self.now.entries number ≡ Some (record { request = e.request.now; answer = option_copied e.answer })) }
+        ensures { IsEntryOf self.now.entries number result }
     {
         entry_at(self.slots.as_slice(), number)
     }
@@ -71,7 +71,7 @@ impl Slot {
 
 /// The entry of a number among these.
 fn entry_at(slots: &[Slot], number: u64) -> Option<KeptEntry<'_>>
-    ensures { MatchOption result (numbered (map kept_of slots.now) number ≡ None) (λ e. numbered (map kept_of slots.now) number ≡ Some (record { request = e.request.now; answer = option_copied e.answer })) }
+    ensures { IsEntryOf (map kept_of slots.now) number result }
 {
     let place = place_of(number, slots.len())?;
     Some(slots[place].kept())

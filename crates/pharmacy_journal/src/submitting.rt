@@ -1,15 +1,13 @@
 //! Submitting a request.
 
-ghost use Rattle.std.specs.Prelude.{◌≡◌, ◌≢◌, ◌<◌, ◌+◌, ◌++◌, ◌∷◌, [], length, true, None, Some, Ok, IfOk, IfErr, OnOk, OnErr, IsSome, option_and_then};
-ghost use Rattle.bin_routes.specs.Table.{RouteMaps};
+ghost use Rattle.std.specs.Prelude.{◌≡◌, ◌<◌, ◌+◌, ◌++◌, ◌∷◌, [], length, true, None, Some, Ok, IfOk, IfErr, OnOk, OnErr, IsSome, option_and_then};
 ghost use Rattle.claim_profile.specs.Readable.{readable_header};
-ghost use Rattle.claim_model.specs.Bytes.{bytes_with};
 ghost use Rattle.claim_model.specs.Readable.{has_code};
-ghost use Rattle.claim_model.specs.Journal.{Journal, Waits, submit_fault, submitted};
+ghost use Rattle.claim_model.specs.Journal.{Journal, Waits, submit_fault};
 ghost use Rattle.pharmacy_journal.specs.Reading.{header_of, is_own_request};
-ghost use Rattle.pharmacy_journal.specs.Refusing.{IsRefused, IsCause, refusal_to_submit};
+ghost use Rattle.pharmacy_journal.specs.Refusing.{IsCause, refusal_to_submit};
 ghost use Rattle.pharmacy_journal.specs.Sendings.{packet_of};
-ghost use Rattle.pharmacy_journal.specs.declared.fault.SubmitFault.TheVariants.{OutOfMemory};
+ghost use Rattle.pharmacy_journal.specs.Steps.{Submits, RefusesToSubmit};
 
 use crate::fault::SubmitFault;
 use crate::pharmacy::Pharmacy;
@@ -28,9 +26,9 @@ impl Pharmacy {
     /// # Errors
     /// The first cause, in the order of [`SubmitFault`]; the journal is then as it was.
     pub fn submit(&mut self, text: &[u8]) -> Result<(u64, Sent), SubmitFault>
-        ensures ok { (routes : RouteMaps) → IfOk result (λ r. submitted (bytes_with routes) self.old text.now ≡ Ok (record { journal = self.new; number = r.0; sent = r.1 })) }
+        ensures ok { Submits self.old text.now self.new result }
         ensures err { OnErr result (self.new ≡ self.old) }
-        ensures fault { (routes : RouteMaps) → IfErr result (λ e. IsRefused (refusal_to_submit e) (submitted (bytes_with routes) self.old text.now)) }
+        ensures fault { RefusesToSubmit self.old text.now result }
     {
         self.admit(text)?;
         let txn = self.next_txn(text)?;

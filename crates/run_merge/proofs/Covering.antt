@@ -1,14 +1,12 @@
 -- One log for each node: by tests over logs, and as a fact.
 use Rattle.std.proofs.Common.{◌≡◌, ℕ, zero, suc, ◌+◌, ◌-◌, ◌<◌, Bool, true, false, not, ◌||◌, cond, List, [], ◌∷◌, length, Some, slice_get, refl, sym, ap, ◌∙◌, subst, inl, inr, arith, ltb-true, ltb-false}
-use Rattle.std.specs.Prelude.{nat_lt, IsSome}
+use Rattle.std.specs.Prelude.{nat_lt}
 use Rattle.std.proofs.lemmas.Bool.{and_from, both_ways, cond-true, cond-false, lt-ltb, le-ltb}
-use Rattle.std.proofs.lemmas.List.{length-map}
 use Rattle.claim_model.specs.Node.{Node, Pharmacy, Switch, Payer}
 use Rattle.claim_model.specs.Numbered.{numbered}
-use Rattle.claim_model.specs.Settings.{opening}
-use Rattle.world_setup.specs.Seen.{payer_seen, settings_seen}
+use Rattle.world_setup.specs.Seen.{settings_seen}
 use Rattle.world_setup.specs.declared.settings.WorldSettings.{WorldSettings as Given}
-use Rattle.claim_model.specs.Nodes.{node_at, same_node}
+use Rattle.claim_model.specs.Nodes.{same_node}
 use Rattle.claim_model.specs.Logs.{NodeLog}
 use Rattle.claim_model.specs.Interleavings.{HasLog}
 use Rattle.claim_model.proofs.Names.{same_self}
@@ -16,7 +14,7 @@ use Rattle.run_merge.specs.Naming.{is_numbered, is_there, name_at, has_log, all_
 use Rattle.run_merge.specs.Merged.{EachHasLog}
 use Rattle.run_merge.proofs.Names.{name_cases}
 use Rattle.run_merge.proofs.Opens.{pharmacy_there, switch_there, payer_there}
-use Rattle.run_merge.proofs.Lines.{same_log, first_distinct, no_log_at}
+use Rattle.run_merge.proofs.Lines.{same_log, first_distinct}
 
 -- the log of a node
 

@@ -15,7 +15,6 @@ use Rattle.claim_model.specs.Settings.{WorldSettings, settings_fault, opening}
 use Rattle.claim_model.proofs.Lists.{all_at, all_from}
 use Rattle.world_setup.specs.Seen.{settings_seen}
 use Rattle.world_setup.specs.declared.settings.WorldSettings.{WorldSettings as Given}
-use Rattle.world_setup.specs.declared.world_fault.WorldFault.TheVariants as fault
 use Rattle.claim_model.specs.Nodes.{AnyNode, node_at, same_node}
 use Rattle.claim_model.specs.Logs.{Logged, NodeLog, log_in}
 use Rattle.claim_model.specs.Interleavings.{IsInterleaving}

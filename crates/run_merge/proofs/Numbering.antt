@@ -1,5 +1,5 @@
 -- The index of packets, as packets are added.
-use Rattle.std.proofs.Common.{MatchOption, ◌≡◌, ℕ, ◌+◌, Bool, true, false, cond, List, [], ◌∷◌, ◌++◌, map, length, Option, Some, None, refl, sym, ap, ◌∙◌, subst, inl, inr}
+use Rattle.std.proofs.Common.{MatchOption, ◌≡◌, ℕ, ◌+◌, Bool, true, false, cond, List, [], ◌∷◌, ◌++◌, length, Option, Some, None, refl, sym, ap, ◌∙◌, subst, inl, inr}
 use Rattle.std.proofs.lemmas.Bool.{both_ways}
 use Rattle.claim_model.specs.Numbered.{numbered}
 use Rattle.claim_model.specs.World.{Packet}

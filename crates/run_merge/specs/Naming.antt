@@ -1,5 +1,5 @@
 -- The logs of nodes by their names, and the nodes that a world opens with.
-use Rattle.std.specs.Prelude.{ℕ, zero, suc, ◌+◌, ◌-◌, Bool, true, false, cond, not, ◌&&◌, nat_lt, List, [], ◌∷◌, length, is_some}
+use Rattle.std.specs.Prelude.{ℕ, zero, suc, ◌+◌, ◌-◌, Bool, true, false, cond, not, ◌&&◌, nat_lt, List, [], ◌∷◌, is_some}
 use Rattle.std.specs.List.{list_any}
 use Rattle.claim_model.specs.Node.{Node, Pharmacy, Switch, Payer}
 use Rattle.claim_model.specs.Settings.{WorldSettings, opening}

@@ -7,7 +7,7 @@ use Rattle.schedule.specs.Commands.{command_of}
 use Rattle.schedule.specs.Faults.{fault_of}
 use Rattle.schedule.specs.Reading.{NumberedLine, told_lines, spelled_in}
 use Rattle.schedule.specs.Runs.{RunParts, with_faults, begun_by, run_in, front_fault}
-use Rattle.schedule.proofs.EventLists.{joined, joined-nil, joined-step, line_taken, line_bad, no_lines}
+use Rattle.schedule.proofs.EventLists.{joined, joined-nil, joined-step, line_taken, line_bad}
 
 -- more faults before those of a run
 abbrev pub more_faults : List LinkFault → Result RunParts ℕ → Result RunParts ℕ

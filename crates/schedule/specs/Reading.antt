@@ -1,5 +1,5 @@
 -- The events that the lines of a schedule spell.
-use Rattle.std.specs.Prelude.{◌≡◌, ℕ, Bool, not, List, filter, find, Option, Some, None, is_none, option_map, Result, Ok, Err}
+use Rattle.std.specs.Prelude.{◌≡◌, ℕ, not, List, filter, find, Option, Some, None, is_none, option_map, Result, Ok, Err}
 use Rattle.std.specs.List.{filter_map, enumerate_from}
 use Rattle.std.specs.Str.Lines.{lines}
 use Rattle.input_text.specs.Lines.{is_skipped}

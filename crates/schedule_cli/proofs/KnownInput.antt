@@ -1,5 +1,5 @@
 -- What several reads in a row took from the bytes that were left.
-use Rattle.std.proofs.Common.{take, ◌≡◌, ℕ, ◌<◌, ◌≤◌, ◌+◌, List, [], ◌++◌, length, Option, Some, None, IfSome, refl, sym, ◌∙◌, ap, append_assoc, append-nil, arith, length-append, subst}
+use Rattle.std.proofs.Common.{take, ◌≡◌, ℕ, ◌<◌, ◌≤◌, List, [], ◌++◌, length, Option, Some, None, IfSome, refl, sym, ◌∙◌, ap, append_assoc, append-nil, arith, length-append, subst}
 use Rattle.std.proofs.lemmas.List.{take-take, take-append-le}
 use Rattle.std.specs.Io.KnownBytes.{Consumes, IsAtEnd}
 

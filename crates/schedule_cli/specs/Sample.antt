@@ -1,5 +1,5 @@
 -- The book that `read` answers from: payer 1, one product, one BIN.
-use Rattle.std.specs.Prelude.{ℕ, List, [], ◌∷◌, None, codes}
+use Rattle.std.specs.Prelude.{List, [], ◌∷◌, None, codes}
 use Rattle.bin_routes.specs.Row.{Row}
 use Rattle.bin_routes.specs.Table.{RouteMaps, routes_of}
 use Rattle.plan_rules.specs.Terms.{Terms}

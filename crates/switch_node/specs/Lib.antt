@@ -2,3 +2,4 @@ pub mod Settings
 pub mod Ring
 pub mod Faults
 pub mod Sent
+pub mod Steps

@@ -9,11 +9,12 @@ ghost use Rattle.bin_routes.specs.Table.{RouteMaps};
 ghost use Rattle.claim_model.specs.Node.{Up};
 ghost use Rattle.claim_model.specs.Held.{held_in_table};
 ghost use Rattle.claim_model.specs.Readable.{same_id};
-ghost use Rattle.claim_model.specs.Table.{slot_of, requested, responded, responded_by, filled};
+ghost use Rattle.claim_model.specs.Table.{slot_of, responded_by, filled};
 ghost use Rattle.claim_model.specs.Bytes.{bytes_with};
 ghost use Rattle.switch_node.specs.Ring.{in_flight};
-ghost use Rattle.switch_node.specs.Faults.{RefusesAs, request_refusal, response_refusal, first_or_equal};
-ghost use Rattle.switch_node.specs.Sent.{content, routed_as};
+ghost use Rattle.switch_node.specs.Faults.{RefusesAs, response_refusal, first_or_equal};
+ghost use Rattle.switch_node.specs.Sent.{content};
+ghost use Rattle.switch_node.specs.Steps.{SendsRequest, RefusesRequest, SendsResponse, RefusesResponse};
 
 use crate::fault::{RequestFault, ResponseFault};
 use crate::packets::{packet, payload_in};
@@ -65,8 +66,8 @@ impl Switch {
         envelope: &Envelope<'_>,
     ) -> Result<Routed, RequestFault>
         // The whole table after it, and what is sent, are the model's.
-        ensures routed { IfOk result (λ routed. requested (bytes_with routes.now) self.old (content envelope.now) ≡ Ok (record { table = self.new; routed = routed_as routed })) }
-        ensures fault { IfErr result (λ fault. RefusesAs (request_refusal fault) (requested (bytes_with routes.now) self.old (content envelope.now))) }
+        ensures routed { SendsRequest routes.now self.old envelope.now self.new result }
+        ensures fault { RefusesRequest routes.now self.old envelope.now result }
         ensures unchanged { OnErr result (self.new ≡ self.old) }
     {
         let packet = self.packet_of(envelope)?;
@@ -82,8 +83,8 @@ impl Switch {
         packet: &Octets,
     ) -> Result<Routed, RequestFault>
         requires { packet.now ≡ envelope_text envelope.now.kind envelope.now.id envelope.now.payload }
-        ensures routed { IfOk result (λ routed. requested (bytes_with routes.now) self.old (content envelope.now) ≡ Ok (record { table = self.new; routed = routed_as routed })) }
-        ensures fault { IfErr result (λ fault. RefusesAs (request_refusal fault) (requested (bytes_with routes.now) self.old (content envelope.now))) }
+        ensures routed { SendsRequest routes.now self.old envelope.now self.new result }
+        ensures fault { RefusesRequest routes.now self.old envelope.now result }
         ensures unchanged { OnErr result (self.new ≡ self.old) }
     {
         let alloc = self.table.allocator();
@@ -102,8 +103,8 @@ impl Switch {
     /// The table is then as it was.
     pub fn response(&mut self, envelope: &Envelope<'_>) -> Result<Octets, ResponseFault>
         // The whole table after it, and what is sent, are the model's, whatever the routes are.
-        ensures sent { IfOk result (λ packet. (routes : RouteMaps) → responded (bytes_with routes) self.old (content envelope.now) ≡ Ok (record { table = self.new; bytes = packet })) }
-        ensures fault { IfErr result (λ fault. (routes : RouteMaps) → RefusesAs (response_refusal fault) (responded (bytes_with routes) self.old (content envelope.now))) }
+        ensures sent { SendsResponse self.old envelope.now self.new result }
+        ensures fault { RefusesResponse self.old envelope.now result }
         ensures unchanged { OnErr result (self.new ≡ self.old) }
     {
         let packet = self.packet_of(envelope)?;
@@ -118,8 +119,8 @@ impl Switch {
         packet: &Octets,
     ) -> Result<Octets, ResponseFault>
         requires { packet.now ≡ envelope_text envelope.now.kind envelope.now.id envelope.now.payload }
-        ensures sent { IfOk result (λ packet. (routes : RouteMaps) → responded (bytes_with routes) self.old (content envelope.now) ≡ Ok (record { table = self.new; bytes = packet })) }
-        ensures fault { IfErr result (λ fault. (routes : RouteMaps) → RefusesAs (response_refusal fault) (responded (bytes_with routes) self.old (content envelope.now))) }
+        ensures sent { SendsResponse self.old envelope.now self.new result }
+        ensures fault { RefusesResponse self.old envelope.now result }
         ensures unchanged { OnErr result (self.new ≡ self.old) }
     {
         expect_answer(envelope)?;

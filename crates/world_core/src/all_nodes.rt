@@ -1,20 +1,20 @@
 //! All nodes, and a call on one of them.
 
-ghost use Rattle.std.specs.Prelude.{◌≡◌, ◌≤◌, List, length, map, IfOk, IfErr, OnErr};
+ghost use Rattle.std.specs.Prelude.{◌≡◌, ◌≤◌, List, length, map, IfOk, OnErr};
 ghost use Rattle.std.specs.Option.{option_copied};
 ghost use Rattle.bin_routes.specs.Table.{RouteMaps};
 ghost use Rattle.claim_model.specs.Numbered.{numbered};
 ghost use Rattle.claim_model.specs.Bytes.{bytes_with};
-ghost use Rattle.claim_model.specs.Node.{Pharmacy, Tick, Done};
+ghost use Rattle.claim_model.specs.Node.{Done, Pharmacy, Tick};
 ghost use Rattle.claim_model.specs.World.{Packet as PacketSeen, on_node, posted};
 ghost use Rattle.world_setup.specs.Seen.{node_seen, sent_seen};
-ghost use Rattle.world_setup.specs.Refused.{refusal_of, RefusedAs};
+ghost use Rattle.node_state.specs.Outcomes.{Refuses};
 ghost use Rattle.world_core.specs.Asked.{asked_seen};
 ghost use Rattle.world_core.specs.Calling.{room_due};
 ghost use Rattle.world_core.specs.NodeLists.{world_of};
 
 use crate::asked::Asked;
-use crate::nodes::{most_due, on_payer, on_pharmacy, on_switch, tick_pharmacy};
+use crate::nodes::{ask_node, most_due, node_of, tick_pharmacy};
 use bin_routes::Routes;
 use node_state::{PayerNode, PharmacyNode, SwitchNode};
 use std::alloc::Global;
@@ -42,30 +42,21 @@ impl Nodes {
     pub(crate) fn pharmacy(&self, number: u16) -> Option<&PharmacyNode>
         ensures { option_copied result ≡ numbered self.now.pharmacies number }
     {
-        if number == 0 {
-            return None;
-        }
-        self.pharmacies.get(number as usize - 1)
+        node_of(self.pharmacies.as_slice(), number)
     }
 
     /// The switch of a number.
     pub(crate) fn switch(&self, number: u16) -> Option<&SwitchNode>
         ensures { option_copied result ≡ numbered self.now.switches number }
     {
-        if number == 0 {
-            return None;
-        }
-        self.switches.get(number as usize - 1)
+        node_of(self.switches.as_slice(), number)
     }
 
     /// The payer of a number.
     pub(crate) fn payer(&self, number: u16) -> Option<&PayerNode>
         ensures { option_copied result ≡ numbered self.now.payers number }
     {
-        if number == 0 {
-            return None;
-        }
-        self.payers.get(number as usize - 1)
+        node_of(self.payers.as_slice(), number)
     }
 
     /// A node makes a call, and gives what it sent.
@@ -77,14 +68,14 @@ impl Nodes {
         call: Asked<'_>,
     ) -> Result<Vec<Sent>, StepFault>
         ensures ok { (packets : List PacketSeen) → IfOk result (λ sent. on_node (bytes_with routes.now) (world_of self.old packets) (node_seen node) (asked_seen call.entry) ≡ Done (world_of self.new (posted packets (node_seen node) (map sent_seen sent.items))) (map sent_seen sent.items)) }
-        ensures fault { (packets : List PacketSeen) → IfErr result (λ fault. RefusedAs (refusal_of fault) (on_node (bytes_with routes.now) (world_of self.old packets) (node_seen node) (asked_seen call.entry))) }
+        ensures fault { (packets : List PacketSeen) → Refuses (on_node (bytes_with routes.now) (world_of self.old packets) (node_seen node) (asked_seen call.entry)) result }
         ensures few { IfOk result (λ sent. length sent.items ≤ 1) }
         ensures err { OnErr result (self.new ≡ self.old) }
     {
         match node {
-            Node::Pharmacy(number) => on_pharmacy(&mut self.pharmacies, alloc, number, call),
-            Node::Switch(number) => on_switch(&mut self.switches, alloc, routes, number, call),
-            Node::Payer(number) => on_payer(&mut self.payers, alloc, routes, number, call),
+            Node::Pharmacy(number) => ask_node(&mut self.pharmacies, alloc, routes, number, call),
+            Node::Switch(number) => ask_node(&mut self.switches, alloc, routes, number, call),
+            Node::Payer(number) => ask_node(&mut self.payers, alloc, routes, number, call),
         }
     }
 
@@ -98,7 +89,7 @@ impl Nodes {
     /// One tick of a pharmacy.
     pub(crate) fn tick(&mut self, alloc: Global, number: u16) -> Result<Vec<Sent>, StepFault>
         ensures ok { (routes : RouteMaps) (packets : List PacketSeen) → IfOk result (λ sent. on_node (bytes_with routes) (world_of self.old packets) (Pharmacy number) Tick ≡ Done (world_of self.new (posted packets (Pharmacy number) (map sent_seen sent.items))) (map sent_seen sent.items)) }
-        ensures fault { (routes : RouteMaps) (packets : List PacketSeen) → IfErr result (λ fault. RefusedAs (refusal_of fault) (on_node (bytes_with routes) (world_of self.old packets) (Pharmacy number) Tick)) }
+        ensures fault { (routes : RouteMaps) (packets : List PacketSeen) → Refuses (on_node (bytes_with routes) (world_of self.old packets) (Pharmacy number) Tick) result }
         ensures few { IfOk result (λ sent. length sent.items ≤ room_due self.old.pharmacies number) }
         ensures err { OnErr result (self.new ≡ self.old) }
     {

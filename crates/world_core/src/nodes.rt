@@ -1,84 +1,69 @@
 //! Calls on one node of a list, in which nodes are numbered from 1.
 
-ghost use Rattle.std.specs.Prelude.{◌≡◌, ◌≤◌, length, map, IfOk, IfErr, OnErr};
+ghost use Rattle.std.specs.Prelude.{◌≡◌, ◌<◌, ◌≤◌, ◌⊎◌, suc, length, IfOk, IfNone, IfSome, OnErr};
+ghost use Rattle.std.specs.Option.{option_copied};
 ghost use Rattle.bin_routes.specs.Table.{RouteMaps};
 ghost use Rattle.claim_model.specs.Bytes.{bytes_with};
-ghost use Rattle.claim_model.specs.Node.{Done, Tick, pharmacy_step, switch_step, payer_step};
-ghost use Rattle.world_setup.specs.Seen.{sent_seen};
-ghost use Rattle.world_setup.specs.Refused.{refusal_of, RefusedAs};
+ghost use Rattle.claim_model.specs.Numbered.{numbered};
+ghost use Rattle.claim_model.specs.Node.{Tick, pharmacy_step};
+ghost use Rattle.node_state.specs.Outcomes.{Makes, Refuses};
 ghost use Rattle.world_core.specs.Asked.{asked_seen};
 ghost use Rattle.world_core.specs.Calling.{called, room_due};
 
-use crate::asked::{Asked, call_payer, call_pharmacy, call_switch};
+use crate::asked::{Asked, Ruled};
 use bin_routes::Routes;
-use node_state::{PayerNode, PharmacyNode, SwitchNode};
+use node_state::PharmacyNode;
 use std::alloc::Global;
 use world_setup::{Sent, StepFault};
 
-/// The pharmacy of a number makes a call.
-pub(crate) fn on_pharmacy(
-    nodes: &mut Vec<PharmacyNode>,
-    alloc: Global,
-    number: u16,
-    call: Asked<'_>,
-) -> Result<Vec<Sent>, StepFault>
-    ensures ok { (routes : RouteMaps) → IfOk result (λ sent. called (λ node. pharmacy_step (bytes_with routes) node (asked_seen call.entry)) nodes.old.items number ≡ Done nodes.new.items (map sent_seen sent.items)) }
-    ensures fault { (routes : RouteMaps) → IfErr result (λ fault. RefusedAs (refusal_of fault) (called (λ node. pharmacy_step (bytes_with routes) node (asked_seen call.entry)) nodes.old.items number)) }
-    ensures few { IfOk result (λ sent. length sent.items ≤ 1) }
-    ensures err { OnErr result (nodes.new.items ≡ nodes.old.items) }
+/// The place, from 0, of the node of a number, where there are so many nodes.
+fn place_of(number: u16, count: usize) -> Option<usize>
+    ensures place { IfSome result (λ place. (number ≡ suc place) × (place < count)) }
+    ensures nobody { IfNone result ((number ≡ 0) ⊎ (count < number)) }
 {
-    if number == 0 || number as usize > nodes.len() {
-        return Err(StepFault::NoSuchNode);
+    if number == 0 || number as usize > count {
+        return None;
     }
-    call_pharmacy(&mut nodes[number as usize - 1], alloc, call)
+    Some(number as usize - 1)
 }
 
-/// The switch of a number makes a call.
-pub(crate) fn on_switch(
-    nodes: &mut Vec<SwitchNode>,
+/// The node of a number.
+pub(crate) fn node_of<N>(nodes: &[N], number: u16) -> Option<&N>
+    ensures { option_copied result ≡ numbered nodes.now number }
+{
+    if number == 0 {
+        return None;
+    }
+    nodes.get(number as usize - 1)
+}
+
+/// The node of a number makes a call.
+pub(crate) fn ask_node<N: Ruled>(
+    nodes: &mut Vec<N>,
     alloc: Global,
     routes: &Routes,
     number: u16,
     call: Asked<'_>,
 ) -> Result<Vec<Sent>, StepFault>
-    ensures ok { IfOk result (λ sent. called (λ node. switch_step (bytes_with routes.now) node (asked_seen call.entry)) nodes.old.items number ≡ Done nodes.new.items (map sent_seen sent.items)) }
-    ensures fault { IfErr result (λ fault. RefusedAs (refusal_of fault) (called (λ node. switch_step (bytes_with routes.now) node (asked_seen call.entry)) nodes.old.items number)) }
+    ensures ok { Makes (called (λ node. N.ruled routes.now node (asked_seen call.entry)) nodes.old.items number) nodes.new.items result }
+    ensures fault { Refuses (called (λ node. N.ruled routes.now node (asked_seen call.entry)) nodes.old.items number) result }
     ensures few { IfOk result (λ sent. length sent.items ≤ 1) }
     ensures err { OnErr result (nodes.new.items ≡ nodes.old.items) }
 {
-    if number == 0 || number as usize > nodes.len() {
-        return Err(StepFault::NoSuchNode);
+    match place_of(number, nodes.len()) {
+        Some(place) => nodes[place].ask(alloc, routes, call),
+        None => Err(StepFault::NoSuchNode),
     }
-    call_switch(&mut nodes[number as usize - 1], alloc, routes, call)
-}
-
-/// The payer of a number makes a call.
-pub(crate) fn on_payer(
-    nodes: &mut Vec<PayerNode>,
-    alloc: Global,
-    routes: &Routes,
-    number: u16,
-    call: Asked<'_>,
-) -> Result<Vec<Sent>, StepFault>
-    ensures ok { IfOk result (λ sent. called (λ node. payer_step (bytes_with routes.now) node (asked_seen call.entry)) nodes.old.items number ≡ Done nodes.new.items (map sent_seen sent.items)) }
-    ensures fault { IfErr result (λ fault. RefusedAs (refusal_of fault) (called (λ node. payer_step (bytes_with routes.now) node (asked_seen call.entry)) nodes.old.items number)) }
-    ensures few { IfOk result (λ sent. length sent.items ≤ 1) }
-    ensures err { OnErr result (nodes.new.items ≡ nodes.old.items) }
-{
-    if number == 0 || number as usize > nodes.len() {
-        return Err(StepFault::NoSuchNode);
-    }
-    call_payer(&mut nodes[number as usize - 1], alloc, routes, call)
 }
 
 /// How many packets the next tick of the pharmacy of a number sends at most.
 pub(crate) fn most_due(nodes: &[PharmacyNode], number: u16) -> usize
     ensures { result ≡ room_due nodes.now number }
 {
-    if number == 0 || number as usize > nodes.len() {
-        return 0;
+    match place_of(number, nodes.len()) {
+        Some(place) => nodes[place].most_due(),
+        None => 0,
     }
-    nodes[number as usize - 1].most_due()
 }
 
 /// One tick of the pharmacy of a number.
@@ -87,13 +72,13 @@ pub(crate) fn tick_pharmacy(
     alloc: Global,
     number: u16,
 ) -> Result<Vec<Sent>, StepFault>
-    ensures ok { (routes : RouteMaps) → IfOk result (λ sent. called (λ node. pharmacy_step (bytes_with routes) node Tick) nodes.old.items number ≡ Done nodes.new.items (map sent_seen sent.items)) }
-    ensures fault { (routes : RouteMaps) → IfErr result (λ fault. RefusedAs (refusal_of fault) (called (λ node. pharmacy_step (bytes_with routes) node Tick) nodes.old.items number)) }
+    ensures ok { (routes : RouteMaps) → Makes (called (λ node. pharmacy_step (bytes_with routes) node Tick) nodes.old.items number) nodes.new.items result }
+    ensures fault { (routes : RouteMaps) → Refuses (called (λ node. pharmacy_step (bytes_with routes) node Tick) nodes.old.items number) result }
     ensures few { IfOk result (λ sent. length sent.items ≤ room_due nodes.old.items number) }
     ensures err { OnErr result (nodes.new.items ≡ nodes.old.items) }
 {
-    if number == 0 || number as usize > nodes.len() {
-        return Err(StepFault::NoSuchNode);
+    match place_of(number, nodes.len()) {
+        Some(place) => nodes[place].tick(alloc),
+        None => Err(StepFault::NoSuchNode),
     }
-    nodes[number as usize - 1].tick(alloc)
 }

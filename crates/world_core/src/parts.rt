@@ -1,12 +1,12 @@
 //! All nodes and all packets, and what each event makes of them.
 
-ghost use Rattle.std.specs.Prelude.{◌≡◌, ◌+◌, length, map, Some, IfErr, OnOk, OnErr};
+ghost use Rattle.std.specs.Prelude.{◌≡◌, ◌+◌, length, map, Some, OnOk, OnErr};
 ghost use Rattle.claim_model.specs.Bytes.{bytes_with};
 ghost use Rattle.claim_model.specs.Node.{Pharmacy, Tick};
 ghost use Rattle.claim_model.specs.World.{Delivery, on_node, step};
 ghost use Rattle.world_setup.specs.Seen.{node_seen, packet_seen, event_seen};
-ghost use Rattle.world_setup.specs.Refused.{refusal_of, RefusedAs};
 ghost use Rattle.bin_routes.specs.Table.{RouteMaps};
+ghost use Rattle.node_state.specs.Outcomes.{Refuses};
 ghost use Rattle.world_core.specs.Asked.{asked_seen};
 ghost use Rattle.world_core.specs.Stepping.{next_of};
 
@@ -66,7 +66,7 @@ impl Parts {
     /// Makes an event.
     pub(crate) fn step(&mut self, routes: &Routes, event: &Event) -> Result<(), StepFault>
         ensures ok { OnOk result (next_of (step (bytes_with routes.now) self.old (event_seen event.now)) ≡ Some self.new) }
-        ensures fault { IfErr result (λ fault. RefusedAs (refusal_of fault) (step (bytes_with routes.now) self.old (event_seen event.now))) }
+        ensures fault { Refuses (step (bytes_with routes.now) self.old (event_seen event.now)) result }
         ensures err { OnErr result (self.new ≡ self.old) }
     {
         match event {
@@ -95,7 +95,7 @@ impl Parts {
     /// A node makes a call, and what it sends is posted. The room for it is had before the call.
     fn ask(&mut self, routes: &Routes, node: Node, call: Asked<'_>) -> Result<(), StepFault>
         ensures ok { OnOk result (next_of (on_node (bytes_with routes.now) self.old (node_seen node) (asked_seen call.entry)) ≡ Some self.new) }
-        ensures fault { IfErr result (λ fault. RefusedAs (refusal_of fault) (on_node (bytes_with routes.now) self.old (node_seen node) (asked_seen call.entry))) }
+        ensures fault { Refuses (on_node (bytes_with routes.now) self.old (node_seen node) (asked_seen call.entry)) result }
         ensures err { OnErr result (self.new ≡ self.old) }
     {
         self.packets.reserve(1)?;
@@ -108,7 +108,7 @@ impl Parts {
     /// One tick of a pharmacy.
     fn tick(&mut self, number: u16) -> Result<(), StepFault>
         ensures ok { (routes : RouteMaps) → OnOk result (next_of (on_node (bytes_with routes) self.old (Pharmacy number) Tick) ≡ Some self.new) }
-        ensures fault { (routes : RouteMaps) → IfErr result (λ fault. RefusedAs (refusal_of fault) (on_node (bytes_with routes) self.old (Pharmacy number) Tick)) }
+        ensures fault { (routes : RouteMaps) → Refuses (on_node (bytes_with routes) self.old (Pharmacy number) Tick) result }
         ensures err { OnErr result (self.new ≡ self.old) }
     {
         let room = self.nodes.most_due(number);
@@ -122,7 +122,7 @@ impl Parts {
     /// The packet of a number reaches its addressee. It stays where it is, and is not copied.
     fn deliver(&mut self, routes: &Routes, number: u64) -> Result<(), StepFault>
         ensures ok { OnOk result (next_of (step (bytes_with routes.now) self.old (Delivery number)) ≡ Some self.new) }
-        ensures fault { IfErr result (λ fault. RefusedAs (refusal_of fault) (step (bytes_with routes.now) self.old (Delivery number))) }
+        ensures fault { Refuses (step (bytes_with routes.now) self.old (Delivery number)) result }
         ensures err { OnErr result (self.new ≡ self.old) }
     {
         if number == 0 || number > self.packets.len() as u64 {

@@ -6,9 +6,9 @@ ghost use Rattle.bin_routes.specs.Table.{routes_of};
 ghost use Rattle.claim_model.specs.Settings.{opening};
 ghost use Rattle.claim_model.specs.World.{step, world_after, run};
 ghost use Rattle.world_setup.specs.Seen.{event_seen, settings_seen};
-ghost use Rattle.world_setup.specs.Refused.{refusal_of, RefusedAs};
 ghost use Rattle.world_setup.specs.Taken.{world_fault};
 ghost use Rattle.world_setup.specs.declared.world_fault.WorldFault.TheVariants.{OutOfMemory};
+ghost use Rattle.node_state.specs.Outcomes.{Refuses};
 ghost use Rattle.world_core.specs.Parts.{context_of};
 ghost use Rattle.world_core.specs.Stepping.{next_of};
 
@@ -69,7 +69,7 @@ impl World {
     pub fn step(&mut self, event: &Event) -> Result<Range<u64>, StepFault>
         ensures ok { OnOk result (next_of (step (context_of self.old) self.old.world (event_seen event.now)) ≡ Some self.new.world) }
         ensures sent { IfOk result (λ range. range ≡ record { start = length self.old.world.packets + 1; end = length self.new.world.packets + 1 }) }
-        ensures fault { IfErr result (λ fault. RefusedAs (refusal_of fault) (step (context_of self.old) self.old.world (event_seen event.now))) }
+        ensures fault { Refuses (step (context_of self.old) self.old.world (event_seen event.now)) result }
         ensures err { OnErr result (self.new ≡ self.old) }
         ensures routes { self.new.routes ≡ self.old.routes }
     {

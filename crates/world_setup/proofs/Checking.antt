@@ -1,5 +1,5 @@
 -- What the tests of settings decide.
-use Rattle.std.proofs.Common.{◌≡◌, suc, ◌||◌, ◌==◌, List, [], ◌∷◌, length, refl, arith, eqb-true}
+use Rattle.std.proofs.Common.{◌≡◌, suc, ◌==◌, List, [], ◌∷◌, length, refl, arith, eqb-true}
 use Rattle.std.proofs.lemmas.Bool.{false_from_ne_true}
 use Rattle.claim_model.specs.Settings.{is_empty}
 

@@ -1,9 +1,8 @@
 //! Answering a request: the kept answer of a known number, or a new row.
 
-ghost use Rattle.std.specs.Prelude.{◌≡◌, OnErr, IfOk, IfErr, Ok, None};
-ghost use Rattle.claim_model.specs.Bytes.{bytes_with};
-ghost use Rattle.claim_model.specs.Book.{answered, row_of};
-ghost use Rattle.payer_book.specs.Faults.{RefusedFor};
+ghost use Rattle.std.specs.Prelude.{◌≡◌, OnErr, Ok, None};
+ghost use Rattle.claim_model.specs.Book.{row_of};
+ghost use Rattle.payer_book.specs.Answers.{Answers, Refuses};
 
 use crate::book::{Book, Reply};
 use crate::fault::BookFault;
@@ -22,8 +21,8 @@ impl Book {
     /// In this order: `Unreadable`, `NotOurs`, `NumberReused`, `BookFull`, `SerialsUsedUp`. `OutOfMemory` may
     /// stand in place of any answer. The book is as it was after each of them.
     pub fn answer(&mut self, routes: &Routes, id: TxnId, request: &[u8]) -> Result<Reply, BookFault>
-        ensures ok { IfOk result (λ reply. answered (bytes_with routes.now) self.old id request.now ≡ Ok (record { book = self.new; bytes = reply.bytes.items; kept = reply.kept })) }
-        ensures fault { IfErr result (λ fault. RefusedFor fault (answered (bytes_with routes.now) self.old id request.now)) }
+        ensures ok { Answers routes.now self.old id request.now self.new result }
+        ensures fault { Refuses routes.now self.old id request.now result }
         ensures err { OnErr result (self.new ≡ self.old) }
     {
         let alloc = self.allocator();
@@ -47,8 +46,8 @@ impl Book {
         request: &[u8],
     ) -> Result<Reply, BookFault>
         requires { row_of id self.old.rows ≡ None }
-        ensures ok { IfOk result (λ reply. answered (bytes_with routes.now) self.old id request.now ≡ Ok (record { book = self.new; bytes = reply.bytes.items; kept = reply.kept })) }
-        ensures fault { IfErr result (λ fault. RefusedFor fault (answered (bytes_with routes.now) self.old id request.now)) }
+        ensures ok { Answers routes.now self.old id request.now self.new result }
+        ensures fault { Refuses routes.now self.old id request.now result }
         ensures err { OnErr result (self.new ≡ self.old) }
     {
         let row = self.decide_new(alloc, draft, routes, id, request)?;

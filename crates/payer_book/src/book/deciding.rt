@@ -1,12 +1,12 @@
 //! What a book decides on a request: the row that it has for it, or a new one. The book is not changed here.
 
-ghost use Rattle.std.specs.Prelude.{◌≡◌, true, IfOk, OnOk, IfErr, Ok, Some, None};
+ghost use Rattle.std.specs.Prelude.{◌≡◌, true, IfOk, OnOk, Ok, Some, None};
 ghost use Rattle.claim_model.specs.Bytes.{bytes_with};
 ghost use Rattle.claim_model.specs.Readable.{is_payer, payer_for};
 ghost use Rattle.claim_model.specs.Book.{answered, row_of};
-ghost use Rattle.payer_book.specs.Faults.{RefusedFor};
 ghost use Rattle.payer_book.specs.Added.{kept_answer};
 ghost use Rattle.payer_book.specs.Deciding.{IsKnown, IsNew};
+ghost use Rattle.payer_book.specs.Answers.{Refuses};
 
 use crate::book::Book;
 use crate::book::row::Row;
@@ -29,7 +29,7 @@ impl Book {
         request: &[u8],
     ) -> Result<Option<usize>, BookFault>
         ensures known { IfOk result (λ place. IsKnown (bytes_with routes.now) self.now id request.now place) }
-        ensures fault { IfErr result (λ fault. RefusedFor fault (answered (bytes_with routes.now) self.now id request.now)) }
+        ensures fault { Refuses routes.now self.now id request.now result }
     {
         let Some(place) = self.place_of(id) else {
             return Ok(None);
@@ -48,7 +48,7 @@ impl Book {
     ) -> Result<(), BookFault>
         requires { row_of id self.now.rows ≡ Some row.now }
         ensures decided { OnOk result (answered (bytes_with routes.now) self.now id request.now ≡ Ok (record { book = self.now; bytes = kept_answer row.now; kept = true })) }
-        ensures fault { IfErr result (λ fault. RefusedFor fault (answered (bytes_with routes.now) self.now id request.now)) }
+        ensures fault { Refuses routes.now self.now id request.now result }
     {
         if row.request() == request {
             return self.decide_again(routes, id, row);
@@ -68,7 +68,7 @@ impl Book {
     fn decide_again(&self, routes: &Routes, id: TxnId, row: &Row) -> Result<(), BookFault>
         requires { row_of id self.now.rows ≡ Some row.now }
         ensures decided { OnOk result (answered (bytes_with routes.now) self.now id row.now.request ≡ Ok (record { book = self.now; bytes = kept_answer row.now; kept = true })) }
-        ensures fault { IfErr result (λ fault. RefusedFor fault (answered (bytes_with routes.now) self.now id row.now.request)) }
+        ensures fault { Refuses routes.now self.now id row.now.request result }
     {
         let (bin, pcn) = row.bin_and_pcn();
         if !is_routed(routes, &bin, &pcn, self.payer()) {
@@ -88,7 +88,7 @@ impl Book {
     ) -> Result<Row, BookFault>
         requires { row_of id self.now.rows ≡ None }
         ensures decided { IfOk result (λ row. IsNew (bytes_with routes.now) self.now id request.now row draft.new.changes.items) }
-        ensures fault { IfErr result (λ fault. RefusedFor fault (answered (bytes_with routes.now) self.now id request.now)) }
+        ensures fault { Refuses routes.now self.now id request.now result }
     {
         let framed = match check_readable(request) {
             Some(framed) => framed,

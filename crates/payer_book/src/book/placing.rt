@@ -1,10 +1,10 @@
 //! Answering a request with the row that keeps the answer, so that no byte of it is copied.
 
-ghost use Rattle.std.specs.Prelude.{◌≡◌, OnErr, IfOk, IfErr, None};
+ghost use Rattle.std.specs.Prelude.{◌≡◌, OnErr, IfOk, None};
 ghost use Rattle.claim_model.specs.Bytes.{bytes_with};
-ghost use Rattle.claim_model.specs.Book.{answered, row_of};
-ghost use Rattle.payer_book.specs.Faults.{RefusedFor};
+ghost use Rattle.claim_model.specs.Book.{row_of};
 ghost use Rattle.payer_book.specs.Placing.{IsAnsweredAt};
+ghost use Rattle.payer_book.specs.Answers.{Refuses};
 
 use crate::book::Book;
 use crate::fault::BookFault;
@@ -35,7 +35,7 @@ impl Book {
         request: &[u8],
     ) -> Result<Placed, BookFault>
         ensures ok { IfOk result (λ at. IsAnsweredAt (bytes_with routes.now) self.old id request.now self.new at.place at.kept) }
-        ensures fault { IfErr result (λ fault. RefusedFor fault (answered (bytes_with routes.now) self.old id request.now)) }
+        ensures fault { Refuses routes.now self.old id request.now result }
         ensures err { OnErr result (self.new ≡ self.old) }
     {
         if let Some(place) = self.known(routes, id, request)? {
@@ -59,7 +59,7 @@ impl Book {
     ) -> Result<Placed, BookFault>
         requires { row_of id self.old.rows ≡ None }
         ensures ok { IfOk result (λ at. IsAnsweredAt (bytes_with routes.now) self.old id request.now self.new at.place at.kept) }
-        ensures fault { IfErr result (λ fault. RefusedFor fault (answered (bytes_with routes.now) self.old id request.now)) }
+        ensures fault { Refuses routes.now self.old id request.now result }
         ensures err { OnErr result (self.new ≡ self.old) }
     {
         let row = self.decide_new(alloc, draft, routes, id, request)?;

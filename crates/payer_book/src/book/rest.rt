@@ -3,7 +3,7 @@
 ghost use Rattle.std.specs.Prelude.{◌≡◌, ◌≢◌, ◌≤◌, [], map, length, slice_get, Ok, Some, None, IfErr, OnOk, OnErr};
 ghost use Rattle.std.specs.Option.{option_copied};
 ghost use Rattle.payer_book.specs.declared.fault.RowFault.TheVariants.{OutOfMemory};
-ghost use Rattle.payer_book.specs.Added.{kept_row, added, added_all};
+ghost use Rattle.payer_book.specs.Added.{kept_row, added, added_all, without_rows};
 
 use crate::book::Book;
 use crate::book::row::Row;
@@ -112,7 +112,7 @@ impl BookAtRest {
         ensures value { result.now ≡ self.now.rows }
         ensures in_limit { length self.now.rows ≤ self.now.settings.cap }
         // The book is what adding its rows one by one to an empty book makes.
-        ensures made { added_all (Some (record { payer = self.now.payer; settings = self.now.settings; plan = self.now.plan; rows = [] })) (map kept_row self.now.rows) ≡ Some self.now }
+        ensures made { added_all (Some (without_rows self.now)) (map kept_row self.now.rows) ≡ Some self.now }
     {
         self.book.rows()
     }

@@ -1,4 +1,4 @@
-use Rattle.std.proofs.Common.{◌≡◌, ◌+◌, ◌<◌, length, sym, ap, ◌∙◌, arith}
+use Rattle.std.proofs.Common.{◌≡◌, ◌<◌, length, sym, ap, ◌∙◌, arith}
 use Rattle.claim_model.specs.Node.{Node}
 use Rattle.world_setup.specs.Seen.{node_seen}
 use Rattle.run_merge.specs.Naming.{name_at, has_log}

@@ -1,4 +1,4 @@
-use Rattle.std.proofs.Common.{◌≡◌, List, sym, ap, ◌∙◌}
+use Rattle.std.proofs.Common.{List, sym, ap, ◌∙◌}
 use Rattle.input_text.specs.Lines.{numbered_lines}
 use Rattle.schedule.specs.Reading.{NumberedLine, told_lines}
 use Rattle.schedule.proofs.RunLists.{going, command_taken, neither_taken, none_left}

@@ -1,4 +1,4 @@
-use Rattle.std.proofs.Common.{◌≡◌, List, ◌++◌, ◌∷◌, [], sym, ap, ◌∙◌, append-nil, Ok, Result, ℕ}
+use Rattle.std.proofs.Common.{◌≡◌, List, [], sym, ap, ◌∙◌, append-nil, Ok, Result, ℕ}
 use Rattle.input_text.specs.Lines.{LinesLeft, numbered_lines}
 use Rattle.schedule_cli.specs.declared.entries.Entry.{Entry}
 use Rattle.schedule.specs.Reading.{NumberedLine, told_lines, spelled_in}

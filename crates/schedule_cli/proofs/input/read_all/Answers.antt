@@ -1,7 +1,6 @@
-use Rattle.std.proofs.Common.{◌≡◌, ◌+◌, ◌<◌, ◌≤◌, ◌++◌, List, ℕ, take, drop, length, arith, inl, inr, sym, ◌∙◌, ap, subst, length-append, length-take, rules}
+use Rattle.std.proofs.Common.{drop, length, arith, inl, inr, length-append, length-take, rules}
 use Rattle.std.proofs.lemmas.Grind.{common_steps}
-use Rattle.std.specs.Io.KnownBytes.{Consumes}
-use Rattle.schedule_cli.proofs.KnownInput.{Consumes-nothing, Consumes-append, Consumes-all, Consumes-bound, Consumes-end, take-room}
+use Rattle.schedule_cli.proofs.KnownInput.{Consumes-append, Consumes-bound, Consumes-end, take-room}
 use Rattle.schedule_cli.proofs.input.read_all.Goals as goal
 
 pub returns-in-Err-clause-fault : goal.returns-in-Err-clause-fault

@@ -1,7 +1,6 @@
-use Rattle.std.proofs.Common.{◌≡◌, ◌+◌, ◌≤◌, ◌++◌, List, ℕ, take, drop, length, arith, sym, ◌∙◌, ap, subst}
+use Rattle.std.proofs.Common.{arith, ◌∙◌}
 use Rattle.std.proofs.lemmas.Grind.{common_steps}
-use Rattle.std.specs.Io.KnownBytes.{Appends}
-use Rattle.schedule_cli.proofs.KnownOutput.{Appends-append, Appends-keeps, take-next}
+use Rattle.schedule_cli.proofs.KnownOutput.{Appends-append, take-next}
 use Rattle.schedule_cli.proofs.output.write_output.Goals as goal
 
 pub loop-written-preserved : goal.loop-written-preserved

@@ -1,4 +1,4 @@
-use Rattle.std.proofs.Common.{[], ◌∷◌, List, refl, ap, sym, ◌∙◌, arith}
+use Rattle.std.proofs.Common.{[], List, refl, ap, sym, ◌∙◌, arith}
 use Rattle.d0_segments.specs.Parts.{FieldParts}
 use Rattle.d0_segments.specs.Views.{field_parts}
 use Rattle.d0_segments.specs.Inside.{fields_left}

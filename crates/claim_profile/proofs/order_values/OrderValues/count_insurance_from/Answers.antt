@@ -1,8 +1,8 @@
-use Rattle.std.proofs.Common.{[], ◌∷◌, ◌++◌, List, ap, sym, ◌∙◌, arith}
+use Rattle.std.proofs.Common.{[], List, ap, sym, ◌∙◌, arith}
 use Rattle.d0_segments.specs.Parts.{FieldParts}
 use Rattle.d0_segments.specs.Views.{field_parts}
 use Rattle.d0_segments.specs.Inside.{fields_left}
-use Rattle.claim_profile.specs.OrderTally.{OrderTally, order_seen, fields_counted}
+use Rattle.claim_profile.specs.OrderTally.{order_seen, fields_counted}
 use Rattle.claim_profile.proofs.OrderCounting.{fields_counted-none, insurance_next}
 use Rattle.claim_profile.proofs.order_values.OrderValues.count_insurance_from.Goals as goal
 

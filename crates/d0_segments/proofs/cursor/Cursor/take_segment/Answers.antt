@@ -1,4 +1,4 @@
-use Rattle.std.proofs.Common.{[], ◌∷◌, get_or, drop, refl, ap, sym, ◌∙◌, arith}
+use Rattle.std.proofs.Common.{get_or, drop, refl, ap, ◌∙◌, arith}
 use Rattle.d0_segments.specs.Pieces.{shared_of}
 use Rattle.d0_segments.proofs.Faultless.{segment_here, behind_name}
 use Rattle.d0_segments.proofs.Left.{segments_behind_name}

@@ -1,4 +1,4 @@
-use Rattle.std.proofs.Common.{◌≡◌, List, Some, None, map, sym, ap, ◌∙◌, subst}
+use Rattle.std.proofs.Common.{◌≡◌, List, Some, map, sym, ap, ◌∙◌, subst}
 use Rattle.std.specs.HashMap.{get}
 use Rattle.claim_model.specs.Numbered.{numbered}
 use Rattle.claim_model.specs.World.{Packet}

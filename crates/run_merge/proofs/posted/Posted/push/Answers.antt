@@ -1,4 +1,4 @@
-use Rattle.std.proofs.Common.{◌≡◌, ◌+◌, List, length, map, sym, arith}
+use Rattle.std.proofs.Common.{◌≡◌, ◌+◌, List, length, map, arith}
 use Rattle.std.proofs.lemmas.List.{length-map}
 use Rattle.std.specs.HashMap.{get}
 use Rattle.claim_model.specs.World.{Packet}

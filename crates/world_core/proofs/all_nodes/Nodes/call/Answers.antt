@@ -11,29 +11,29 @@ use Rattle.world_core.proofs.all_nodes.Nodes.call.Goals as goal
 pub returns-in-Pharmacy-clause-ok : goal.returns-in-Pharmacy-clause-ok
 returns-in-Pharmacy-clause-ok c = λ packets.
     rw (c.in-Pharmacy.is, ← c.self.view_is)
-    (IfOk-weaker c.on_pharmacy.result _ _ (λ sent h. pharmacy_done (bytes_with c.args.routes.now) (world_of (record { pharmacies = c.self.inside.pharmacies.items; switches = c.self.inside.switches.items; payers = c.self.inside.payers.items }) packets) c.in-Pharmacy.number (asked_seen c.args.call) c.on_pharmacy.new.nodes.items (map sent_seen sent.items) h) (c.on_pharmacy.ensures.ok c.args.routes.now))
+    (IfOk-weaker c.ask_node.result _ _ (λ sent h. pharmacy_done (bytes_with c.args.routes.now) (world_of (record { pharmacies = c.self.inside.pharmacies.items; switches = c.self.inside.switches.items; payers = c.self.inside.payers.items }) packets) c.in-Pharmacy.number (asked_seen c.args.call) c.ask_node.new.nodes.items (map sent_seen sent.items) h) c.ask_node.ensures.ok)
 
 pub returns-in-Pharmacy-clause-fault : goal.returns-in-Pharmacy-clause-fault
 returns-in-Pharmacy-clause-fault c = λ packets.
     rw (c.in-Pharmacy.is, ← c.self.view_is)
-    (IfErr-weaker c.on_pharmacy.result _ _ (λ fault h. pharmacy_refused (bytes_with c.args.routes.now) (world_of (record { pharmacies = c.self.inside.pharmacies.items; switches = c.self.inside.switches.items; payers = c.self.inside.payers.items }) packets) c.in-Pharmacy.number (asked_seen c.args.call) (refusal_of fault) h) (c.on_pharmacy.ensures.fault c.args.routes.now))
+    (IfErr-weaker c.ask_node.result _ _ (λ fault h. pharmacy_refused (bytes_with c.args.routes.now) (world_of (record { pharmacies = c.self.inside.pharmacies.items; switches = c.self.inside.switches.items; payers = c.self.inside.payers.items }) packets) c.in-Pharmacy.number (asked_seen c.args.call) (refusal_of fault) h) c.ask_node.ensures.fault)
 
 pub returns-in-Switch-clause-ok : goal.returns-in-Switch-clause-ok
 returns-in-Switch-clause-ok c = λ packets.
     rw (c.in-Switch.is, ← c.self.view_is)
-    (IfOk-weaker c.on_switch.result _ _ (λ sent h. switch_done (bytes_with c.args.routes.now) (world_of (record { pharmacies = c.self.inside.pharmacies.items; switches = c.self.inside.switches.items; payers = c.self.inside.payers.items }) packets) c.in-Switch.number (asked_seen c.args.call) c.on_switch.new.nodes.items (map sent_seen sent.items) h) (c.on_switch.ensures.ok))
+    (IfOk-weaker c.ask_node-in-Switch.result _ _ (λ sent h. switch_done (bytes_with c.args.routes.now) (world_of (record { pharmacies = c.self.inside.pharmacies.items; switches = c.self.inside.switches.items; payers = c.self.inside.payers.items }) packets) c.in-Switch.number (asked_seen c.args.call) c.ask_node-in-Switch.new.nodes.items (map sent_seen sent.items) h) (c.ask_node-in-Switch.ensures.ok))
 
 pub returns-in-Switch-clause-fault : goal.returns-in-Switch-clause-fault
 returns-in-Switch-clause-fault c = λ packets.
     rw (c.in-Switch.is, ← c.self.view_is)
-    (IfErr-weaker c.on_switch.result _ _ (λ fault h. switch_refused (bytes_with c.args.routes.now) (world_of (record { pharmacies = c.self.inside.pharmacies.items; switches = c.self.inside.switches.items; payers = c.self.inside.payers.items }) packets) c.in-Switch.number (asked_seen c.args.call) (refusal_of fault) h) (c.on_switch.ensures.fault))
+    (IfErr-weaker c.ask_node-in-Switch.result _ _ (λ fault h. switch_refused (bytes_with c.args.routes.now) (world_of (record { pharmacies = c.self.inside.pharmacies.items; switches = c.self.inside.switches.items; payers = c.self.inside.payers.items }) packets) c.in-Switch.number (asked_seen c.args.call) (refusal_of fault) h) (c.ask_node-in-Switch.ensures.fault))
 
 pub returns-in-Payer-clause-ok : goal.returns-in-Payer-clause-ok
 returns-in-Payer-clause-ok c = λ packets.
     rw (c.in-Payer.is, ← c.self.view_is)
-    (IfOk-weaker c.on_payer.result _ _ (λ sent h. payer_done (bytes_with c.args.routes.now) (world_of (record { pharmacies = c.self.inside.pharmacies.items; switches = c.self.inside.switches.items; payers = c.self.inside.payers.items }) packets) c.in-Payer.number (asked_seen c.args.call) c.on_payer.new.nodes.items (map sent_seen sent.items) h) (c.on_payer.ensures.ok))
+    (IfOk-weaker c.ask_node-in-Payer.result _ _ (λ sent h. payer_done (bytes_with c.args.routes.now) (world_of (record { pharmacies = c.self.inside.pharmacies.items; switches = c.self.inside.switches.items; payers = c.self.inside.payers.items }) packets) c.in-Payer.number (asked_seen c.args.call) c.ask_node-in-Payer.new.nodes.items (map sent_seen sent.items) h) (c.ask_node-in-Payer.ensures.ok))
 
 pub returns-in-Payer-clause-fault : goal.returns-in-Payer-clause-fault
 returns-in-Payer-clause-fault c = λ packets.
     rw (c.in-Payer.is, ← c.self.view_is)
-    (IfErr-weaker c.on_payer.result _ _ (λ fault h. payer_refused (bytes_with c.args.routes.now) (world_of (record { pharmacies = c.self.inside.pharmacies.items; switches = c.self.inside.switches.items; payers = c.self.inside.payers.items }) packets) c.in-Payer.number (asked_seen c.args.call) (refusal_of fault) h) (c.on_payer.ensures.fault))
+    (IfErr-weaker c.ask_node-in-Payer.result _ _ (λ fault h. payer_refused (bytes_with c.args.routes.now) (world_of (record { pharmacies = c.self.inside.pharmacies.items; switches = c.self.inside.switches.items; payers = c.self.inside.payers.items }) packets) c.in-Payer.number (asked_seen c.args.call) (refusal_of fault) h) (c.ask_node-in-Payer.ensures.fault))

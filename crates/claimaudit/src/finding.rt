@@ -1,0 +1,19 @@
+//! Why there is no verdict.
+
+use kept_logs::LogFault;
+use log_audit::AuditFault;
+use thiserror::Error;
+
+/// Why there is no verdict.
+#[derive(Debug, Drop, Error)]
+pub(crate) enum Finding {
+    /// The words are wrong.
+    #[error("usage: claimaudit [--csv payments|entries|rows|packets | --json | --schedule] SETTINGS LOG...")]
+    Usage,
+    /// The file of this name is no log under the settings.
+    #[error("{0}: {1}")]
+    Log(String, LogFault),
+    /// There is nothing to be judged.
+    #[error("{0}")]
+    Fault(AuditFault),
+}

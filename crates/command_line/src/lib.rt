@@ -1,0 +1,12 @@
+//! How a program begins and ends that has ordinary manners: the words of its command line, the files that these name, and
+//! the text and the status with which it ends early.
+#![tactic(auto)]
+
+mod end;
+mod reading;
+
+pub use end::End;
+pub use reading::{given_words, read_file};
+
+/// The version that `-V` tells: that of the repository's change log.
+pub const VERSION: &str = "0.7.0";

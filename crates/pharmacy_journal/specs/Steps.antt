@@ -1,0 +1,30 @@
+-- What a pharmacy makes of a text or an envelope, beside the rules of its journal. These ask no route, so it is so under all of them.
+use Rattle.std.specs.Prelude.{◌≡◌, ℕ, List, Result, Ok, IfOk, IfErr, OnOk}
+use Rattle.envelope.specs.Envelope.{Opened}
+use Rattle.bin_routes.specs.Table.{RouteMaps}
+use Rattle.claim_model.specs.Bytes.{bytes_with}
+use Rattle.claim_model.specs.Refusal.{Refusal}
+use Rattle.claim_model.specs.Journal.{Journal, Sending, heard, submitted}
+use Rattle.pharmacy_journal.specs.declared.fault.SubmitFault.{SubmitFault}
+use Rattle.pharmacy_journal.specs.declared.fault.HearFault.{HearFault}
+use Rattle.pharmacy_journal.specs.Refusing.{IsRefused, refusal_to_submit, refusal_to_hear}
+use Rattle.pharmacy_journal.specs.Hearing.{envelope_seen}
+
+-- a text is entered under the number, and its packet sent, as the rule says
+abbrev pub Submits : Journal → List ℕ → Journal → Result (ℕ × Sending) SubmitFault → Type 0
+Submits old text new result = (routes : RouteMaps) → IfOk result (λ r. submitted (bytes_with routes) old text ≡ Ok (record { journal = new; number = r.0; sent = r.1 }))
+
+-- it is refused for the cause for which the rule refuses it; want of memory says nothing of it
+abbrev pub RefusesToSubmit : {A : Type 0} → Journal → List ℕ → Result A SubmitFault → Type 0
+RefusesToSubmit journal text result = (routes : RouteMaps) → IfErr result (λ e. IsRefused (refusal_to_submit e) (submitted (bytes_with routes) journal text))
+
+-- an envelope is heard, and leaves the journal that the rule leaves
+abbrev pub Hears : Journal → Opened → Journal → Result (Unit {0}) HearFault → Type 0
+Hears old envelope new result = (routes : RouteMaps) → OnOk result (heard (bytes_with routes) old (envelope_seen envelope) ≡ Ok new)
+
+-- hearing is refused for the cause for which this is; want of memory says nothing of it
+abbrev pub RefusesAs : {A B : Type 0} → Result A Refusal → Result B HearFault → Type 0
+RefusesAs outcome result = IfErr result (λ e. IsRefused (refusal_to_hear e) outcome)
+
+abbrev pub RefusesToHear : {A : Type 0} → Journal → Opened → Result A HearFault → Type 0
+RefusesToHear journal envelope result = (routes : RouteMaps) → RefusesAs (heard (bytes_with routes) journal (envelope_seen envelope)) result
