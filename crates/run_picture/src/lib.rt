@@ -10,6 +10,7 @@
 
 mod arrows;
 mod columns;
+mod drawing;
 mod events;
 mod extent;
 mod foot;
@@ -28,14 +29,13 @@ mod rowing;
 mod rows;
 mod sheet;
 mod stop;
-mod whole;
 mod words;
 
+pub use drawing::draw_replay;
 pub use extent::Extent;
 pub use laws::marks_are_the_runs;
 pub use mark::Mark;
 pub use marking::mark_run;
 pub use sheet::picture;
 pub use stop::PictureStop;
-pub use whole::draw_replay;
 pub use words::{Wish, wish_of};

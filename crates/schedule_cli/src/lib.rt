@@ -16,7 +16,6 @@ mod sample;
 mod sink;
 mod source;
 mod standard;
-mod whole;
 mod why;
 mod words;
 
@@ -27,9 +26,9 @@ pub use kept::KeptReader;
 pub use output::write_output;
 pub use payer_book::HashKeys;
 pub use read::read_claims_over;
+pub use replaying::replay_over;
 pub use sink::{Sink, WriterSink};
 pub use source::{Failed, ReaderSource, Source};
 pub use standard::{read_claims, read_claims_keyed, replay, replay_keyed};
-pub use whole::replay_over;
 pub use why::{EntryFault, entry_fault, why_refused};
 pub use words::{Stop, Word, word_of};

@@ -1,22 +1,61 @@
-//! The report of an input, all of it, before anything is written.
+//! A schedule of events over all nodes: a line for each event, and then each node. The report of an input is made, all of it,
+//! before anything is written.
 
-ghost use Rattle.std.specs.Prelude.{◌≡◌, Some, Ok, map, IfOk, IfErr};
+ghost use Rattle.std.specs.Prelude.{◌≡◌, ◌+◌, ◌≤◌, Some, Ok, map, IfOk, IfErr, IsTrue, IsErrOf, OnOk};
 ghost use Rattle.world_setup.specs.Seen.{event_seen};
 ghost use Rattle.world_core.specs.Parts.{context_of};
 ghost use Rattle.world_settings.specs.Document.{document_seen};
 ghost use Rattle.world_report.specs.Words.{lines_text};
 ghost use Rattle.world_report.specs.Events.{run_lines};
 ghost use Rattle.schedule_cli.specs.Replays.{world_in, opened_by, report_from, replay_of, OpensNone};
-ghost use Rattle.schedule_cli.specs.Stops.{RefusedFor};
+ghost use Rattle.schedule_cli.specs.Serving.{Serves, StopsSoundly};
+ghost use Rattle.schedule_cli.specs.Stops.{IsUnread, RefusedFor};
 
 use crate::exchange::{Scheduled, begin};
-use crate::fault::CheckFault;
+use crate::fault::{CheckFault, ProgramFault};
+use crate::input::{MOST_CALLS, read_all};
+use crate::output::write_output;
+use crate::sink::Sink;
+use crate::source::Source;
 use payer_book::HashKeys;
 use std::alloc::{AllocError, Global};
 use world_core::{World, WorldFault};
 use world_report::put_report;
 use world_settings::{SettingsFault, read_settings};
 use world_setup::WorldSettings;
+
+/// Runs the schedule of `source` over the nodes of its settings, and writes the report to `sink`.
+///
+/// The input is settings in TOML, a line `---`, and one event a line. The report has a line for each event, made or
+/// refused, and then the lines of each pharmacy, switch and payer as they are after all events. The maps of books
+/// hash with these keys.
+///
+/// # Errors
+/// `Read`, then `Settings`, then `Line` of the first line that spells no event, before anything is written; then
+/// `Write`. `OutOfMemory` may stand in place of any answer, and then nothing was written.
+pub fn replay_over<S: Source, K: Sink>(
+    alloc: Global,
+    keys: &HashKeys,
+    source: &mut S,
+    sink: &mut K,
+) -> Result<(), ProgramFault>
+    // Exactly the report of the input was written, or the input or a write is at fault.
+    ensures serves { Serves replay_of result (S.remaining source.old) K.contents sink.old sink.new }
+    // An input is refused only for what is bad in it, and a write fails only where nothing is.
+    ensures stops { StopsSoundly replay_of result (S.remaining source.old) }
+    // A call of the source failed, or the input is too long.
+    ensures read { IsErrOf result ProgramFault.Read → IsUnread (S.has_failed source.new) (S.remaining source.old) }
+    // What was written is flushed.
+    ensures flushed { OnOk result (IsTrue (K.is_flushed sink.new)) }
+    ensures same_reference { K.loan sink.new ≡ K.loan sink.old }
+    // A call of the sink failed.
+    ensures write { IsErrOf result ProgramFault.Write → IsTrue (K.has_failed sink.new) }
+    ensures calls { S.calls source.new ≤ S.calls source.old + MOST_CALLS }
+{
+    let input = read_all(alloc, source)?;
+    let report = report_on(alloc, keys, input)?;
+    write_output(sink, report.as_slice())
+}
 
 /// The whole report of an input.
 ///

@@ -6,9 +6,9 @@ ghost use Rattle.schedule_cli.specs.Serving.{RefusesNoSettings, Serves, StopsSou
 
 use crate::fault::ProgramFault;
 use crate::read::read_claims_over;
+use crate::replaying::replay_over;
 use crate::sink::WriterSink;
 use crate::source::ReaderSource;
-use crate::whole::replay_over;
 use payer_book::HashKeys;
 use std::alloc::Global;
 use std::io::{Read, Write};

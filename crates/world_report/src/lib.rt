@@ -13,16 +13,16 @@ mod heads;
 mod lists;
 mod nodes;
 mod places;
+mod report;
 mod rows;
 mod rulings;
-mod whole;
 mod words;
 
 pub use book_rows::put_row;
 pub use entries::put_entry;
 pub use heads::{put_done, put_head, put_refused};
 pub use places::put_mark;
+pub use report::{put_nodes, put_report};
 pub use rows::put_in_flight;
 pub use rulings::{put_paid, put_ruling};
-pub use whole::{put_nodes, put_report};
 pub use words::{end_line, put_number, put_word};

@@ -3,7 +3,7 @@ use Rattle.std.proofs.lemmas.Result.{on_ok_weaker}
 use Rattle.world_setup.specs.Seen.{event_seen}
 use Rattle.world_core.specs.Parts.{context_of}
 use Rattle.world_report.proofs.Blocks.{report_joins}
-use Rattle.world_report.proofs.whole.put_report.Goals as goal
+use Rattle.world_report.proofs.report.put_report.Goals as goal
 
 pub returns : goal.returns
 returns c =

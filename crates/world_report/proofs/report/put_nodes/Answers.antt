@@ -1,7 +1,7 @@
 use Rattle.std.proofs.lemmas.Result.{on_ok_weaker}
 use Rattle.world_core.specs.Parts.{context_of}
 use Rattle.world_report.proofs.Blocks.{nodes_join}
-use Rattle.world_report.proofs.whole.put_nodes.Goals as goal
+use Rattle.world_report.proofs.report.put_nodes.Goals as goal
 
 pub returns : goal.returns
 returns c =
