@@ -43,7 +43,7 @@ fn main(rt: HostRuntime) -> ExitCode {
             None => ExitCode::from(3),
         },
         Some(_) => match read_folder(&rt, ".") {
-            Ok(files) => run(&rt, &mut Systems { rt: &rt, files }),
+            Ok(files) => run(&rt, &mut Cases { rt: &rt, files }),
             Err(_) => ExitCode::FAILURE,
         },
         None => ExitCode::from(3),
@@ -95,12 +95,12 @@ where
 
 /// Runs all files of cases and prints how they come out. Systems have their threads from this handle.
 #[derive(Drop)]
-struct Systems<'a, T: Threads + Wait + Clock + Copy + Send + Sync + 'static> {
+struct Cases<'a, T: Threads + Wait + Clock + Copy + Send + Sync + 'static> {
     rt: &'a T,
     files: Vec<CaseFile>,
 }
 
-impl<T: Threads + Wait + Clock + Copy + Send + Sync + 'static> Suite for Systems<'_, T> {
+impl<T: Threads + Wait + Clock + Copy + Send + Sync + 'static> Suite for Cases<'_, T> {
     fn check(&mut self, runner: &mut Runner, file: &CaseFile) -> Result<(), AllocError> {
         match file.ending() {
             "toml" => runner.line(file, "settings"),
@@ -111,7 +111,7 @@ impl<T: Threads + Wait + Clock + Copy + Send + Sync + 'static> Suite for Systems
     }
 }
 
-impl<T: Threads + Wait + Clock + Copy + Send + Sync + 'static> Systems<'_, T> {
+impl<T: Threads + Wait + Clock + Copy + Send + Sync + 'static> Cases<'_, T> {
     /// Runs a file of rows.
     fn rows(&self, runner: &mut Runner, file: &CaseFile) -> Result<(), AllocError> {
         let rt = self.rt;
