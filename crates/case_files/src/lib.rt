@@ -12,6 +12,7 @@ mod told;
 
 pub use fakes::{ALL, Endless, Paper, Pieces, pieces_in};
 pub use folder::{CaseFile, read_folder};
+pub use row::Row;
 pub use runner::{Runner, Subject, Suite, run};
 pub use texts::cut;
 pub use told::Told;

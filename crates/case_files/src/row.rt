@@ -6,7 +6,7 @@ use std::alloc::{AllocError, Global};
 
 /// A call and what it has to come to.
 #[derive(Drop)]
-pub(crate) struct Row<'a> {
+pub struct Row<'a> {
     word: &'a str,
     argument: Vec<u8>,
     outcome: Vec<u8>,
@@ -14,12 +14,12 @@ pub(crate) struct Row<'a> {
 
 impl Row<'_> {
     /// The word that says which call.
-    pub(crate) fn word(&self) -> &str {
+    pub fn word(&self) -> &str {
         self.word
     }
 
     /// What is called with, its names filled in, as bytes.
-    pub(crate) fn argument(&self) -> &[u8] {
+    pub fn argument(&self) -> &[u8] {
         self.argument.as_slice()
     }
 

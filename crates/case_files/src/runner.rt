@@ -55,7 +55,7 @@ pub struct Runner {
 
 impl Runner {
     /// No text, and nothing compared.
-    fn new(alloc: Global) -> Runner {
+    pub fn new(alloc: Global) -> Runner {
         Runner {
             alloc,
             texts: Texts::new(alloc),
@@ -73,12 +73,12 @@ impl Runner {
     }
 
     /// Whether something differed.
-    fn has_failed(&self) -> bool {
+    pub fn has_failed(&self) -> bool {
         self.failed
     }
 
     /// All lines to print.
-    fn printed(&self) -> &str {
+    pub fn printed(&self) -> &str {
         self.out.as_str()
     }
 
@@ -111,7 +111,11 @@ impl Runner {
     }
 
     /// The row of a line. None where the line is skipped or names a text, and where it is no row, which is printed.
-    fn row<'a>(&mut self, file: &CaseFile, line: Line<'a>) -> Result<Option<Row<'a>>, AllocError> {
+    pub fn row<'a>(
+        &mut self,
+        file: &CaseFile,
+        line: Line<'a>,
+    ) -> Result<Option<Row<'a>>, AllocError> {
         if is_skipped(line.text) {
             return Ok(None);
         }
@@ -131,13 +135,18 @@ impl Runner {
     }
 
     /// Where the call of the next row is told; nothing is told yet.
-    fn told(&mut self) -> &mut Told {
+    pub fn told(&mut self) -> &mut Told {
         self.told.clear();
         &mut self.told
     }
 
     /// Compares what was told with what the row at a line says; where it should be the same and is not, that is printed.
-    fn compare(&mut self, file: &CaseFile, line: usize, row: &Row<'_>) -> Result<(), AllocError> {
+    pub fn compare(
+        &mut self,
+        file: &CaseFile,
+        line: usize,
+        row: &Row<'_>,
+    ) -> Result<(), AllocError> {
         let place = Place {
             file: file.name(),
             line,
@@ -151,7 +160,7 @@ impl Runner {
     }
 
     /// Forgets the texts of a file and prints how many rows it had.
-    fn end(&mut self, file: &CaseFile) -> Result<(), AllocError> {
+    pub fn end(&mut self, file: &CaseFile) -> Result<(), AllocError> {
         let count = self.count;
         self.count = Count::nothing();
         self.texts.truncate(self.shared);
@@ -208,7 +217,7 @@ impl Runner {
     }
 
     /// Takes the texts of a file for all files, a line each: `NAME = TEXT`.
-    fn texts(&mut self, file: &CaseFile) -> Result<(), AllocError> {
+    pub fn texts(&mut self, file: &CaseFile) -> Result<(), AllocError> {
         for line in Lines::new(file.bytes()) {
             let place = Place {
                 file: file.name(),

@@ -2,11 +2,11 @@
 
 use crate::runs::{has_outcome, parts_named};
 use crate::words::{count_and_rest, read_count};
-use case_files::{ALL, CaseFile, Endless, Paper, Pieces, Subject, Told, pieces_in};
-use input_text::split_word;
+use case_files::{ALL, CaseFile, Endless, Paper, Pieces, Runner, Told, pieces_in};
+use input_text::{Lines, split_word};
 use schedule_cli::{MOST_CALLS, ProgramFault};
 use schedule_run::{RunFault, run_schedule};
-use std::alloc::Global;
+use std::alloc::{AllocError, Global};
 use std::sync::Wait;
 use std::thread::Threads;
 use std::time::Clock;
@@ -14,26 +14,45 @@ use std::time::Clock;
 /// More calls than any run of these rows makes.
 const MANY: u64 = 10_000;
 
-/// Rows about runs whose reads and writes fail. The run of a row is that of the file of the first name.
-#[derive(Drop)]
-pub(crate) struct Failing<'a, T: Threads + Wait + Clock + Copy + Send + 'static> {
-    /// What the runs have their threads from.
-    pub(crate) rt: &'a T,
-    pub(crate) files: &'a [CaseFile],
+/// Runs rows about runs whose reads and writes fail.
+pub(crate) fn run<T>(
+    rt: &T,
+    runner: &mut Runner,
+    files: &[CaseFile],
+    file: &CaseFile,
+) -> Result<(), AllocError>
+where
+    T: Threads + Wait + Clock + Copy + Send + 'static,
+{
+    let alloc = runner.alloc();
+    for line in Lines::new(file.bytes()) {
+        if let Some(row) = runner.row(file, line)? {
+            tell_row(rt, runner.told(), alloc, files, row.word(), row.argument());
+            runner.compare(file, line.number, &row)?;
+        }
+    }
+    runner.end(file)
 }
 
-impl<T: Threads + Wait + Clock + Copy + Send + 'static> Subject for Failing<'_, T> {
-    fn tell(&mut self, told: &mut Told, alloc: Global, word: &str, argument: &[u8]) {
-        if word == "never-ends" {
-            return never_ends(self.rt, told, alloc);
-        }
-        let (name, rest) = split_word(argument).unwrap_or((argument, b""));
-        match parts_named(self.files, name) {
-            Some((input, outcomes)) => {
-                tell(self.rt, told, alloc, word, Case { input, outcomes }, rest)
-            }
-            None => told.refuse(),
-        }
+/// Tells what comes of a row: its run is that of the file of the first name.
+fn tell_row<T>(
+    rt: &T,
+    told: &mut Told,
+    alloc: Global,
+    files: &[CaseFile],
+    word: &str,
+    argument: &[u8],
+)
+where
+    T: Threads + Wait + Clock + Copy + Send + 'static,
+{
+    if word == "never-ends" {
+        return never_ends(rt, told, alloc);
+    }
+    let (name, rest) = split_word(argument).unwrap_or((argument, b""));
+    match parts_named(files, name) {
+        Some((input, outcomes)) => tell(rt, told, alloc, word, Case { input, outcomes }, rest),
+        None => told.refuse(),
     }
 }
 

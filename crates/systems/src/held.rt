@@ -3,19 +3,52 @@
 use crate::commands::event_of;
 use crate::settings::settings_named;
 use crate::words::{read_count, read_node};
-use case_files::{CaseFile, Subject, Told};
+use case_files::{CaseFile, Runner, Told};
 use envelope::TxnId;
-use input_text::split_word;
+use input_text::{Lines, split_word};
 use node_threads::{Held, Post, Shared, Till};
 use octets::Octets;
-use std::alloc::Global;
+use std::alloc::{AllocError, Global};
 use std::sync::{Arc, Wait};
 use world_setup::{Call, Event, Node, StepFault, WorldFault, WorldSettings};
 
-/// Rows about one node; the one behind a lock is waited for with this handle.
+/// Runs rows about one node.
+pub(crate) fn run<T: Wait>(
+    rt: &T,
+    runner: &mut Runner,
+    files: &[CaseFile],
+    file: &CaseFile,
+) -> Result<(), AllocError> {
+    let mut holding = Holding {
+        files,
+        shared: None,
+        held: None,
+        post: None,
+        till: None,
+    };
+    run_rows(rt, runner, file, &mut holding)
+}
+
+/// Runs all rows of a file.
+fn run_rows<T: Wait>(
+    rt: &T,
+    runner: &mut Runner,
+    file: &CaseFile,
+    holding: &mut Holding<'_>,
+) -> Result<(), AllocError> {
+    let alloc = runner.alloc();
+    for line in Lines::new(file.bytes()) {
+        if let Some(row) = runner.row(file, line)? {
+            holding.tell(rt, runner.told(), alloc, row.word(), row.argument());
+            runner.compare(file, line.number, &row)?;
+        }
+    }
+    runner.end(file)
+}
+
+/// One node.
 #[derive(Drop)]
-pub(crate) struct Holding<'a, T: Wait> {
-    rt: &'a T,
+struct Holding<'a> {
     files: &'a [CaseFile],
     shared: Option<Arc<Shared>>,
     held: Option<Held>,
@@ -23,31 +56,25 @@ pub(crate) struct Holding<'a, T: Wait> {
     till: Option<Till>,
 }
 
-impl<T: Wait> Subject for Holding<'_, T> {
-    fn tell(&mut self, told: &mut Told, alloc: Global, word: &str, argument: &[u8]) {
+impl Holding<'_> {
+    /// Tells what comes of a row.
+    fn tell<T: Wait>(
+        &mut self,
+        rt: &T,
+        told: &mut Told,
+        alloc: Global,
+        word: &str,
+        argument: &[u8],
+    ) {
         match word {
             "share" => self.share(told, alloc, argument),
             "hold" => self.hold(told, alloc, argument),
             "post" => self.post(told, alloc, argument),
-            "post-call" => self.post_call(told, alloc, argument),
+            "post-call" => self.post_call(rt, told, alloc, argument),
             _ => match &mut self.held {
                 Some(held) => tell(told, alloc, held, &mut self.till, word, argument),
                 None => told.refuse(),
             },
-        }
-    }
-}
-
-impl<'a, T: Wait> Holding<'a, T> {
-    /// No settings and no node yet.
-    pub(crate) fn new(rt: &'a T, files: &'a [CaseFile]) -> Holding<'a, T> {
-        Holding {
-            rt,
-            files,
-            shared: None,
-            held: None,
-            post: None,
-            till: None,
         }
     }
 
@@ -89,9 +116,9 @@ impl<'a, T: Wait> Holding<'a, T> {
     }
 
     /// Makes a call on the node behind the lock.
-    fn post_call(&self, told: &mut Told, alloc: Global, line: &[u8]) {
+    fn post_call<T: Wait>(&self, rt: &T, told: &mut Told, alloc: Global, line: &[u8]) {
         match (&self.post, call_of(alloc, line)) {
-            (Some(post), Some(call)) => tell_done(told, post.call(self.rt, alloc, call)),
+            (Some(post), Some(call)) => tell_done(told, post.call(rt, alloc, call)),
             _ => told.refuse(),
         }
     }

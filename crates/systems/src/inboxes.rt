@@ -2,20 +2,49 @@
 
 use crate::requests::numbered;
 use crate::words::{count_and_rest, read_number};
-use case_files::{Subject, Told};
-use input_text::split_word;
+use case_files::{CaseFile, Runner, Told};
+use input_text::{Lines, split_word};
 use node_threads::{Inbox, Mail, Pass, Places, PutFault};
 use octets::Octets;
-use std::alloc::Global;
+use std::alloc::{AllocError, Global};
 use std::sync::Wait;
 use std::thread;
 use std::thread::Threads;
 use world_setup::{Node, Packet};
 
-/// Rows about one inbox, and about places without packets; what waits there waits with this handle.
+/// Runs rows about inboxes.
+pub(crate) fn run<T: Threads + Wait + Sync>(
+    rt: &T,
+    runner: &mut Runner,
+    file: &CaseFile,
+) -> Result<(), AllocError> {
+    let mut inboxes = Inboxes {
+        open: None,
+        places: Places::new(1),
+    };
+    run_rows(rt, runner, file, &mut inboxes)
+}
+
+/// Runs all rows of a file.
+fn run_rows<T: Threads + Wait + Sync>(
+    rt: &T,
+    runner: &mut Runner,
+    file: &CaseFile,
+    inboxes: &mut Inboxes,
+) -> Result<(), AllocError> {
+    let alloc = runner.alloc();
+    for line in Lines::new(file.bytes()) {
+        if let Some(row) = runner.row(file, line)? {
+            inboxes.tell(rt, runner.told(), alloc, row.word(), row.argument());
+            runner.compare(file, line.number, &row)?;
+        }
+    }
+    runner.end(file)
+}
+
+/// One inbox, and places without packets.
 #[derive(Drop)]
-pub(crate) struct Inboxes<'a, T: Threads + Wait + Sync> {
-    rt: &'a T,
+struct Inboxes {
     open: Option<Opened>,
     places: Places,
 }
@@ -28,8 +57,16 @@ struct Opened {
     worker: Pass,
 }
 
-impl<T: Threads + Wait + Sync> Subject for Inboxes<'_, T> {
-    fn tell(&mut self, told: &mut Told, alloc: Global, word: &str, argument: &[u8]) {
+impl Inboxes {
+    /// Tells what comes of a row.
+    fn tell<T: Threads + Wait + Sync>(
+        &mut self,
+        rt: &T,
+        told: &mut Told,
+        alloc: Global,
+        word: &str,
+        argument: &[u8],
+    ) {
         match word {
             "places" => self.set_places(told, argument),
             "enter" => self.enter(told),
@@ -37,23 +74,12 @@ impl<T: Threads + Wait + Sync> Subject for Inboxes<'_, T> {
             "leave" => self.leave(told),
             "shut" => told.truth(self.places.close()),
             "free" => told.shown(self.places.cap().saturating_sub(self.places.taken())),
-            "exchange" => exchange(self.rt, told, alloc, argument),
-            "open" => self.open(told, alloc, argument),
+            "exchange" => exchange(rt, told, alloc, argument),
+            "open" => self.open(rt, told, alloc, argument),
             _ => match &mut self.open {
-                Some(open) => open.tell(self.rt, told, alloc, word, argument),
+                Some(open) => open.tell(rt, told, alloc, word, argument),
                 None => told.refuse(),
             },
-        }
-    }
-}
-
-impl<'a, T: Threads + Wait + Sync> Inboxes<'a, T> {
-    /// No inbox yet, and one place.
-    pub(crate) fn new(rt: &'a T) -> Inboxes<'a, T> {
-        Inboxes {
-            rt,
-            open: None,
-            places: Places::new(1),
         }
     }
 
@@ -83,9 +109,9 @@ impl<'a, T: Threads + Wait + Sync> Inboxes<'a, T> {
     }
 
     /// Opens an inbox of so many places.
-    fn open(&mut self, told: &mut Told, alloc: Global, argument: &[u8]) {
+    fn open<T: Wait>(&mut self, rt: &T, told: &mut Told, alloc: Global, argument: &[u8]) {
         self.open = match read_number(argument) {
-            Some(cap) => inbox_with_passes(self.rt, alloc, cap as usize),
+            Some(cap) => inbox_with_passes(rt, alloc, cap as usize),
             None => None,
         };
         told.word(if self.open.is_some() { "ok" } else { "none" });

@@ -27,14 +27,14 @@ mod tills;
 mod waits;
 mod words;
 
-use case_files::{CaseFile, Runner, Suite, read_folder, run};
+use case_files::{CaseFile, Runner, read_folder};
 use std::alloc::{AllocError, Global};
-use std::env;
 use std::io::{Eprint, Read};
 use std::process::ExitCode;
 use std::sync::Wait;
 use std::thread::Threads;
 use std::time::Clock;
+use std::{env, io};
 
 fn main(rt: HostRuntime) -> ExitCode {
     match words_of(&rt) {
@@ -42,9 +42,9 @@ fn main(rt: HostRuntime) -> ExitCode {
             Some(input) => ExitCode::from(work(&rt, rt.alloc(), &words, &input)),
             None => ExitCode::from(3),
         },
-        Some(_) => match read_folder(&rt, ".") {
-            Ok(files) => run(&rt, &mut Cases { rt: &rt, files }),
-            Err(_) => ExitCode::FAILURE,
+        Some(_) => match run_cases(&rt, &rt) {
+            Ok(true) => ExitCode::SUCCESS,
+            _ => ExitCode::FAILURE,
         },
         None => ExitCode::from(3),
     }
@@ -93,39 +93,73 @@ where
     }
 }
 
-/// Runs all files of cases and prints how they come out. Systems have their threads from this handle.
-#[derive(Drop)]
-struct Cases<'a, T: Threads + Wait + Clock + Copy + Send + Sync + 'static> {
-    rt: &'a T,
-    files: Vec<CaseFile>,
+/// Runs all files of cases and prints how they come out; whether all come out as they say. Systems have their threads from
+/// `threads`.
+fn run_cases<T>(rt: &HostRuntime, threads: &T) -> io::Result<bool>
+where
+    T: Threads + Wait + Clock + Copy + Send + Sync + 'static,
+{
+    let files = read_folder(rt, ".")?;
+    let mut runner = Runner::new(rt.alloc());
+    let done = run_files(threads, &mut runner, &files);
+    rt.print(runner.printed())?;
+    Ok(done.is_ok() && !runner.has_failed())
 }
 
-impl<T: Threads + Wait + Clock + Copy + Send + Sync + 'static> Suite for Cases<'_, T> {
-    fn check(&mut self, runner: &mut Runner, file: &CaseFile) -> Result<(), AllocError> {
-        match file.ending() {
-            "toml" => runner.line(file, "settings"),
-            "day" => runner.line(file, "day"),
-            "run" => runs::compare(self.rt, runner, file),
-            _ => self.rows(runner, file),
+/// Runs all files of cases: texts first, then the others, by name.
+fn run_files<T>(rt: &T, runner: &mut Runner, files: &[CaseFile]) -> Result<(), AllocError>
+where
+    T: Threads + Wait + Clock + Copy + Send + Sync + 'static,
+{
+    for file in files {
+        if file.ending() == "texts" {
+            runner.texts(file)?;
         }
+    }
+    for file in files {
+        run_file(rt, runner, files, file)?;
+    }
+    Ok(())
+}
+
+/// Runs a file of cases.
+fn run_file<T>(
+    rt: &T,
+    runner: &mut Runner,
+    files: &[CaseFile],
+    file: &CaseFile,
+) -> Result<(), AllocError>
+where
+    T: Threads + Wait + Clock + Copy + Send + Sync + 'static,
+{
+    match file.ending() {
+        "texts" => Ok(()),
+        "toml" => runner.line(file, "settings"),
+        "day" => runner.line(file, "day"),
+        "run" => runs::compare(rt, runner, file),
+        _ => run_rows(rt, runner, files, file),
     }
 }
 
-impl<T: Threads + Wait + Clock + Copy + Send + Sync + 'static> Cases<'_, T> {
-    /// Runs a file of rows.
-    fn rows(&self, runner: &mut Runner, file: &CaseFile) -> Result<(), AllocError> {
-        let rt = self.rt;
-        let files = self.files.as_slice();
-        let alloc = runner.alloc();
-        match file.stem() {
-            "inboxes" => runner.rows(file, &mut inboxes::Inboxes::new(rt)),
-            "held" => runner.rows(file, &mut held::Holding::new(rt, files)),
-            "judging" => runner.rows(file, &mut judging::Judging::new(alloc, files)),
-            "systems" => runner.rows(file, &mut systems::Running::new(rt, alloc, files)),
-            "failing" => runner.rows(file, &mut failing::Failing { rt, files }),
-            "refused" => runner.rows(file, &mut refused::Refused { files }),
-            "stops" => runner.rows(file, &mut stops::Stops),
-            _ => runner.fail(file, 0, "a file that is not known"),
-        }
+/// Runs a file of rows.
+fn run_rows<T>(
+    rt: &T,
+    runner: &mut Runner,
+    files: &[CaseFile],
+    file: &CaseFile,
+) -> Result<(), AllocError>
+where
+    T: Threads + Wait + Clock + Copy + Send + Sync + 'static,
+{
+    let alloc = runner.alloc();
+    match file.stem() {
+        "inboxes" => inboxes::run(rt, runner, file),
+        "held" => held::run(rt, runner, files, file),
+        "judging" => runner.rows(file, &mut judging::Judging::new(alloc, files)),
+        "systems" => systems::run(rt, runner, files, file),
+        "failing" => failing::run(rt, runner, files, file),
+        "refused" => runner.rows(file, &mut refused::Refused { files }),
+        "stops" => runner.rows(file, &mut stops::Stops),
+        _ => runner.fail(file, 0, "a file that is not known"),
     }
 }

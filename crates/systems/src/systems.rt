@@ -9,22 +9,60 @@ use crate::restarts::restarted;
 use crate::settings::settings_named;
 use crate::waits::{settled, settled_by_itself};
 use crate::words::{count_and_rest, place_of, read_count, read_node, read_number};
-use case_files::{CaseFile, Subject, Told};
-use input_text::split_word;
+use case_files::{CaseFile, Runner, Told};
+use input_text::{Lines, split_word};
 use node_threads::{Status, StatusFault, System, Till, Workers};
 use octets::Octets;
 use schedule::Command;
-use std::alloc::Global;
+use std::alloc::{AllocError, Global};
 use std::sync::{Arc, Wait};
 use std::thread::Threads;
 use std::time::Clock;
 use world_setup::{LinkFault, StepFault, WorldSettings};
 
-/// Rows about one running system, and about what it did once it has ended.
+/// Runs rows about systems.
+pub(crate) fn run<T>(
+    rt: &T,
+    runner: &mut Runner,
+    files: &[CaseFile],
+    file: &CaseFile,
+) -> Result<(), AllocError>
+where
+    T: Threads + Wait + Clock + Copy + Send + Sync + 'static,
+{
+    let alloc = runner.alloc();
+    let mut running = Running {
+        files,
+        faults: Vec::new(alloc),
+        live: None,
+        ended: None,
+    };
+    run_rows(rt, runner, file, &mut running)
+}
+
+/// Runs all rows of a file.
+fn run_rows<T>(
+    rt: &T,
+    runner: &mut Runner,
+    file: &CaseFile,
+    running: &mut Running<'_>,
+) -> Result<(), AllocError>
+where
+    T: Threads + Wait + Clock + Copy + Send + Sync + 'static,
+{
+    let alloc = runner.alloc();
+    for line in Lines::new(file.bytes()) {
+        if let Some(row) = runner.row(file, line)? {
+            running.tell(rt, runner.told(), alloc, row.word(), row.argument());
+            runner.compare(file, line.number, &row)?;
+        }
+    }
+    runner.end(file)
+}
+
+/// One running system, and what it did once it has ended.
 #[derive(Drop)]
-pub(crate) struct Running<'a, T: Threads + Wait + Clock + Copy + Send + Sync + 'static> {
-    /// What the system has its threads from.
-    rt: &'a T,
+struct Running<'a> {
     files: &'a [CaseFile],
     faults: Vec<LinkFault>,
     live: Option<Live>,
@@ -42,33 +80,24 @@ struct Live {
     ticks: u64,
 }
 
-impl<T: Threads + Wait + Clock + Copy + Send + Sync + 'static> Subject for Running<'_, T> {
-    fn tell(&mut self, told: &mut Told, alloc: Global, word: &str, argument: &[u8]) {
+impl Running<'_> {
+    /// Tells what comes of a row.
+    fn tell<T>(&mut self, rt: &T, told: &mut Told, alloc: Global, word: &str, argument: &[u8])
+    where
+        T: Threads + Wait + Clock + Copy + Send + Sync + 'static,
+    {
         match word {
             "fault" => self.fault(told, alloc, argument),
-            "start" => self.start(told, alloc, argument),
-            "held-until" => self.held_until(told, alloc, argument),
-            "finish" => self.finish(told, argument),
+            "start" => self.start(rt, told, alloc, argument),
+            "held-until" => self.held_until(rt, told, alloc, argument),
+            "finish" => self.finish(rt, told, argument),
             _ => match &mut self.live {
-                Some(live) => live.tell(self.rt, told, alloc, word, argument),
+                Some(live) => live.tell(rt, told, alloc, word, argument),
                 None => match &self.ended {
                     Some(ended) => ended.tell(told, alloc, word, argument),
                     None => told.refuse(),
                 },
             },
-        }
-    }
-}
-
-impl<'a, T: Threads + Wait + Clock + Copy + Send + Sync + 'static> Running<'a, T> {
-    /// No system yet, and no fault of a link.
-    pub(crate) fn new(rt: &'a T, alloc: Global, files: &'a [CaseFile]) -> Running<'a, T> {
-        Running {
-            rt,
-            files,
-            faults: Vec::new(alloc),
-            live: None,
-            ended: None,
         }
     }
 
@@ -84,9 +113,12 @@ impl<'a, T: Threads + Wait + Clock + Copy + Send + Sync + 'static> Running<'a, T
     }
 
     /// Starts the nodes of the settings of a name.
-    fn start(&mut self, told: &mut Told, alloc: Global, name: &[u8]) {
+    fn start<T>(&mut self, rt: &T, told: &mut Told, alloc: Global, name: &[u8])
+    where
+        T: Threads + Wait + Copy + Send + 'static,
+    {
         self.live = match settings_named(alloc, self.files, name) {
-            Some(settings) => started(self.rt, alloc, settings, &self.faults),
+            Some(settings) => started(rt, alloc, settings, &self.faults),
             None => None,
         };
         self.faults.clear();
@@ -94,26 +126,29 @@ impl<'a, T: Threads + Wait + Clock + Copy + Send + Sync + 'static> Running<'a, T
     }
 
     /// Runs a system whose gate holds switch 1 until another node is inside.
-    fn held_until(&mut self, told: &mut Told, alloc: Global, argument: &[u8]) {
+    fn held_until<T>(&mut self, rt: &T, told: &mut Told, alloc: Global, argument: &[u8])
+    where
+        T: Threads + Wait + Clock + Copy + Send + Sync + 'static,
+    {
         let (name, request) = split_word(argument).unwrap_or((argument, b""));
         match settings_named(alloc, self.files, b"two-switches") {
             Some(settings) => {
                 let node = read_node(name);
-                self.ended = held_switch(self.rt, told, alloc, settings, node, request);
+                self.ended = held_switch(rt, told, alloc, settings, node, request);
             }
             None => told.refuse(),
         }
     }
 
     /// Ends the system with the first so many of its tills, or with all.
-    fn finish(&mut self, told: &mut Told, argument: &[u8]) {
+    fn finish<T: Threads + Wait>(&mut self, rt: &T, told: &mut Told, argument: &[u8]) {
         match self.live.take() {
             Some(live) => {
                 let tills = match read_count(argument) {
                     Some(tills) => tills as usize,
                     None => usize::MAX,
                 };
-                self.ended = finished(self.rt, told, live, tills);
+                self.ended = finished(rt, told, live, tills);
             }
             None => told.refuse(),
         }
