@@ -3,6 +3,7 @@ use Rattle.std.specs.Prelude.{ℕ, Bool, not, ◌&&◌, nat_le, if◌then◌else
 use Rattle.std.specs.Option.{option_or}
 use Rattle.std.specs.List.{list_any}
 use Rattle.bin_routes.specs.Row.{Row, is_bin, has_pcn, filled_row, same_key}
+use Rattle.bin_routes.specs.Table.{RouteMaps, has_key}
 use Rattle.bin_routes.specs.declared.fault.RoutesFault.{RoutesFault}
 use Rattle.bin_routes.specs.declared.fault.RoutesFault.TheVariants.{BadBin, SameRow, NoSuchPayer, BadPcn}
 
@@ -20,6 +21,10 @@ text_fault payers place row =
 -- what is wrong with a row whose key is or is not that of an earlier one
 abbrev pub row_fault : ℕ → ℕ → Row → Bool → Option RoutesFault
 row_fault payers place row same = option_or (text_fault payers place row) (if same then Some (SameRow place) else None)
+
+-- what is wrong with the row at a place, beside the rows of these maps
+abbrev pub fault_beside : RouteMaps → ℕ → ℕ → Row → Option RoutesFault
+fault_beside maps payers place row = row_fault payers place row (has_key maps (filled_row row))
 
 -- whether an earlier row has the key of this one
 abbrev pub is_taken : List Row → Row → Bool

@@ -7,5 +7,6 @@ ghost use Rattle.bin_routes.specs.Table.{routes_of, payer_at};
 
 /// Where rows have no fault, each payer that they route to is one of the payers.
 pub fn route_laws()
-    ensures { (payers : ℕ) (rows : List Row) (bin pcn : List ℕ) → first_fault payers rows ≡ None → IfSome (payer_at (routes_of rows) bin pcn) (λ payer. (1 ≤ payer) × (payer ≤ payers)) }
+    ensures { (payers : ℕ) (rows : List Row) (bin pcn : List ℕ) → first_fault payers rows ≡ None
+        → IfSome (payer_at (routes_of rows) bin pcn) (λ payer. (1 ≤ payer) × (payer ≤ payers)) }
 {}

@@ -3,7 +3,7 @@
 ghost use Rattle.std.specs.Prelude.{◌≡◌, ◌⊎◌, [], None, Some, IfOk, IfErr, OnOk};
 ghost use Rattle.bin_routes.specs.declared.fault.RoutesFault.TheVariants.{OutOfMemory};
 ghost use Rattle.bin_routes.specs.Row.{filled_row};
-ghost use Rattle.bin_routes.specs.Fault.{first_fault, row_fault};
+ghost use Rattle.bin_routes.specs.Fault.{first_fault, fault_beside};
 ghost use Rattle.bin_routes.specs.Table.{RouteMaps, routes_of, payer_at, has_key, with_row};
 
 use crate::fault::RoutesFault;
@@ -71,8 +71,9 @@ impl Routes {
 
     /// Adds the row at a place.
     fn add(&mut self, place: usize, row: &RouteRow, payers: u16) -> Result<(), RoutesFault>
-        ensures ok { OnOk result ((self.new ≡ with_row self.old (filled_row row.now)) × (row_fault payers place row.now (has_key self.old (filled_row row.now)) ≡ None)) }
-        ensures fault { IfErr result (λ fault. (fault ≡ OutOfMemory) ⊎ (row_fault payers place row.now (has_key self.old (filled_row row.now)) ≡ Some fault)) }
+        ensures ok { OnOk result ((self.new ≡ with_row self.old (filled_row row.now))
+            × (fault_beside self.old payers place row.now ≡ None)) }
+        ensures fault { IfErr result (λ e. (e ≡ OutOfMemory) ⊎ (fault_beside self.old payers place row.now ≡ Some e)) }
     {
         let route = Route::of_row(place, row, payers)?;
         if self.has(&route) {

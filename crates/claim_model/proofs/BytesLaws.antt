@@ -11,7 +11,7 @@ use Rattle.d0_segments.specs.Parts.{SegmentParts, TransmissionParts}
 use Rattle.d0_segments.specs.Separators.{group_separator}
 use Rattle.d0_segments.specs.Faults.{or_else, count_groups}
 use Rattle.d0_segments.specs.Pieces.{onto, pieces, segments_of, groups_of}
-use Rattle.d0_segments.specs.Framing.{request_kind, count_fault, after_header, framing_fault, unless, transmission_of}
+use Rattle.d0_segments.specs.Framing.{request_kind, count_fault, after_header, framing_fault, transmission_of}
 use Rattle.envelope.specs.Txn.{Txn, IsTxn}
 use Rattle.envelope.specs.Envelope.{envelope_text}
 use Rattle.envelope.specs.Opening.{envelope_of}
@@ -33,6 +33,8 @@ use Rattle.claim_model.specs.Laws.{IsEnvelope, IsPrescription, IsClaimOf, IsReve
 use Rattle.claim_model.specs.Bytes.{order_in, orders_in, envelope_in, bytes_with}
 use Rattle.claim_model.proofs.Options.{map_some, then_some, same_some}
 use Rattle.claim_model.proofs.Tests.{readable_parts}
+use Rattle.d0_segments.proofs.Left.{onto_length}
+use Rattle.claim_profile.proofs.CarriedHeaders.{unless_none}
 
 -- envelopes
 
@@ -44,10 +46,6 @@ envelopes_read law routes e fits =
     ap envelope_in (law (0, 0) e.kind e.id e.payload (record { some_pharmacy = fits.pharmacy; some_number = fits.number; pharmacy_fits = fits.pharmacy_fits; number_fits = fits.number_fits }) fits.payload)
 
 -- groups
-
-unless_none : {A : Type 0} (o : Option FramingFault) (x t : A) → unless o x ≡ Some t → (o ≡ None) × (x ≡ t)
-unless_none (Some f) x t e = absurd cc
-unless_none None x t e = (refl, cc)
 
 or_else_none : (a b : Option FramingFault) → or_else a b ≡ None → b ≡ None
 or_else_none (Some f) b e = absurd cc
@@ -64,17 +62,13 @@ count_same said found e = by_test (said == found) refl e
     by_test true is h = eqb-true said found is
     by_test false is h = absurd cc
 
-length_onto : (b : ℕ) (ps : List (List ℕ)) → 0 < length ps → length (onto b ps) ≡ length ps
-length_onto b [] h = absurd (omega arith)
-length_onto b (p ∷ ps) h = refl
-
 length_pieces : (bs : List ℕ) → length (pieces group_separator bs) ≡ suc (count_groups bs)
 length_pieces [] = refl
 length_pieces (b ∷ bs) = by_test (b == group_separator) (length_pieces bs)
   where
     by_test : (t : Bool) → length (pieces group_separator bs) ≡ suc (count_groups bs) → length (cond t ([] ∷ pieces group_separator bs) (onto b (pieces group_separator bs))) ≡ suc (cond t 1 0 + count_groups bs)
     by_test true h = omega (arith, h)
-    by_test false h = omega (arith, h, length_onto b (pieces group_separator bs) (omega (arith, h)))
+    by_test false h = omega (arith, h, onto_length b (pieces group_separator bs) (omega (arith, h)))
 
 length_groups : (body : List ℕ) → length (groups_of body) ≡ count_groups body
 length_groups body =
@@ -114,7 +108,7 @@ NumbersInRange = (digits : ℕ) (text : List ℕ) (number : ℕ) → number_of d
 abbrev pub AmountsInRange : Type 0
 AmountsInRange = (text : List ℕ) (cents : ℤ) → amount_of text ≡ Ok cents → IsAmount cents
 
-result_ok_some : {A E : Type 0} (r : Result A E) (a : A) → result_ok r ≡ Some a → r ≡ Ok a
+pub result_ok_some : {A E : Type 0} (r : Result A E) (a : A) → result_ok r ≡ Some a → r ≡ Ok a
 result_ok_some (Ok b) a e = ap (λ x. Ok x) (same_some b a e)
 result_ok_some (Err f) a e = absurd cc
 
@@ -138,11 +132,11 @@ prescription_fits law group p e =
     let v = required_some (number_up_to 12) (values_in (codes "07") (codes "D2") group) p f in
     law 12 v.0 p (result_ok_some (number_of 12 v.0) p v.1)
 
-cents_fit : (cents : ℤ) (x : ℕ) → IsAmount cents → not_negative cents ≡ Some x → x ≤ 99999999
+pub cents_fit : (cents : ℤ) (x : ℕ) → IsAmount cents → not_negative cents ≡ Some x → x ≤ 99999999
 cents_fit (pos n) x a e = let same : n ≡ x = same_some n x e in omega (arith, same, a)
 cents_fit (negsuc n) x a e = absurd cc
 
-amount_fits : AmountsInRange → (v : List ℕ) (x : ℕ) → amount_in_cents v ≡ Some x → x ≤ 99999999
+pub amount_fits : AmountsInRange → (v : List ℕ) (x : ℕ) → amount_in_cents v ≡ Some x → x ≤ 99999999
 amount_fits law v x e =
     let s = then_some not_negative (result_ok (amount_of v)) x e in cents_fit s.0 x (law v s.0 (result_ok_some (amount_of v) s.0 s.1)) s.2
 

@@ -222,7 +222,7 @@ ledger_groups ctx b rs id place (order ∷ orders) l =
     let next = ledger_groups ctx b (rs ++ x ∷ []) id (place + 1) orders (ledger_more ctx b rs id place order l) in
     subst (Ledger b.payer b.settings.serial) (append_assoc rs (x ∷ []) (ruled_from id (place + 1) orders (rulings_from ctx b (rs ++ x ∷ []) id (place + 1) orders))) next
 
-ruled_rows_more : (ctx : Context) (rows : List Row) (row : Row) → ruled_rows ctx (rows ++ row ∷ []) ≡ ruled_rows ctx rows ++ ruled_row ctx row
+pub ruled_rows_more : (ctx : Context) (rows : List Row) (row : Row) → ruled_rows ctx (rows ++ row ∷ []) ≡ ruled_rows ctx rows ++ ruled_row ctx row
 ruled_rows_more ctx [] row = append-nil (ruled_row ctx row)
 ruled_rows_more ctx (r ∷ rows) row =
     ap (λ (xs : List Ruled). ruled_row ctx r ++ xs) (ruled_rows_more ctx rows row) ∙ sym (append_assoc (ruled_row ctx r) (ruled_rows ctx rows) (ruled_row ctx row))

@@ -120,7 +120,7 @@ run_posts ctx given w [] laws accepts p = p
 run_posts ctx given w (event ∷ events) laws accepts p =
     run_posts ctx given (world_after w (step ctx w event)) events laws accepts (outcome_posts ctx given w event (step ctx w event) laws accepts p refl)
 
-length_switches : (caps : List ℕ) → length (switches_of caps) ≡ length caps
+pub length_switches : (caps : List ℕ) → length (switches_of caps) ≡ length caps
 length_switches [] = refl
 length_switches (c ∷ caps) = ap suc (length_switches caps)
 

@@ -27,11 +27,11 @@ record IsAmong (packets : List Packet) (p : Packet) : Type 0 where
 all_among : (packets : List Packet) → AllByRecursion (IsAmong packets) packets
 all_among packets = all_from (IsAmong packets) packets (λ n p e. record { number = n; is = e })
 
-all_left : {A : Type 0} (P : A → Type 0) (xs ys : List A) → AllByRecursion P (xs ++ ys) → AllByRecursion P xs
+pub all_left : {A : Type 0} (P : A → Type 0) (xs ys : List A) → AllByRecursion P (xs ++ ys) → AllByRecursion P xs
 all_left P [] ys a = tt
 all_left P (x ∷ xs) ys a = (a.0, all_left P xs ys a.1)
 
-all_right : {A : Type 0} (P : A → Type 0) (xs ys : List A) → AllByRecursion P (xs ++ ys) → AllByRecursion P ys
+pub all_right : {A : Type 0} (P : A → Type 0) (xs ys : List A) → AllByRecursion P (xs ++ ys) → AllByRecursion P ys
 all_right P [] ys a = a
 all_right P (x ∷ xs) ys a = all_right P xs ys a.1
 

@@ -24,6 +24,10 @@ pub record Reached (ctx : Context) (settings : WorldSettings) (w : World) : Type
   pub events : List Event
   pub leads : run ctx (opening settings) events ≡ w
 
+-- this is true of every world that events lead to
+abbrev pub Always : (Context → World → Type 0) → Type 0
+Always promise = (ctx : Context) (settings : WorldSettings) (w : World) → Reached ctx settings w → promise ctx w
+
 -- a packet is an envelope, and a request in it is the one that was submitted under its id
 pub record AsksAsSubmitted (ctx : Context) (w : World) (p : Packet) : Type 0 where
   pub envelope : Envelope

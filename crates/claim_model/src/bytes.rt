@@ -30,7 +30,8 @@ pub fn bytes_keep_laws()
 
 /// Rows without a fault lead to payers that are there.
 pub fn routes_lead_to_payers()
-    ensures { (payers : ℕ) (rows : List Row) (bin pcn : List ℕ) (payer : ℕ) → first_fault payers rows ≡ None → (bytes_with (routes_of rows)).route bin pcn ≡ Some payer → (0 < payer) × (payer ≤ payers) }
+    ensures { (payers : ℕ) (rows : List Row) (bin pcn : List ℕ) (payer : ℕ) → first_fault payers rows ≡ None
+        → (bytes_with (routes_of rows)).route bin pcn ≡ Some payer → (0 < payer) × (payer ≤ payers) }
 {
     route_laws();
 }
@@ -43,9 +44,12 @@ pub fn readable_requests()
 /// What a readable request asks for: an order of its header, or one to five reject codes, for each of its
 /// transactions; and what a plan pays for such a claim can be written.
 pub fn orders_of_requests()
-    ensures groups { (routes : RouteMaps) (text : List ℕ) (h : RequestHeader) → readable (bytes_with routes) text ≡ Some h → length ((bytes_with routes).orders text) ≡ h.count }
-    ensures orders { (routes : RouteMaps) (text : List ℕ) (h : RequestHeader) → readable (bytes_with routes) text ≡ Some h → AllByRecursion (IsOrderOf h) ((bytes_with routes).orders text) }
-    ensures prices { (routes : RouteMaps) (plan : Plan) (h : RequestHeader) (c : Claim) (amounts : Amounts) → IsClaimOf h c → (bytes_with routes).price plan c ≡ Some amounts → IsAmounts amounts }
+    ensures groups { (routes : RouteMaps) (text : List ℕ) (h : RequestHeader)
+        → readable (bytes_with routes) text ≡ Some h → length ((bytes_with routes).orders text) ≡ h.count }
+    ensures orders { (routes : RouteMaps) (text : List ℕ) (h : RequestHeader)
+        → readable (bytes_with routes) text ≡ Some h → AllByRecursion (IsOrderOf h) ((bytes_with routes).orders text) }
+    ensures prices { (routes : RouteMaps) (plan : Plan) (h : RequestHeader) (c : Claim) (amounts : Amounts)
+        → IsClaimOf h c → (bytes_with routes).price plan c ≡ Some amounts → IsAmounts amounts }
 {
     number_in_range();
     amount_in_range();
@@ -53,7 +57,9 @@ pub fn orders_of_requests()
 
 /// What bytes are as an envelope, or what is wrong with them, does not hang on their place in memory.
 pub fn envelopes_know_no_place()
-    ensures same { (p q : ℕ × ℕ) (bytes : List ℕ) → envelope_in (envelope_of p bytes) ≡ envelope_in (envelope_of q bytes) }
+    ensures same { (p q : ℕ × ℕ) (bytes : List ℕ) → envelope_in (envelope_of p bytes)
+        ≡ envelope_in (envelope_of q bytes) }
     // So bytes that are read wherever they stand are the envelope that the model reads.
-    ensures read { (routes : RouteMaps) (place : ℕ × ℕ) (bytes : List ℕ) → (bytes_with routes).read_envelope bytes ≡ envelope_in (envelope_of place bytes) }
+    ensures read { (routes : RouteMaps) (place : ℕ × ℕ) (bytes : List ℕ)
+        → (bytes_with routes).read_envelope bytes ≡ envelope_in (envelope_of place bytes) }
 {}

@@ -11,24 +11,28 @@ ghost use Rattle.claim_model.specs.Interleavings.{Begins, GoesOn, IsInterleaving
 
 /// Where the logs of a run are how the logs of another run begin, some node can make the next call of its own, or all are made.
 pub fn enabled_calls_lead_on()
-    ensures { (ctx : Context) (w : World) (events made : List Event) → ((node : Node) → Begins (log_in ctx w made node) (log_in ctx w events node)) → GoesOn ctx w events made }
+    ensures { (ctx : Context) (w : World) (events made : List Event)
+        → ((node : Node) → Begins (log_in ctx w made node) (log_in ctx w events node)) → GoesOn ctx w events made }
 {}
 
 /// Where logs have a legal interleaving, a run that is begun along them is one itself, or the next call of one of them is
 /// enabled. So one enabled call after another finds an interleaving, whichever is taken; and where none is enabled and calls
 /// are left, there is none.
 pub fn interleavings_are_found()
-    ensures { (ctx : Context) (settings : WorldSettings) (logs : List NodeLog) (events made : List Event) → IsInterleaving ctx settings logs events → IsBegun ctx settings logs made
+    ensures { (ctx : Context) (settings : WorldSettings) (logs : List NodeLog) (events made : List Event)
+        → IsInterleaving ctx settings logs events → IsBegun ctx settings logs made
         → NextCall ctx settings logs made ⊎ IsInterleaving ctx settings logs made }
 {}
 
 /// Each log of an interleaving is made by its node alone, and tells what the node is at the end and all that it sent.
 pub fn logs_of_interleavings()
-    ensures { (ctx : Context) (settings : WorldSettings) (logs : List NodeLog) (events : List Event) → IsInterleaving ctx settings logs events → AllByRecursion (IsLogOf ctx settings events) logs }
+    ensures { (ctx : Context) (settings : WorldSettings) (logs : List NodeLog) (events : List Event)
+        → IsInterleaving ctx settings logs events → AllByRecursion (IsLogOf ctx settings events) logs }
 {}
 
 /// All interleavings of the same logs end with the same nodes, and with the same packets of each sender in the same order.
 pub fn interleavings_agree()
-    ensures { (ctx : Context) (settings : WorldSettings) (logs : List NodeLog) (events others : List Event) → IsInterleaving ctx settings logs events → IsInterleaving ctx settings logs others
+    ensures { (ctx : Context) (settings : WorldSettings) (logs : List NodeLog) (events others : List Event)
+        → IsInterleaving ctx settings logs events → IsInterleaving ctx settings logs others
         → SameNodes (run ctx (opening settings) events) (run ctx (opening settings) others) }
 {}

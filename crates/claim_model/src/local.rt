@@ -13,19 +13,23 @@ ghost use Rattle.claim_model.specs.Local.{IsLocal, StaysEnabled};
 pub fn calls_are_local()
     ensures calls { (ctx : Context) (w : World) (node : Node) (call : Call) → IsLocal ctx w node call }
     // An event is the one call that it asks for.
-    ensures events { (ctx : Context) (w : World) (event : Event) → step ctx w event ≡ asked_step ctx w (asked w.packets event) }
+    ensures events { (ctx : Context) (w : World) (event : Event)
+        → step ctx w event ≡ asked_step ctx w (asked w.packets event) }
 {}
 
 /// Two packets with the same sender, addressee and bytes serve alike: delivered, either leads to the same world with the
 /// same packets, and adds the same to each log.
 pub fn equal_packets_serve_alike()
-    ensures step { (ctx : Context) (w : World) (j k : ℕ) → numbered w.packets j ≡ numbered w.packets k → step ctx w (Delivery j) ≡ step ctx w (Delivery k) }
+    ensures step { (ctx : Context) (w : World) (j k : ℕ) → numbered w.packets j ≡ numbered w.packets k
+        → step ctx w (Delivery j) ≡ step ctx w (Delivery k) }
     ensures logged { (ctx : Context) (w : World) (j k : ℕ) (node : Node) → numbered w.packets j ≡ numbered w.packets k
-        → logged_by node (asked w.packets (Delivery j)) (step ctx w (Delivery j)) ≡ logged_by node (asked w.packets (Delivery k)) (step ctx w (Delivery k)) }
+        → logged_by node (asked w.packets (Delivery j)) (step ctx w (Delivery j))
+        ≡ logged_by node (asked w.packets (Delivery k)) (step ctx w (Delivery k)) }
 {}
 
 /// What a node would accept now it would accept, and send the same for, after any events in which it makes no call: packets
 /// are never used up, and no other node takes anything from it.
 pub fn enabled_calls_stay()
-    ensures { (ctx : Context) (w : World) (event : Event) (a : Asked) (events : List Event) → StaysEnabled ctx w event a events }
+    ensures { (ctx : Context) (w : World) (event : Event) (a : Asked) (events : List Event)
+        → StaysEnabled ctx w event a events }
 {}

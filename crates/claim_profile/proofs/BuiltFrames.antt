@@ -6,12 +6,9 @@ use Rattle.d0_segments.specs.Parts.{are_segments, are_groups}
 use Rattle.d0_segments.specs.Framing.{IsRequestFramed}
 use Rattle.claim_profile.specs.Building.{Billing, IsBilling, billing_group, billing_parts, insurance_segment, billed_segment, submitted_segment, Reversing, IsReversing, reversal_parts, reversed_segment, IsSubmitted, has_more_digits, has_separator, is_fill_too_long, is_billing_too_long, is_reversal_too_long, part_fault, billing_fault, reversal_fault}
 use Rattle.claim_profile.proofs.PlainTexts.{number_plain, amount_plain}
+use Rattle.d0_segments.proofs.Walking.{neither}
 
-neither : (a b : Bool) → (a || b) ≡ false → (a ≡ false) × (b ≡ false)
-neither true b e = absurd cc
-neither false b e = (refl, e)
-
-not_either : (a b : Bool) → (not a && not b) ≡ not (a || b)
+pub not_either : (a b : Bool) → (not a && not b) ≡ not (a || b)
 not_either true b = refl
 not_either false b = refl
 

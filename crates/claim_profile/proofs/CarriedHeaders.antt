@@ -5,11 +5,10 @@ use Rattle.std.specs.List.{AllByRecursion}
 use Rattle.std.specs.Str.{bytes_eq}
 use Rattle.std.proofs.lemmas.Bool.{and_parts}
 use Rattle.std.proofs.lemmas.Slice.Eq.{bytes_eq-Decides}
-use Rattle.d0_header.specs.declared.fault.HeaderFault.{HeaderFault}
 use Rattle.d0_header.specs.Request.{Request, IsRequest, request_text, request_of, request_fault}
 use Rattle.d0_segments.specs.declared.fault.FramingFault.{FramingFault}
 use Rattle.d0_segments.specs.Parts.{TransmissionParts}
-use Rattle.d0_segments.specs.Framing.{request_kind, after_header, framing_fault, unless, transmission_of}
+use Rattle.d0_segments.specs.Framing.{request_kind, framing_fault, unless, transmission_of}
 use Rattle.claim_profile.specs.declared.reject.Code.TheVariants.{Bin}
 use Rattle.claim_profile.specs.declared.ruling.Ruling.{Ruling}
 use Rattle.claim_profile.specs.declared.ruling.Ruling.TheVariants.{Rejected}
@@ -19,14 +18,11 @@ use Rattle.claim_profile.specs.Transaction.{transaction_code}
 use Rattle.claim_profile.proofs.TransactionLemmas.{only, some_code}
 use Rattle.claim_profile.specs.Readable.{is_carried, if_carried, framed_header, longest_request, readable_header}
 use Rattle.claim_profile.specs.Answering.{IsConstructible, Answers, unrouted, IsCarried}
+use Rattle.claim_profile.proofs.Headers.{no_header_fault}
 
-unless_none : {A : Type 0} (o : Option FramingFault) (x t : A) → unless o x ≡ Some t → (o ≡ None) × (x ≡ t)
+pub unless_none : {A : Type 0} (o : Option FramingFault) (x t : A) → unless o x ≡ Some t → (o ≡ None) × (x ≡ t)
 unless_none (Some f) x t e = absurd cc
 unless_none None x t e = (refl, cc)
-
-header_none : (a : Option HeaderFault) (b : Option FramingFault) → after_header a b ≡ None → a ≡ None
-header_none (Some f) b e = absurd cc
-header_none None b e = refl
 
 abbrev pub SoundWhereFaultless : Type 0
 SoundWhereFaultless = (bytes : List ℕ) → request_fault bytes ≡ None → IsRequest (request_of bytes) × (bytes ≡ request_text (request_of bytes) ++ drop 56 bytes)
@@ -36,7 +32,7 @@ framed_sound : SoundWhereFaultless → (text : List ℕ) (t : TransmissionParts 
 unfolding transmission_of framing_fault
 framed_sound found text t e =
     let u = unless_none _ _ t e in
-    subst (λ (x : TransmissionParts Request). IsRequest x.header) u.1 (found text (header_none _ _ u.0)).0
+    subst (λ (x : TransmissionParts Request). IsRequest x.header) u.1 (found text (no_header_fault _ _ u.0)).0
 
 carried_from : (h : Request) → IsRequest h → is_carried h ≡ true → IsCarried h
 carried_from h sound e =

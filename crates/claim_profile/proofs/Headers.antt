@@ -22,7 +22,7 @@ framed false o h e = absurd cc
 framed true None h e = absurd cc
 framed true (Some g) h e = ap (λ (x : Request). Some x) (is_same g h e)
 
-no_header_fault : (a : Option HeaderFault) (b : Option FramingFault) → after_header a b ≡ None → a ≡ None
+pub no_header_fault : (a : Option HeaderFault) (b : Option FramingFault) → after_header a b ≡ None → a ≡ None
 no_header_fault None b e = refl
 no_header_fault (Some f) b e = absurd cc
 

@@ -1,28 +1,16 @@
 -- Numbers in a fixed count of digits are read back, and so are authorizations.
-use Rattle.std.proofs.Common.{◌≡◌, ℕ, zero, suc, ◌+◌, ◌-◌, ◌*◌, ◌/◌, ◌%◌, ◌^◌, ◌<◌, ◌≤◌, true, false, cond, not, List, [], ◌∷◌, ◌++◌, length, nat_eq, nat_le, nat_lt, Some, None, Ok, refl, arith, add-one, length-append}
+use Rattle.std.proofs.Common.{◌≡◌, ℕ, zero, suc, ◌+◌, ◌-◌, ◌*◌, ◌/◌, ◌%◌, ◌^◌, ◌<◌, ◌≤◌, true, false, [], ◌∷◌, length, nat_eq, nat_le, nat_lt, Some, Ok, refl, arith, length-append}
 use Rattle.std.proofs.Math.Nat.{pow-suc}
 use Rattle.std.proofs.lemmas.Nat.{div_below}
 use Rattle.std.proofs.lemmas.List.{map-append, take_at, drop_at}
 use Rattle.std.proofs.lemmas.Bool.Decides.{nat_tests}
-use Rattle.std.specs.List.{AllByRecursion, prefix_len}
-use Rattle.std.specs.Char.{IsAsciiDigit, is_ascii_digit}
-use Rattle.overpunch.specs.Number.{places_value, digits_in, number_value, first_other, number_of}
+use Rattle.std.specs.List.{AllByRecursion}
+use Rattle.std.specs.Char.{IsAsciiDigit}
+use Rattle.overpunch.specs.Number.{digits_in, number_value, number_of}
 use Rattle.claim_profile.specs.Authorization.{Authorization, IsAuthorization, padded_number, authorization_text, authorization_with, authorization_of}
 use Rattle.claim_profile.proofs.AuthorizationLemmas.{length-padded_number}
-
--- one more digit at the end of a sum of places
-places_value_push : (ds : List ℕ) (d : ℕ) → places_value (ds ++ d ∷ []) ≡ places_value ds * 10 + d
-places_value_push [] d = omega arith
-places_value_push (x ∷ xs) d =
-    rw (places_value_push xs d, length-append xs (d ∷ []), tenfold (length xs)) (omega arith)
-  where
-    tenfold : (n : ℕ) → 10 ^ (n + 1) ≡ 10 ^ n * 10
-    tenfold n = rw add-one (pow-suc 10 n)
-
--- one more digit behind digits
-pub all_push : (text : List ℕ) (byte : ℕ) → AllByRecursion IsAsciiDigit text → IsAsciiDigit byte → AllByRecursion IsAsciiDigit (text ++ byte ∷ [])
-all_push [] byte h last = (last, tt)
-all_push (x ∷ xs) byte h last = (h.0, all_push xs byte h.1 last)
+use Rattle.overpunch.proofs.Places.{places_value_push}
+use Rattle.overpunch.proofs.OwnNumbers.{all_push, none_from_all}
 
 -- the bytes of a padded number are digits
 pub padded_digits : (k n : ℕ) → AllByRecursion IsAsciiDigit (padded_number k n)
@@ -40,20 +28,6 @@ padded_value (suc k) n below =
     let room : n < 10 ^ k * 10 = rw (← pow-suc 10 k) below in
     rw (map-append (λ byte. byte - 48) front ((48 + n % 10) ∷ []), last, places_value_push (digits_in front) (n % 10), padded_value k (n / 10) (div_below n 10 (10 ^ k) (omega arith) room))
     (omega arith)
-
--- digits alone have no other byte
-none_from_all : (text : List ℕ) → AllByRecursion IsAsciiDigit text → first_other text ≡ None
-none_from_all text h = rw (whole text h) (past (length text))
-  where
-    digit_test : (byte : ℕ) → IsAsciiDigit byte → not (not (is_ascii_digit byte)) ≡ true
-    digit_test byte d = grind (arith, nat_tests)
-
-    whole : (xs : List ℕ) → AllByRecursion IsAsciiDigit xs → prefix_len (λ x. not (not (is_ascii_digit x))) xs ≡ length xs
-    whole [] a = refl
-    whole (x ∷ xs) a = rw (digit_test x a.0, whole xs a.1) (omega arith)
-
-    past : (n : ℕ) → cond (nat_lt n n) (Some n) None ≡ None
-    past n = grind (arith, nat_tests)
 
 pub padded_reads : (k n : ℕ) → 0 < k → n < 10 ^ k → number_of k (padded_number k n) ≡ Ok n
 unfolding number_of

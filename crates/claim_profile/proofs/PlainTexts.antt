@@ -12,7 +12,8 @@ use Rattle.overpunch.specs.Amount.{signed_number, front_of, last_of, last_digit_
 use Rattle.overpunch.specs.Number.{first_other}
 use Rattle.d0_segments.specs.Separators.{is_separator, is_plain}
 use Rattle.claim_profile.specs.Authorization.{Authorization, padded_number, authorization_text}
-use Rattle.claim_profile.proofs.PaddedNumbers.{all_push, padded_digits}
+use Rattle.overpunch.proofs.OwnNumbers.{all_push}
+use Rattle.claim_profile.proofs.PaddedNumbers.{padded_digits}
 
 -- a digit is no separator
 digit_plain : (byte : ℕ) → IsAsciiDigit byte → is_separator byte ≡ false

@@ -1,12 +1,12 @@
 -- What a transaction asks for, told by the lists of all values of its fields.
-use Rattle.std.specs.Prelude.{ℕ, ℤ, pos, negsuc, nat_le, List, [], ◌∷◌, length, Option, Some, None, is_some, is_none, option_map, option_and_then, Result, Ok, Err, codes, if◌then◌else◌}
+use Rattle.std.specs.Prelude.{ℕ, ℤ, pos, negsuc, nat_le, List, [], ◌∷◌, length, slice_index_or, Option, Some, None, is_some, is_none, option_map, option_and_then, Result, Ok, Err, codes, if◌then◌else◌}
 use Rattle.std.specs.Result.{result_ok}
 use Rattle.std.specs.Str.{bytes_eq}
 use Rattle.overpunch.specs.Number.{number_of}
 use Rattle.overpunch.specs.Amount.{amount_of}
 use Rattle.d0_header.specs.Request.{Request}
 use Rattle.d0_header.specs.Date.{is_calendar_date}
-use Rattle.d0_segments.specs.Parts.{SegmentParts}
+use Rattle.d0_segments.specs.Parts.{SegmentParts, TransmissionParts}
 use Rattle.claim_profile.specs.declared.reject.Code.{Code}
 use Rattle.claim_profile.specs.declared.reject.Code.TheVariants as code
 use Rattle.claim_profile.specs.declared.transaction.TransactionCode.{TransactionCode}
@@ -160,3 +160,7 @@ order_as None h shared group = Err (Rejected (code.NotCovered ∷ []))
 -- what a transaction asks for, by its header's code
 unfoldable pub order_of : Request → (shared group : List SegmentParts) → Result Order OrderFault
 order_of h shared group = order_as (transaction_code h.code) h shared group
+
+-- the order of the transaction at a place of a request, from 0
+abbrev pub placed_order : TransmissionParts Request → ℕ → Result Order OrderFault
+placed_order t place = order_of t.header t.shared (slice_index_or t.groups place [])

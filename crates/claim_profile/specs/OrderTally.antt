@@ -65,3 +65,7 @@ fields_counted t insurance claim pricing = record {
 unfoldable pub segments_counted : Level → OrderTally → List SegmentParts → OrderTally
 segments_counted Shared t segments = fields_counted t (fields_of (codes "04") segments) [] []
 segments_counted Group t segments = fields_counted t [] (fields_of (codes "07") segments) (fields_of (codes "11") segments)
+
+-- the fields of a claim counted, in the segments in front of all groups and in those of its group
+abbrev pub claim_counted : (shared group : List SegmentParts) → OrderTally
+claim_counted shared group = segments_counted Group (segments_counted Shared nothing_seen shared) group

@@ -1,6 +1,7 @@
 -- The ruling of a transaction, from what is known of its values.
 use Rattle.std.specs.Prelude.{ℕ, nat_le, nat_lt, List, [], ◌∷◌, ◌++◌, length, ◌==◌, Option, Some, None, Result, Ok, Err, codes, if◌then◌else◌}
 use Rattle.d0_header.specs.Response.{Response}
+use Rattle.d0_segments.specs.Parts.{FieldParts, SegmentParts}
 use Rattle.claim_profile.specs.declared.reject.Code.{Code}
 use Rattle.claim_profile.specs.declared.ruling.Ruling.{Ruling}
 use Rattle.claim_profile.specs.declared.ruling.Ruling.TheVariants as ruling
@@ -11,6 +12,7 @@ use Rattle.claim_profile.specs.declared.answer_reading.AnswerFault.TheVariants.{
 use Rattle.claim_profile.specs.declared.answer_values.FoundCodes.{FoundCodes}
 use Rattle.claim_profile.specs.Authorization.{Authorization, authorization_of}
 use Rattle.claim_profile.specs.Money.{Money}
+use Rattle.claim_profile.specs.Fields.{untrimmed, values, fields_of}
 use Rattle.claim_profile.specs.Tally.{Tally, the_one}
 use Rattle.claim_profile.specs.Order.{number_up_to, amount_in_cents}
 use Rattle.claim_profile.specs.OrderSeen.{required_seen, qualified_seen}
@@ -57,6 +59,10 @@ unfoldable pub codes_counted : Option (List Code) → List (List ℕ) → Option
 codes_counted before [] = before
 codes_counted before (value ∷ values) = codes_counted (code_more before (code_of value)) values
 
+-- the values of these fields more
+abbrev pub codes_more : Option (List Code) → List FieldParts → Option (List Code)
+codes_more before fields = codes_counted before (values untrimmed (codes "FB") fields)
+
 -- the codes, where there is one
 abbrev pub some_codes : Option (List Code) → Option (List Code)
 some_codes None = None
@@ -86,6 +92,11 @@ abbrev pub rejection_with : Option (List Code) → Option ℕ → Result Ruling 
 rejection_with None count = Err BadRejects
 rejection_with (Some rejects) None = Err BadRejects
 rejection_with (Some rejects) (Some count) = if count == length rejects then Ok (ruling.Rejected rejects) else Err BadRejects
+
+-- the rejection that the segments of a group spell, where this is known of the count of its codes
+abbrev pub rejection_in : List SegmentParts → Tally → Result Ruling AnswerFault
+rejection_in group count =
+    rejection_with (some_codes (codes_more (Some []) (fields_of (codes "21") group))) (required_seen (number_up_to 2) count)
 
 -- what the code does with a ruling that is no rejection, and with a rejection
 abbrev pub or_rejection : Result (Option Ruling) AnswerFault → Result Ruling AnswerFault → Result Ruling AnswerFault

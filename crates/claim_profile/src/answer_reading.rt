@@ -1,14 +1,12 @@
 //! Reading answers.
 
-ghost use Rattle.std.specs.Prelude.{◌≡◌, ◌<◌, List, [], ◌∷◌, length, Some, Ok, Err, IfOk, IfErr, OnOk, IfSome, MatchOption, codes};
+ghost use Rattle.std.specs.Prelude.{◌≡◌, ◌<◌, List, length, Some, Ok, Err, IfOk, IfErr, OnOk, IfSome};
 ghost use Rattle.d0_segments.specs.Pieces.{shared_of, groups_of};
-ghost use Rattle.claim_profile.specs.Fields.{values_in};
+ghost use Rattle.d0_segments.specs.Cursors.{FindsGroup};
 ghost use Rattle.claim_profile.specs.Tally.{seen};
-ghost use Rattle.claim_profile.specs.Order.{number_up_to};
-ghost use Rattle.claim_profile.specs.OrderSeen.{required_seen};
 ghost use Rattle.claim_profile.specs.AnswerTally.{answer_seen};
 ghost use Rattle.claim_profile.specs.Ruling.{ruling_in, rulings_in, answer_of, FailsAs, status_of, stands_beside, stands_under};
-ghost use Rattle.claim_profile.specs.RulingSeen.{ruled_seen, status_seen, payment_seen, authorization_seen, claim_number_seen, money_seen, all_money_seen, rejection_with, or_rejection, some_codes, codes_counted};
+ghost use Rattle.claim_profile.specs.RulingSeen.{ruled_seen, status_seen, payment_seen, authorization_seen, claim_number_seen, money_seen, all_money_seen, rejection_in, or_rejection};
 ghost use Rattle.claim_profile.specs.declared.answer_reading.AnswerFault.TheVariants.{OutOfMemory};
 
 use crate::answer_values::{AnswerValues, FoundCodes};
@@ -129,7 +127,8 @@ pub fn read_answer(alloc: Global, bytes: &[u8]) -> Result<Answer, AnswerFault>
 
 /// Tells whether bytes are an answer, as [`read_answer`] does, and gives its header. Takes no memory.
 pub fn check_answer(bytes: &[u8]) -> Result<ResponseHeader, AnswerFault>
-    ensures read { IfOk result (λ header. (rulings : List Ruling) × (answer_of bytes.now ≡ Ok (record { header = header; rulings = rulings }))) }
+    ensures read { IfOk result (λ header. (rulings : List Ruling)
+        × (answer_of bytes.now ≡ Ok (record { header = header; rulings = rulings }))) }
     // Which fault it is: the first one.
     ensures fault { IfErr result (λ fault. answer_of bytes.now ≡ Err fault) }
 {
@@ -145,7 +144,8 @@ pub fn check_answer(bytes: &[u8]) -> Result<ResponseHeader, AnswerFault>
 /// Tests the rulings of the groups behind a place, so many, in order.
 fn check_rulings(header: &ResponseHeader, from: Cursor<'_>, count: usize) -> Result<(), AnswerFault>
     requires { count ≡ length (groups_of from.bytes.now) }
-    ensures read { OnOk result ((rulings : List Ruling) × (rulings_in header.now (groups_of from.entry.bytes.now) ≡ Ok rulings)) }
+    ensures read { OnOk result ((rulings : List Ruling)
+        × (rulings_in header.now (groups_of from.entry.bytes.now) ≡ Ok rulings)) }
     ensures fault { IfErr result (λ fault. rulings_in header.now (groups_of from.entry.bytes.now) ≡ Err fault) }
 {
     let mut rest = from;
@@ -185,7 +185,7 @@ fn rulings_of(
 #[inline(always)]
 fn next_group(rest: Cursor<'_>, left: usize) -> Option<Cursor<'_>>
     requires { left ≡ length (groups_of rest.bytes.now) }
-    ensures groups { MatchOption result (groups_of rest.entry.bytes.now ≡ []) (λ x. groups_of rest.entry.bytes.now ≡ shared_of x.bytes.now ∷ groups_of x.bytes.now) }
+    ensures groups { FindsGroup rest.entry.bytes.now result }
     ensures shorter { IfSome result (λ x. length x.bytes.now < length rest.entry.bytes.now) }
 {
     if left == 0 {
@@ -217,7 +217,7 @@ fn ruling_of(
     group: Cursor<'_>,
 ) -> Result<Ruling, AnswerFault>
     ensures { result ≡ or_rejection (ruled_seen header.now (answer_seen values.now))
-        (rejection_with (some_codes (codes_counted (Some []) (values_in (codes "21") (codes "FB") (shared_of group.entry.bytes.now)))) (required_seen (number_up_to 2) (seen values.now.reject_count))) }
+        (rejection_in (shared_of group.entry.bytes.now) (seen values.now.reject_count)) }
 {
     match ruled(header, values)? {
         Some(ruling) => Ok(ruling),
@@ -345,7 +345,7 @@ fn all_amounts(values: &AnswerValues<'_>) -> Option<Amounts>
 
 /// A rejection, where the count is that of the codes.
 fn rejected(count: Found<'_>, group: Cursor<'_>) -> Result<Ruling, AnswerFault>
-    ensures { result ≡ rejection_with (some_codes (codes_counted (Some []) (values_in (codes "21") (codes "FB") (shared_of group.entry.bytes.now)))) (required_seen (number_up_to 2) (seen count.entry)) }
+    ensures { result ≡ rejection_in (shared_of group.entry.bytes.now) (seen count.entry) }
 {
     match (FoundCodes::of(group).all(), number(count, 2)) {
         (Some(rejects), Some(count)) if count == rejects.as_slice().len() as u64 => {

@@ -3,7 +3,7 @@
 ghost use Rattle.std.specs.Prelude.{◌≡◌, ◌≤◌, [], ◌∷◌, length, Some, codes};
 ghost use Rattle.d0_segments.specs.Views.{field_parts};
 ghost use Rattle.d0_segments.specs.Pieces.{shared_of};
-ghost use Rattle.d0_segments.specs.Inside.{fields_left};
+ghost use Rattle.d0_segments.specs.Inside.{fields_left, segment_left};
 
 use crate::found::Found;
 use crate::names::is_same;
@@ -19,13 +19,13 @@ pub struct FoundCodes {
 }
 
 impl FoundCodes {
-    ghost use Rattle.claim_profile.specs.RulingSeen.{codes_seen, codes_counted, code_more, some_codes};
+    ghost use Rattle.claim_profile.specs.RulingSeen.{codes_seen, codes_more, code_more, some_codes};
     ghost use Rattle.claim_profile.specs.Ruling.{code_of};
-    ghost use Rattle.claim_profile.specs.Fields.{untrimmed, values, fields_of};
+    ghost use Rattle.claim_profile.specs.Fields.{fields_of};
 
     /// The codes in the segments up to the next group.
     pub fn of(group: Cursor<'_>) -> FoundCodes
-        ensures { codes_seen result ≡ codes_counted (Some []) (values untrimmed (codes "FB") (fields_of (codes "21") (shared_of group.entry.bytes.now))) }
+        ensures { codes_seen result ≡ codes_more (Some []) (fields_of (codes "21") (shared_of group.entry.bytes.now)) }
     {
         let mut found = FoundCodes::new();
         let mut rest = group;
@@ -47,7 +47,8 @@ impl FoundCodes {
 
     /// Counts the fields that are left of a segment, and gives a place from which the same segments follow.
     fn count_inside<'a>(&mut self, id: [u8; 2], inside: Cursor<'a>) -> Cursor<'a>
-        ensures values { codes_seen self.new ≡ codes_counted (codes_seen self.old) (values untrimmed (codes "FB") (fields_of (codes "21") (record { id = id; fields = fields_left inside.entry.bytes.now } ∷ []))) }
+        ensures values { codes_seen self.new ≡ codes_more (codes_seen self.old)
+            (fields_of (codes "21") (segment_left id inside.entry.bytes.now)) }
         ensures segments { shared_of inside.entry.bytes.now ≡ shared_of result.bytes.now }
         ensures shorter { length result.bytes.now ≤ length inside.entry.bytes.now }
     {
@@ -59,7 +60,7 @@ impl FoundCodes {
 
     /// Counts the fields that are left of a response status segment (AM21).
     fn count_status_from<'a>(&mut self, inside: Cursor<'a>) -> Cursor<'a>
-        ensures values { codes_seen self.new ≡ codes_counted (codes_seen self.old) (values untrimmed (codes "FB") (fields_left inside.entry.bytes.now)) }
+        ensures values { codes_seen self.new ≡ codes_more (codes_seen self.old) (fields_left inside.entry.bytes.now) }
         ensures segments { shared_of inside.entry.bytes.now ≡ shared_of result.bytes.now }
         ensures shorter { length result.bytes.now ≤ length inside.entry.bytes.now }
     {
@@ -74,7 +75,7 @@ impl FoundCodes {
     /// Counts the value of a reject code field. Empty values do not count.
     #[tactic(auto, unfolding(crate::specs::Fields::values, crate::specs::RulingSeen::codes_counted))]
     fn count(&mut self, field: &Field<'_>)
-        ensures { codes_seen self.new ≡ codes_counted (codes_seen self.old) (values untrimmed (codes "FB") (field_parts field.now ∷ [])) }
+        ensures { codes_seen self.new ≡ codes_more (codes_seen self.old) (field_parts field.now ∷ []) }
     {
         let value = field.value();
         if is_same(field.id(), *b"FB") && !value.is_empty() {
@@ -167,7 +168,8 @@ impl<'a> AnswerValues<'a> {
     /// Counts the fields that are left of a segment, and gives a place from which the same segments follow.
     #[inline(always)]
     fn count_inside(&mut self, id: [u8; 2], inside: Cursor<'a>) -> Cursor<'a>
-        ensures values { answer_seen self.new ≡ answer_counted (answer_seen self.old) (record { id = id; fields = fields_left inside.entry.bytes.now } ∷ []) }
+        ensures values { answer_seen self.new ≡ answer_counted (answer_seen self.old)
+            (segment_left id inside.entry.bytes.now) }
         ensures segments { shared_of inside.entry.bytes.now ≡ shared_of result.bytes.now }
         ensures shorter { length result.bytes.now ≤ length inside.entry.bytes.now }
     {
@@ -186,7 +188,8 @@ impl<'a> AnswerValues<'a> {
     /// Counts the fields that are left of a response status segment (AM21).
     #[inline(always)]
     fn count_status_from(&mut self, inside: Cursor<'a>) -> Cursor<'a>
-        ensures values { answer_seen self.new ≡ answer_fields_counted (answer_seen self.old) (fields_left inside.entry.bytes.now) [] [] }
+        ensures values { answer_seen self.new ≡ answer_fields_counted (answer_seen self.old)
+            (fields_left inside.entry.bytes.now) [] [] }
         ensures segments { shared_of inside.entry.bytes.now ≡ shared_of result.bytes.now }
         ensures shorter { length result.bytes.now ≤ length inside.entry.bytes.now }
     {
@@ -203,7 +206,8 @@ impl<'a> AnswerValues<'a> {
     /// Counts the fields that are left of a response claim segment (AM22).
     #[inline(always)]
     fn count_claim_from(&mut self, inside: Cursor<'a>) -> Cursor<'a>
-        ensures values { answer_seen self.new ≡ answer_fields_counted (answer_seen self.old) [] (fields_left inside.entry.bytes.now) [] }
+        ensures values { answer_seen self.new ≡ answer_fields_counted (answer_seen self.old) []
+            (fields_left inside.entry.bytes.now) [] }
         ensures segments { shared_of inside.entry.bytes.now ≡ shared_of result.bytes.now }
         ensures shorter { length result.bytes.now ≤ length inside.entry.bytes.now }
     {
@@ -219,7 +223,8 @@ impl<'a> AnswerValues<'a> {
     /// Counts the fields that are left of a response pricing segment (AM23).
     #[inline(always)]
     fn count_pricing_from(&mut self, inside: Cursor<'a>) -> Cursor<'a>
-        ensures values { answer_seen self.new ≡ answer_fields_counted (answer_seen self.old) [] [] (fields_left inside.entry.bytes.now) }
+        ensures values { answer_seen self.new ≡ answer_fields_counted (answer_seen self.old) [] []
+            (fields_left inside.entry.bytes.now) }
         ensures segments { shared_of inside.entry.bytes.now ≡ shared_of result.bytes.now }
         ensures shorter { length result.bytes.now ≤ length inside.entry.bytes.now }
     {

@@ -100,7 +100,8 @@ fn put_payment(
     prescription: u64,
     amounts: Amounts,
 ) -> Result<(), AllocError>
-    ensures { OnOk result (text.new.items ≡ text.old.items ++ group_text (status_segment (status ∷ []) auth ∷ claim_segment prescription ∷ pricing_segment amounts ∷ [])) }
+    ensures { OnOk result (text.new.items ≡ text.old.items ++ group_text
+        (status_segment (status ∷ []) auth ∷ claim_segment prescription ∷ pricing_segment amounts ∷ [])) }
 {
     put_status(text, status, auth)?;
     put_claim(text, prescription)?;
@@ -141,7 +142,8 @@ fn put_pricing(text: &mut Vec<u8>, amounts: Amounts) -> Result<(), AllocError>
 /// Appends the field `F` and this digit with an amount in cents.
 fn put_amount(text: &mut Vec<u8>, name: u8, cents: u32) -> Result<(), AllocError>
     requires { cents ≤ largest }
-    ensures { OnOk result (text.new.items ≡ text.old.items ++ field_text (field (70 ∷ name ∷ []) (amount_text (pos cents)))) }
+    ensures { OnOk result (text.new.items ≡ text.old.items ++ field_text
+        (field (70 ∷ name ∷ []) (amount_text (pos cents)))) }
 {
     text.extend_from_slice(&[0x1c, b'F', name])?;
     let mut digits = [0; 8];

@@ -13,10 +13,13 @@ use overpunch::{amount_reads_back, number_reads_back};
 
 /// A billing of parts as callers hand them is read again, and its order is a claim with those parts.
 pub fn billing_laws()
-    ensures again { (b : Billing) → IsBilling b → transmission_of request_kind (billing_text b) ≡ Some (billing_parts b) }
+    ensures again { (b : Billing) → IsBilling b → transmission_of request_kind (billing_text b)
+        ≡ Some (billing_parts b) }
     // With the version that this product carries it is readable.
-    ensures readable { (b : Billing) → IsBilling b → b.header.version ≡ codes "D0" → readable_header (billing_text b) ≡ Some b.header }
-    ensures order { (b : Billing) → IsBilling b → order_of b.header (billing_parts b).shared (billing_group b) ≡ Ok (order.Claim (claim_billed b)) }
+    ensures readable { (b : Billing) → IsBilling b → b.header.version ≡ codes "D0"
+        → readable_header (billing_text b) ≡ Some b.header }
+    ensures order { (b : Billing) → IsBilling b → order_of b.header (billing_parts b).shared (billing_group b)
+        ≡ Ok (order.Claim (claim_billed b)) }
 {
     request_text_laws();
     request_laws();
@@ -27,10 +30,13 @@ pub fn billing_laws()
 /// A reversal of parts as callers hand them is read again, and its order is a reversal with those
 /// parts.
 pub fn reversal_laws()
-    ensures again { (r : Reversing) → IsReversing r → transmission_of request_kind (reversal_text r) ≡ Some (reversal_parts r) }
+    ensures again { (r : Reversing) → IsReversing r → transmission_of request_kind (reversal_text r)
+        ≡ Some (reversal_parts r) }
     // With the version that this product carries it is readable.
-    ensures readable { (r : Reversing) → IsReversing r → r.header.version ≡ codes "D0" → readable_header (reversal_text r) ≡ Some r.header }
-    ensures order { (r : Reversing) → IsReversing r → order_of r.header (reversal_parts r).shared (reversal_group r) ≡ Ok (order.Reversal (reversal_asked r)) }
+    ensures readable { (r : Reversing) → IsReversing r → r.header.version ≡ codes "D0"
+        → readable_header (reversal_text r) ≡ Some r.header }
+    ensures order { (r : Reversing) → IsReversing r → order_of r.header (reversal_parts r).shared (reversal_group r)
+        ≡ Ok (order.Reversal (reversal_asked r)) }
 {
     request_text_laws();
     request_laws();

@@ -1,11 +1,11 @@
 //! The texts of billings and reversals, piece by piece.
 
-ghost use Rattle.std.specs.Prelude.{◌≡◌, [], ◌∷◌, ◌++◌, codes, Some, IfOk, OnOk};
+ghost use Rattle.std.specs.Prelude.{◌≡◌, ◌∷◌, ◌++◌, codes, Some, IfOk, OnOk};
 ghost use Rattle.overpunch.specs.Number.{number_text};
 ghost use Rattle.overpunch.specs.Amount.{amount_text};
-ghost use Rattle.d0_segments.specs.Texts.{field_text, segment_text, segments_text, group_text};
+ghost use Rattle.d0_segments.specs.Texts.{field_text, segment_text};
 ghost use Rattle.claim_profile.specs.Answer.{field, segment};
-ghost use Rattle.claim_profile.specs.Building.{billing_said, reversal_said, insurance_segment, dispensing_fields, billed_segment, submitted_segment, billing_text, reversal_text};
+ghost use Rattle.claim_profile.specs.Building.{billing_said, reversal_said, insurance_segment, dispensing_fields, submitted_segment, billing_text, reversal_text};
 
 use crate::building::{BillingParts, ReversalParts};
 use overpunch::{Amount, write_number};
@@ -57,7 +57,8 @@ fn put_dispensing(
     fill: Option<u8>,
     product: &[u8],
 ) -> Result<(), AllocError>
-    ensures { OnOk result (text.new.items ≡ text.old.items ++ (29 ∷ segment_text (segment (codes "07") (dispensing_fields prescription fill product.now)))) }
+    ensures { OnOk result (text.new.items ≡ text.old.items ++
+        (29 ∷ segment_text (segment (codes "07") (dispensing_fields prescription fill product.now)))) }
 {
     text.extend_from_slice(b"\x1d\x1e\x1cAM07\x1cEM1\x1cD2")?;
     put_number(text, prescription)?;
@@ -70,7 +71,8 @@ fn put_dispensing(
 
 /// Appends the product and its qualifier.
 fn put_product(text: &mut Vec<u8>, product: &[u8]) -> Result<(), AllocError>
-    ensures { OnOk result (text.new.items ≡ text.old.items ++ (field_text (field (codes "E1") (codes "03")) ++ field_text (field (codes "D7") product.now))) }
+    ensures { OnOk result (text.new.items ≡ text.old.items ++
+        (field_text (field (codes "E1") (codes "03")) ++ field_text (field (codes "D7") product.now))) }
 {
     text.extend_from_slice(b"\x1cE103\x1cD7")?;
     text.extend_from_slice(product)

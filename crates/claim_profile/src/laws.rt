@@ -17,8 +17,10 @@ use overpunch::{amount_reads_back, number_reads_back};
 /// An answer to a request of a sound header, with one ruling for each transaction that it counts, fits into
 /// an envelope and is read as its own header and exactly these rulings.
 pub fn answer_laws()
-    ensures short { (h : Request) (status : HeaderStatus) (rulings : List Ruling) → Answers h status rulings → length (answer_text h status rulings) ≤ longest_request }
-    ensures reads_back { (h : Request) (status : HeaderStatus) (rulings : List Ruling) → Answers h status rulings → answer_of (answer_text h status rulings) ≡ Ok (answered h status rulings) }
+    ensures short { (h : Request) (status : HeaderStatus) (rulings : List Ruling) → Answers h status rulings
+        → length (answer_text h status rulings) ≤ longest_request }
+    ensures reads_back { (h : Request) (status : HeaderStatus) (rulings : List Ruling) → Answers h status rulings
+        → answer_of (answer_text h status rulings) ≡ Ok (answered h status rulings) }
 {
     response_text_laws();
     response_laws();
@@ -29,7 +31,8 @@ pub fn answer_laws()
 /// The fixed rejection of a request that is routed nowhere, code 01 for each transaction, is such an answer.
 pub fn unrouted_laws()
     ensures short { (h : Request) → IsRequest h → length (unrouted_text h) ≤ longest_request }
-    ensures reads_back { (h : Request) → IsRequest h → answer_of (unrouted_text h) ≡ Ok (answered h RejectedStatus (unrouted h)) }
+    ensures reads_back { (h : Request) → IsRequest h → answer_of (unrouted_text h)
+        ≡ Ok (answered h RejectedStatus (unrouted h)) }
 {
     answer_laws();
 }

@@ -1,15 +1,16 @@
 //! Reading what a transaction asks for.
 
-ghost use Rattle.std.specs.Prelude.{◌≡◌, ◌<◌, ◌≤◌, List, [], ◌∷◌, length, slice_index_or, Err};
+ghost use Rattle.std.specs.Prelude.{◌≡◌, ◌<◌, ◌≤◌, List, [], ◌∷◌, length, Err};
 ghost use Rattle.d0_segments.specs.Parts.{SegmentParts};
-ghost use Rattle.d0_segments.specs.Pieces.{shared_of, groups_of};
-ghost use Rattle.d0_segments.specs.Views.{segments_parts, groups_parts};
-ghost use Rattle.claim_profile.specs.Order.{claim_codes, claim_order, reversal_order, order_of};
+ghost use Rattle.d0_segments.specs.Pieces.{groups_of};
+ghost use Rattle.d0_segments.specs.Views.{segments_parts};
+ghost use Rattle.d0_segments.specs.Transmissions.{transmission_parts};
+ghost use Rattle.d0_segments.specs.FramedParts.{framed_parts, shared_in, group_in};
+ghost use Rattle.claim_profile.specs.Order.{claim_codes, claim_order, reversal_order, order_of, placed_order};
 ghost use Rattle.claim_profile.specs.OrderSeen.{claim_seen};
-ghost use Rattle.claim_profile.specs.OrderTally.{order_seen, nothing_seen, segments_counted};
+ghost use Rattle.claim_profile.specs.OrderTally.{order_seen, claim_counted};
 ghost use Rattle.claim_profile.specs.declared.reject.Code.TheVariants.{NotCovered};
 ghost use Rattle.claim_profile.specs.declared.order_reading.OrderFault.TheVariants.{Rejected};
-ghost use Rattle.claim_profile.specs.declared.order_values.Level.TheVariants.{Shared, Group};
 
 use crate::order::Order;
 use crate::order_fields::{ClaimFields, ReversalFields, claim_spelled};
@@ -40,7 +41,7 @@ pub fn read_order(
     place: usize,
 ) -> Result<Order, OrderFault>
     requires { place < length transmission.now.groups.items }
-    ensures { result ≡ order_of transmission.now.header (segments_parts transmission.now.shared.items) (slice_index_or (groups_parts transmission.now.groups.items) place []) }
+    ensures { result ≡ placed_order (transmission_parts transmission.now) place }
 {
     read_group_order(
         transmission.header(),
@@ -86,7 +87,7 @@ fn reversal(header: &RequestHeader, group: &[Segment<'_>]) -> Result<Order, Orde
 #[tactic(auto, unfolding(crate::specs::Order::order_of))]
 pub fn order_at(framed: &Framed<'_, RequestHeader>, place: usize) -> Result<Order, OrderFault>
     requires { place < length (groups_of framed.now.body.bytes.now) }
-    ensures { result ≡ order_of framed.now.header (shared_of framed.now.body.bytes.now) (slice_index_or (groups_of framed.now.body.bytes.now) place []) }
+    ensures { result ≡ placed_order (framed_parts framed.now) place }
 {
     match TransactionCode::read(framed.header().code()) {
         Some(TransactionCode::Billing) => claim_at(framed, place),
@@ -97,14 +98,14 @@ pub fn order_at(framed: &Framed<'_, RequestHeader>, place: usize) -> Result<Orde
 
 fn claim_at(framed: &Framed<'_, RequestHeader>, place: usize) -> Result<Order, OrderFault>
     requires { place < length (groups_of framed.now.body.bytes.now) }
-    ensures { result ≡ claim_order framed.now.header (shared_of framed.now.body.bytes.now) (slice_index_or (groups_of framed.now.body.bytes.now) place []) }
+    ensures { result ≡ claim_order framed.now.header (shared_in framed.now) (group_in framed.now place) }
 {
     claim_of(framed.header(), &OrderValues::in_claim(framed, place))
 }
 
 fn reversal_at(framed: &Framed<'_, RequestHeader>, place: usize) -> Result<Order, OrderFault>
     requires { place < length (groups_of framed.now.body.bytes.now) }
-    ensures { result ≡ reversal_order framed.now.header (slice_index_or (groups_of framed.now.body.bytes.now) place []) }
+    ensures { result ≡ reversal_order framed.now.header (group_in framed.now place) }
 {
     reversal_of(framed.header(), &OrderValues::in_reversal(framed, place))
 }
@@ -120,7 +121,8 @@ fn not_covered() -> Result<Order, OrderFault>
 /// The claim of these values.
 #[inline(always)]
 fn claim_of(header: &RequestHeader, values: &OrderValues<'_>) -> Result<Order, OrderFault>
-    ensures { (shared group : List SegmentParts) → order_seen values.now ≡ segments_counted Group (segments_counted Shared nothing_seen shared) group → result ≡ claim_order header.now shared group }
+    ensures { (shared group : List SegmentParts) → order_seen values.now ≡ claim_counted shared group
+        → result ≡ claim_order header.now shared group }
 {
     match claim_spelled(header, values) {
         Some(order) => Ok(order),
@@ -139,7 +141,8 @@ fn claim_rejects(header: &RequestHeader, values: &OrderValues<'_>) -> Rejects
 
 /// The reversal of these values.
 fn reversal_of(header: &RequestHeader, values: &OrderValues<'_>) -> Result<Order, OrderFault>
-    ensures { (shared group : List SegmentParts) → order_seen values.now ≡ segments_counted Group (segments_counted Shared nothing_seen shared) group → result ≡ reversal_order header.now group }
+    ensures { (shared group : List SegmentParts) → order_seen values.now ≡ claim_counted shared group
+        → result ≡ reversal_order header.now group }
 {
     let fields = ReversalFields::of(header, values);
     match fields.whole(header) {

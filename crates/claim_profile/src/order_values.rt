@@ -38,11 +38,11 @@ pub struct OrderValues<'a> {
 }
 
 impl<'a> OrderValues<'a> {
-    ghost use Rattle.claim_profile.specs.OrderTally.{order_seen, nothing_seen, fields_counted, segments_counted};
+    ghost use Rattle.claim_profile.specs.OrderTally.{order_seen, nothing_seen, fields_counted, segments_counted, claim_counted};
 
     /// The values in the shared segments and in those of a group.
     pub fn of(shared: &[Segment<'a>], group: &[Segment<'a>]) -> OrderValues<'a>
-        ensures { order_seen result ≡ segments_counted Group (segments_counted Shared nothing_seen (segments_parts shared.now)) (segments_parts group.now) }
+        ensures { order_seen result ≡ claim_counted (segments_parts shared.now) (segments_parts group.now) }
     {
         let mut values = OrderValues::new();
         values.count_all(Level::Shared, shared);

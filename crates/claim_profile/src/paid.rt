@@ -33,7 +33,8 @@ impl Amounts {
     /// The four amounts, None where one is negative or where they do not go together.
     pub fn new(cost: Amount, fee: Amount, copay: Amount, total: Amount) -> Option<Amounts>
         ensures variant { IsSome result ↔ GoTogether cost fee copay total }
-        ensures given { IfSome result (λ a. (pos a.cost ≡ cost) × (pos a.fee ≡ fee) × (pos a.copay ≡ copay) × (pos a.total ≡ total)) }
+        ensures given { IfSome result (λ a. (pos a.cost ≡ cost) × (pos a.fee ≡ fee) × (pos a.copay ≡ copay)
+            × (pos a.total ≡ total)) }
     {
         let (cost, fee) = (cost.cents(), fee.cents());
         let (copay, total) = (copay.cents(), total.cents());

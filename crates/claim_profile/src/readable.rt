@@ -63,7 +63,8 @@ pub fn check_readable(request: &[u8]) -> Option<Framed<'_, RequestHeader>>
     // What was read is the transmission of these bytes.
     ensures parts { IfSome result (λ framed. transmission_of request_kind request.now ≡ Some (framed_parts framed)) }
     // Exactly the readable ones are taken.
-    ensures readable { MatchOption result (readable_header request.now ≡ None) (λ framed. readable_header request.now ≡ Some framed.header) }
+    ensures readable { MatchOption result (readable_header request.now ≡ None)
+        (λ framed. readable_header request.now ≡ Some framed.header) }
 {
     if request.len() > LONGEST_REQUEST {
         return None;

@@ -1,6 +1,6 @@
 //! Reject codes.
 
-ghost use Rattle.std.specs.Prelude.{◌≡◌, ◌<◌, ◌≤◌, ◌↔◌, List, [], ◌∷◌, ◌++◌, length, IsSome, IfSome, IfNone, SomeIff, ◌≢◌};
+ghost use Rattle.std.specs.Prelude.{◌≡◌, ◌<◌, ◌≤◌, ◌↔◌, List, [], ◌∷◌, ◌++◌, length, IsSome, IfSome, SomeIff};
 ghost use Rattle.claim_profile.specs.Reject.{first_five_held, code_text};
 
 use std::marker::Model;
@@ -42,7 +42,7 @@ pub struct FewCodes {
 }
 
 impl Model for FewCodes {
-    ghost use Rattle.std.specs.Prelude.{◌≡◌, ◌-◌, ◌≤◌, List, ◌++◌, length, take, drop, replicate};
+    ghost use Rattle.std.specs.Prelude.{◌≡◌, ◌-◌, ◌≤◌, List, ◌++◌, length, take, drop};
     ghost use Rattle.claim_profile.specs.declared.reject.Code.{Code};
     ghost use Rattle.claim_profile.specs.Reject.{padding};
     ghost use Rattle.std.proofs.Common.{arith, ap, ◌∙◌, sym, take-append-drop, length-take-le};
@@ -51,7 +51,8 @@ impl Model for FewCodes {
 
     ghost view = { λ r. take r.count r.codes };
 
-    ghost invariant = { λ r. (r.count ≤ 5) × (length r.codes ≡ 5) × (drop r.count r.codes ≡ padding (take r.count r.codes)) };
+    ghost invariant = { λ r. (r.count ≤ 5) × (length r.codes ≡ 5)
+        × (drop r.count r.codes ≡ padding (take r.count r.codes)) };
 
     ghost inverse = { λ v. record { codes = v ++ padding v; count = length v } };
 

@@ -21,7 +21,8 @@ impl<const N: usize> Model for Text<N> {
 
     ghost view = { λ t. take t.len t.bytes };
 
-    ghost invariant = { λ t. (t.len ≤ N) × (length t.bytes ≡ N) × (drop t.len t.bytes ≡ filler N (take t.len t.bytes)) };
+    ghost invariant = { λ t. (t.len ≤ N) × (length t.bytes ≡ N)
+        × (drop t.len t.bytes ≡ filler N (take t.len t.bytes)) };
 
     ghost inverse = { λ v. record { bytes = v ++ filler N v; len = length v } };
 

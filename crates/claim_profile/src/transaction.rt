@@ -45,5 +45,6 @@ impl TransactionCode {
 /// What is written as a code is read as it, and nothing else is.
 pub fn transaction_laws()
     ensures reads_back { (kind : TransactionCode) → transaction_code (code_bytes kind) ≡ Some kind }
-    ensures only { (bytes : List ℕ) (kind : TransactionCode) → transaction_code bytes ≡ Some kind → bytes ≡ code_bytes kind }
+    ensures only { (bytes : List ℕ) (kind : TransactionCode) → transaction_code bytes ≡ Some kind
+        → bytes ≡ code_bytes kind }
 {}

@@ -24,6 +24,8 @@ use Rattle.claim_recovery.specs.Everyone.{open_at, open_from, open_in, open_ids,
 use Rattle.claim_recovery.proofs.Paths.{run_append, done_append, run_grows, reached_on}
 use Rattle.claim_recovery.proofs.Recoveries.{held_own, recovered_alone}
 use Rattle.claim_recovery.proofs.Needs.{entry_same, room_first, room_rest, room_after}
+use Rattle.claim_model.proofs.Walking.{all_left, all_right}
+use Rattle.claim_recovery.proofs.Still.{none_some}
 
 -- ---- what a list of events costs
 
@@ -49,9 +51,6 @@ helps_by old new n le (PlanChange m product price) h = h
 
 abbrev pub NotOpen : World → TxnId → Type 0
 NotOpen w id = (request : List ℕ) → IsOpen w id request → ⊥
-
-none_some : {a : List ℕ} → ◌≡◌ {A = Option (List ℕ)} None (Some a) → ⊥
-none_some h = cc
 
 same_entry : (a b : Kept) → ◌≡◌ {A = Option Kept} (Some a) (Some b) → a ≡ b
 same_entry a b h = cc
@@ -146,14 +145,6 @@ settle_all ctx given w old (id ∷ ids) r timely before room =
     ]
 
 -- ---- every open entry is in the list
-
-all_left : {A : Type 0} (P : A → Type 0) (xs ys : List A) → AllByRecursion P (xs ++ ys) → AllByRecursion P xs
-all_left P [] ys all = tt
-all_left P (x ∷ xs) ys all = (all.0, all_left P xs ys all.1)
-
-all_right : {A : Type 0} (P : A → Type 0) (xs ys : List A) → AllByRecursion P (xs ++ ys) → AllByRecursion P ys
-all_right P [] ys all = all
-all_right P (x ∷ xs) ys all = all_right P xs ys all.1
 
 open_entry_listed : (P : TxnId → Type 0) (pharmacy number k : ℕ) (request : List ℕ) (es : List Kept) → AllByRecursion P (open_from pharmacy number es) → slice_get es k ≡ Some (record { request = request; answer = None }) → P (record { pharmacy = pharmacy; number = number + k })
 open_entry_listed P pharmacy number k request [] all e = absurd cc

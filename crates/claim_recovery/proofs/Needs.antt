@@ -27,7 +27,7 @@ use Rattle.claim_recovery.specs.Everyone.{header_of, needs_row, undecided, count
 use Rattle.claim_recovery.proofs.Unchanged.{open_asked}
 use Rattle.claim_recovery.proofs.Serials.{next_most}
 use Rattle.claim_recovery.proofs.Rooms.{room_answers, book_there}
-use Rattle.claim_recovery.proofs.UsedUp.{rows_more}
+use Rattle.claim_model.proofs.Ledger.{ruled_rows_more}
 
 -- ---- filters
 
@@ -118,7 +118,7 @@ takes_serials ctx b before id place (order ∷ orders) =
 
 row_takes : (ctx : Context) (b : Book) (id : TxnId) (request : List ℕ) → next_serial b (ruled_rows ctx (b.rows ++ new_row ctx b id request ∷ [])) ≤ next_serial b (ruled_rows ctx b.rows) + length (ctx.orders request)
 row_takes ctx b id request =
-    let e = ap (next_serial b) (rows_more ctx b.rows (new_row ctx b id request)) in
+    let e = ap (next_serial b) (ruled_rows_more ctx b.rows (new_row ctx b id request)) in
     let t = takes_serials ctx b (ruled_rows ctx b.rows) id 1 (ctx.orders request) in
     omega (arith, e, t)
 

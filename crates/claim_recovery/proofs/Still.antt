@@ -22,7 +22,7 @@ use Rattle.claim_model.proofs.Runs.{pharmacy_done, switch_done, payer_done}
 use Rattle.claim_recovery.specs.Quiet.{HasAnswer, AllSettled, IsOther, Spares, TicksInVain, StaysSettled}
 use Rattle.claim_recovery.proofs.Forward.{tick_pharmacy}
 
-none_some : {a : List ℕ} → ◌≡◌ {A = Option (List ℕ)} None (Some a) → ⊥
+pub none_some : {a : List ℕ} → ◌≡◌ {A = Option (List ℕ)} None (Some a) → ⊥
 none_some h = cc
 
 -- ---- a tick

@@ -1,14 +1,12 @@
 -- A request that wants a serial where none is left, and what a change of plan does for it.
-use Rattle.std.proofs.Common.{◌≡◌, ℕ, zero, suc, ◌<◌, Bool, true, false, cond, List, [], ◌∷◌, ◌++◌, length, Option, Some, None, Result, Ok, Err, slice_get, refl, sym, ap, ◌∙◌, subst, ◌⊎◌, inl, inr, append_assoc}
+use Rattle.std.proofs.Common.{◌≡◌, ℕ, zero, suc, ◌<◌, Bool, true, false, cond, List, [], ◌∷◌, ◌++◌, length, Option, Some, None, Result, Ok, Err, slice_get, refl, sym, ap, ◌∙◌, subst, ◌⊎◌, inl, inr}
 use Rattle.std.specs.Prelude.{⊤, option_map, option_and_then}
 use Rattle.std.specs.List.{AllByRecursion, list_all}
-use Rattle.std.proofs.lemmas.List.{append-nil}
 use Rattle.std.proofs.lemmas.Bool.{cond-true}
-use Rattle.claim_model.specs.Words.{TxnId, RequestHeader, Envelope, EnvelopeFault, Plan, PlanFault, Order, Code, Claim, Amounts, Bills}
+use Rattle.claim_model.specs.Words.{TxnId, RequestHeader, Envelope, EnvelopeFault, Plan, Code, Claim, Amounts, Bills}
 use Rattle.claim_model.specs.Context.{Context}
-use Rattle.claim_model.specs.Readable.{readable, payer_for, same_id, is_request}
+use Rattle.claim_model.specs.Readable.{payer_for, same_id, is_request}
 use Rattle.claim_model.specs.Numbered.{numbered}
-use Rattle.claim_model.specs.Ruled.{Ruled}
 use Rattle.claim_model.specs.Rows.{Row, Book, ruled_row, ruled_rows}
 use Rattle.claim_model.specs.Judgement.{standing_for, next_serial}
 use Rattle.claim_model.specs.Book.{last_serial, serial_fits, row_of, new_row, Answered, answered}
@@ -36,6 +34,7 @@ use Rattle.claim_recovery.proofs.Serials.{wanted_refused, StillUsed, still_used,
 use Rattle.claim_recovery.proofs.Rooms.{answers_new}
 use Rattle.claim_recovery.proofs.Nevers.{Holds, CallsFor, Keeps, holds_on, asked_on, never_by}
 use Rattle.claim_recovery.proofs.Recoveries.{recovered}
+use Rattle.claim_model.proofs.Ledger.{ruled_rows_more}
 
 -- ---- a book whose serials are used up
 
@@ -45,11 +44,6 @@ pub record IsUsedUp (ctx : Context) (id : TxnId) (request : List ℕ) (c : Claim
   pub used : last_serial < next_serial b (ruled_rows ctx b.rows)
   pub none : standing_for c.fill (ruled_rows ctx b.rows) ≡ None
   pub rows : (row : Row) → row_of id b.rows ≡ Some row → row.request ≡ request → ⊥
-
-pub rows_more : (ctx : Context) (rows : List Row) (row : Row) → ruled_rows ctx (rows ++ row ∷ []) ≡ ruled_rows ctx rows ++ ruled_row ctx row
-rows_more ctx [] row = append-nil (ruled_row ctx row)
-rows_more ctx (r ∷ rows) row =
-    ap (λ (xs : List Ruled). ruled_row ctx r ++ xs) (rows_more ctx rows row) ∙ sym (append_assoc (ruled_row ctx r) (ruled_rows ctx rows) (ruled_row ctx row))
 
 -- a row of the id was there, or is the new one
 row_cases : (id : TxnId) (rows : List Row) (row x : Row) (o : Option Row) → row_of id rows ≡ o → row_of id (rows ++ row ∷ []) ≡ Some x → (row_of id rows ≡ Some x) ⊎ (x ≡ row)
@@ -65,7 +59,7 @@ used_rows ctx id request c m k b i r h a at u (Known row found same book text) =
 used_rows ctx id request c m k b i r h a at u (New fresh fits book text) =
     let row : Row = new_row ctx b i r in
     let still : StillUsed b c (ruled_rows ctx b.rows ++ ruled_row ctx row) = still_used ctx b (ruled_rows ctx b.rows) i 1 (ctx.orders r) c u.used u.none fits in
-    let more : StillUsed b c (ruled_rows ctx (b.rows ++ row ∷ [])) = subst (StillUsed b c) (sym (rows_more ctx b.rows row)) still in
+    let more : StillUsed b c (ruled_rows ctx (b.rows ++ row ∷ [])) = subst (StillUsed b c) (sym (ruled_rows_more ctx b.rows row)) still in
     subst (IsUsedUp ctx id request c m) (sym book)
     (record {
       price = u.price;

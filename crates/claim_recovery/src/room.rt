@@ -1,7 +1,7 @@
 //! What a full book, or one without serials, means for an open entry.
 
 ghost use Rattle.bin_routes.specs.Table.{RouteMaps};
-ghost use Rattle.std.specs.Prelude.{◌≡◌, ℕ, ◌+◌, ◌<◌, ◌≤◌, List, length, Option, Some, None, Ok};
+ghost use Rattle.std.specs.Prelude.{◌≡◌, ℕ, ◌<◌, ◌≤◌, List, length, Option, Some, None, Ok};
 ghost use Rattle.plan_rules.specs.Terms.{cleared};
 ghost use Rattle.claim_model.specs.Words.{TxnId, RequestHeader, Plan};
 ghost use Rattle.claim_model.specs.Bytes.{bytes_with};
@@ -25,37 +25,57 @@ use plan_rules::{cleared_price_is_gone, same_bytes_are_one_product};
 /// A book that has no row of a request yet would answer it where it has room for one row and a serial for each
 /// of the request's transactions; one that has its row answers it in any case.
 pub fn room_and_serials_suffice()
-    ensures { (ctx : Context) (settings : WorldSettings) (w : World) (id : TxnId) (request : List ℕ) (header : RequestHeader) (payer : ℕ) (b : Book) → Reached ctx settings w → IsAskedOf ctx w id request header payer b → (row_of id b.rows ≡ None → HasRoom ctx b header.count) → WouldAnswer ctx w payer id request }
+    ensures { (ctx : Context) (settings : WorldSettings) (w : World) (id : TxnId) (request : List ℕ)
+        (header : RequestHeader) (payer : ℕ) (b : Book) → Reached ctx settings w
+        → IsAskedOf ctx w id request header payer b → (row_of id b.rows ≡ None → HasRoom ctx b header.count)
+        → WouldAnswer ctx w payer id request }
 {}
 
 /// So an open entry recovers, as `open_entries_recover` says, where the book of its route has its row already, or
 /// room for one and serials for its transactions; where it has no route, it does in any case.
 pub fn entries_with_room_recover()
-    ensures { (ctx : Context) (settings : WorldSettings) (w : World) (id : TxnId) (request : List ℕ) (journal : JournalAtRest) → Reached ctx settings w → Timely settings → journal_at w id.pharmacy ≡ Some journal → IsOpen w id request → RoomInBook ctx w id request → Recovered ctx w journal id }
+    ensures { (ctx : Context) (settings : WorldSettings) (w : World) (id : TxnId) (request : List ℕ)
+        (journal : JournalAtRest) → Reached ctx settings w → Timely settings → journal_at w id.pharmacy ≡ Some journal
+        → IsOpen w id request → RoomInBook ctx w id request → Recovered ctx w journal id }
 {}
 
 /// Where that book is full and has no row of the id, no node ever holds an answer to it, whatever events come.
 pub fn full_books_never_answer()
-    ensures { (ctx : Context) (settings : WorldSettings) (w : World) (id : TxnId) (request : List ℕ) (header : RequestHeader) (payer : ℕ) (b : Book) → Reached ctx settings w → IsAskedOf ctx w id request header payer b → row_of id b.rows ≡ None → b.settings.cap ≤ length b.rows → Never ctx w id AnyEvent }
+    ensures { (ctx : Context) (settings : WorldSettings) (w : World) (id : TxnId) (request : List ℕ)
+        (header : RequestHeader) (payer : ℕ) (b : Book) → Reached ctx settings w
+        → IsAskedOf ctx w id request header payer b → row_of id b.rows ≡ None → b.settings.cap ≤ length b.rows
+        → Never ctx w id AnyEvent }
 {}
 
 /// Where its serials are used up, and the request has a claim that the plan would pay and whose fill has no
 /// standing payment, no node ever holds an answer to it, whatever events come but changes of this payer's plan.
 pub fn without_serials_no_answer()
-    ensures { (ctx : Context) (settings : WorldSettings) (w : World) (id : TxnId) (request : List ℕ) (header : RequestHeader) (payer : ℕ) (b : Book) → Reached ctx settings w → IsAskedOf ctx w id request header payer b → row_of id b.rows ≡ None → last_serial < next_serial b (ruled_rows ctx b.rows) → WantsSerial ctx b request → Never ctx w id (KeepsPlan payer) }
+    ensures { (ctx : Context) (settings : WorldSettings) (w : World) (id : TxnId) (request : List ℕ)
+        (header : RequestHeader) (payer : ℕ) (b : Book) → Reached ctx settings w
+        → IsAskedOf ctx w id request header payer b → row_of id b.rows ≡ None
+        → last_serial < next_serial b (ruled_rows ctx b.rows) → WantsSerial ctx b request
+        → Never ctx w id (KeepsPlan payer) }
 {}
 
 /// A change of plan after which none of the request's claims is paid lets it be answered without a serial, where
 /// the book has room: each of its claims without a standing payment is then rejected with 70.
 pub fn a_plan_change_lets_it_be_rejected()
-    ensures { (ctx : Context) (settings : WorldSettings) (w : World) (journal : JournalAtRest) (id : TxnId) (request : List ℕ) (header : RequestHeader) (payer : ℕ) (b : Book) (product : List ℕ) (price : Option ℕ) (plan : Plan) → Reached ctx settings w → Timely settings → journal_at w id.pharmacy ≡ Some journal → IsOpen w id request → IsAskedOf ctx w id request header payer b → numbered w.payers payer ≡ Some (Up b) → row_of id b.rows ≡ None → length b.rows < b.settings.cap → ctx.reprice b.plan product price ≡ Ok plan → PaysNone ctx plan request → RejectedAfter ctx w journal id request payer b product price plan }
+    ensures { (ctx : Context) (settings : WorldSettings) (w : World) (journal : JournalAtRest) (id : TxnId)
+        (request : List ℕ) (header : RequestHeader) (payer : ℕ) (b : Book) (product : List ℕ) (price : Option ℕ)
+        (plan : Plan) → Reached ctx settings w → Timely settings → journal_at w id.pharmacy ≡ Some journal
+        → IsOpen w id request → IsAskedOf ctx w id request header payer b → numbered w.payers payer ≡ Some (Up b)
+        → row_of id b.rows ≡ None → length b.rows < b.settings.cap → ctx.reprice b.plan product price ≡ Ok plan
+        → PaysNone ctx plan request → RejectedAfter ctx w journal id request payer b product price plan }
 {}
 
 /// As the crates below read bytes, taking a product off the plan is such a change for every request whose claims
 /// are all for this product.
 pub fn clearing_the_product_is_such_a_change()
-    ensures reprices { (routes : RouteMaps) (plan : Plan) (product : List ℕ) → (bytes_with routes).reprice plan product None ≡ Ok (cleared plan product) }
-    ensures pays_none { (routes : RouteMaps) (plan : Plan) (product request : List ℕ) → AsksOnlyFor (bytes_with routes) product request → PaysNone (bytes_with routes) (cleared plan product) request }
+    ensures reprices { (routes : RouteMaps) (plan : Plan) (product : List ℕ)
+        → (bytes_with routes).reprice plan product None ≡ Ok (cleared plan product) }
+    ensures pays_none { (routes : RouteMaps) (plan : Plan) (product request : List ℕ)
+        → AsksOnlyFor (bytes_with routes) product request
+        → PaysNone (bytes_with routes) (cleared plan product) request }
 {
     cleared_price_is_gone();
     same_bytes_are_one_product();

@@ -17,11 +17,18 @@ ghost use Rattle.claim_recovery.specs.Turn.{SentTo};
 
 /// Within one circle of ticks an open entry is sent to the switch of each place of its pharmacy's list.
 pub fn listed_switches_get_their_turn()
-    ensures { (ctx : Context) (settings : WorldSettings) (w : World) (id : TxnId) (request : List ℕ) (j : Journal) (place switch : ℕ) → Reached ctx settings w → Timely settings → numbered w.pharmacies id.pharmacy ≡ Some (Up j) → IsOpen w id request → slice_get j.settings.nodes place ≡ Some switch → SentTo ctx w id request switch (circle j.settings) }
+    ensures { (ctx : Context) (settings : WorldSettings) (w : World) (id : TxnId) (request : List ℕ) (j : Journal)
+        (place switch : ℕ) → Reached ctx settings w → Timely settings → numbered w.pharmacies id.pharmacy ≡ Some (Up j)
+        → IsOpen w id request → slice_get j.settings.nodes place ≡ Some switch
+        → SentTo ctx w id request switch (circle j.settings) }
 {}
 
 /// So where one listed switch is up, an open entry is settled with no start of a switch: by at most one circle
 /// of ticks of its pharmacy, four deliveries, and a start of the pharmacy and of the payer where they are down.
 pub fn one_listed_switch_suffices()
-    ensures { (ctx : Context) (settings : WorldSettings) (w : World) (id : TxnId) (request : List ℕ) (journal : JournalAtRest) (place switch : ℕ) (table : Table) → Reached ctx settings w → Timely settings → journal_at w id.pharmacy ≡ Some journal → IsOpen w id request → Answerable ctx w id request → slice_get journal.settings.nodes place ≡ Some switch → numbered w.switches switch ≡ Some (Up table) → RecoveredThrough ctx w journal id }
+    ensures { (ctx : Context) (settings : WorldSettings) (w : World) (id : TxnId) (request : List ℕ)
+        (journal : JournalAtRest) (place switch : ℕ) (table : Table) → Reached ctx settings w → Timely settings
+        → journal_at w id.pharmacy ≡ Some journal → IsOpen w id request → Answerable ctx w id request
+        → slice_get journal.settings.nodes place ≡ Some switch → numbered w.switches switch ≡ Some (Up table)
+        → RecoveredThrough ctx w journal id }
 {}

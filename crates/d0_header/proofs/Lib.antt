@@ -1,4 +1,4 @@
-mod Cutting
+pub mod Cutting
 mod Bytes
 mod Passing
 mod Calendar

@@ -11,7 +11,8 @@ pub fn request_text_laws()
     ensures width { (h : Request) → IsRequest h → length (request_text h) ≡ 56 }
     ensures passes { (h : Request) (rest : List ℕ) → IsRequest h → request_fault (request_text h ++ rest) ≡ None }
     ensures again { (h : Request) (rest : List ℕ) → IsRequest h → request_of (request_text h ++ rest) ≡ h }
-    ensures found { (bytes : List ℕ) → request_fault bytes ≡ None → IsRequest (request_of bytes) × (bytes ≡ request_text (request_of bytes) ++ drop 56 bytes) }
+    ensures found { (bytes : List ℕ) → request_fault bytes ≡ None
+        → IsRequest (request_of bytes) × (bytes ≡ request_text (request_of bytes) ++ drop 56 bytes) }
 {}
 
 /// The text of a response header has 31 bytes, without a fault, and whatever follows it, its fields are cut
@@ -20,7 +21,9 @@ pub fn response_text_laws()
     ensures width { (h : Response) → IsResponse h → length (response_text h) ≡ 31 }
     ensures passes { (h : Response) (rest : List ℕ) → IsResponse h → response_fault (response_text h ++ rest) ≡ None }
     ensures again { (h : Response) (rest : List ℕ) → IsResponse h → response_of (response_text h ++ rest) ≡ h }
-    ensures found { (bytes : List ℕ) → response_fault bytes ≡ None → IsResponse (response_of bytes) × (bytes ≡ response_text (response_of bytes) ++ drop 31 bytes) }
+    ensures found { (bytes : List ℕ) → response_fault bytes ≡ None
+        → IsResponse (response_of bytes) × (bytes ≡ response_text (response_of bytes) ++ drop 31 bytes) }
     // What answers a sound request header is a sound response header.
-    ensures answers { (h : Request) (status : ℕ) → IsRequest h → IsTrue (is_plain status) → IsResponse (answer_to h status) }
+    ensures answers { (h : Request) (status : ℕ) → IsRequest h → IsTrue (is_plain status)
+        → IsResponse (answer_to h status) }
 {}

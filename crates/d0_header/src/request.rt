@@ -28,11 +28,13 @@ impl Model for RequestHeader {
 
     ghost Value = { Request };
 
-    ghost view = { λ a. record { bin = a.bin; version = a.version; code = a.code; pcn = a.pcn; count = a.count; qualifier = a.qualifier; provider = a.provider; date = a.date; vendor = a.vendor } };
+    ghost use Rattle.d0_header.specs.RequestFields.{request_seen, request_kept};
 
-    ghost invariant = { λ a. IsRequest (let h : Request = record { bin = a.bin; version = a.version; code = a.code; pcn = a.pcn; count = a.count; qualifier = a.qualifier; provider = a.provider; date = a.date; vendor = a.vendor } in h) };
+    ghost view = { request_seen };
 
-    ghost inverse = { λ a. record { bin = a.bin; version = a.version; code = a.code; pcn = a.pcn; count = a.count; qualifier = a.qualifier; provider = a.provider; date = a.date; vendor = a.vendor } };
+    ghost invariant = { λ a. IsRequest (request_seen a) };
+
+    ghost inverse = { request_kept };
 }
 
 impl RequestHeader {
@@ -41,7 +43,8 @@ impl RequestHeader {
     pub fn read(bytes: &[u8]) -> Result<RequestHeader, HeaderFault>
         ensures found { IfOk result (λ h. IsRequest h × (bytes.now ≡ request_text h ++ drop 56 bytes.now)) }
         // Whatever header the bytes begin with is read.
-        ensures only { (h : Request) (rest : List ℕ) → IsRequest h → bytes.now ≡ request_text h ++ rest → result ≡ Ok h }
+        ensures only { (h : Request) (rest : List ℕ) → IsRequest h → bytes.now ≡ request_text h ++ rest
+            → result ≡ Ok h }
         ensures fault { result_err result ≡ request_fault bytes.now }
     {
         match fault_in(bytes) {

@@ -28,11 +28,13 @@ impl Model for ResponseHeader {
 
     ghost Value = { Response };
 
-    ghost view = { λ a. record { version = a.version; code = a.code; count = a.count; status = a.status; qualifier = a.qualifier; provider = a.provider; date = a.date } };
+    ghost use Rattle.d0_header.specs.ResponseFields.{response_seen, response_kept};
 
-    ghost invariant = { λ a. IsResponse (let h : Response = record { version = a.version; code = a.code; count = a.count; status = a.status; qualifier = a.qualifier; provider = a.provider; date = a.date } in h) };
+    ghost view = { response_seen };
 
-    ghost inverse = { λ a. record { version = a.version; code = a.code; count = a.count; status = a.status; qualifier = a.qualifier; provider = a.provider; date = a.date } };
+    ghost invariant = { λ a. IsResponse (response_seen a) };
+
+    ghost inverse = { response_kept };
 }
 
 impl ResponseHeader {
@@ -41,7 +43,8 @@ impl ResponseHeader {
     pub fn read(bytes: &[u8]) -> Result<ResponseHeader, HeaderFault>
         ensures found { IfOk result (λ h. IsResponse h × (bytes.now ≡ response_text h ++ drop 31 bytes.now)) }
         // Whatever header the bytes begin with is read.
-        ensures only { (h : Response) (rest : List ℕ) → IsResponse h → bytes.now ≡ response_text h ++ rest → result ≡ Ok h }
+        ensures only { (h : Response) (rest : List ℕ) → IsResponse h → bytes.now ≡ response_text h ++ rest
+            → result ≡ Ok h }
         ensures fault { result_err result ≡ response_fault bytes.now }
     {
         match fault_in(bytes) {

@@ -7,6 +7,7 @@ use Rattle.d0_segments.specs.Separators.{ends_group}
 use Rattle.d0_segments.specs.Faults.{starts_nothing, is_empty_group, has_segment_id, has_field_id, is_later_field, fault_at, or_else, first_fault}
 use Rattle.d0_segments.specs.Least.{Stands, byte_before, StandsIn, IsLeast}
 use Rattle.d0_segments.proofs.Walking.{both, not_true}
+use Rattle.d0_segments.proofs.Faultless.{neither}
 
 -- a chain of four tests
 abbrev chain : (place : ℕ) (a b c d : Bool) → Option FramingFault
@@ -105,18 +106,13 @@ first_at front offset x text f h = stands_told front offset x text f (subst (λ 
 none_some : {A : Type 0} (f : A) (o : Option A) → o ≡ None → o ≡ Some f → ⊥
 none_some f o e h = let x : None ≡ Some f = sym e ∙ h in cc
 
--- a search that answers nothing at a byte goes on behind it
-passed : (o later : Option FramingFault) → or_else o later ≡ None → (o ≡ None) × (later ≡ None)
-passed None later e = (refl, e)
-passed (Some f) later e = absurd cc
-
 pub none_stands : (front offset : ℕ) (text : List ℕ) → first_fault front offset text ≡ None → (k : ℕ) (f : FramingFault) → StandsIn front offset text k f → ⊥
 none_stands front offset [] e k f h = omega (arith, h.0)
 none_stands front offset (x ∷ text) e zero f h =
-    let p = passed (fault_at front offset x text) (first_fault x (offset + 1) text) e in
+    let p = neither (fault_at front offset x text) (first_fault x (offset + 1) text) e in
     none_some f (fault_at front offset x text) p.0 (first_at front offset x text f h)
 none_stands front offset (x ∷ text) e (suc k) f h =
-    let p = passed (fault_at front offset x text) (first_fault x (offset + 1) text) e in
+    let p = neither (fault_at front offset x text) (first_fault x (offset + 1) text) e in
     none_stands x (offset + 1) text p.1 k f (back front offset x text k f h)
 
 -- a search that answers something answers it at a byte or behind it

@@ -17,7 +17,7 @@ onto_first : (b : ℕ) (ps : List (List ℕ)) → 0 < length ps → onto b ps �
 onto_first b [] lt = absurd (omega arith)
 onto_first b (p ∷ ps) lt = refl
 
-onto_length : (b : ℕ) (ps : List (List ℕ)) → 0 < length ps → length (onto b ps) ≡ length ps
+pub onto_length : (b : ℕ) (ps : List (List ℕ)) → 0 < length ps → length (onto b ps) ≡ length ps
 onto_length b [] lt = absurd (omega arith)
 onto_length b (p ∷ ps) lt = refl
 

@@ -44,6 +44,13 @@ IsRequestFramed t = IsFramed IsRequest request_kind t
 abbrev pub IsResponseFramed : TransmissionParts Response → Type 0
 IsResponseFramed t = IsFramed IsResponse response_kind t
 
+-- bytes are the text of this well-formed transmission
+abbrev pub SpellsRequest : List ℕ → TransmissionParts Request → Type 0
+SpellsRequest bytes t = IsRequestFramed t × (bytes ≡ transmission_text request_kind t)
+
+abbrev pub SpellsResponse : List ℕ → TransmissionParts Response → Type 0
+SpellsResponse bytes t = IsResponseFramed t × (bytes ≡ transmission_text response_kind t)
+
 -- the fault of a header that announces another number of groups than there are
 abbrev pub count_fault : (said found : ℕ) → Option FramingFault
 count_fault said found = if said == found then None else Some (CountMismatch said found)

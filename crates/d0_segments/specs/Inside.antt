@@ -1,7 +1,7 @@
 -- What is left at a place of framed bytes.
 use Rattle.std.specs.Prelude.{ℕ, List, [], ◌∷◌, drop, map, Bool, ◌&&◌, is_none}
 use Rattle.d0_segments.specs.Separators.{field_separator, group_separator, segment_separator, ends_here}
-use Rattle.d0_segments.specs.Parts.{FieldParts}
+use Rattle.d0_segments.specs.Parts.{FieldParts, SegmentParts}
 use Rattle.d0_segments.specs.Faults.{first_fault}
 use Rattle.d0_segments.specs.Pieces.{pieces, field_of}
 
@@ -21,3 +21,7 @@ front_of bytes = first_piece (pieces segment_separator (first_piece (pieces grou
 -- the fields in front of the next segment or group
 unfoldable pub fields_left : List ℕ → List FieldParts
 fields_left bytes = map field_of (drop 1 (pieces field_separator (front_of bytes)))
+
+-- a segment of this identification, of which the fields at this place are left, as a list of one
+abbrev pub segment_left : (id bytes : List ℕ) → List SegmentParts
+segment_left id bytes = record { id = id; fields = fields_left bytes } ∷ []

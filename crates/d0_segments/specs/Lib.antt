@@ -8,6 +8,7 @@ pub mod Inside
 pub mod Passing
 pub mod FramedParts
 pub mod Views
+pub mod Cursors
 pub mod Address
 pub mod Lending
 pub mod Taking

@@ -1,11 +1,11 @@
 //! Going over framed bytes in place.
 
-ghost use Rattle.std.specs.Prelude.{◌≡◌, ◌≤◌, ◌<◌, [], ◌∷◌, ◌++◌, true, length, MatchOption, IfSome, IfNone};
+ghost use Rattle.std.specs.Prelude.{◌≡◌, ◌≤◌, ◌<◌, [], ◌∷◌, ◌++◌, true, length, IfSome, IfNone};
 ghost use Rattle.d0_segments.specs.Separators.{begins_with, ends_segment};
 ghost use Rattle.d0_segments.specs.Texts.{field_text};
 ghost use Rattle.d0_segments.specs.Views.{field_parts};
-ghost use Rattle.d0_segments.specs.Pieces.{shared_of, groups_of};
-ghost use Rattle.d0_segments.specs.Inside.{is_inside, fields_left};
+ghost use Rattle.d0_segments.specs.Pieces.{shared_of};
+ghost use Rattle.d0_segments.specs.Inside.{is_inside};
 ghost use Rattle.memchr.specs.Find.{IsFirstByte, is_byte};
 
 use crate::field::Field;
@@ -49,6 +49,8 @@ impl<'a> SegmentAt<'a> {
 }
 
 impl<'a> Cursor<'a> {
+    ghost use Rattle.d0_segments.specs.Cursors.{FindsField, FindsSegment, FindsGroup, segment_at};
+
     /// The place at which these bytes begin.
     #[inline(always)]
     pub(crate) fn at(bytes: &'a [u8]) -> Cursor<'a>
@@ -61,7 +63,7 @@ impl<'a> Cursor<'a> {
     /// The next field of the segment and the place behind it; None behind the last one.
     #[inline(always)]
     pub fn field(self) -> Option<(Field<'a>, Cursor<'a>)>
-        ensures fields { MatchOption result (fields_left self.entry.bytes.now ≡ []) (λ x. fields_left self.entry.bytes.now ≡ field_parts x.0 ∷ fields_left x.1.bytes.now) }
+        ensures fields { FindsField self.entry.bytes.now result }
         // The segments behind are the same from both places.
         ensures segments { IfSome result (λ x. shared_of self.entry.bytes.now ≡ shared_of x.1.bytes.now) }
         ensures shorter { IfSome result (λ x. length x.1.bytes.now < length self.entry.bytes.now) }
@@ -89,7 +91,7 @@ impl<'a> Cursor<'a> {
     /// The next segment of the group; None behind the last one.
     #[inline(always)]
     pub fn segment(self) -> Option<SegmentAt<'a>>
-        ensures segments { MatchOption result (shared_of self.entry.bytes.now ≡ []) (λ s. shared_of self.entry.bytes.now ≡ record { id = s.first ∷ s.second ∷ []; fields = fields_left s.fields.bytes.now } ∷ shared_of s.fields.bytes.now) }
+        ensures segments { FindsSegment self.entry.bytes.now result }
         ensures shorter { IfSome result (λ s. length s.fields.bytes.now < length self.entry.bytes.now) }
     {
         let rest = self.behind_fields();
@@ -117,7 +119,7 @@ impl<'a> Cursor<'a> {
     #[inline(always)]
     fn take_segment(self) -> SegmentAt<'a>
         requires { begins_with 30 self.bytes.now ≡ true }
-        ensures segments { shared_of self.entry.bytes.now ≡ record { id = result.first ∷ result.second ∷ []; fields = fields_left result.fields.bytes.now } ∷ shared_of result.fields.bytes.now }
+        ensures segments { shared_of self.entry.bytes.now ≡ segment_at result ∷ shared_of result.fields.bytes.now }
         ensures shorter { length result.fields.bytes.now < length self.entry.bytes.now }
     {
         let first = byte_at(self.bytes, 4);
@@ -132,7 +134,7 @@ impl<'a> Cursor<'a> {
 
     /// The place where the segments of the next group begin; None behind the last one.
     pub fn group(self) -> Option<Cursor<'a>>
-        ensures groups { MatchOption result (groups_of self.entry.bytes.now ≡ []) (λ x. groups_of self.entry.bytes.now ≡ shared_of x.bytes.now ∷ groups_of x.bytes.now) }
+        ensures groups { FindsGroup self.entry.bytes.now result }
         ensures shorter { IfSome result (λ x. length x.bytes.now < length self.entry.bytes.now) }
     {
         match next_group(self.bytes) {

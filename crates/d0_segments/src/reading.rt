@@ -1,16 +1,15 @@
 //! Reading a transmission from left to right.
 
-ghost use Rattle.std.specs.Prelude.{◌≡◌, ◌≤◌, ◌<◌, ℕ, ◌-◌, [], ◌∷◌, true, map, length, IfOk, IfErr, MatchResult, Some, IsTrue, ◌↔◌};
+ghost use Rattle.std.specs.Prelude.{◌≡◌, ◌<◌, ◌-◌, [], ◌∷◌, true, map, IfOk, IfErr, Some, IsTrue, ◌↔◌};
 ghost use Rattle.d0_segments.specs.Separators.{is_id, ends_here, ends_segment, ends_group, begins_with};
 ghost use Rattle.d0_segments.specs.Parts.{TransmissionParts, is_group, are_groups};
 ghost use Rattle.d0_segments.specs.Texts.{field_text, fields_text, segment_text, segments_text, group_text, groups_text, body_text};
 ghost use Rattle.d0_segments.specs.Views.{field_parts, segment_parts, segments_parts, groups_parts};
-ghost use Rattle.d0_segments.specs.Transmissions.{transmission_parts, LiesAt};
-ghost use Rattle.d0_segments.specs.declared.fault.FramingFault.TheVariants.{OutOfMemory};
-ghost use Rattle.d0_segments.specs.Faults.{Fails, first_fault};
+ghost use Rattle.d0_segments.specs.Transmissions.{transmission_parts, LiesAt, IsReadAs};
+ghost use Rattle.d0_segments.specs.Faults.{Fails};
 ghost use Rattle.d0_segments.specs.Address.{beyond};
 ghost use Rattle.d0_segments.specs.Lending.{FieldsLie, SegmentsLie, GroupsLie, BodyLies};
-ghost use Rattle.d0_segments.specs.Framing.{request_kind, response_kind, transmission_text, transmission_of, framing_fault, IsFramed, IsRequestFramed, IsResponseFramed};
+ghost use Rattle.d0_segments.specs.Framing.{request_kind, response_kind, transmission_text, transmission_of, framing_fault, IsFramed, IsRequestFramed, IsResponseFramed, SpellsRequest, SpellsResponse};
 ghost use Rattle.d0_header.specs.Request.{Request};
 ghost use Rattle.d0_header.specs.Response.{Response};
 ghost use Rattle.d0_segments.specs.Taking.{Takes, IsIdentified, fault_in, fault_behind_header};
@@ -34,9 +33,10 @@ pub fn read_request(
     bytes: &[u8],
 ) -> Result<Transmission<'_, RequestHeader>, FramingFault>
     // What is read is well formed, and the bytes are its text.
-    ensures found { IfOk result (λ t. IsRequestFramed (transmission_parts t) × (bytes.now ≡ transmission_text request_kind (transmission_parts t))) }
+    ensures found { IfOk result (λ t. SpellsRequest bytes.now (transmission_parts t)) }
     // Whatever well-formed transmission the bytes are the text of is read, unless memory runs out.
-    ensures only { (t : TransmissionParts Request) → IsRequestFramed t → bytes.now ≡ transmission_text request_kind t → MatchResult result (λ r. transmission_parts r ≡ t) (λ e. e ≡ OutOfMemory) }
+    ensures only { (t : TransmissionParts Request) → IsRequestFramed t → bytes.now ≡ transmission_text request_kind t
+        → IsReadAs result t }
     // The same as one function of the bytes, which gives none where they have a fault.
     ensures parts { IfOk result (λ t. transmission_of request_kind bytes.now ≡ Some (transmission_parts t)) }
     // Which fault it is: the first one, unless memory ran out.
@@ -54,9 +54,10 @@ pub fn read_response(
     bytes: &[u8],
 ) -> Result<Transmission<'_, ResponseHeader>, FramingFault>
     // What is read is well formed, and the bytes are its text.
-    ensures found { IfOk result (λ t. IsResponseFramed (transmission_parts t) × (bytes.now ≡ transmission_text response_kind (transmission_parts t))) }
+    ensures found { IfOk result (λ t. SpellsResponse bytes.now (transmission_parts t)) }
     // Whatever well-formed transmission the bytes are the text of is read, unless memory runs out.
-    ensures only { (t : TransmissionParts Response) → IsResponseFramed t → bytes.now ≡ transmission_text response_kind t → MatchResult result (λ r. transmission_parts r ≡ t) (λ e. e ≡ OutOfMemory) }
+    ensures only { (t : TransmissionParts Response) → IsResponseFramed t → bytes.now ≡ transmission_text response_kind t
+        → IsReadAs result t }
     // The same as one function of the bytes, which gives none where they have a fault.
     ensures parts { IfOk result (λ t. transmission_of response_kind bytes.now ≡ Some (transmission_parts t)) }
     // Which fault it is: the first one, unless memory ran out.
@@ -95,7 +96,8 @@ fn read<H: Header>(alloc: Global, bytes: &[u8]) -> Result<Transmission<'_, H>, F
 
 /// Reads what stands behind the header: the shared segments and the groups.
 fn read_body<'a>(alloc: Global, from: Rest<'a>) -> Result<Body<'a>, FramingFault>
-    ensures parts { IfOk result (λ x. from.entry.bytes.now ≡ body_text (segments_parts x.0.items) (groups_parts x.1.items)) }
+    ensures parts { IfOk result
+        (λ x. from.entry.bytes.now ≡ body_text (segments_parts x.0.items) (groups_parts x.1.items)) }
     ensures groups { IfOk result (λ x. are_groups (groups_parts x.1.items) ≡ true) }
     ensures lent { IfOk result (λ x. BodyLies from.entry.bytes.ref_ptr x.0.items x.1.items) }
     ensures fault { IfErr result (λ e. Fails e (fault_behind_header from.entry)) }

@@ -12,6 +12,10 @@ pub record Opened : Type 0 where
   pub payload : List ℕ
   pub place : ℕ × ℕ
 
+-- an envelope of these parts whose head begins at this place in memory
+abbrev pub opened_at : ℕ × ℕ → Kind → Txn → List ℕ → Opened
+opened_at place kind id payload = record { kind = kind; id = id; payload = payload; place = (place.0, place.1 + 18) }
+
 -- the most bytes of a payload
 abbrev pub longest_payload : ℕ
 longest_payload = 32768

@@ -81,10 +81,10 @@ impl<'a> Model for Envelope<'a> {
 }
 
 impl<'a> Envelope<'a> {
-    ghost use Rattle.std.specs.Prelude.{ℕ, ◌+◌, List, Ok, IfOk};
+    ghost use Rattle.std.specs.Prelude.{ℕ, List, Ok, IfOk};
     ghost use Rattle.envelope.specs.declared.opening.Kind.{Kind};
     ghost use Rattle.envelope.specs.Txn.{Txn, IsTxn};
-    ghost use Rattle.envelope.specs.Envelope.{IsTextOf, envelope_text};
+    ghost use Rattle.envelope.specs.Envelope.{IsTextOf, envelope_text, opened_at};
 
     /// Reads an envelope that is all of the bytes. Its payload is the bytes behind the head,
     /// where they stand.
@@ -99,7 +99,8 @@ impl<'a> Envelope<'a> {
         ensures found { IfOk result (λ e. IsTextOf bytes.entry.ref_ptr bytes.now e) }
 
         // Each such text is read.
-        ensures only { (kind : Kind) (id : Txn) (payload : List ℕ) → IsTxn id → length payload ≤ longest_payload → bytes.now ≡ envelope_text kind id payload → result ≡ Ok (record { kind = kind; id = id; payload = payload; place = (bytes.entry.ref_ptr.0, bytes.entry.ref_ptr.1 + 18) }) }
+        ensures only { (kind : Kind) (id : Txn) (payload : List ℕ) → IsTxn id → length payload ≤ longest_payload
+            → bytes.now ≡ envelope_text kind id payload → result ≡ Ok (opened_at bytes.entry.ref_ptr kind id payload) }
     {
         Envelope::open(bytes)
     }

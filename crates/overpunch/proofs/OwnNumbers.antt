@@ -69,7 +69,7 @@ digits_again (d ∷ ds) = let e : (48 + d) - 48 ≡ d = omega arith in rw (e, di
 pub digits_in-leading_digits : (n : ℕ) → digits_in (leading_digits n) ≡ digits_of 10 n
 digits_in-leading_digits n = digits_again (digits_of 10 n)
 
-all_push : (text : List ℕ) (byte : ℕ) → AllByRecursion IsAsciiDigit text → IsAsciiDigit byte → AllByRecursion IsAsciiDigit (text ++ byte ∷ [])
+pub all_push : (text : List ℕ) (byte : ℕ) → AllByRecursion IsAsciiDigit text → IsAsciiDigit byte → AllByRecursion IsAsciiDigit (text ++ byte ∷ [])
 all_push [] byte h last = (last, tt)
 all_push (x ∷ xs) byte h last = (h.0, all_push xs byte h.1 last)
 

@@ -12,13 +12,16 @@ pub fn number_in_range()
 
 /// A number's own text reads back as that number, where the field has room for it.
 pub fn number_reads_back()
-    ensures { (digits number : ℕ) → 1 ≤ digits → number < 10 ^ digits → number_of digits (number_text number) ≡ Ok number }
+    ensures { (digits number : ℕ) → 1 ≤ digits → number < 10 ^ digits
+        → number_of digits (number_text number) ≡ Ok number }
 {}
 
 /// No text of a number is shorter than its own, and no other is as short.
 pub fn number_shortest()
-    ensures shortest { (digits : ℕ) (text : List ℕ) (number : ℕ) → number_of digits text ≡ Ok number → length (number_text number) ≤ length text }
-    ensures only { (digits : ℕ) (text : List ℕ) (number : ℕ) → number_of digits text ≡ Ok number → length text ≤ length (number_text number) → text ≡ number_text number }
+    ensures shortest { (digits : ℕ) (text : List ℕ) (number : ℕ) → number_of digits text ≡ Ok number
+        → length (number_text number) ≤ length text }
+    ensures only { (digits : ℕ) (text : List ℕ) (number : ℕ) → number_of digits text ≡ Ok number
+        → length text ≤ length (number_text number) → text ≡ number_text number }
 {}
 
 /// What an amount text spells is an amount.
@@ -36,6 +39,8 @@ pub fn amount_reads_back()
 #[tactic(auto, unfolding(crate::specs::Amount::amount_text))]
 pub fn amount_shortest()
     ensures zero { amount_text (pos 0) ≡ codes "{" }
-    ensures shortest { (text : List ℕ) (cents : ℤ) → amount_of text ≡ Ok cents → length (amount_text cents) ≤ length text }
-    ensures only { (text : List ℕ) (cents : ℤ) → amount_of text ≡ Ok cents → cents ≢ pos 0 → is_ascii_digit (last_of text) ≡ false → length text ≤ length (amount_text cents) → text ≡ amount_text cents }
+    ensures shortest { (text : List ℕ) (cents : ℤ) → amount_of text ≡ Ok cents
+        → length (amount_text cents) ≤ length text }
+    ensures only { (text : List ℕ) (cents : ℤ) → amount_of text ≡ Ok cents → cents ≢ pos 0
+        → is_ascii_digit (last_of text) ≡ false → length text ≤ length (amount_text cents) → text ≡ amount_text cents }
 {}

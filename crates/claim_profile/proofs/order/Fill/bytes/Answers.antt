@@ -1,16 +1,8 @@
-use Rattle.std.proofs.Common.{◌≡◌, ℕ, ◌+◌, List, [], ◌∷◌, ◌++◌, length, take, sym, ap, ◌∙◌, arith}
+use Rattle.std.proofs.Common.{◌≡◌, [], ◌∷◌, take, sym, ap, ◌∙◌, arith}
 use Rattle.std.proofs.lemmas.List.{take_all}
 use Rattle.claim_profile.specs.FillBytes.{joined, fill_bytes}
 use Rattle.claim_profile.proofs.order.Fill.bytes.Goals as goal
-
--- a field that is put behind a text makes the longer text
-put_behind : (old new field before : List ℕ) (place end : ℕ) → end ≡ place + length field → take (place + length field) new ≡ take place old ++ field → take place old ≡ before → take end new ≡ before ++ field
-put_behind old new field before place end e f g =
-    ap (λ (n : ℕ). take n new) e ∙ (f ∙ ap (λ (xs : List ℕ). xs ++ field) g)
-
--- the first field of a text
-put_first : (new field : List ℕ) (end : ℕ) → end ≡ 0 + length field → take (0 + length field) new ≡ field → take end new ≡ field
-put_first new field end e f = ap (λ (n : ℕ). take n new) e ∙ f
+use Rattle.d0_header.proofs.Cutting.{put_first, put_behind}
 
 pub returns : goal.returns
 unfolding fill_bytes
