@@ -5,6 +5,7 @@ use Rattle.std.proofs.lemmas.Option.{same_Some}
 use Rattle.std.specs.List.{list_all}
 use Rattle.std.specs.Option.{ForSome}
 use Rattle.std.specs.Int.{w64, to_be_bytes}
+use Rattle.std.proofs.lemmas.Bool.{and_parts}
 use Rattle.claim_model.specs.Journal.{JournalAtRest, Kept}
 use Rattle.pharmacy_journal.specs.Resting.{added, added_all}
 use Rattle.kept_records.specs.Fields.{sized, u64_at, text_at}
@@ -12,7 +13,7 @@ use Rattle.kept_records.specs.Entries.{answer_text, answer_at, entry_text, entry
 use Rattle.kept_records.specs.Journals.{entry_in, finished, entries_in}
 use Rattle.kept_records.specs.Versions.{fits_version}
 use Rattle.kept_records.proofs.FieldsBack.{u8_at-put, u64_at-put, text_at-put}
-use Rattle.kept_records.proofs.Made.{IsShort, both, added_is_longer, entries-longer, first_added}
+use Rattle.kept_records.proofs.Made.{IsShort, added_is_longer, entries-longer, first_added}
 
 pub answer_at-put : (answer : Option (List ℕ)) (rest : List ℕ) → ForSome answer (λ a. length a ≤ 32768) → answer_at (answer_text answer ++ rest) ≡ Some (answer, rest)
 unfolding answer_at
@@ -60,7 +61,7 @@ entries_in-put version total j all [] small h suited = ap Ok (same_Some j all h)
 entries_in-put version total j all (kept ∷ entries) small h suited =
     let next = first_added (added j kept.request kept.answer) all entries h in
     let longer : JournalAtRest = next.0 in
-    let tests = both (fits_version version kept.request) (list_all (λ (k : Kept). fits_version version k.request) entries) suited in
+    let tests = and_parts (fits_version version kept.request) (list_all (λ (k : Kept). fits_version version k.request) entries) suited in
     let rest : List ℕ = entries_text (length j.entries + 1 + 1) entries in
     let count : length longer.entries ≡ length j.entries + 1 = entries-longer j longer kept (added_is_longer j longer kept.request kept.answer next.1) in
     let others = entries_in-put version total longer all entries (omega arith) next.2 tests.1 in

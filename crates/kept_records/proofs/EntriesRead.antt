@@ -4,10 +4,10 @@ use Rattle.claim_model.specs.Journal.{JournalAtRest}
 use Rattle.kept_records.specs.declared.fault.RecordFault.{RecordFault}
 use Rattle.kept_records.specs.Journals.{entry_in, finished, entries_in}
 
-one_less : (count i : ℕ) → i < count → count - i ≡ suc (count - (i + 1))
+pub one_less : (count i : ℕ) → i < count → count - i ≡ suc (count - (i + 1))
 one_less count i h = omega arith
 
-none_left : (count i : ℕ) → count ≤ i → count - i ≡ 0
+pub none_left : (count i : ℕ) → count ≤ i → count - i ≡ 0
 none_left count i h = omega arith
 
 -- an entry is read, and the others are to be read

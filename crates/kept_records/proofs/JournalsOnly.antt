@@ -4,6 +4,7 @@ use Rattle.std.proofs.lemmas.Bool.Decides.{nat_tests}
 use Rattle.std.proofs.lemmas.Option.{same_Some}
 use Rattle.std.specs.List.{list_all}
 use Rattle.std.specs.Int.{w16, w32, to_be_bytes}
+use Rattle.std.proofs.lemmas.Bool.{and_parts}
 use Rattle.claim_model.specs.Journal.{PharmacySettings, JournalAtRest, Kept}
 use Rattle.kept_records.specs.declared.fault.RecordFault.TheVariants.{Short, Version, NotABook}
 use Rattle.kept_records.specs.Fields.{u8_at, u16_at, u32_at}
@@ -14,7 +15,7 @@ use Rattle.kept_records.specs.Journals.{IsTextOf, IsKept, empty_journal, journal
 use Rattle.kept_records.specs.Versions.{fits_version}
 use Rattle.kept_records.proofs.Chains.{result_then, ok_same}
 use Rattle.kept_records.proofs.FieldsOnly.{AreBytes, IsTaken, u8_at_taken, u16_at_taken, u32_at_taken}
-use Rattle.kept_records.proofs.Made.{both, added_all_is}
+use Rattle.kept_records.proofs.Made.{added_all_is}
 use Rattle.kept_records.proofs.EntriesOnly.{and_then, AreEntries, entries_in_taken}
 
 -- ---- the head
@@ -88,7 +89,7 @@ with_head : (number : ℕ) (bytes : List ℕ) (h : HeadParts) (o : Option HeadPa
 with_head number bytes h None are front e = cc
 with_head number bytes h (Some p) are front e =
     let tests = with_tests p h (p.mark == 20554 && p.number == number) (p.version == 1 || p.version == 2) e in
-    let own = both (p.mark == 20554) (p.number == number) tests.0 in
+    let own = and_parts (p.mark == 20554) (p.number == number) tests.0 in
     let found : IsHead number bytes p = record { taken = own_head number bytes p (is p.mark 20554 own.0) (is p.number number own.1) (head_at_taken bytes p are front); known = tests.1 } in
     subst (λ (h : HeadParts). IsHead number bytes h) tests.2 found
   where

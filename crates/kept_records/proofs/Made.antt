@@ -1,6 +1,7 @@
 -- What holds of the entries of a journal that is made entry by entry.
 use Rattle.std.proofs.Common.{◌≡◌, ℕ, zero, suc, ◌+◌, ◌≤◌, ◌&&◌, Bool, true, false, cond, List, [], ◌∷◌, ◌++◌, length, slice_get, nat_le, nat_lt, Option, Some, None, option_and_then, refl, subst, sym, ◌∙◌, ap, arith, append-nil, append_assoc, length-append}
 use Rattle.std.specs.Option.{ForSome}
+use Rattle.std.proofs.lemmas.Bool.{and_parts}
 use Rattle.std.proofs.lemmas.Bool.Decides.{nat_tests}
 use Rattle.std.proofs.lemmas.Option.{same_Some}
 use Rattle.d0_segments.specs.Framing.{request_kind, transmission_of}
@@ -14,10 +15,6 @@ use Rattle.pharmacy_journal.specs.Resting.{is_kept_answer, is_row, added, added_
 pub record IsShort (kept : Kept) : Type 0 where
   pub request : length kept.request ≤ 32768
   pub answer : ForSome kept.answer (λ answer. length answer ≤ 32768)
-
-pub both : (a b : Bool) → (a && b) ≡ true → (a ≡ true) × (b ≡ true)
-both true b h = (refl, h)
-both false b h = cc
 
 -- a readable request has at most 32,768 bytes
 short_request : (s : PharmacySettings) (request : List ℕ) → is_own_request s request ≡ true → length request ≤ 32768
@@ -33,7 +30,7 @@ short_request s request h = by_length (nat_le (length request) 32768) refl h
 
 short_answer : (request : List ℕ) (answer : Option (List ℕ)) → is_kept_answer request answer ≡ true → ForSome answer (λ answer. length answer ≤ 32768)
 short_answer request None h = λ (x : List ℕ) e. cc
-short_answer request (Some answer) h = λ (x : List ℕ) e. subst (λ (a : List ℕ). length a ≤ 32768) (same_Some answer x e) (at_most (length answer) (both (settles_with request answer) (nat_le (length answer) 32768) h).1)
+short_answer request (Some answer) h = λ (x : List ℕ) e. subst (λ (a : List ℕ). length a ≤ 32768) (same_Some answer x e) (at_most (length answer) (and_parts (settles_with request answer) (nat_le (length answer) 32768) h).1)
   where
     at_most : (n : ℕ) → nat_le n 32768 ≡ true → n ≤ 32768
     at_most n t = grind (arith, nat_tests)
@@ -49,8 +46,8 @@ added_is_longer j longer request answer h = by_row (is_row j request answer) ref
   where
     by_row : (good : Bool) → is_row j request answer ≡ good → cond good (Some (record { number = j.number; settings = j.settings; entries = j.entries ++ record { request = request; answer = answer } ∷ [] })) None ≡ Some longer → IsLonger j longer (record { request = request; answer = answer })
     by_row true e h =
-        let parts = both (nat_lt (length j.entries) j.settings.cap) (is_own_request j.settings request && is_kept_answer request answer) e in
-        let texts = both (is_own_request j.settings request) (is_kept_answer request answer) parts.1 in
+        let parts = and_parts (nat_lt (length j.entries) j.settings.cap) (is_own_request j.settings request && is_kept_answer request answer) e in
+        let texts = and_parts (is_own_request j.settings request) (is_kept_answer request answer) parts.1 in
         record { short = record { request = short_request j.settings request texts.0; answer = short_answer request answer texts.1 }; is = cc }
     by_row false e h = cc
 

@@ -2,7 +2,7 @@
 use Rattle.std.specs.Prelude.{ℕ, zero, suc, ◌-◌, Bool, not, ◌&&◌, ◌==◌, nat_le, List, [], ◌++◌, length, map, Result, Ok}
 use Rattle.envelope.specs.Txn.{Txn}
 use Rattle.plan_rules.specs.Terms.{Terms, largest, most_products}
-use Rattle.claim_model.specs.Rows.{Book, BookSettings}
+use Rattle.claim_model.specs.Rows.{Row, Book, BookSettings}
 use Rattle.payer_book.specs.Added.{kept_row, added}
 use Rattle.kept_records.specs.declared.book_head.BookHead.{BookHead}
 use Rattle.kept_records.specs.declared.fault.RecordFault.{RecordFault}
@@ -12,6 +12,10 @@ use Rattle.kept_records.specs.Products.{products_text}
 use Rattle.kept_records.specs.Plans.{products_in}
 use Rattle.kept_records.specs.Rows.{rows_text, row_at, book_name, head_text, head_at}
 use Rattle.kept_records.specs.Versions.{is_version, fits_version}
+
+-- the book of these parts
+abbrev pub book_of : ℕ → BookSettings → Terms → List Row → Book
+book_of payer settings plan rows = record { payer = payer; settings = settings; plan = plan; rows = rows }
 
 -- a book in this version: its head, the products of its plan and its rows
 unfoldable pub book_text : ℕ → Book → List ℕ
@@ -59,7 +63,7 @@ first_plan head = record { fee = head.fee; copay = head.copay; prices = [] }
 
 -- a book without rows
 abbrev pub first_book : ℕ → BookSettings → Terms → Book
-first_book payer settings plan = record { payer = payer; settings = settings; plan = plan; rows = [] }
+first_book payer settings plan = book_of payer settings plan []
 
 -- the book that these bytes are, for this payer and these settings, or the first thing that is wrong with them
 unfoldable pub book_in : ℕ → BookSettings → List ℕ → Result Book RecordFault

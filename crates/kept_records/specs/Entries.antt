@@ -1,7 +1,9 @@
 -- The entries of a journal at rest: how they are spelled, and what stands at the front of bytes.
 use Rattle.std.specs.Prelude.{ℕ, ◌+◌, ◌==◌, List, [], ◌∷◌, ◌++◌, Option, Some, None, option_map, if◌then◌else◌}
+use Rattle.std.specs.Option.{option_copied}
 use Rattle.std.specs.Int.{w64, to_be_bytes}
 use Rattle.claim_model.specs.Journal.{Kept}
+use Rattle.kept_records.specs.declared.journal_parts.JournalEntry.{JournalEntry}
 use Rattle.kept_records.specs.Options.{◌>>=◌}
 use Rattle.kept_records.specs.Fields.{sized, u8_at, u64_at, text_at}
 
@@ -25,6 +27,10 @@ pub record EntryParts : Type 0 where
   pub request : List ℕ
   pub answer : Option (List ℕ)
   pub rest : List ℕ
+
+-- an entry that was taken
+abbrev pub entry_taken : JournalEntry → EntryParts
+entry_taken e = record { number = e.number; request = e.request.now; answer = option_copied e.answer; rest = e.rest.now }
 
 -- the answer behind this flag: none behind a 0, the one that stands there behind a 1
 abbrev pub flagged_answer : ℕ → List ℕ → Option (Option (List ℕ) × List ℕ)

@@ -1,5 +1,6 @@
 -- The head of a journal at rest.
 use Rattle.std.specs.Prelude.{ℕ, List, Option, Some}
+use Rattle.kept_records.specs.declared.journal_parts.JournalHead.{JournalHead}
 use Rattle.kept_records.specs.Options.{◌>>=◌}
 use Rattle.kept_records.specs.Fields.{u8_at, u16_at, u32_at}
 
@@ -10,6 +11,10 @@ pub record HeadParts : Type 0 where
   pub number : ℕ
   pub count : ℕ
   pub rest : List ℕ
+
+-- a head that was taken
+abbrev pub head_taken : JournalHead → HeadParts
+head_taken h = record { mark = h.mark; version = h.version; number = h.number; count = h.count; rest = h.rest.now }
 
 -- the head at the front; None where it is cut off
 unfoldable pub head_at : List ℕ → Option HeadParts

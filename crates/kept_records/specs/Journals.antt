@@ -1,5 +1,5 @@
 -- A journal at rest: its text, and what bytes are as a journal, or the first fault that stands.
-use Rattle.std.specs.Prelude.{◌≡◌, ◌⊎◌, IsTrue, ℕ, suc, zero, ◌+◌, ◌-◌, Bool, ◌&&◌, ◌==◌, List, [], ◌∷◌, ◌++◌, length, codes, Some, Result}
+use Rattle.std.specs.Prelude.{◌≡◌, ◌⊎◌, IsTrue, ℕ, suc, zero, ◌+◌, ◌-◌, Bool, ◌&&◌, ◌==◌, List, [], ◌∷◌, ◌++◌, length, codes, Some, Result, Ok}
 use Rattle.std.specs.List.{list_all}
 use Rattle.std.specs.Int.{w16, w32, to_be_bytes, from_be_bytes}
 use Rattle.claim_profile.specs.Readable.{readable_header}
@@ -78,3 +78,7 @@ unfoldable pub journal_in : ℕ → PharmacySettings → List ℕ → Result Jou
 journal_in number settings bytes = do
   head ← head_in number bytes
   entries_in head.version (length bytes) head.count (empty_journal number settings) head.rest
+
+-- bytes are this journal, read with its number and its settings
+abbrev pub ReadsAs : List ℕ → JournalAtRest → Type 0
+ReadsAs bytes j = journal_in j.number j.settings bytes ≡ Ok j

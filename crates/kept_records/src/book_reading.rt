@@ -1,10 +1,10 @@
 //! Books at rest, as they are read.
 
-ghost use Rattle.std.specs.Prelude.{◌≡◌, ◌≢◌, ◌≤◌, pos, Ok, Err, IfOk, IfErr};
+ghost use Rattle.std.specs.Prelude.{◌≡◌, ◌≤◌, pos, Ok, IfOk};
 ghost use Rattle.plan_rules.specs.Terms.{largest};
+ghost use Rattle.kept_records.specs.Faults.{RefusesAs};
 ghost use Rattle.kept_records.specs.Books.{book_in, first_plan};
 ghost use Rattle.kept_records.specs.BookLaws.{IsTextOf};
-ghost use Rattle.kept_records.specs.declared.fault.RecordFault.TheVariants.{OutOfMemory};
 
 use crate::book_head::BookHead;
 use crate::book_laws::book_is_its_text;
@@ -31,7 +31,7 @@ pub fn read_book(
     settings: BookSettings,
 ) -> Result<BookAtRest, RecordFault>
     ensures ok { IfOk result (λ book. book_in payer settings bytes.now ≡ Ok book) }
-    ensures fault { IfErr result (λ e. e ≢ OutOfMemory → book_in payer settings bytes.now ≡ Err e) }
+    ensures fault { RefusesAs (book_in payer settings bytes.now) result }
     // What is read can be made, and the bytes are its text.
     ensures found { IfOk result (λ book. IsTextOf payer settings bytes.now book) }
 {
@@ -50,7 +50,7 @@ pub fn read_book_keyed(
     keys: &HashKeys,
 ) -> Result<BookAtRest, RecordFault>
     ensures ok { IfOk result (λ book. book_in payer settings bytes.now ≡ Ok book) }
-    ensures fault { IfErr result (λ e. e ≢ OutOfMemory → book_in payer settings bytes.now ≡ Err e) }
+    ensures fault { RefusesAs (book_in payer settings bytes.now) result }
     // What is read can be made, and the bytes are its text.
     ensures found { IfOk result (λ book. IsTextOf payer settings bytes.now book) }
 {
@@ -68,7 +68,7 @@ fn read_parts(
     keys: &HashKeys,
 ) -> Result<BookAtRest, RecordFault>
     ensures ok { IfOk result (λ book. book_in payer settings bytes.now ≡ Ok book) }
-    ensures fault { IfErr result (λ e. e ≢ OutOfMemory → book_in payer settings bytes.now ≡ Err e) }
+    ensures fault { RefusesAs (book_in payer settings bytes.now) result }
 {
     let total = bytes.len();
     let (head, rest) = BookHead::open(bytes, payer.get(), settings.serial())?;

@@ -1,10 +1,8 @@
 //! Books at rest, as they are written.
 
-ghost use Rattle.std.specs.Prelude.{◌≡◌, ◌≤◌, ◌++◌, length, map, Ok, IfOk, OnOk};
-ghost use Rattle.payer_book.specs.Added.{kept_row};
-ghost use Rattle.kept_records.specs.Products.{products_text};
-ghost use Rattle.kept_records.specs.Rows.{identity_text, counts_text, rows_text};
-ghost use Rattle.kept_records.specs.Books.{book_text, book_in};
+ghost use Rattle.std.specs.Prelude.{◌≡◌, ◌≤◌, ◌++◌, length, Ok, IfOk, OnOk};
+ghost use Rattle.kept_records.specs.Rows.{identity_text, counts_text};
+ghost use Rattle.kept_records.specs.Books.{book_of, book_text, book_in};
 ghost use Rattle.kept_records.specs.BookLaws.{FitsBook};
 
 use crate::book_head::BOOK_NAME;
@@ -58,8 +56,8 @@ fn write_parts(
     rows: &[Row],
 ) -> Result<Vec<u8>, AllocError>
     requires { length rows.now ≤ settings.cap }
-    ensures text { IfOk result (λ text. text.items ≡ book_text 2 (record { payer = payer; settings = settings; plan = plan.now; rows = rows.now })) }
-    ensures fits { OnOk result (FitsBook (record { payer = payer; settings = settings; plan = plan.now; rows = rows.now })) }
+    ensures text { IfOk result (λ text. text.items ≡ book_text 2 (book_of payer settings plan.now rows.now)) }
+    ensures fits { OnOk result (FitsBook (book_of payer settings plan.now rows.now)) }
 {
     let _most = settings.cap();
     let _count = plan.products();

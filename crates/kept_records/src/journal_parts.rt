@@ -2,8 +2,8 @@
 
 ghost use Rattle.std.specs.Prelude.{◌≡◌};
 ghost use Rattle.std.specs.Option.{option_map, option_copied};
-ghost use Rattle.kept_records.specs.Heads.{head_at};
-ghost use Rattle.kept_records.specs.Entries.{answer_at, entry_at};
+ghost use Rattle.kept_records.specs.Heads.{head_taken, head_at};
+ghost use Rattle.kept_records.specs.Entries.{entry_taken, answer_at, entry_at};
 
 use crate::fields::{take_text, take_u8, take_u16, take_u32, take_u64};
 
@@ -30,7 +30,7 @@ pub(crate) struct JournalEntry<'a> {
 /// The head at the front; none where it is cut off.
 #[tactic(auto, unfolding(crate::specs::Heads::head_at))]
 pub(crate) fn take_head(bytes: &[u8]) -> Option<JournalHead<'_>>
-    ensures { option_map (λ h. record { mark = h.mark; version = h.version; number = h.number; count = h.count; rest = h.rest.now }) result ≡ head_at bytes.now }
+    ensures { option_map head_taken result ≡ head_at bytes.now }
 {
     let (mark, rest) = take_u16(bytes)?;
     let (version, rest) = take_u8(rest)?;
@@ -49,7 +49,7 @@ pub(crate) fn take_head(bytes: &[u8]) -> Option<JournalHead<'_>>
 /// neither 0 nor 1.
 #[tactic(auto, unfolding(crate::specs::Entries::entry_at))]
 pub(crate) fn take_entry(bytes: &[u8]) -> Option<JournalEntry<'_>>
-    ensures { option_map (λ e. record { number = e.number; request = e.request.now; answer = option_copied e.answer; rest = e.rest.now }) result ≡ entry_at bytes.now }
+    ensures { option_map entry_taken result ≡ entry_at bytes.now }
 {
     let (number, rest) = take_u64(bytes)?;
     let (request, rest) = take_text(rest)?;

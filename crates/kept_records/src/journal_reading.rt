@@ -1,9 +1,10 @@
 //! Journals as they are read.
 
-ghost use Rattle.std.specs.Prelude.{◌≡◌, ◌≢◌, ◌<◌, length, Ok, Err, Some, None, IfOk, IfErr, OnOk, true, false};
+ghost use Rattle.std.specs.Prelude.{◌≡◌, ◌<◌, length, Ok, Err, Some, None, IfOk, IfErr, OnOk};
 ghost use Rattle.std.specs.Option.{option_copied};
 ghost use Rattle.pharmacy_journal.specs.Resting.{added};
-ghost use Rattle.kept_records.specs.declared.fault.RecordFault.TheVariants.{OutOfMemory, BadRecord};
+ghost use Rattle.kept_records.specs.Faults.{RefusesAs, RefusesAt};
+ghost use Rattle.kept_records.specs.Heads.{head_taken};
 ghost use Rattle.kept_records.specs.Journals.{head_in, entry_in, finished, entries_in, journal_in, IsKept};
 
 use crate::fault::RecordFault;
@@ -43,7 +44,7 @@ pub fn read_journal(
     requires some_number { 0 < number }
     requires some_node { 0 < length settings.nodes }
     ensures ok { IfOk result (λ j. journal_in number settings bytes.now ≡ Ok j) }
-    ensures fault { IfErr result (λ e. e ≢ OutOfMemory → journal_in number settings bytes.now ≡ Err e) }
+    ensures fault { RefusesAs (journal_in number settings bytes.now) result }
     // What is read can be made, and the bytes are its text.
     ensures found { IfOk result (λ j. IsKept number settings bytes.now j) }
 {
@@ -62,7 +63,7 @@ fn read_parts(
     requires some_number { 0 < number }
     requires some_node { 0 < length settings.nodes }
     ensures ok { IfOk result (λ j. journal_in number settings bytes.now ≡ Ok j) }
-    ensures fault { IfErr result (λ e. e ≢ OutOfMemory → journal_in number settings bytes.now ≡ Err e) }
+    ensures fault { RefusesAs (journal_in number settings bytes.now) result }
 {
     let head = asked_head(bytes, number)?;
     let journal = JournalAtRest::new(alloc, number, settings);
@@ -72,7 +73,7 @@ fn read_parts(
 /// The head of the journal that is asked for.
 #[tactic(auto, unfolding(crate::specs::Journals::head_in))]
 fn asked_head(bytes: &[u8], number: u16) -> Result<JournalHead<'_>, RecordFault>
-    ensures ok { IfOk result (λ h. head_in number bytes.now ≡ Ok (record { mark = h.mark; version = h.version; number = h.number; count = h.count; rest = h.rest.now })) }
+    ensures ok { IfOk result (λ h. head_in number bytes.now ≡ Ok (head_taken h)) }
     ensures fault { IfErr result (λ e. head_in number bytes.now ≡ Err e) }
 {
     let Some(head) = take_head(bytes) else {
@@ -95,7 +96,7 @@ fn read_entries(
     total: usize,
 ) -> Result<JournalAtRest, RecordFault>
     ensures ok { IfOk result (λ j. entries_in head.now.version total head.now.count journal head.now.rest.now ≡ Ok j) }
-    ensures fault { IfErr result (λ e. e ≢ OutOfMemory → entries_in head.now.version total head.now.count journal head.now.rest.now ≡ Err e) }
+    ensures fault { RefusesAs (entries_in head.now.version total head.now.count journal head.now.rest.now) result }
 {
     let mut rest = head.rest;
     for _ in 0..head.count {
@@ -127,7 +128,7 @@ fn enter<'a>(
     bytes: &'a [u8],
 ) -> Result<&'a [u8], RecordFault>
     ensures ok { IfOk result (λ rest. entry_in version place journal.old bytes.now ≡ Ok (journal.new, rest.now)) }
-    ensures fault { IfErr result (λ e. e ≢ OutOfMemory → entry_in version place journal.old bytes.now ≡ Err e) }
+    ensures fault { RefusesAs (entry_in version place journal.old bytes.now) result }
 {
     let Some(entry) = take_entry(bytes) else {
         return Err(RecordFault::BadRecord(place));
@@ -149,7 +150,7 @@ fn add_at(
     answer: Option<&[u8]>,
 ) -> Result<(), RecordFault>
     ensures ok { OnOk result (added journal.old request.now (option_copied answer.entry) ≡ Some journal.new) }
-    ensures fault { IfErr result (λ e. e ≢ OutOfMemory → (e ≡ BadRecord place) × (added journal.old request.now (option_copied answer.entry) ≡ None)) }
+    ensures fault { RefusesAt place (added journal.old request.now (option_copied answer.entry) ≡ None) result }
 {
     match journal.add(request, answer) {
         Ok(()) => Ok(()),

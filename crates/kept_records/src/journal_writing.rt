@@ -4,8 +4,9 @@ ghost use Rattle.std.specs.Prelude.{◌≡◌, ◌≤◌, ◌++◌, length, Ok, 
 ghost use Rattle.std.specs.Option.{option_copied, ForSome};
 ghost use Rattle.claim_model.specs.Journal.{stopped};
 ghost use Rattle.envelope.specs.Envelope.{longest_payload};
+ghost use Rattle.pharmacy_journal.specs.Entries.{kept_seen};
 ghost use Rattle.kept_records.specs.Entries.{answer_text, entry_text, entries_text};
-ghost use Rattle.kept_records.specs.Journals.{journal_head, journal_text, journal_in};
+ghost use Rattle.kept_records.specs.Journals.{journal_head, journal_text, journal_in, ReadsAs};
 
 use crate::journal_reading::{MARK, VERSION};
 use crate::putting::{put_text, put_u8, put_u16, put_u32, put_u64};
@@ -15,7 +16,7 @@ use std::alloc::{AllocError, Global};
 /// The text of a journal, of version 2. It is read as this journal.
 pub fn write_journal(alloc: Global, journal: &JournalAtRest) -> Result<Vec<u8>, AllocError>
     ensures text { IfOk result (λ text. text.items ≡ journal_text 2 journal.now) }
-    ensures read { IfOk result (λ text. journal_in journal.now.number journal.now.settings text.items ≡ Ok journal.now) }
+    ensures read { IfOk result (λ text. ReadsAs text.items journal.now) }
 {
     let mut text = Vec::new(alloc);
     put_head(&mut text, journal.number(), journal.entries() as u32)?;
@@ -27,7 +28,8 @@ pub fn write_journal(alloc: Global, journal: &JournalAtRest) -> Result<Vec<u8>, 
 /// journal. The pharmacy goes on.
 pub fn save_journal(alloc: Global, pharmacy: &Pharmacy) -> Result<Vec<u8>, AllocError>
     ensures text { IfOk result (λ text. text.items ≡ journal_text 2 (stopped pharmacy.now)) }
-    ensures read { IfOk result (λ text. journal_in pharmacy.now.number pharmacy.now.settings text.items ≡ Ok (stopped pharmacy.now)) }
+    ensures read { IfOk result (λ text. journal_in pharmacy.now.number pharmacy.now.settings text.items
+        ≡ Ok (stopped pharmacy.now)) }
 {
     let mut text = Vec::new(alloc);
     put_head(&mut text, pharmacy.number(), pharmacy.entries() as u32)?;
@@ -77,7 +79,7 @@ fn put_running(text: &mut Vec<u8>, pharmacy: &Pharmacy) -> Result<(), AllocError
 fn put_entry(text: &mut Vec<u8>, number: u64, kept: KeptEntry<'_>) -> Result<(), AllocError>
     requires request { length kept.request.now ≤ longest_payload }
     requires answer { ForSome (option_copied kept.answer) (λ answer. length answer ≤ longest_payload) }
-    ensures { OnOk result (text.new.items ≡ text.old.items ++ entry_text number (record { request = kept.entry.request.now; answer = option_copied kept.entry.answer })) }
+    ensures { OnOk result (text.new.items ≡ text.old.items ++ entry_text number (kept_seen kept.entry)) }
 {
     put_u64(text, number)?;
     put_text(text, kept.request)?;

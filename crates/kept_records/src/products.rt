@@ -1,12 +1,12 @@
 //! The products of a plan, as they are written and as they are read.
 
-ghost use Rattle.std.specs.Prelude.{◌≡◌, ◌≢◌, ◌≤◌, ◌<◌, ◌++◌, length, slice_get, Ok, Err, None, IfOk, IfErr, OnOk};
+ghost use Rattle.std.specs.Prelude.{◌≡◌, ◌≤◌, ◌<◌, ◌++◌, length, slice_get, Ok, None, IfOk, OnOk};
 ghost use Rattle.std.specs.Option.{option_map};
 ghost use Rattle.std.specs.Result.{result_ok};
 ghost use Rattle.plan_rules.specs.Terms.{repriced};
+ghost use Rattle.kept_records.specs.Faults.{RefusesAs, RefusesAt};
 ghost use Rattle.kept_records.specs.Products.{product_text, products_text, text_there, bytes_at, product_at};
-ghost use Rattle.kept_records.specs.Plans.{is_after, is_next, listed, products_in};
-ghost use Rattle.kept_records.specs.declared.fault.RecordFault.TheVariants.{OutOfMemory, BadRecord};
+ghost use Rattle.kept_records.specs.Plans.{is_next, listed, products_in};
 
 use crate::fault::RecordFault;
 use crate::fields::{take_u8, take_u32};
@@ -56,7 +56,8 @@ fn is_next(plan: &Plan, product: &[u8]) -> bool
 /// Sets the price of the product of the record at a place.
 fn set_price(place: usize, plan: &mut Plan, listed: &Listed<'_>) -> Result<(), RecordFault>
     ensures ok { OnOk result (repriced plan.old listed.now.product.now listed.now.price ≡ Ok plan.new) }
-    ensures fault { IfErr result (λ e. e ≢ OutOfMemory → (e ≡ BadRecord place) × (result_ok (repriced plan.old listed.now.product.now listed.now.price) ≡ None)) }
+    ensures fault { RefusesAt place
+        (result_ok (repriced plan.old listed.now.product.now listed.now.price) ≡ None) result }
 {
     match plan.set(listed.product, listed.price) {
         Ok(()) => Ok(()),
@@ -69,7 +70,7 @@ fn set_price(place: usize, plan: &mut Plan, listed: &Listed<'_>) -> Result<(), R
 #[tactic(auto, unfolding(crate::specs::Plans::listed))]
 fn list_next<'a>(place: usize, plan: &mut Plan, bytes: &'a [u8]) -> Result<&'a [u8], RecordFault>
     ensures ok { IfOk result (λ rest. listed place plan.old bytes.now ≡ Ok (plan.new, rest.now)) }
-    ensures fault { IfErr result (λ e. e ≢ OutOfMemory → listed place plan.old bytes.now ≡ Err e) }
+    ensures fault { RefusesAs (listed place plan.old bytes.now) result }
 {
     let Some((listed, rest)) = take_product(bytes) else {
         return Err(RecordFault::BadRecord(place));
@@ -89,7 +90,7 @@ pub(crate) fn read_products(
     bytes: &[u8],
 ) -> Result<(Plan, &[u8]), RecordFault>
     ensures ok { IfOk result (λ read. products_in total count plan bytes.now ≡ Ok (read.0, read.1.now)) }
-    ensures fault { IfErr result (λ e. e ≢ OutOfMemory → products_in total count plan bytes.now ≡ Err e) }
+    ensures fault { RefusesAs (products_in total count plan bytes.now) result }
 {
     let mut rest = bytes;
     for _ in 0..count {

@@ -1,13 +1,13 @@
 //! The rows of a book, as they are written and as they are read.
 
-ghost use Rattle.std.specs.Prelude.{◌≡◌, ◌≢◌, ◌==◌, ◌-◌, ◌++◌, length, map, Ok, Err, None, Some, IfOk, IfErr, OnOk};
+ghost use Rattle.std.specs.Prelude.{◌≡◌, ◌==◌, ◌-◌, ◌++◌, length, map, Ok, None, Some, IfOk, OnOk};
 ghost use Rattle.std.specs.Option.{option_map};
 ghost use Rattle.payer_book.specs.Added.{kept_row, added};
-ghost use Rattle.kept_records.specs.Faults.{when_or};
+ghost use Rattle.kept_records.specs.Faults.{when_or, RefusesAs, RefusesAt};
 ghost use Rattle.kept_records.specs.Rows.{row_text, rows_text, row_taken, row_at};
 ghost use Rattle.kept_records.specs.Books.{row_in, rows_in};
 ghost use Rattle.kept_records.specs.BookLaws.{IsKeptRow, AreKeptRows};
-ghost use Rattle.kept_records.specs.declared.fault.RecordFault.TheVariants.{OutOfMemory, BadRecord};
+ghost use Rattle.kept_records.specs.declared.fault.RecordFault.TheVariants.{BadRecord};
 
 use crate::fault::RecordFault;
 use crate::fields::{take_text, take_u16, take_u64};
@@ -51,7 +51,7 @@ fn add_row(
     row: &RowText<'_>,
 ) -> Result<(), RecordFault>
     ensures ok { OnOk result (added book.old id row.now.request.now row.now.answer.now ≡ Some book.new) }
-    ensures fault { IfErr result (λ e. e ≢ OutOfMemory → (e ≡ BadRecord place) × (added book.old id row.now.request.now row.now.answer.now ≡ None)) }
+    ensures fault { RefusesAt place (added book.old id row.now.request.now row.now.answer.now ≡ None) result }
 {
     match book.add(id, row.request, row.answer) {
         Ok(()) => Ok(()),
@@ -70,7 +70,7 @@ fn enter_next<'a>(
     bytes: &'a [u8],
 ) -> Result<&'a [u8], RecordFault>
     ensures ok { IfOk result (λ rest. row_in version place book.old bytes.now ≡ Ok (book.new, rest.now)) }
-    ensures fault { IfErr result (λ e. e ≢ OutOfMemory → row_in version place book.old bytes.now ≡ Err e) }
+    ensures fault { RefusesAs (row_in version place book.old bytes.now) result }
 {
     let Some((row, rest)) = take_row(bytes) else {
         return Err(RecordFault::BadRecord(place));
@@ -93,7 +93,7 @@ pub(crate) fn read_rows(
     bytes: &[u8],
 ) -> Result<BookAtRest, RecordFault>
     ensures ok { IfOk result (λ read. rows_in version total count book bytes.now ≡ Ok read) }
-    ensures fault { IfErr result (λ e. e ≢ OutOfMemory → rows_in version total count book bytes.now ≡ Err e) }
+    ensures fault { RefusesAs (rows_in version total count book bytes.now) result }
 {
     let mut rest = bytes;
     for _ in 0..count {

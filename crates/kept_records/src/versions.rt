@@ -1,8 +1,8 @@
 //! What the versions of records differ in.
 
-ghost use Rattle.std.specs.Prelude.{◌≡◌, ◌≢◌, true, false, OnOk, IfErr};
+ghost use Rattle.std.specs.Prelude.{◌≡◌, true, false, OnOk};
+ghost use Rattle.kept_records.specs.Faults.{RefusesAt};
 ghost use Rattle.kept_records.specs.Versions.{fits_version};
-ghost use Rattle.kept_records.specs.declared.fault.RecordFault.TheVariants.{OutOfMemory, BadRecord};
 
 use crate::fault::RecordFault;
 use claim_profile::{RequestFault, read_readable};
@@ -16,7 +16,7 @@ pub(crate) fn judge_version(
     request: &[u8],
 ) -> Result<(), RecordFault>
     ensures ok { OnOk result (fits_version version request.now ≡ true) }
-    ensures fault { IfErr result (λ e. e ≢ OutOfMemory → (e ≡ BadRecord place) × (fits_version version request.now ≡ false)) }
+    ensures fault { RefusesAt place (fits_version version request.now ≡ false) result }
 {
     if version != 1 {
         return Ok(());

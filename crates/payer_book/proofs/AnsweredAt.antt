@@ -1,13 +1,14 @@
 -- The row that has an answer.
 use Rattle.std.proofs.Common.{◌≡◌, ℕ, ◌<◌, Bool, false, List, [], ◌∷◌, ◌++◌, length, slice_get, Some, Ok, sym, ap, ◌∙◌, arith}
 use Rattle.std.proofs.lemmas.List.{length-append}
+use Rattle.std.proofs.lemmas.Option.{same_Some as same_some}
 use Rattle.claim_model.specs.Words.{TxnId}
 use Rattle.claim_model.specs.Context.{Context}
 use Rattle.claim_model.specs.Rows.{Row, Book}
 use Rattle.claim_model.specs.Book.{answered}
+use Rattle.claim_model.proofs.Lists.{get_last}
 use Rattle.payer_book.specs.Added.{kept_answer, with_row}
 use Rattle.payer_book.specs.Placing.{IsAnsweredAt}
-use Rattle.payer_book.proofs.Lists.{get_last, same_some}
 
 module _ (ctx : Context) (b : Book) (id : TxnId) (request : List ℕ) where
   -- a row that is there has the answer

@@ -8,6 +8,7 @@ use Rattle.claim_model.specs.Bytes.{bytes_with}
 use Rattle.claim_model.specs.Ruled.{Ruled}
 use Rattle.claim_model.specs.Rows.{Row, Book, ruled_row, ruled_rows}
 use Rattle.claim_model.specs.Book.{new_row}
+use Rattle.claim_model.proofs.BytesLaws.{NumbersInRange}
 use Rattle.payer_book.specs.declared.ruling.changes.Change.{Change}
 use Rattle.payer_book.specs.declared.book.payment.Payment.{Payment}
 use Rattle.payer_book.specs.Ledger.{Ledger, standing_in}
@@ -17,7 +18,7 @@ use Rattle.payer_book.specs.Added.{kept_rulings}
 use Rattle.payer_book.specs.Books.{reading, Keeps, IsBook}
 use Rattle.payer_book.proofs.RulingLemmas.{rulings_same, all_possible, keeps_more}
 use Rattle.payer_book.proofs.Keeping.{rulings_by_on}
-use Rattle.payer_book.proofs.Numbers.{NumbersInRange, orders_numbered}
+use Rattle.payer_book.proofs.Numbers.{orders_numbered}
 
 ruled_rows_more : (rows : List Row) (row : Row) → ruled_rows reading (rows ++ row ∷ []) ≡ ruled_rows reading rows ++ ruled_row reading row
 ruled_rows_more [] row = append-nil (ruled_row reading row)

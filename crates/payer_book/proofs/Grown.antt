@@ -14,6 +14,7 @@ use Rattle.claim_model.specs.Ruled.{Ruled, ruled}
 use Rattle.claim_model.specs.Rows.{Row, Book, ruled_rows}
 use Rattle.claim_model.specs.Judgement.{Judged, Unpriced, ToPrice, judged}
 use Rattle.claim_model.specs.Book.{row_of, serial_fits}
+use Rattle.claim_model.proofs.BytesLaws.{readable_alike}
 use Rattle.payer_book.specs.declared.book.payment.Payment.{Payment}
 use Rattle.payer_book.specs.declared.ruling.changes.Change.{Change}
 use Rattle.payer_book.specs.Ledger.{Ledger, standing_in}
@@ -22,7 +23,6 @@ use Rattle.payer_book.specs.Books.{reading}
 use Rattle.payer_book.specs.Added.{KeptRow, answer_under, kept_answer, kept_row, kept_ruling_of, kept_ruling, kept_rulings_from, kept_rulings, with_row, with_kept, added, added_all}
 use Rattle.payer_book.specs.Made.{IsTold, MadeByAdding, IsMade}
 use Rattle.payer_book.specs.Entries.{with_plan}
-use Rattle.payer_book.proofs.Readings.{readable_alike}
 use Rattle.claim_model.proofs.Tests.{bytes_self}
 use Rattle.payer_book.proofs.KeptRows.{kept_stands, added_kept}
 use Rattle.payer_book.proofs.Tellable.{after_told}

@@ -61,7 +61,7 @@ ruling_again : (l : Ledger) (prices : Pricing) (said : List Ruling) (changes : L
 unfolding ruling_on
 ruling_again l prices said changes order at = settled_again (auth_after l changes) prices (length changes) said (judged_on (standing_after (standing_in l.payments) changes) order) at
 
-get_front : {A : Type 0} (front : List A) (x : A) (rest : List A) → slice_get (front ++ x ∷ rest) (length front) ≡ Some x
+pub get_front : {A : Type 0} (front : List A) (x : A) (rest : List A) → slice_get (front ++ x ∷ rest) (length front) ≡ Some x
 get_front [] x rest = refl
 get_front (y ∷ front) x rest = get_front front x rest
 

@@ -6,6 +6,7 @@ use Rattle.std.proofs.lemmas.Bool.{cond-true, cond-false, and_parts, and_from, a
 use Rattle.std.proofs.lemmas.Bool.Decides.{nat_tests}
 use Rattle.claim_model.specs.Words.{Auth, Fill, Claim, Reversal}
 use Rattle.claim_model.specs.Judgement.{same_fill, is_fill_number}
+use Rattle.claim_model.proofs.Lists.{all_weaker}
 use Rattle.payer_book.specs.declared.book.payment.Standing.{Standing}
 use Rattle.payer_book.specs.declared.ruling.changes.Change.{Change}
 use Rattle.payer_book.specs.declared.ruling.matches.Matches.{Matches}
@@ -13,7 +14,7 @@ use Rattle.payer_book.specs.declared.ruling.matches.Matches.TheVariants.{Nothing
 use Rattle.payer_book.specs.Ledger.{is_of, standing_of, is_for_payment, IsOther, NoFillTwice, IsNumbered}
 use Rattle.payer_book.specs.Changes.{is_reversed}
 use Rattle.payer_book.specs.Matches.{tally, with_one, fill_for, is_match, matched, is_between, matches_between}
-use Rattle.payer_book.proofs.Lists.{filter_same, filter_none, all_weaker, all_true}
+use Rattle.payer_book.proofs.Lists.{filter_same, filter_none, all_true}
 use Rattle.claim_model.proofs.Tests.{fill_same}
 
 pub tally_first : (s : Standing) (ss : List Standing) → tally (s ∷ ss) ≡ with_one (tally ss) s.auth

@@ -2,13 +2,13 @@
 use Rattle.std.proofs.Common.{◌≡◌, ℕ, zero, suc, ◌+◌, ◌<◌, Bool, true, false, ◌==◌, cond, List, [], ◌∷◌, ◌++◌, map, length, Some, None, slice_get, slice_set, refl, sym, ap, ◌∙◌, ◌⊎◌, inl, inr, arith, eq-eqb}
 use Rattle.std.specs.Prelude.{find}
 use Rattle.std.proofs.lemmas.Bool.{cond-true, cond-false, and_from, and_left, and_right, ne_eqb}
+use Rattle.std.proofs.lemmas.Option.{same_Some as same_some}
 use Rattle.claim_model.specs.Words.{TxnId, Auth}
 use Rattle.claim_model.specs.Payments.{same_auth}
 use Rattle.payer_book.specs.declared.book.payment.Standing.{Standing}
 use Rattle.payer_book.specs.declared.book.payment.Payment.{Payment}
 use Rattle.payer_book.specs.declared.book.payment.Payment.TheVariants.{Standing as Stands, Reversed as WasReversed}
 use Rattle.payer_book.specs.Ledger.{auth_of, has_auth, payment_with, still, standing_in, after_reversal, reversal_of, AreNumbered}
-use Rattle.payer_book.proofs.Lists.{same_some}
 use Rattle.claim_model.proofs.Tests.{auth_same}
 
 -- the authorization of a payer with a serial

@@ -1,8 +1,9 @@
 -- A claim that was read has a fill number of one or two digits.
-use Rattle.std.proofs.Common.{◌≡◌, ℕ, ◌^◌, ◌<◌, ◌≤◌, List, [], ◌∷◌, map, Option, Some, None, Result, Ok, Err, refl, ap, subst, arith}
+use Rattle.std.proofs.Common.{◌≡◌, ℕ, ◌≤◌, List, [], ◌∷◌, map, Option, Some, None, Result, Ok, Err, refl, ap, subst, arith}
 use Rattle.std.specs.Prelude.{option_map, codes}
 use Rattle.std.specs.List.{AllByRecursion}
 use Rattle.std.specs.Result.{result_ok}
+use Rattle.std.proofs.lemmas.Option.{same_Some as same_some}
 use Rattle.overpunch.specs.Number.{number_of}
 use Rattle.d0_segments.specs.Parts.{SegmentParts, TransmissionParts}
 use Rattle.claim_profile.specs.declared.transaction.TransactionCode.{TransactionCode}
@@ -12,13 +13,10 @@ use Rattle.claim_profile.specs.Fields.{values_in, required}
 use Rattle.claim_profile.specs.Order.{number_up_to, claim_fields, claim_of, claim_codes, reversal_fields, reversal_of, reversal_codes, or_rejected, claim_order, reversal_order, order_as, order_of}
 use Rattle.claim_model.specs.Words.{RequestHeader, Claim, Order, Bills, Reverses, Code}
 use Rattle.claim_model.specs.Bytes.{order_in, orders_in}
+use Rattle.claim_model.proofs.BytesLaws.{NumbersInRange}
 use Rattle.payer_book.specs.Books.{OrderNumbered}
-use Rattle.payer_book.proofs.Lists.{same_some}
 
-abbrev pub NumbersInRange : Type 0
-NumbersInRange = (digits : ℕ) (text : List ℕ) (number : ℕ) → number_of digits text ≡ Ok number → number < 10 ^ digits
-
-result_ok_some : {A E : Type 0} (r : Result A E) (a : A) → result_ok r ≡ Some a → r ≡ Ok a
+pub result_ok_some : {A E : Type 0} (r : Result A E) (a : A) → result_ok r ≡ Some a → r ≡ Ok a
 result_ok_some (Ok b) a e = ap (λ x. Ok x) (same_some b a e)
 result_ok_some (Err f) a e = absurd cc
 

@@ -6,16 +6,18 @@ use Rattle.std.specs.Option.{option_map}
 use Rattle.std.proofs.lemmas.Bool.{cond-true, cond-false, false_from_ne_true, both_ways}
 use Rattle.std.proofs.lemmas.List.{append-nil}
 use Rattle.std.proofs.lemmas.List.Elements.{filter-append}
+use Rattle.std.proofs.lemmas.Option.{same_Some as same_some}
 use Rattle.claim_model.specs.Words.{Fill, Reversal}
 use Rattle.claim_model.specs.Payments.{same_auth}
 use Rattle.claim_model.specs.Judgement.{only}
+use Rattle.claim_model.proofs.Lists.{find_append, find_beyond}
 use Rattle.payer_book.specs.declared.book.payment.Standing.{Standing}
 use Rattle.payer_book.specs.declared.ruling.changes.Change.{Change}
 use Rattle.payer_book.specs.declared.ruling.changes.Change.TheVariants.{Pays, Reverses as ReversesPayment, Keeps}
 use Rattle.payer_book.specs.Ledger.{is_of, standing_of, is_for_payment, IsOther, NoFillTwice}
 use Rattle.payer_book.specs.Changes.{is_reversed, left, left_by, standing_after}
 use Rattle.payer_book.specs.Matches.{tally, with_one, together, only_of, is_match}
-use Rattle.payer_book.proofs.Lists.{same_some, filter_same, all_true, find_append, find_beyond}
+use Rattle.payer_book.proofs.Lists.{filter_same, all_true}
 use Rattle.claim_model.proofs.Tests.{fill_same}
 use Rattle.payer_book.proofs.Matching.{tally_first}
 

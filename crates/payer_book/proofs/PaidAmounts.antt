@@ -1,8 +1,9 @@
 -- What an answer says was paid can be written: eight digits each, and the sum is right.
 use Rattle.std.proofs.Common.{◌≡◌, ℕ, ℤ, pos, negsuc, zero, suc, ◌+◌, ◌≤◌, ◌==◌, Bool, true, false, cond, List, [], ◌∷◌, Option, Some, None, Result, Ok, Err, refl, ap, subst, arith, eqb-true}
-use Rattle.std.specs.Prelude.{option_and_then, bytes_eq, codes}
+use Rattle.std.specs.Prelude.{bytes_eq, codes}
 use Rattle.std.specs.List.{AllByRecursion}
 use Rattle.std.specs.Result.{result_ok}
+use Rattle.std.proofs.lemmas.Option.{same_Some as same_some}
 use Rattle.overpunch.specs.Amount.{IsAmount, amount_of}
 use Rattle.d0_header.specs.Response.{Response}
 use Rattle.d0_segments.specs.Parts.{SegmentParts, TransmissionParts}
@@ -16,32 +17,20 @@ use Rattle.claim_profile.specs.Ruling.{AnswerParts, ◌>>=◌, or_fault, status_
 use Rattle.claim_model.specs.Words.{Amounts, Ruling, Paid, Duplicate, Answer}
 use Rattle.claim_model.specs.Laws.{IsAmounts}
 use Rattle.claim_model.specs.Bytes.{answer_in}
+use Rattle.claim_model.proofs.BytesLaws.{AmountsInRange}
+use Rattle.claim_model.proofs.Options.{then_some, same_ok}
 use Rattle.payer_book.specs.Drafts.{amounts_in}
 use Rattle.payer_book.specs.Made.{PaysAmounts}
 use Rattle.payer_book.specs.Books.{reading}
-use Rattle.payer_book.proofs.Lists.{same_some}
-
-abbrev pub AmountsInRange : Type 0
-AmountsInRange = (text : List ℕ) (cents : ℤ) → amount_of text ≡ Ok cents → IsAmount cents
+use Rattle.payer_book.proofs.Numbers.{result_ok_some}
 
 bind_ok : {A B : Type 0} (r : Result A AnswerFault) (f : A → Result B AnswerFault) (y : B) → (r >>= f) ≡ Ok y → (x : A) × (r ≡ Ok x) × (f x ≡ Ok y)
 bind_ok (Ok x) f y e = (x, refl, e)
 bind_ok (Err fault) f y e = absurd cc
 
-then_some : {A B : Type 0} (f : A → Option B) (o : Option A) (b : B) → option_and_then f o ≡ Some b → (a : A) × (o ≡ Some a) × (f a ≡ Some b)
-then_some f None b h = absurd cc
-then_some f (Some a) b h = (a, refl, h)
-
-ok_of_some : {A E : Type 0} (r : Result A E) (a : A) → result_ok r ≡ Some a → r ≡ Ok a
-ok_of_some (Ok b) a e = ap (λ x. Ok x) (same_some b a e)
-ok_of_some (Err f) a e = absurd cc
-
 some_of_ok : {A : Type 0} (fault : AnswerFault) (o : Option A) (a : A) → or_fault fault o ≡ Ok a → o ≡ Some a
 some_of_ok fault None a e = absurd cc
 some_of_ok fault (Some x) a e = cc
-
-same_ok : {A E : Type 0} (a b : A) → ◌≡◌ {A = Result A E} (Ok a) (Ok b) → a ≡ b
-same_ok a b h = cc
 
 -- one amount
 cents_fit : (cents : ℤ) (x : ℕ) → IsAmount cents → not_negative cents ≡ Some x → x ≤ 99999999
@@ -50,7 +39,7 @@ cents_fit (negsuc n) x a e = absurd cc
 
 value_fits : AmountsInRange → (v : List ℕ) (x : ℕ) → amount_in_cents v ≡ Some x → x ≤ 99999999
 value_fits law v x e =
-    let s = then_some not_negative (result_ok (amount_of v)) x e in cents_fit s.0 x (law v s.0 (ok_of_some (amount_of v) s.0 s.1)) s.2
+    let s = then_some not_negative (result_ok (amount_of v)) x e in cents_fit s.0 x (law v s.0 (result_ok_some (amount_of v) s.0 s.1)) s.2
 
 required_fits : AmountsInRange → (vs : List (List ℕ)) (x : ℕ) → required amount_in_cents vs ≡ Some x → x ≤ 99999999
 required_fits law [] x e = absurd cc

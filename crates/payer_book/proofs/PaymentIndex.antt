@@ -5,16 +5,18 @@ use Rattle.std.specs.List.{AllByRecursion}
 use Rattle.std.proofs.Math.Bool.{and_comm}
 use Rattle.std.proofs.lemmas.Bool.{cond-true, cond-false, false_from_ne_true, both_ways}
 use Rattle.std.proofs.lemmas.List.Elements.{filter_map-append}
+use Rattle.std.proofs.lemmas.Option.{same_Some as same_some}
 use Rattle.claim_model.specs.Words.{TxnId, Auth, Fill}
 use Rattle.claim_model.specs.Payments.{same_auth}
 use Rattle.claim_model.specs.Judgement.{same_fill}
 use Rattle.claim_profile.specs.contracts.order.FillPartialEq.TheImpl as fill_eq
+use Rattle.claim_model.proofs.Lists.{find_passes, get_last, get_more, get_within, all_append}
 use Rattle.payer_book.specs.declared.book.payment.Standing.{Standing}
 use Rattle.payer_book.specs.declared.book.payment.Payment.{Payment}
 use Rattle.payer_book.specs.declared.book.payment.Payment.TheVariants.{Standing as Stands, Reversed as WasReversed}
 use Rattle.payer_book.specs.Ledger.{has_auth, payment_with, is_of, still, standing_in, standing_of, after_reversal, reversal_of, AreNumbered, IsOther, NoFillTwice, IsNumbered, HasFillNumber, IsLedger}
 use Rattle.payer_book.specs.PaymentPlaces.{StandsAt, IsIndexed}
-use Rattle.payer_book.proofs.Lists.{same_some, find_passes, get_append, get_last, get_more, get_within, get_set, get_set_other, all_append}
+use Rattle.payer_book.proofs.Lists.{get_append, get_set, get_set_other}
 use Rattle.claim_model.proofs.Tests.{fill_same, fill_self, auth_same}
 use Rattle.payer_book.proofs.Numbering.{numbered, numbered_at, numbered_more, numbered_kept, after_reversal_at}
 

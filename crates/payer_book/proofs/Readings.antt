@@ -1,19 +1,15 @@
 -- The reading of requests does not ask for the routes.
-use Rattle.std.proofs.Common.{◌≡◌, ℕ, List, Option, Some, refl, sym, ap, ◌∙◌}
+use Rattle.std.proofs.Common.{◌≡◌, ℕ, List, Option, Some, sym, ap, ◌∙◌}
 use Rattle.std.specs.Prelude.{option_map}
 use Rattle.bin_routes.specs.Table.{RouteMaps}
-use Rattle.claim_profile.specs.Readable.{readable_header}
 use Rattle.claim_model.specs.Words.{RequestHeader}
 use Rattle.claim_model.specs.Bytes.{bytes_with}
-use Rattle.claim_model.specs.Readable.{readable, answer_text}
+use Rattle.claim_model.specs.Readable.{answer_text}
 use Rattle.claim_model.specs.Rows.{Row}
 use Rattle.claim_model.specs.Held.{row_answer}
+use Rattle.claim_model.proofs.BytesLaws.{readable_alike}
 use Rattle.payer_book.specs.Kept.{IsAnswered}
 use Rattle.payer_book.specs.Added.{answer_under, kept_answer}
-
-pub readable_alike : (routes : RouteMaps) (text : List ℕ) → readable (bytes_with routes) text ≡ readable_header text
-unfolding readable readable_header
-readable_alike routes text = refl
 
 -- the answer that a row keeps is the answer of its row
 pub answered_row : (routes : RouteMaps) (row : Row) (answer : List ℕ) → IsAnswered row.request row.rulings answer → Some answer ≡ row_answer (bytes_with routes) row

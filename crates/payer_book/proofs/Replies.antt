@@ -11,9 +11,9 @@ use Rattle.claim_model.specs.Readable.{payer_for, is_payer, answer_text}
 use Rattle.claim_model.specs.Refusal.{Refusal}
 use Rattle.claim_model.specs.Rows.{Row, Book}
 use Rattle.claim_model.specs.Book.{serial_fits, row_of, new_row, entered_row, answered_by, answered_readable, answered}
+use Rattle.claim_model.proofs.BytesLaws.{readable_alike}
 use Rattle.payer_book.specs.Books.{reading}
 use Rattle.payer_book.specs.Added.{answer_under, kept_answer, with_row}
-use Rattle.payer_book.proofs.Readings.{readable_alike}
 use Rattle.claim_model.proofs.Tests.{bytes_same}
 
 module _ (routes : RouteMaps) (b : Book) (id : TxnId) (request : List ℕ) where

@@ -2,12 +2,14 @@
 use Rattle.std.proofs.Common.{◌≡◌, ℕ, ◌<◌, Bool, true, false, cond, List, [], ◌∷◌, ◌++◌, length, Option, Some, None, slice_get, refl, sym, ap, ◌∙◌, subst, arith, length-append}
 use Rattle.std.specs.Prelude.{option_and_then}
 use Rattle.std.proofs.lemmas.Bool.{cond-true, cond-false}
+use Rattle.std.proofs.lemmas.Option.{same_Some as same_some}
 use Rattle.claim_model.specs.Words.{TxnId}
 use Rattle.claim_model.specs.Rows.{Row}
 use Rattle.claim_model.specs.Readable.{same_id}
 use Rattle.claim_model.specs.Book.{row_of}
+use Rattle.claim_model.proofs.Lists.{get_last, find_append, find_beyond}
 use Rattle.payer_book.specs.RowPlaces.{IsPlaced}
-use Rattle.payer_book.proofs.Lists.{get_append, get_last, find_append, find_beyond, same_some}
+use Rattle.payer_book.proofs.Lists.{get_append}
 use Rattle.envelope.specs.contracts.txn.TxnIdPartialEq.TheImpl as id_eq
 use Rattle.claim_model.proofs.Tests.{id_same}
 

@@ -4,6 +4,7 @@ use Rattle.std.specs.Prelude.{bytes_eq, nat_lt, is_none, ⊤}
 use Rattle.std.specs.List.{AllByRecursion, list_all}
 use Rattle.std.proofs.lemmas.Bool.{and_parts}
 use Rattle.std.proofs.lemmas.List.{append-nil, map-append}
+use Rattle.std.proofs.lemmas.Option.{same_Some as same_some}
 use Rattle.bin_routes.specs.Table.{RouteMaps, routes_of}
 use Rattle.claim_profile.specs.Readable.{readable_header}
 use Rattle.claim_profile.specs.Answer.{answer_text}
@@ -17,6 +18,7 @@ use Rattle.claim_model.specs.Ruled.{Ruled, ruled}
 use Rattle.claim_model.specs.Rows.{Row, Book, BookSettings, ruled_rows}
 use Rattle.claim_model.specs.Judgement.{same_claim, Judged, Unpriced, ToPrice, judged, judged_claim, judged_reversal, standing_for, payment_to_reverse, next_auth, priced}
 use Rattle.claim_model.specs.Book.{row_of, serial_fits}
+use Rattle.claim_model.proofs.BytesLaws.{readable_alike, AmountsInRange}
 use Rattle.payer_book.specs.Ledger.{Ledger}
 use Rattle.payer_book.specs.Changes.{changes_by, payments_after}
 use Rattle.payer_book.specs.Drafts.{amounts_in, AsKept, rulings_on}
@@ -25,12 +27,10 @@ use Rattle.payer_book.specs.Added.{KeptRow, answer_under, kept_answer, kept_row,
 use Rattle.payer_book.specs.Made.{PaysAmounts, IsMade}
 use Rattle.payer_book.specs.Entries.{with_plan}
 use Rattle.payer_book.specs.Following.{FollowsRules, AllFollow, RowStands, IsKeptBook, KeepsRows}
-use Rattle.payer_book.proofs.Lists.{same_some}
-use Rattle.payer_book.proofs.Readings.{readable_alike}
 use Rattle.claim_model.proofs.Tests.{bytes_same}
-use Rattle.payer_book.proofs.Keeping.{rulings_by_on}
+use Rattle.payer_book.proofs.Keeping.{rulings_by_on, get_front}
 use Rattle.payer_book.proofs.RulingLemmas.{length_rulings}
-use Rattle.payer_book.proofs.PaidAmounts.{AmountsInRange, PaysSo, at_place, said_pays}
+use Rattle.payer_book.proofs.PaidAmounts.{PaysSo, at_place, said_pays}
 use Rattle.payer_book.proofs.Tellable.{rulings_told, prices_fit}
 use Rattle.payer_book.proofs.Entered.{book_more}
 use Rattle.payer_book.proofs.KeptRows.{added_kept}
@@ -107,17 +107,13 @@ ruled_again : (b : Book) (before : List Ruled) (order : Result Order (List Code)
 unfolding kept_ruling
 ruled_again b before order r f = again_one b before (judged before order) r f
 
-at_front : {A : Type 0} (front : List A) (x : A) (rest : List A) → slice_get (front ++ x ∷ rest) (length front) ≡ Some x
-at_front [] x rest = refl
-at_front (y ∷ front) x rest = at_front front x rest
-
 again_from : (b : Book) (before : List Ruled) (id : TxnId) (place : ℕ) (orders : List (Result Order (List Code))) (said front rulings : List Ruling) → said ≡ front ++ rulings → place ≡ suc (length front) → AllFollow b before id place orders rulings
     → kept_rulings_from b before id place orders said ≡ rulings
 again_from b before id place [] said front [] e at all = refl
 again_from b before id place [] said front (r ∷ rulings) e at all = absurd all
 again_from b before id place (order ∷ orders) said front [] e at all = absurd all
 again_from b before id place (order ∷ orders) said front (r ∷ rulings) e at all =
-    let here : numbered said place ≡ Some r = ap (λ (n : ℕ). numbered said n) at ∙ (ap (λ (rs : List Ruling). slice_get rs (length front)) e ∙ at_front front r rulings) in
+    let here : numbered said place ≡ Some r = ap (λ (n : ℕ). numbered said n) at ∙ (ap (λ (rs : List Ruling). slice_get rs (length front)) e ∙ get_front front r rulings) in
     let same : kept_ruling b before (numbered said place) order ≡ r = ap (λ (o : Option Ruling). kept_ruling b before o order) here ∙ ruled_again b before order r all.0 in
     let next : place + 1 ≡ suc (length (front ++ r ∷ [])) = omega (arith, at, length-append front (r ∷ [])) in
     ap (λ (x : Ruling). x ∷ kept_rulings_from b (before ++ ruled id place order x ∷ []) id (place + 1) orders said) same

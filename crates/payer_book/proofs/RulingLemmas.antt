@@ -5,6 +5,7 @@ use Rattle.std.specs.List.{AllByRecursion}
 use Rattle.std.proofs.lemmas.List.{append-nil, length-map}
 use Rattle.std.proofs.lemmas.Bool.{cond-true, cond-false}
 use Rattle.std.proofs.lemmas.List.Sums.{sum_by-append}
+use Rattle.std.proofs.lemmas.Option.{same_Some as same_some}
 use Rattle.bin_routes.specs.Table.{RouteMaps}
 use Rattle.plan_rules.specs.Pricing.{paid}
 use Rattle.claim_profile.specs.declared.ruling.HeaderStatus.TheVariants.{Accepted}
@@ -26,7 +27,6 @@ use Rattle.payer_book.specs.Changes.{change_by, changes_by, pays, standing_with,
 use Rattle.payer_book.specs.Drafts.{claim_on, reversal_on, judged_on, Pricing, ByPlan, price_at, auth_after, ruling_by, ruling_on, rulings_on}
 use Rattle.payer_book.specs.Books.{payments_of, count_paid, Keeps, OrderNumbered}
 use Rattle.payer_book.proofs.Growth.{payments_more, standing_more, after_more, judged_same}
-use Rattle.payer_book.proofs.Lists.{same_some}
 use Rattle.claim_model.proofs.Tests.{auth_self}
 
 -- a ruling pays where its change does

@@ -1,6 +1,6 @@
 -- The rulings of a request can be told in an answer, and so can the payments that they leave standing.
 use Rattle.std.proofs.Common.{◌≡◌, ℕ, ◌≤◌, Bool, true, false, not, cond, List, [], ◌∷◌, ◌++◌, length, Option, Some, None, Result, Ok, Err, refl, sym, subst, arith, leb-true}
-use Rattle.std.specs.Prelude.{find, filter}
+use Rattle.std.specs.Prelude.{filter}
 use Rattle.std.specs.List.{AllByRecursion, list_all}
 use Rattle.std.proofs.lemmas.Bool.{and_parts}
 use Rattle.plan_rules.specs.Pricing.{paid}
@@ -9,6 +9,8 @@ use Rattle.claim_model.specs.Payments.{same_auth}
 use Rattle.claim_model.specs.Judgement.{only, same_claim, Unpriced, priced}
 use Rattle.claim_model.specs.Laws.{IsAmounts, IsClaimOf, IsOrderOf, IsPrescription, IsRuling}
 use Rattle.claim_model.specs.Book.{serial_fits, last_serial}
+use Rattle.claim_model.proofs.Lists.{all_append, all_filter, find_all}
+use Rattle.claim_model.proofs.Written.{only_all}
 use Rattle.payer_book.specs.declared.book.payment.Standing.{Standing}
 use Rattle.payer_book.specs.declared.book.payment.Payment.{Payment}
 use Rattle.payer_book.specs.declared.ruling.changes.Change.{Change}
@@ -17,20 +19,6 @@ use Rattle.payer_book.specs.Changes.{change_by, changes_by, standing_with, stand
 use Rattle.payer_book.specs.Drafts.{claim_on, reversal_on, judged_on, Pricing, ByPlan, AsKept, price_at, auth_after, ruling_by, ruling_on, rulings_on}
 use Rattle.payer_book.specs.Made.{IsTold, ArePrices}
 use Rattle.payer_book.proofs.Growth.{standing_more, after_more}
-use Rattle.payer_book.proofs.Lists.{same_some, all_append, all_filter}
-
-find_all : {A : Type 0} (P : A → Type 0) (test : A → Bool) (xs : List A) (a : A) → AllByRecursion P xs → find test xs ≡ Some a → P a
-find_all P test [] a all e = absurd cc
-find_all P test (x ∷ xs) a all e = by_test (test x) (find_all P test xs a all.1) e
-  where
-    by_test : (b : Bool) → (find test xs ≡ Some a → P a) → cond b (Some x) (find test xs) ≡ Some a → P a
-    by_test true later h = subst P (same_some x a h) all.0
-    by_test false later h = later h
-
-only_all : {A : Type 0} (P : A → Type 0) (xs : List A) (a : A) → AllByRecursion P xs → only xs ≡ Some a → P a
-only_all P [] a all e = absurd cc
-only_all P (x ∷ []) a all e = subst P (same_some x a e) all.0
-only_all P (x ∷ y ∷ more) a all e = absurd cc
 
 -- one code
 one_code : (code : Code) → IsRuling (Rejected (code ∷ []))

@@ -8,7 +8,7 @@ use Rattle.payer_book.specs.declared.book.payment.Payment.{Payment}
 use Rattle.payer_book.specs.declared.book.payment.Payment.TheVariants.{Standing as Stands}
 use Rattle.payer_book.specs.declared.ruling.changes.Change.{Change}
 use Rattle.payer_book.specs.declared.ruling.changes.Change.TheVariants.{Pays, Reverses as ReversesPayment, Keeps}
-use Rattle.payer_book.specs.Ledger.{standing_of, standing_in, after_reversal, HasFillNumber}
+use Rattle.payer_book.specs.Ledger.{Ledger, standing_of, standing_in, after_reversal, HasFillNumber}
 
 -- a payment with this authorization and these amounts, where the order is a claim
 abbrev pub paid_by : Auth → Amounts → Result Order (List Code) → Change
@@ -54,6 +54,10 @@ standing_with standing Keeps = standing
 abbrev pub standing_after : List Standing → List Change → List Standing
 standing_after standing [] = standing
 standing_after standing (change ∷ later) = standing_after (standing_with standing change) later
+
+-- the payments of a ledger that stand after some changes
+abbrev pub still_standing : Ledger → List Change → List Standing
+still_standing l changes = standing_after (standing_in l.payments) changes
 
 -- the payment that a change makes, where no later one reverses it
 abbrev pub left : Change → List Change → Option Standing

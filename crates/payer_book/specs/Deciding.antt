@@ -14,6 +14,10 @@ abbrev pub IsKnown : Context → Book → TxnId → List ℕ → Option ℕ → 
 IsKnown ctx b id request (Some place) = IsAnsweredAt ctx b id request b place true
 IsKnown ctx b id request None = row_of id b.rows ≡ None
 
+-- the request gets the answer of this row again
+abbrev pub IsAgain : Context → Book → TxnId → List ℕ → Row → Type 0
+IsAgain ctx b id request row = answered ctx b id request ≡ Ok (record { book = b; bytes = kept_answer row; kept = true })
+
 -- a new row can be entered with these changes, and with it the request is answered with the row's answer
 pub record IsNew (ctx : Context) (b : Book) (id : TxnId) (request : List ℕ) (row : Row) (changes : List Change) : Type 0 where
   pub entry : IsEntry b row changes

@@ -1,11 +1,13 @@
 -- The rulings of a request over the payments of a book, and what they change, place by place.
-use Rattle.std.specs.Prelude.{◌≡◌, ℕ, ◌+◌, true, cond, List, [], ◌∷◌, ◌++◌, length, filter, count_by, slice_get, Option, Some, None, Result, Ok, Err}
+use Rattle.std.specs.Prelude.{◌≡◌, ℕ, ◌+◌, ◌<◌, ◌≤◌, true, false, cond, List, [], ◌∷◌, ◌++◌, length, filter, count_by, slice_get, Option, Some, None, MatchOption, Result, Ok, Err}
+use Rattle.claim_profile.specs.declared.order_reading.OrderFault.{OrderFault}
 use Rattle.claim_model.specs.Words.{Auth, Amounts, Claim, Reversal, Order, Bills, Reverses, Code, DuplicateClaim, ReversalNotProcessed, Ruling, Paid, Duplicate, Reversed, Rejected, Plan}
 use Rattle.claim_model.specs.Judgement.{same_claim, only, Judged, Unpriced, ToPrice, priced}
 use Rattle.plan_rules.specs.Pricing.{paid}
 use Rattle.payer_book.specs.declared.book.payment.Standing.{Standing}
 use Rattle.payer_book.specs.declared.ruling.changes.Change.{Change}
-use Rattle.claim_model.specs.Book.{serial_fits}
+use Rattle.claim_model.specs.Bytes.{order_in}
+use Rattle.claim_model.specs.Book.{serial_fits, last_serial}
 use Rattle.std.specs.List.{list_all}
 use Rattle.payer_book.specs.declared.ruling.drafting.Draft.{Draft}
 use Rattle.payer_book.specs.declared.ruling.judging.Verdict.{Verdict}
@@ -19,6 +21,10 @@ use Rattle.payer_book.specs.Changes.{change_by, changes_by, pays, standing_after
 abbrev pub claim_on : Claim → Option Standing → Judged
 claim_on c None = ToPrice c
 claim_on c (Some s) = cond (same_claim s.claim c) (Unpriced (Duplicate s.auth c.fill.prescription s.amounts)) (Unpriced (Rejected (DuplicateClaim ∷ [])))
+
+-- the ruling of a claim whose fill has this standing payment: that payment once more where the claim is the same
+abbrev pub billed_again : Standing → Claim → Ruling
+billed_again s c = cond (same_claim s.claim c) (Duplicate s.auth c.fill.prescription s.amounts) (Rejected (DuplicateClaim ∷ []))
 
 -- the judgement of a reversal, which is for this payment alone
 abbrev pub reversal_on : Reversal → Option Standing → Judged
@@ -66,6 +72,19 @@ price_at (AsKept rulings) place c = amounts_in (slice_get rulings place)
 abbrev pub auth_after : Ledger → List Change → Auth
 auth_after l changes = record { payer = l.payer; serial = l.first + length l.payments + count_by pays changes }
 
+-- it, where its serial is one that there is
+abbrev pub IsAuthAfter : Ledger → List Change → Option Auth → Type 0
+IsAuthAfter l changes result =
+    MatchOption result (last_serial < (auth_after l changes).serial) (λ a. (a ≡ auth_after l changes) × (a.serial ≤ last_serial))
+
+-- the ruling of a claim that is to be priced, after some changes
+abbrev pub priced_after : Ledger → Pricing → List Change → Claim → Ruling
+priced_after l prices changes c = priced (auth_after l changes) c (price_at prices (length changes) c)
+
+-- this ruling, where its serial is one that there is
+abbrev pub IsRulingThatFits : Ruling → Option Ruling → Type 0
+IsRulingThatFits ruling result = MatchOption result (serial_fits ruling ≡ false) (λ r. (r ≡ ruling) × (serial_fits r ≡ true))
+
 abbrev pub ruling_by : Auth → Pricing → ℕ → Judged → Ruling
 ruling_by auth prices place (Unpriced ruling) = ruling
 ruling_by auth prices place (ToPrice c) = priced auth c (price_at prices place c)
@@ -73,6 +92,18 @@ ruling_by auth prices place (ToPrice c) = priced auth c (price_at prices place c
 -- the ruling of the next place, after the changes of the places before
 unfoldable pub ruling_on : Ledger → Pricing → List Change → Result Order (List Code) → Ruling
 ruling_on l prices changes order = ruling_by (auth_after l changes) prices (length changes) (judged_on (standing_after (standing_in l.payments) changes) order)
+
+-- the ruling of the next place of a draft
+abbrev pub next_ruling : Draft → Ledger → Prices → Result Order OrderFault → Ruling
+next_ruling d l prices order = ruling_on l (pricing prices) d.changes.items (order_in order)
+
+-- it stands behind the rulings of the places before, and what it changes behind what they change
+abbrev pub AddsRuling : Draft → Ledger → Prices → Result Order OrderFault → Draft → Type 0
+AddsRuling old l prices order new = new.rulings.items ≡ old.rulings.items ++ next_ruling old l prices order ∷ []
+
+abbrev pub AddsChange : Draft → Ledger → Prices → Result Order OrderFault → Draft → Type 0
+AddsChange old l prices order new =
+    new.changes.items ≡ old.changes.items ++ change_by (order_in order) (next_ruling old l prices order) ∷ []
 
 -- the rulings of some orders, each after the changes of the places before
 abbrev pub rulings_on : Ledger → Pricing → List Change → List (Result Order (List Code)) → List Ruling

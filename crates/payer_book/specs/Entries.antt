@@ -21,6 +21,10 @@ abbrev pub rulings_by : Pricing → Book → TxnId → List ℕ → List Ruling
 rulings_by (ByPlan plan) b id request = rulings_from reading (with_plan b plan) (ruled_rows reading b.rows) id 1 (reading.orders request)
 rulings_by (AsKept said) b id request = kept_rulings b id request said
 
+-- the row that a request of an id gets at these prices
+abbrev pub row_by : Pricing → Book → TxnId → List ℕ → Row
+row_by prices b id request = record { id = id; request = request; rulings = rulings_by prices b id request }
+
 -- the row has the rulings that the rules give where it pays what it says, each payment with a serial that there is; these are the row's
 -- changes, an answer can tell of each ruling, and the row can be added from what is kept of it, whatever the plan is
 pub record IsEntry (b : Book) (row : Row) (changes : List Change) : Type 0 where

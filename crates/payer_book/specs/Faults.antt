@@ -1,5 +1,5 @@
 -- Which refusal of the model a fault of a book is.
-use Rattle.std.specs.Prelude.{◌≡◌, Result, Err, ⊤}
+use Rattle.std.specs.Prelude.{◌≡◌, ◌⊎◌, Bool, false, Result, Err, IfErr, ⊤}
 use Rattle.claim_model.specs.Refusal as refusal
 use Rattle.claim_model.specs.Refusal.{Refusal}
 use Rattle.payer_book.specs.declared.fault.BookFault.{BookFault}
@@ -15,6 +15,10 @@ RefusedFor NotOurs answer = answer ≡ Err refusal.NotOurs
 RefusedFor NumberReused answer = answer ≡ Err refusal.NumberReused
 RefusedFor BookFull answer = answer ≡ Err refusal.BookFull
 RefusedFor SerialsUsedUp answer = answer ≡ Err refusal.SerialsUsedUp
+
+-- no ruling is made for want of memory, or where not each payment has a serial that there is
+abbrev pub LacksSerial : {A : Type 0} → Bool → Result A BookFault → Type 0
+LacksSerial fit result = IfErr result (λ e. (e ≡ OutOfMemory) ⊎ ((e ≡ SerialsUsedUp) × (fit ≡ false)))
 
 -- what each of them is of a kept row: want of memory, or a row that cannot stand
 abbrev pub row_fault : BookFault → RowFault

@@ -1,5 +1,5 @@
 -- The payments of a book: standing, or reversed by the request of an id.
-use Rattle.std.specs.Prelude.{◌≡◌, ℕ, ◌+◌, ◌≤◌, Bool, cond, List, [], ◌∷◌, filter_map, find, Option, Some, None, ⊤}
+use Rattle.std.specs.Prelude.{◌≡◌, ℕ, ◌+◌, ◌≤◌, Bool, cond, List, [], ◌∷◌, length, filter_map, find, Option, Some, None, ⊤}
 use Rattle.std.specs.List.{AllByRecursion}
 use Rattle.claim_model.specs.Words.{TxnId, Auth, Claim, Fill, Reversal}
 use Rattle.claim_model.specs.Payments.{same_auth}
@@ -14,6 +14,14 @@ pub record Ledger : Type 0 where
   pub first : ℕ
   pub payments : List Payment
   pub room : ℕ
+
+-- nothing but the room is another
+abbrev pub SameButRoom : Ledger → Ledger → Type 0
+SameButRoom old new = (new.payer ≡ old.payer) × (new.first ≡ old.first) × (new.payments ≡ old.payments)
+
+-- the authorization of the next payment
+abbrev pub auth_next : Ledger → Auth
+auth_next l = record { payer = l.payer; serial = l.first + length l.payments }
 
 -- the authorization of a payment
 abbrev pub auth_of : Payment → Auth

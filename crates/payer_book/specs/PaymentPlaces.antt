@@ -1,17 +1,22 @@
 -- The index of a list of payments.
-use Rattle.std.specs.Prelude.{◌≡◌, ℕ, ◌≤◌, List, slice_get, Option, Some}
+use Rattle.std.specs.Prelude.{◌≡◌, ℕ, ◌<◌, ◌≤◌, List, length, slice_get, Option, Some, None, MatchOption}
 use Rattle.std.specs.List.{AllByRecursion}
-use Rattle.claim_model.specs.Words.{Fill}
+use Rattle.claim_model.specs.Words.{Auth, Fill}
 use Rattle.payer_book.specs.declared.book.payment.Standing.{Standing}
 use Rattle.payer_book.specs.declared.book.payment.Payment.{Payment}
 use Rattle.payer_book.specs.declared.book.payment.Payment.TheVariants.{Standing as Stands}
-use Rattle.payer_book.specs.Ledger.{standing_in, AreNumbered, IsNumbered}
+use Rattle.payer_book.specs.Ledger.{payment_with, standing_in, AreNumbered, IsNumbered}
 
 -- a fill's standing payment is at this place
 pub record StandsAt (ps : List Payment) (fill : Fill) (place : ℕ) : Type 0 where
   pub payment : Standing
   pub there : slice_get ps place ≡ Some (Stands payment)
   pub is_of : payment.claim.fill ≡ fill
+
+-- where the payment of an authorization stands; nowhere where there is none
+abbrev pub IsPlaceOf : Auth → List Payment → Option ℕ → Type 0
+IsPlaceOf auth ps result =
+    MatchOption result (payment_with auth ps ≡ None) (λ place. (place < length ps) × (slice_get ps place ≡ payment_with auth ps))
 
 -- each standing payment is in the index by its fill, and the index has nothing else
 pub record IsIndexed (payer first : ℕ) (ps : List Payment) (place_of : Fill → Option ℕ) : Type 0 where

@@ -16,15 +16,13 @@ pub(crate) mod rows;
 pub(crate) mod texts;
 
 ghost use Rattle.std.specs.Prelude.{◌≡◌, ◌<◌, ◌≤◌, [], map, length, slice_get, Some, Ok, OnOk, OnErr, IfErr};
-ghost use Rattle.std.specs.Option.{option_map, option_copied, option_and_then};
+ghost use Rattle.std.specs.Option.{option_copied, option_and_then};
 ghost use Rattle.bin_routes.specs.Table.{RouteMaps};
 ghost use Rattle.plan_rules.specs.Terms.{RefusedFor};
 ghost use Rattle.claim_model.specs.Bytes.{bytes_with, reprice};
-ghost use Rattle.claim_model.specs.Payments.{payment_of};
-ghost use Rattle.claim_model.specs.Rows.{ruled_rows};
 ghost use Rattle.claim_model.specs.Book.{row_of};
 ghost use Rattle.claim_model.specs.Held.{row_answer};
-ghost use Rattle.payer_book.specs.Views.{payment_view, view_of};
+ghost use Rattle.payer_book.specs.Views.{payment_in, view_of};
 ghost use Rattle.payer_book.specs.Added.{kept_row, added_all, without_rows};
 ghost use Rattle.payer_book.specs.RowPlaces.{IsPlaceOf};
 
@@ -63,7 +61,8 @@ impl Model for Book {
 
     ghost view = { λ b. record { payer = b.payer; settings = b.settings; plan = b.plan; rows = b.rows } };
 
-    ghost invariant = { λ b. IsBook b.payer b.settings.serial b.rows b.payments × IsMade b.payer b.settings b.rows b.payments };
+    ghost invariant = { λ b. IsBook b.payer b.settings.serial b.rows b.payments
+        × IsMade b.payer b.settings b.rows b.payments };
 }
 
 /// The answer to a request, and whether the book had it already.
@@ -170,7 +169,8 @@ impl Book {
     /// # Errors
     /// Those of `Plan::set`; `None` never refuses.
     pub fn change_plan(&mut self, product: &[u8], price: Option<u32>) -> Result<(), PlanFault>
-        ensures rest { (self.new.payer ≡ self.old.payer) × (self.new.settings ≡ self.old.settings) × (self.new.rows ≡ self.old.rows) }
+        ensures rest { (self.new.payer ≡ self.old.payer) × (self.new.settings ≡ self.old.settings)
+            × (self.new.rows ≡ self.old.rows) }
         ensures ok { OnOk result (reprice self.old.plan product.now price ≡ Ok self.new.plan) }
         ensures err { OnErr result (self.new ≡ self.old) }
         ensures cause { IfErr result (λ fault. RefusedFor fault (reprice self.old.plan product.now price)) }
@@ -186,7 +186,8 @@ impl Book {
 
     /// The bytes of the answer to the request of that id.
     pub fn held(&self, id: TxnId) -> Option<&[u8]>
-        ensures { (routes : RouteMaps) → option_copied result ≡ option_and_then (row_answer (bytes_with routes)) (row_of id self.now.rows) }
+        ensures { (routes : RouteMaps)
+            → option_copied result ≡ option_and_then (row_answer (bytes_with routes)) (row_of id self.now.rows) }
     {
         match self.row_for(id) {
             Some(row) => Some(row.answer()),
@@ -218,7 +219,7 @@ impl Book {
 
     /// The payment of that authorization.
     pub fn payment(&self, auth: Auth) -> Option<PaymentView>
-        ensures { (routes : RouteMaps) → result ≡ option_map payment_view (payment_of auth (ruled_rows (bytes_with routes) self.now.rows)) }
+        ensures { (routes : RouteMaps) → result ≡ payment_in (bytes_with routes) self.now auth }
     {
         match self.payments.find(auth) {
             Some(payment) => Some(view_of(payment)),

@@ -12,8 +12,10 @@ use overpunch::amount_in_range;
 /// The rows that `BookAtRest::add` takes are those that follow the rules: at each place the ruling is the one that is
 /// settled, or, of a claim that is to be priced, a rejection with 70 or a payment in any amounts that can be written.
 pub fn kept_rows_follow_rules()
-    ensures only { (b : Book) (id : TxnId) (request answer : List ℕ) (after : Book) → added b id request answer ≡ Some after → RowStands b id request answer after }
-    ensures each { (b : Book) (id : TxnId) (request answer : List ℕ) (after : Book) → IsKeptBook b → RowStands b id request answer after → added b id request answer ≡ Some after }
+    ensures only { (b : Book) (id : TxnId) (request answer : List ℕ) (after : Book)
+        → added b id request answer ≡ Some after → RowStands b id request answer after }
+    ensures each { (b : Book) (id : TxnId) (request answer : List ℕ) (after : Book)
+        → IsKeptBook b → RowStands b id request answer after → added b id request answer ≡ Some after }
 {
     bytes_keep_laws();
     amount_in_range();
@@ -21,8 +23,11 @@ pub fn kept_rows_follow_rules()
 
 /// What was added to a book stands behind its rows as it was kept, and nothing else is changed.
 pub fn added_rows_are_kept()
-    ensures one { (b : Book) (id : TxnId) (request answer : List ℕ) (after : Book) → added b id request answer ≡ Some after → KeepsRows b (record { id = id; request = request; answer = answer } ∷ []) after }
-    ensures all { (b : Book) (rows : List KeptRow) (after : Book) → added_all (Some b) rows ≡ Some after → KeepsRows b rows after }
+    ensures one { (b : Book) (id : TxnId) (request answer : List ℕ) (after : Book)
+        → added b id request answer ≡ Some after
+        → KeepsRows b (record { id = id; request = request; answer = answer } ∷ []) after }
+    ensures all { (b : Book) (rows : List KeptRow) (after : Book)
+        → added_all (Some b) rows ≡ Some after → KeepsRows b rows after }
 {
     amount_in_range();
 }

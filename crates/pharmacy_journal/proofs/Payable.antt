@@ -113,12 +113,9 @@ reversed_step a had has os before after e f =
     ∙ ap (λ b. had || b) (sym (list_any-append (outcome_reverses a) os after) ∙ ap (list_any (outcome_reverses a)) (sym f))
 
 -- a text that is no request bills nothing
-no_transmission : (text : List ℕ) (fault : FramingFault) → framing_fault request_kind text ≡ Some fault → [] ≡ fills_in text
-unfolding transmission_of
-no_transmission text fault e = rw e refl
-
 pub no_fills : (text : List ℕ) (fault : FramingFault) → framing_fault request_kind text ≡ Some fault → [] ≡ fills_in text
-no_fills text fault e = no_transmission text fault e
+unfolding transmission_of
+no_fills text fault e = rw e refl
 
 -- past the last group or ruling nothing is left
 pub outcomes_between-end : (fills : List (Option Fill)) (rulings : List Ruling) (k : ℕ) → min (length fills) (length rulings) ≤ k → outcomes_between (drop k fills) (drop k rulings) ≡ []

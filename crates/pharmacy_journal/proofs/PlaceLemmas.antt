@@ -2,11 +2,8 @@
 use Rattle.std.proofs.Common.{◌≡◌, ℕ, zero, suc, ◌+◌, ◌<◌, ◌≤◌, Bool, true, false, not, cond, eqb, List, [], ◌∷◌, ◌++◌, length, map, set, refl, sym, ap, ◌∙◌, arith}
 use Rattle.std.specs.List.{AllByRecursion, filter}
 use Rattle.std.proofs.lemmas.Bool.{eq-eqb, ne_eqb}
+use Rattle.claim_model.proofs.Lists.{all_weaker}
 use Rattle.pharmacy_journal.specs.Places.{places_from}
-
-pub AllByRecursion-weaker : {A : Type 0} (P Q : A → Type 0) → ((a : A) → P a → Q a) → (xs : List A) → AllByRecursion P xs → AllByRecursion Q xs
-AllByRecursion-weaker P Q f [] h = tt
-AllByRecursion-weaker P Q f (x ∷ xs) h = (f x h.0, AllByRecursion-weaker P Q f xs h.1)
 
 pub AllByRecursion-if : {A : Type 0} (P : A → Type 0) (b : Bool) (x : A) (xs : List A) → P x → AllByRecursion P xs → AllByRecursion P (cond b (x ∷ xs) xs)
 AllByRecursion-if P true x xs p h = (p, h)
@@ -17,7 +14,7 @@ pub places_from-start : {A : Type 0} (passes : A → Bool) (n : ℕ) (xs : List 
 places_from-start passes n [] = tt
 places_from-start passes n (x ∷ xs) =
     AllByRecursion-if (λ k. n ≤ k) (passes x) n (places_from passes (n + 1) xs) (omega arith)
-    (AllByRecursion-weaker (λ k. n + 1 ≤ k) (λ k. n ≤ k) (λ k h. omega arith) _ (places_from-start passes (n + 1) xs))
+    (all_weaker (λ k. n + 1 ≤ k) (λ k. n ≤ k) (λ k h. omega arith) _ (places_from-start passes (n + 1) xs))
 
 -- one more element that passes
 pub places_from-push : {A : Type 0} (passes : A → Bool) (n : ℕ) (xs : List A) (y : A) → passes y ≡ true → places_from passes n (xs ++ y ∷ []) ≡ places_from passes n xs ++ (n + length xs) ∷ []

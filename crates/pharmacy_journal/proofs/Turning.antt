@@ -8,7 +8,8 @@ use Rattle.std.proofs.lemmas.List.{length-map, get_or-set_same, get_or-set_other
 use Rattle.pharmacy_journal.specs.Retry.{Rule, Dial, phases_of, next_phase, phase_at, turned, is_due}
 use Rattle.pharmacy_journal.specs.Places.{places_from}
 use Rattle.pharmacy_journal.specs.Timetable.{Rounds, IsKept, IsLead, in_bucket, is_open, seen_phases}
-use Rattle.pharmacy_journal.proofs.PlaceLemmas.{AllByRecursion-weaker, but, places_from-push, places_from-push_other, places_from-unset, places_from-map, places_from-same}
+use Rattle.claim_model.proofs.Lists.{all_weaker}
+use Rattle.pharmacy_journal.proofs.PlaceLemmas.{but, places_from-push, places_from-push_other, places_from-unset, places_from-map, places_from-same}
 use Rattle.pharmacy_journal.proofs.OpenPlaces.{filter-unset, filter-entered, is_open-last, is_open-map}
 
 -- an entry goes on by one phase with the clock
@@ -73,7 +74,7 @@ AllByRecursion-set P (x ∷ xs) (Prim.Native.Nat.suc i) y h p = (h.0, AllByRecur
 
 -- places that were there are there when an entry comes
 in_longer : (leads : List (Option ℕ)) (lead : Option ℕ) (ks : List ℕ) → AllByRecursion (λ k. k < length leads) ks → AllByRecursion (λ k. k < length (leads ++ lead ∷ [])) ks
-in_longer leads lead ks h = AllByRecursion-weaker (λ k. k < length leads) (λ k. k < length (leads ++ lead ∷ [])) (λ k lt. omega (arith, lt, length-append leads (lead ∷ []))) ks h
+in_longer leads lead ks h = all_weaker (λ k. k < length leads) (λ k. k < length (leads ++ lead ∷ [])) (λ k lt. omega (arith, lt, length-append leads (lead ∷ []))) ks h
 
 -- one settled entry more
 pub IsKept-settled : (r : Rule) (leads leads' : List (Option ℕ)) (buckets : List (List ℕ)) → IsKept r leads buckets → leads' ≡ leads ++ None ∷ [] → IsKept r leads' buckets

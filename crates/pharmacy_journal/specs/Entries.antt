@@ -12,6 +12,10 @@ use Rattle.pharmacy_journal.specs.declared.kept.KeptEntry.{KeptEntry}
 use Rattle.pharmacy_journal.specs.declared.slot.Slot.{Slot}
 use Rattle.pharmacy_journal.specs.declared.slot.Slot.TheVariants.{Waiting, Settled}
 
+-- the id of the next entry
+abbrev pub next_id : {A : Type 0} → ℕ → List A → TxnId
+next_id pharmacy entries = record { pharmacy = pharmacy; number = length entries + 1 }
+
 -- the phase of an open entry
 abbrev pub phase_or_start : Option ℕ → ℕ
 phase_or_start None = 0

@@ -21,9 +21,13 @@ abbrev pub listed_by : ℕ → Option (List ℕ) → Option RequestHeader → Li
 listed_by number answer None = []
 listed_by number answer (Some h) = record { number = number; code = h.code; count = h.count; rulings = rulings_of answer } ∷ []
 
+-- an entry as it is told; nothing where its request has no header
+abbrev pub listed_as : ℕ → Kept → List Listed
+listed_as number k = listed_by number k.answer (header_of k.request)
+
 abbrev pub listed_from : ℕ → List Kept → List Listed
 listed_from number [] = []
-listed_from number (k ∷ entries) = listed_by number k.answer (header_of k.request) ++ listed_from (number + 1) entries
+listed_from number (k ∷ entries) = listed_as number k ++ listed_from (number + 1) entries
 
 -- all entries, in order of numbers
 unfoldable pub listed : JournalAtRest → List Listed

@@ -1,9 +1,9 @@
 -- How a pharmacy reads requests and answers. No route takes part in it.
-use Rattle.std.specs.Prelude.{ℕ, Bool, false, List, Option, Some, None}
+use Rattle.std.specs.Prelude.{ℕ, Bool, false, ◌&&◌, ◌==◌, bytes_eq, List, Option, Some, None}
 use Rattle.d0_segments.specs.Framing.{request_kind, transmission_of}
 use Rattle.claim_profile.specs.Ruling.{answer_of}
 use Rattle.claim_profile.specs.Readable.{readable_header}
-use Rattle.claim_model.specs.Words.{RequestHeader, Answer}
+use Rattle.claim_model.specs.Words.{RequestHeader, ResponseHeader, Answer}
 use Rattle.claim_model.specs.Readable.{fits}
 use Rattle.claim_model.specs.Bytes.{header_in, answer_in}
 use Rattle.claim_model.specs.Journal.{PharmacySettings, is_own}
@@ -15,6 +15,10 @@ header_of text = header_in (transmission_of request_kind text)
 -- the answer that a text spells
 abbrev pub reading_of : List ℕ → Option Answer
 reading_of text = answer_in (answer_of text)
+
+-- a response has a request's code and count
+abbrev pub has_same_words : ResponseHeader → RequestHeader → Bool
+has_same_words response request = bytes_eq response.code request.code && (response.count == request.count)
 
 -- an answer settles a request where it reads as an answer with the request's code and count
 abbrev pub settles_with : List ℕ → List ℕ → Bool

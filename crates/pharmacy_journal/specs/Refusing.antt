@@ -1,7 +1,9 @@
 -- What the faults of a pharmacy's calls are in the model. Want of memory is none of its refusals.
-use Rattle.std.specs.Prelude.{◌≡◌, Option, Some, None, Result, Err}
+use Rattle.std.specs.Prelude.{◌≡◌, ℕ, List, Option, Some, None, Result, Err}
 use Rattle.claim_model.specs.Refusal.{Refusal}
 use Rattle.claim_model.specs.Refusal as refusal
+use Rattle.claim_model.specs.Journal.{Journal, submit_fault}
+use Rattle.pharmacy_journal.specs.Reading.{header_of}
 use Rattle.pharmacy_journal.specs.declared.fault.SubmitFault.{SubmitFault}
 use Rattle.pharmacy_journal.specs.declared.fault.SubmitFault.TheVariants as submit
 use Rattle.pharmacy_journal.specs.declared.fault.HearFault.{HearFault}
@@ -33,3 +35,7 @@ IsRefused (Some fault) outcome = outcome ≡ Err fault
 abbrev pub IsCause : Option Refusal → Option Refusal → Type 0
 IsCause None first = Unit {0}
 IsCause (Some fault) first = first ≡ Some fault
+
+-- the fault is the first for which a text is refused
+abbrev pub IsFirstFault : Journal → List ℕ → SubmitFault → Type 0
+IsFirstFault journal text fault = IsCause (refusal_to_submit fault) (submit_fault journal text (header_of text))

@@ -7,6 +7,10 @@ pub record Rule : Type 0 where
   pub tries : ℕ
   pub nodes : ℕ
 
+-- the rule of these numbers
+abbrev pub rule_with : ℕ → ℕ → ℕ → Rule
+rule_with again tries nodes = record { again = again; tries = tries; nodes = nodes }
+
 -- a rule in its limits
 pub record IsRule (r : Rule) : Type 0 where
   pub some_ticks : 0 < r.again

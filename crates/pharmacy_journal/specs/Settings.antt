@@ -1,9 +1,14 @@
 -- Which settings a pharmacy takes.
-use Rattle.std.specs.Prelude.{◌<◌, ◌≤◌, length, IsTrue}
+use Rattle.std.specs.Prelude.{ℕ, ◌<◌, ◌≤◌, List, length, IsTrue}
 use Rattle.std.specs.List.{list_all}
 use Rattle.d0_header.specs.Field.{is_plain}
 use Rattle.claim_model.specs.Journal.{PharmacySettings}
 use Rattle.pharmacy_journal.specs.Retry.{Rule}
+
+-- settings of these
+abbrev pub settings_of : List ℕ → List ℕ → List ℕ → ℕ → ℕ → ℕ → PharmacySettings
+settings_of qualifier provider nodes again tries cap =
+    record { qualifier = qualifier; provider = provider; nodes = nodes; again = again; tries = tries; cap = cap }
 
 -- waits of 1 to 1,000 ticks, 1 to 1,000 tries, 1 to 65,536 entries, and an identity without separators
 pub record AreSettings (s : PharmacySettings) : Type 0 where
@@ -21,6 +26,10 @@ pub record AreSized (s : PharmacySettings) : Type 0 where
   pub qualifier : length s.qualifier ≤ 2
   pub provider : length s.provider ≤ 15
   pub nodes : length s.nodes ≤ 4294967295
+
+-- what holds of the settings of every pharmacy
+abbrev pub AreKept : PharmacySettings → Type 0
+AreKept s = AreSettings s × AreSized s
 
 -- the rule of retries in settings
 abbrev pub rule_of : PharmacySettings → Rule

@@ -1,14 +1,18 @@
 -- What a pharmacy makes of a text or an envelope, beside the rules of its journal. These ask no route, so it is so under all of them.
-use Rattle.std.specs.Prelude.{◌≡◌, ℕ, List, Result, Ok, IfOk, IfErr, OnOk}
+use Rattle.std.specs.Prelude.{◌≡◌, ℕ, List, [], ◌∷◌, ◌++◌, Result, Ok, IfOk, IfErr, OnOk}
 use Rattle.envelope.specs.Envelope.{Opened}
 use Rattle.bin_routes.specs.Table.{RouteMaps}
 use Rattle.claim_model.specs.Bytes.{bytes_with}
 use Rattle.claim_model.specs.Refusal.{Refusal}
-use Rattle.claim_model.specs.Journal.{Journal, Sending, heard, submitted}
+use Rattle.claim_model.specs.Journal.{Journal, Waits, Sending, heard, submitted}
 use Rattle.pharmacy_journal.specs.declared.fault.SubmitFault.{SubmitFault}
 use Rattle.pharmacy_journal.specs.declared.fault.HearFault.{HearFault}
 use Rattle.pharmacy_journal.specs.Refusing.{IsRefused, refusal_to_submit, refusal_to_hear}
 use Rattle.pharmacy_journal.specs.Hearing.{envelope_seen}
+
+-- the journal with one more entry, which begins to wait
+abbrev pub with_waiting : Journal → List ℕ → Journal
+with_waiting j request = record j { entries = j.entries ++ record { request = request; state = Waits 0 } ∷ [] }
 
 -- a text is entered under the number, and its packet sent, as the rule says
 abbrev pub Submits : Journal → List ℕ → Journal → Result (ℕ × Sending) SubmitFault → Type 0

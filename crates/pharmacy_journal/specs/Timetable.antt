@@ -1,7 +1,7 @@
 -- The phases of a journal's entries, and which entries a tick sends.
-use Rattle.std.specs.Prelude.{◌≡◌, ℕ, ◌%◌, ◌<◌, Bool, false, ◌==◌, List, [], map, length, Option, Some, None, is_some, option_map, slice_index_or}
+use Rattle.std.specs.Prelude.{◌≡◌, ℕ, ◌%◌, ◌<◌, Bool, false, ◌==◌, List, [], ◌∷◌, ◌++◌, map, length, Option, Some, None, is_some, option_map, slice_index_or, slice_set}
 use Rattle.std.specs.List.{AllByRecursion, filter}
-use Rattle.pharmacy_journal.specs.Retry.{Rule, Dial, phases_of, next_phase, phase_at, is_due}
+use Rattle.pharmacy_journal.specs.Retry.{Rule, Dial, phases_of, next_phase, node_of, phase_at, is_due}
 use Rattle.pharmacy_journal.specs.Places.{places_from}
 
 -- a rule, and the phase of each entry; a settled one has none
@@ -20,6 +20,10 @@ ticked_rounds t = record { rule = t.rule; phases = ticked_phases t }
 abbrev pub due_next : Rounds → List ℕ
 due_next t = places_from (is_due t.rule) 0 (ticked_phases t)
 
+-- the switch, by its place in the list, at which the entry of a place is after a tick
+abbrev pub next_node : Rounds → ℕ → Option ℕ
+next_node t place = option_map (node_of t.rule) (slice_index_or (ticked_phases t) place None)
+
 -- how a timetable keeps it: each open entry is ahead of one clock by so much, and stands in the bucket of that lead's remainder
 abbrev pub in_bucket : Rule → ℕ → Option ℕ → Bool
 in_bucket r bucket None = false
@@ -33,12 +37,27 @@ IsLead r (Some lead) = lead < phases_of r
 abbrev pub is_open : List (Option ℕ) → ℕ → Bool
 is_open phases place = is_some (slice_index_or phases place None)
 
+-- the places in a bucket, and those of them that are open
+abbrev pub bucket_at : List (List ℕ) → ℕ → List ℕ
+bucket_at buckets b = slice_index_or buckets b []
+
+abbrev pub open_at : List (Option ℕ) → List (List ℕ) → ℕ → List ℕ
+open_at leads buckets b = filter (is_open leads) (bucket_at buckets b)
+
+-- the buckets, with a place behind those of one bucket
+abbrev pub with_place : List (List ℕ) → ℕ → ℕ → List (List ℕ)
+with_place buckets b place = slice_set buckets b (bucket_at buckets b ++ place ∷ [])
+
+-- each of the places is below so many
+abbrev pub AreBelow : ℕ → List ℕ → Type 0
+AreBelow n places = AllByRecursion (λ k. k < n) places
+
 -- a bucket has places of settled entries too: its open ones are those of its remainder, in order
 pub record IsKept (r : Rule) (leads : List (Option ℕ)) (buckets : List (List ℕ)) : Type 0 where
   pub on_circle : AllByRecursion (IsLead r) leads
   pub as_many : length buckets ≡ r.again
-  pub in_range : (b : ℕ) → b < r.again → AllByRecursion (λ k. k < length leads) (slice_index_or buckets b [])
-  pub by_lead : (b : ℕ) → b < r.again → filter (is_open leads) (slice_index_or buckets b []) ≡ places_from (in_bucket r b) 0 leads
+  pub in_range : (b : ℕ) → b < r.again → AreBelow (length leads) (bucket_at buckets b)
+  pub by_lead : (b : ℕ) → b < r.again → open_at leads buckets b ≡ places_from (in_bucket r b) 0 leads
 
 abbrev pub seen_phases : Dial → List (Option ℕ) → List (Option ℕ)
 seen_phases d leads = map (option_map (phase_at d)) leads

@@ -1,15 +1,14 @@
 //! The journal of a stopped pharmacy, and how a pharmacy stops and starts.
 
-ghost use Rattle.std.specs.Prelude.{◌≡◌, ◌≢◌, ◌<◌, ◌≤◌, ◌+◌, ◌-◌, ◌++◌, ◌∷◌, [], length, map, None, Some, IsSome, IfOk, IfErr, OnOk, OnErr, true, false};
+ghost use Rattle.std.specs.Prelude.{◌≡◌, ◌<◌, ◌≤◌, ◌-◌, [], length, map, None, Some, IsSome, IfOk, IfErr, OnOk, OnErr, true, false};
 ghost use Rattle.std.specs.Option.{option_copied};
 ghost use Rattle.claim_profile.specs.Readable.{readable_header};
 ghost use Rattle.claim_model.specs.Journal.{stopped, started, is_own};
 ghost use Rattle.pharmacy_journal.specs.Settings.{rule_of};
 ghost use Rattle.pharmacy_journal.specs.Retry.{phases_of};
 ghost use Rattle.pharmacy_journal.specs.Reading.{is_own_request};
-ghost use Rattle.pharmacy_journal.specs.Resting.{added, added_all, is_row, is_kept_answer, restarted_phase, without_entries};
-ghost use Rattle.pharmacy_journal.specs.Entries.{kept_of, IsEntry};
-ghost use Rattle.pharmacy_journal.specs.declared.fault.RowFault.TheVariants.{OutOfMemory};
+ghost use Rattle.pharmacy_journal.specs.Resting.{added, IsMadeByAdding, RefusesWhere, is_row, is_kept_answer, restarted_rounds, with_restarted};
+ghost use Rattle.pharmacy_journal.specs.Entries.{kept_of, next_id, IsEntry};
 
 use crate::fault::{RowFault, SettleFault};
 use crate::pharmacy::{Pharmacy, first_timetable};
@@ -139,8 +138,7 @@ impl JournalAtRest {
         ensures value { result ≡ length self.now.entries }
         ensures in_limit { result ≤ self.now.settings.cap }
         ensures small { result ≤ 65536 }
-        // The entries are such that the journal at rest is made by adding them one by one.
-        ensures made { added_all (Some (without_entries self.now)) self.now.entries ≡ Some self.now }
+        ensures made { IsMadeByAdding self.now }
     {
         self.slots.len()
     }
@@ -153,7 +151,7 @@ impl JournalAtRest {
     pub fn add(&mut self, request: &[u8], answer: Option<&[u8]>) -> Result<(), RowFault>
         ensures ok { OnOk result (added self.old request.now (option_copied answer.entry) ≡ Some self.new) }
         ensures err { OnErr result (self.new ≡ self.old) }
-        ensures fault { IfErr result (λ e. e ≢ OutOfMemory → added self.old request.now (option_copied answer.entry) ≡ None) }
+        ensures fault { RefusesWhere (added self.old request.now (option_copied answer.entry) ≡ None) result }
     {
         self.admit_row(request, answer)?;
         let slot = self.row(request, answer)?;
@@ -164,7 +162,7 @@ impl JournalAtRest {
     /// Whether an entry may be added.
     fn admit_row(&self, request: &[u8], answer: Option<&[u8]>) -> Result<(), RowFault>
         ensures ok { OnOk result (is_row self.now request.now (option_copied answer.entry) ≡ true) }
-        ensures fault { IfErr result (λ e. e ≢ OutOfMemory → is_row self.now request.now (option_copied answer.entry) ≡ false) }
+        ensures fault { RefusesWhere (is_row self.now request.now (option_copied answer.entry) ≡ false) result }
     {
         if self.entries() >= self.settings.cap() as usize {
             return Err(RowFault::BadRow);
@@ -179,8 +177,10 @@ impl JournalAtRest {
     /// The next entry, of a request and an answer that may be added.
     fn row(&self, request: &[u8], answer: Option<&[u8]>) -> Result<Slot, AllocError>
         requires { is_row self.now request.now (option_copied answer) ≡ true }
-        ensures kept { IfOk result (λ slot. kept_of slot ≡ record { request = request.now; answer = option_copied answer.entry }) }
-        ensures entry { IfOk result (λ slot. IsEntry self.now.settings (record { pharmacy = self.now.number; number = length self.now.entries + 1 }) slot) }
+        ensures kept { IfOk result (λ slot. kept_of slot
+            ≡ record { request = request.now; answer = option_copied answer.entry }) }
+        ensures entry { IfOk result
+            (λ slot. IsEntry self.now.settings (next_id self.now.number self.now.entries) slot) }
     {
         let number = self.entries() as u64 + 1;
         let Some(id) = TxnId::new(self.number, number) else {
@@ -201,7 +201,7 @@ impl JournalAtRest {
 /// Whether a request is readable and the pharmacy's own.
 fn own_request(settings: &PharmacySettings, request: &[u8]) -> Result<(), RowFault>
     ensures ok { OnOk result (is_own_request settings.now request.now ≡ true) }
-    ensures fault { IfErr result (λ e. e ≢ OutOfMemory → is_own_request settings.now request.now ≡ false) }
+    ensures fault { RefusesWhere (is_own_request settings.now request.now ≡ false) result }
 {
     match check_readable(request) {
         Some(framed) => own_header(settings, framed.header()),
@@ -225,7 +225,7 @@ fn own_header(settings: &PharmacySettings, header: &RequestHeader) -> Result<(),
 fn kept_answer(request: &[u8], answer: &[u8]) -> Result<(), RowFault>
     requires { IsSome (readable_header request.now) }
     ensures ok { OnOk result (is_kept_answer request.now (Some answer.now) ≡ true) }
-    ensures fault { IfErr result (λ e. e ≢ OutOfMemory → is_kept_answer request.now (Some answer.now) ≡ false) }
+    ensures fault { RefusesWhere (is_kept_answer request.now (Some answer.now) ≡ false) result }
 {
     if answer.len() > LARGEST_PAYLOAD {
         return Err(RowFault::BadRow);
@@ -244,7 +244,7 @@ fn restarted(
     slots: &[Slot],
 ) -> Result<Timetable, AllocError>
     requires { 0 < length settings.now.nodes }
-    ensures { IfOk result (λ t. t ≡ record { rule = rule_of settings.now; phases = map (restarted_phase (rule_of settings.now)) slots.now }) }
+    ensures { IfOk result (λ t. t ≡ restarted_rounds (rule_of settings.now) slots.now) }
 {
     let mut timetable = first_timetable(alloc, settings)?;
     let phase = timetable.last_round();
@@ -258,7 +258,7 @@ fn restarted(
 fn enter_again(timetable: &mut Timetable, slot: &Slot, phase: u64) -> Result<(), AllocError>
     requires phase { phase ≡ phases_of timetable.old.rule - timetable.old.rule.again }
     requires on_circle { phase < phases_of timetable.old.rule }
-    ensures { OnOk result (timetable.new ≡ record timetable.old { phases = timetable.old.phases ++ restarted_phase timetable.old.rule slot.now ∷ [] }) }
+    ensures { OnOk result (timetable.new ≡ with_restarted timetable.old slot.now) }
 {
     match slot {
         Slot::Waiting(_) => timetable.enter(phase),

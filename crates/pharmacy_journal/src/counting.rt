@@ -1,22 +1,19 @@
 //! The payments that a pharmacy counts.
 
-ghost use Rattle.std.specs.Prelude.{◌≡◌, ◌≢◌, ◌<◌, ◌++◌, ◌∷◌, ◌||◌, [], if◌then◌else◌, length, map, not, Some, IfOk, OnOk, slice_index_or};
+ghost use Rattle.std.specs.Prelude.{◌≡◌, ◌≢◌, ◌<◌, ◌++◌, [], length, map, not, IfOk, OnOk};
 ghost use Rattle.std.specs.Option.{option_to_list};
-ghost use Rattle.std.specs.List.{list_any, filter_map};
-ghost use Rattle.bin_routes.specs.Table.{RouteMaps};
-ghost use Rattle.d0_segments.specs.Pieces.{shared_of, groups_of};
-ghost use Rattle.d0_segments.specs.FramedParts.{framed_parts};
+ghost use Rattle.d0_segments.specs.Pieces.{groups_of};
+ghost use Rattle.d0_segments.specs.FramedParts.{shared_in, group_in};
 ghost use Rattle.claim_profile.specs.Order.{order_of};
-ghost use Rattle.claim_model.specs.Words.{Auth as AuthSeen};
-ghost use Rattle.claim_model.specs.Bytes.{bytes_with, order_in, orders_in};
-ghost use Rattle.claim_model.specs.Payments.{same_auth, auth_reversed, is_auth};
-ghost use Rattle.claim_model.specs.Counted.{counted, firsts};
+ghost use Rattle.claim_model.specs.Bytes.{order_in};
+ghost use Rattle.claim_model.specs.Payments.{auth_reversed};
+ghost use Rattle.claim_model.specs.Counted.{firsts};
 ghost use Rattle.claim_model.specs.Journal.{stopped};
 ghost use Rattle.pharmacy_journal.specs.Entries.{kept_of};
 ghost use Rattle.pharmacy_journal.specs.Listing.{rulings_of};
-ghost use Rattle.pharmacy_journal.specs.Counting.{fill_billed, outcomes_between, fills_in, rulings_told, outcomes, payment_of, named_in, outcome_reverses, has_auth, without, counted_in};
+ghost use Rattle.pharmacy_journal.specs.Counting.{fill_billed, outcomes_framed, outcomes_by, rulings_told, outcomes, payment_of, has_auth, with_first, without, counted_in};
 ghost use Rattle.claim_profile.specs.declared.answer_reading.AnswerFault.TheVariants.{OutOfMemory as NoAnswerMemory};
-ghost use Rattle.pharmacy_journal.specs.Telling.{told_by, NamesMore, ReversesMore};
+ghost use Rattle.pharmacy_journal.specs.Telling.{told_by, NamesAll, ReversesAll, NamesMore, ReversesMore, Joins, JoinsOne, CountsPaid};
 
 use crate::at_rest::JournalAtRest;
 use crate::pharmacy::Pharmacy;
@@ -74,7 +71,7 @@ impl Pharmacy {
     /// names, unless a Reversed answer names them. Fill and amounts are those of the first such answer; the
     /// order is that of numbers and then of places.
     pub fn paid(&self) -> Result<Vec<CountedPayment>, AllocError>
-        ensures { (routes : RouteMaps) → IfOk result (λ paid. paid.items ≡ counted (bytes_with routes) (stopped self.now)) }
+        ensures { CountsPaid (stopped self.now) result }
     {
         paid_in(self.allocator(), self.slots.as_slice())
     }
@@ -83,7 +80,7 @@ impl Pharmacy {
 impl JournalAtRest {
     /// The payments that the pharmacy counts, as for one that is up.
     pub fn paid(&self) -> Result<Vec<CountedPayment>, AllocError>
-        ensures { (routes : RouteMaps) → IfOk result (λ paid. paid.items ≡ counted (bytes_with routes) self.now) }
+        ensures { CountsPaid self.now result }
     {
         paid_in(self.allocator(), self.slots.as_slice())
     }
@@ -125,8 +122,8 @@ pub(crate) fn counted_of(alloc: Global, told: Told) -> Result<Vec<CountedPayment
 
 /// What these entries tell.
 fn read_all(alloc: Global, slots: &[Slot]) -> Result<Told, AllocError>
-    ensures named { IfOk result (λ t. t.named.items ≡ filter_map named_in (outcomes (map kept_of slots.now))) }
-    ensures reversed { IfOk result (λ t. (a : AuthSeen) → has_auth t.reversed.keys a ≡ list_any (outcome_reverses a) (outcomes (map kept_of slots.now))) }
+    ensures named { IfOk result (λ t. NamesAll t (outcomes (map kept_of slots.now))) }
+    ensures reversed { IfOk result (λ t. ReversesAll t (outcomes (map kept_of slots.now))) }
 {
     let mut told = nothing_told(alloc);
     for slot in slots {
@@ -168,8 +165,8 @@ pub(crate) fn take_slot(told: &mut Told, slot: &Slot, rulings: &[Ruling]) -> Res
 
 /// Adds what the rulings on the groups of a request tell.
 fn take_all(told: &mut Told, request: &[u8], rulings: &[Ruling]) -> Result<(), AllocError>
-    ensures named { OnOk result (NamesMore told.old told.new (outcomes_between (fills_in request.now) rulings.now)) }
-    ensures reversed { OnOk result (ReversesMore told.old told.new (outcomes_between (fills_in request.now) rulings.now)) }
+    ensures named { OnOk result (NamesMore told.old told.new (outcomes_by request.now rulings.now)) }
+    ensures reversed { OnOk result (ReversesMore told.old told.new (outcomes_by request.now rulings.now)) }
 {
     match check_request(request) {
         Ok(framed) => take_groups(told, &framed, rulings),
@@ -183,8 +180,8 @@ fn take_groups(
     framed: &Framed<'_, RequestHeader>,
     rulings: &[Ruling],
 ) -> Result<(), AllocError>
-    ensures named { OnOk result (NamesMore told.old told.new (outcomes_between (map fill_billed (orders_in (Some (framed_parts framed.now)))) rulings.now)) }
-    ensures reversed { OnOk result (ReversesMore told.old told.new (outcomes_between (map fill_billed (orders_in (Some (framed_parts framed.now)))) rulings.now)) }
+    ensures named { OnOk result (NamesMore told.old told.new (outcomes_framed framed.now rulings.now)) }
+    ensures reversed { OnOk result (ReversesMore told.old told.new (outcomes_framed framed.now rulings.now)) }
 {
     let count = framed.group_count().min(rulings.len());
     for place in 0..count {
@@ -195,8 +192,9 @@ fn take_groups(
 
 /// Adds what the ruling on one group tells.
 fn take_one(told: &mut Told, fill: Option<Fill>, ruling: &Ruling) -> Result<(), AllocError>
-    ensures named { OnOk result (told.new.named.items ≡ told.old.named.items ++ option_to_list (payment_of fill ruling.now)) }
-    ensures reversed { OnOk result ((a : AuthSeen) → has_auth told.new.reversed.keys a ≡ (has_auth told.old.reversed.keys a || is_auth a (auth_reversed ruling.now))) }
+    ensures named { OnOk result (told.new.named.items
+        ≡ told.old.named.items ++ option_to_list (payment_of fill ruling.now)) }
+    ensures reversed { OnOk result (Joins (auth_reversed ruling.now) told.old.reversed.keys told.new.reversed.keys) }
 {
     let payment = payment_of(fill, ruling);
     let auth = auth_reversed(ruling);
@@ -219,7 +217,7 @@ fn take_payment(
 
 /// Adds an authorization, where there is one.
 fn take_reversal(reversed: &mut BTreeSet<Auth>, auth: Option<Auth>) -> Result<(), AllocError>
-    ensures { OnOk result ((a : AuthSeen) → has_auth reversed.new.keys a ≡ (has_auth reversed.old.keys a || is_auth a auth)) }
+    ensures { OnOk result (Joins auth reversed.old.keys reversed.new.keys) }
 {
     if let Some(auth) = auth {
         take_auth(reversed, auth)?;
@@ -230,7 +228,7 @@ fn take_reversal(reversed: &mut BTreeSet<Auth>, auth: Option<Auth>) -> Result<()
 /// Adds an authorization, and tells whether it is new.
 fn take_auth(auths: &mut BTreeSet<Auth>, auth: Auth) -> Result<bool, AllocError>
     ensures new { IfOk result (λ new. new ≡ not (has_auth auths.old.keys auth)) }
-    ensures has { OnOk result ((a : AuthSeen) → has_auth auths.new.keys a ≡ (has_auth auths.old.keys a || same_auth auth a)) }
+    ensures has { OnOk result (JoinsOne auth auths.old.keys auths.new.keys) }
 {
     let new = auths.insert(auth)?;
     Ok(new)
@@ -285,8 +283,8 @@ fn count(
     seen: &mut BTreeSet<Auth>,
     payment: CountedPayment,
 ) -> Result<(), AllocError>
-    ensures counted { OnOk result (counted.new.items ≡ (if has_auth seen.old.keys payment.auth then counted.old.items else counted.old.items ++ payment ∷ [])) }
-    ensures seen { OnOk result ((a : AuthSeen) → has_auth seen.new.keys a ≡ (has_auth seen.old.keys a || same_auth payment.auth a)) }
+    ensures counted { OnOk result (counted.new.items ≡ with_first seen.old.keys counted.old.items payment) }
+    ensures seen { OnOk result (JoinsOne payment.auth seen.old.keys seen.new.keys) }
 {
     if take_auth(seen, payment.auth())? {
         counted.push(payment)?;
@@ -320,7 +318,8 @@ fn answer_memory(fault: AnswerFault) -> Result<(), AllocError>
 /// The fill that the group at a place bills, where it reads as a claim.
 fn fill_at(framed: &Framed<'_, RequestHeader>, place: usize) -> Option<Fill>
     requires { place < length (groups_of framed.now.body.bytes.now) }
-    ensures { result ≡ fill_billed (order_in (order_of framed.now.header (shared_of framed.now.body.bytes.now) (slice_index_or (groups_of framed.now.body.bytes.now) place []))) }
+    ensures { result ≡ fill_billed
+        (order_in (order_of framed.now.header (shared_in framed.now) (group_in framed.now place))) }
 {
     match order_at(framed, place) {
         Ok(Order::Claim(claim)) => Some(claim.fill),

@@ -2,12 +2,12 @@
 
 ghost use Rattle.std.specs.Prelude.{◌≡◌, ◌<◌, ◌≤◌, ℕ, length, true, Option, Some, Ok, IfOk, IfSome, OnOk, OnErr, bytes_eq, if◌then◌else◌};
 ghost use Rattle.std.specs.List.{slice_get};
-ghost use Rattle.envelope.specs.Envelope.{envelope_text, longest_payload};
+ghost use Rattle.envelope.specs.Envelope.{longest_payload};
 ghost use Rattle.claim_model.specs.Journal.{Has, settle_by};
 ghost use Rattle.claim_model.specs.Refusal.{AlreadySettled, Differs};
 ghost use Rattle.pharmacy_journal.specs.Refusing.{refusal_to_hear};
-ghost use Rattle.pharmacy_journal.specs.Entries.{entry_of, is_waiting, kept_of};
-ghost use Rattle.pharmacy_journal.specs.Hearing.{envelope_seen, state_after, IsAnsweredBy, state_by, settled_slot, settled_at};
+ghost use Rattle.pharmacy_journal.specs.Entries.{entry_of, is_waiting};
+ghost use Rattle.pharmacy_journal.specs.Hearing.{packet_text, IsAnsweredBy, state_told, state_heard, settled_slot, settled_at};
 ghost use Rattle.pharmacy_journal.specs.Steps.{Hears, RefusesToHear, RefusesAs};
 
 use crate::fault::{HearFault, SettleFault};
@@ -37,7 +37,7 @@ impl Pharmacy {
     /// As [`hear`](Pharmacy::hear), of the packet that the envelope was read from. The answer is kept as the packet's
     /// end, which takes no memory where the packet is shared.
     pub fn hear_packet(&mut self, envelope: &Envelope<'_>, packet: &Octets) -> Result<(), HearFault>
-        requires { packet.now ≡ envelope_text envelope.now.kind envelope.now.id envelope.now.payload }
+        requires { packet.now ≡ packet_text envelope.now }
         ensures ok { Hears self.old envelope.now self.new result }
         ensures err { OnErr result (self.new ≡ self.old) }
         ensures fault { RefusesToHear self.old envelope.now result }
@@ -47,7 +47,7 @@ impl Pharmacy {
 
     /// Settles the entry of an answer's number.
     fn settle(&mut self, envelope: &Envelope<'_>, packet: Option<&Octets>) -> Result<(), HearFault>
-        requires { IfSome packet (λ packet. packet.now ≡ envelope_text envelope.now.kind envelope.now.id envelope.now.payload) }
+        requires { IfSome packet (λ packet. packet.now ≡ packet_text envelope.now) }
         ensures ok { Hears self.old envelope.now self.new result }
         ensures err { OnErr result (self.new ≡ self.old) }
         ensures fault { RefusesToHear self.old envelope.now result }
@@ -73,7 +73,7 @@ fn answer_of(
     envelope: &Envelope<'_>,
     packet: Option<&Octets>,
 ) -> Result<Octets, AllocError>
-    requires { IfSome packet (λ packet. packet.now ≡ envelope_text envelope.now.kind envelope.now.id envelope.now.payload) }
+    requires { IfSome packet (λ packet. packet.now ≡ packet_text envelope.now) }
     ensures value { IfOk result (λ answer. answer ≡ envelope.now.payload) }
     ensures short { IfOk result (λ answer. length answer ≤ longest_payload) }
 {
@@ -88,8 +88,9 @@ fn answer_of(
 /// Whether an envelope settles an entry.
 fn verdict(slot: &Slot, envelope: &Envelope<'_>) -> Result<(), HearFault>
     ensures open { OnOk result (IsAnsweredBy slot.now envelope.now.payload) }
-    ensures ok { (phase : Option ℕ) → OnOk result (state_after (kept_of slot.now).request (entry_of slot.now phase).state (envelope_seen envelope.now) ≡ Ok (Has envelope.now.payload)) }
-    ensures fault { (phase : Option ℕ) → RefusesAs (state_after (kept_of slot.now).request (entry_of slot.now phase).state (envelope_seen envelope.now)) result }
+    ensures ok { (phase : Option ℕ)
+        → OnOk result (state_heard slot.now phase envelope.now ≡ Ok (Has envelope.now.payload)) }
+    ensures fault { (phase : Option ℕ) → RefusesAs (state_heard slot.now phase envelope.now) result }
 {
     match envelope.kind() {
         Kind::Request => Err(HearFault::Unreadable),
@@ -100,8 +101,8 @@ fn verdict(slot: &Slot, envelope: &Envelope<'_>) -> Result<(), HearFault>
 /// Whether a payload of kind 2 settles an entry.
 fn verdict_on(slot: &Slot, payload: &[u8]) -> Result<(), HearFault>
     ensures open { OnOk result (IsAnsweredBy slot.now payload.now) }
-    ensures ok { (phase : Option ℕ) → OnOk result (state_by (kept_of slot.now).request (entry_of slot.now phase).state payload.now ≡ Ok (Has payload.now)) }
-    ensures fault { (phase : Option ℕ) → RefusesAs (state_by (kept_of slot.now).request (entry_of slot.now phase).state payload.now) result }
+    ensures ok { (phase : Option ℕ) → OnOk result (state_told slot.now phase payload.now ≡ Ok (Has payload.now)) }
+    ensures fault { (phase : Option ℕ) → RefusesAs (state_told slot.now phase payload.now) result }
 {
     match judge(slot.request(), payload) {
         Ok(()) => beside(slot, payload),
@@ -113,7 +114,8 @@ fn verdict_on(slot: &Slot, payload: &[u8]) -> Result<(), HearFault>
 /// Whether an entry waits, beside an answer that fits its request.
 fn beside(slot: &Slot, answer: &[u8]) -> Result<(), HearFault>
     ensures open { OnOk result (is_waiting slot.now ≡ true) }
-    ensures ok { (phase : Option ℕ) → OnOk result (settle_by answer.now (entry_of slot.now phase).state ≡ Ok (Has answer.now)) }
+    ensures ok { (phase : Option ℕ)
+        → OnOk result (settle_by answer.now (entry_of slot.now phase).state ≡ Ok (Has answer.now)) }
     ensures fault { (phase : Option ℕ) → RefusesAs (settle_by answer.now (entry_of slot.now phase).state) result }
 {
     match slot {

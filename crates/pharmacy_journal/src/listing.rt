@@ -3,8 +3,7 @@
 ghost use Rattle.std.specs.Prelude.{◌≡◌, ◌∷◌, [], IfOk, map};
 ghost use Rattle.claim_model.specs.Journal.{stopped};
 ghost use Rattle.pharmacy_journal.specs.Entries.{kept_of};
-ghost use Rattle.pharmacy_journal.specs.Listing.{listed, listed_from, listed_by, rulings_of};
-ghost use Rattle.pharmacy_journal.specs.Reading.{header_of};
+ghost use Rattle.pharmacy_journal.specs.Listing.{listed, listed_from, listed_as, rulings_of};
 
 use crate::at_rest::JournalAtRest;
 use crate::counting::rulings_of;
@@ -95,7 +94,7 @@ fn list_of(alloc: Global, slots: &[Slot]) -> Result<Vec<EntryView>, AllocError>
 
 /// What is told of an entry.
 pub(crate) fn view_of(alloc: Global, number: u64, slot: &Slot) -> Result<EntryView, AllocError>
-    ensures seen { IfOk result (λ view. listed_by number (kept_of slot.now).answer (header_of (kept_of slot.now).request) ≡ view ∷ []) }
+    ensures seen { IfOk result (λ view. listed_as number (kept_of slot.now) ≡ view ∷ []) }
     ensures rulings { IfOk result (λ view. view.rulings ≡ rulings_of (kept_of slot.now).answer) }
 {
     let request = slot.request();

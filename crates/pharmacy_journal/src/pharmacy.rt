@@ -32,7 +32,8 @@ impl Model for Pharmacy {
 
     ghost use Rattle.pharmacy_journal.specs.Entries.{entries_of, IsUp};
 
-    ghost view = { λ p. record { number = p.number; settings = p.settings; entries = entries_of p.slots.items p.timetable.phases } };
+    ghost view = { λ p.
+        record { number = p.number; settings = p.settings; entries = entries_of p.slots.items p.timetable.phases } };
 
     ghost invariant = { λ p. IsUp p.number p.settings p.timetable p.slots.items };
 }
@@ -80,7 +81,9 @@ impl Pharmacy {
         ensures in_limit { result ≤ self.now.settings.cap }
         ensures small { result ≤ 65536 }
         // The entries are such that the journal at rest is made by adding them one by one.
-        ensures made { added_all (Some (record { number = self.now.number; settings = self.now.settings; entries = [] })) (stopped self.now).entries ≡ Some (stopped self.now) }
+        ensures made { added_all
+            (Some (record { number = self.now.number; settings = self.now.settings; entries = [] }))
+            (stopped self.now).entries ≡ Some (stopped self.now) }
     {
         self.slots.len()
     }

@@ -1,7 +1,7 @@
 //! When an open entry is sent again, and to which switch: one number on a circle for each entry.
 
 ghost use Rattle.std.specs.Prelude.{◌≡◌, ◌<◌, ◌-◌, ◌%◌, ℕ, ◌==◌, Some};
-ghost use Rattle.pharmacy_journal.specs.Retry.{IsRule, phases_of, phase_at, turned, is_due, node_of};
+ghost use Rattle.pharmacy_journal.specs.Retry.{rule_with, IsRule, phases_of, phase_at, turned, is_due, node_of};
 
 use std::marker::Model;
 
@@ -21,20 +21,21 @@ pub(crate) struct Retry {
 
 impl Model for Retry {
     ghost use Rattle.std.specs.Prelude.{◌≡◌, ◌<◌, ◌≤◌, ◌*◌, ◌^◌};
-    ghost use Rattle.pharmacy_journal.specs.Retry.{Dial, Rule, IsRule};
+    ghost use Rattle.pharmacy_journal.specs.Retry.{Dial, rule_with, IsRule};
 
     ghost Value = { Dial };
 
-    ghost view = { λ r. record { rule = record { again = r.again; tries = r.tries; nodes = r.nodes }; clock = r.clock } };
+    ghost view = { λ r. record { rule = rule_with r.again r.tries r.nodes; clock = r.clock } };
 
-    ghost invariant = { λ r. (IsRule (record { again = r.again; tries = r.tries; nodes = r.nodes })) × (r.round ≡ r.again * r.tries) × (r.circle ≡ r.again * r.tries * r.nodes) × (r.clock < r.circle) × (r.circle < 2 ^ 62) };
+    ghost invariant = { λ r. (IsRule (rule_with r.again r.tries r.nodes)) × (r.round ≡ r.again * r.tries)
+        × (r.circle ≡ r.again * r.tries * r.nodes) × (r.clock < r.circle) × (r.circle < 2 ^ 62) };
 }
 
 impl Retry {
     /// The clock at the circle's beginning.
     pub(crate) fn new(again: u32, tries: u32, nodes: u32) -> Retry
-        requires { IsRule (record { again = again; tries = tries; nodes = nodes }) }
-        ensures { result ≡ record { rule = record { again = again; tries = tries; nodes = nodes }; clock = 0 } }
+        requires { IsRule (rule_with again tries nodes) }
+        ensures { result ≡ record { rule = rule_with again tries nodes; clock = 0 } }
     {
         let (again, tries, nodes) = (u64::from(again), u64::from(tries), u64::from(nodes));
         let round = again * tries;
@@ -80,7 +81,8 @@ impl Retry {
     /// The bucket whose entries the next tick sends.
     pub(crate) fn next_bucket(&self) -> usize
         ensures in_range { result < self.now.rule.again }
-        ensures due { (lead : ℕ) → is_due self.now.rule (Some (phase_at (turned self.now) lead)) ≡ ((lead % self.now.rule.again) == result) }
+        ensures due { (lead : ℕ) → is_due self.now.rule (Some (phase_at (turned self.now) lead))
+            ≡ ((lead % self.now.rule.again) == result) }
     {
         let past = (self.clock + 1) % self.again;
         if past == 0 {

@@ -3,7 +3,7 @@
 ghost use Rattle.std.specs.Prelude.{◌≡◌, ◌≤◌, ◌<◌, ◌↔◌, length, IsOk, IfOk, IsTrue};
 ghost use Rattle.std.specs.List.{list_all};
 ghost use Rattle.d0_header.specs.Field.{is_plain};
-ghost use Rattle.pharmacy_journal.specs.Settings.{AreSettings, AreSized};
+ghost use Rattle.pharmacy_journal.specs.Settings.{settings_of, AreSettings};
 
 use crate::fault::SettingFault;
 use std::alloc::AllocError;
@@ -28,13 +28,13 @@ pub struct PharmacySettings {
 
 impl Model for PharmacySettings {
     ghost use Rattle.claim_model.specs.Journal.{PharmacySettings as Settings};
-    ghost use Rattle.pharmacy_journal.specs.Settings.{AreSettings, AreSized};
+    ghost use Rattle.pharmacy_journal.specs.Settings.{settings_of, AreKept};
 
     ghost Value = { Settings };
 
-    ghost view = { λ s. record { qualifier = s.qualifier; provider = s.provider; nodes = s.nodes.items; again = s.again; tries = s.tries; cap = s.cap } };
+    ghost view = { λ s. settings_of s.qualifier s.provider s.nodes.items s.again s.tries s.cap };
 
-    ghost invariant = { λ s. let v : Settings = record { qualifier = s.qualifier; provider = s.provider; nodes = s.nodes.items; again = s.again; tries = s.tries; cap = s.cap } in AreSettings v × AreSized v };
+    ghost invariant = { λ s. AreKept (settings_of s.qualifier s.provider s.nodes.items s.again s.tries s.cap) };
 }
 
 impl PharmacySettings {
@@ -54,8 +54,8 @@ impl PharmacySettings {
         cap: u32,
     ) -> Result<PharmacySettings, SettingFault>
         requires { length nodes.items ≤ 4294967295 }
-        ensures taken { IsOk result ↔ AreSettings (record { qualifier = qualifier; provider = provider; nodes = nodes.items; again = again; tries = tries; cap = cap }) }
-        ensures given { IfOk result (λ s. s ≡ record { qualifier = qualifier; provider = provider; nodes = nodes.items; again = again; tries = tries; cap = cap }) }
+        ensures taken { IsOk result ↔ AreSettings (settings_of qualifier provider nodes.items again tries cap) }
+        ensures given { IfOk result (λ s. s ≡ settings_of qualifier provider nodes.items again tries cap) }
     {
         if !in_limit(again, MOST_ROUNDS)
             || !in_limit(tries, MOST_ROUNDS)

@@ -1,13 +1,14 @@
 //! Submitting a request.
 
-ghost use Rattle.std.specs.Prelude.{◌≡◌, ◌<◌, ◌+◌, ◌++◌, ◌∷◌, [], length, true, None, Some, Ok, IfOk, IfErr, OnOk, OnErr, IsSome, option_and_then};
+ghost use Rattle.std.specs.Prelude.{◌≡◌, ◌<◌, length, true, None, Some, Ok, IfOk, IfErr, OnOk, OnErr, IsSome, option_and_then};
 ghost use Rattle.claim_profile.specs.Readable.{readable_header};
 ghost use Rattle.claim_model.specs.Readable.{has_code};
-ghost use Rattle.claim_model.specs.Journal.{Journal, Waits, submit_fault};
+ghost use Rattle.claim_model.specs.Journal.{Journal, submit_fault};
 ghost use Rattle.pharmacy_journal.specs.Reading.{header_of, is_own_request};
-ghost use Rattle.pharmacy_journal.specs.Refusing.{IsCause, refusal_to_submit};
+ghost use Rattle.pharmacy_journal.specs.Entries.{next_id};
+ghost use Rattle.pharmacy_journal.specs.Refusing.{refusal_to_submit, IsFirstFault};
 ghost use Rattle.pharmacy_journal.specs.Sendings.{packet_of};
-ghost use Rattle.pharmacy_journal.specs.Steps.{Submits, RefusesToSubmit};
+ghost use Rattle.pharmacy_journal.specs.Steps.{with_waiting, Submits, RefusesToSubmit};
 
 use crate::fault::SubmitFault;
 use crate::pharmacy::Pharmacy;
@@ -41,7 +42,7 @@ impl Pharmacy {
     /// Whether a text may be submitted.
     fn admit(&self, text: &[u8]) -> Result<(), SubmitFault>
         ensures ok { OnOk result (submit_fault self.now text.now (header_of text.now) ≡ None) }
-        ensures fault { IfErr result (λ e. IsCause (refusal_to_submit e) (submit_fault self.now text.now (header_of text.now))) }
+        ensures fault { IfErr result (λ e. IsFirstFault self.now text.now e) }
     {
         let header = read_header(text)?;
         match self.fault_of(&header, text) {
@@ -77,7 +78,7 @@ impl Pharmacy {
     /// The transaction of a request at the next number.
     fn next_txn(&self, text: &[u8]) -> Result<OpenTxn, AllocError>
         requires { IsSome (readable_header text.now) }
-        ensures { IfOk result (λ t. t ≡ record { id = record { pharmacy = self.now.number; number = length self.now.entries + 1 }; request = text.now }) }
+        ensures { IfOk result (λ t. t ≡ record { id = next_id self.now.number self.now.entries; request = text.now }) }
     {
         let number = self.entries() as u64 + 1;
         let Some(id) = TxnId::new(self.number, number) else {
@@ -97,10 +98,10 @@ impl Pharmacy {
 
     /// Enters a transaction at the next number.
     fn keep(&mut self, txn: OpenTxn) -> Result<(), AllocError>
-        requires id { txn.id ≡ record { pharmacy = self.old.number; number = length self.old.entries + 1 } }
+        requires id { txn.id ≡ next_id self.old.number self.old.entries }
         requires own { is_own_request self.old.settings txn.request ≡ true }
         requires room { length self.old.entries < self.old.settings.cap }
-        ensures ok { OnOk result (self.new ≡ record self.old { entries = self.old.entries ++ record { request = txn.request; state = Waits 0 } ∷ [] }) }
+        ensures ok { OnOk result (self.new ≡ with_waiting self.old txn.request) }
         ensures err { OnErr result (self.new ≡ self.old) }
     {
         self.slots.reserve(1)?;
@@ -113,7 +114,7 @@ impl Pharmacy {
 /// The header of a text that is framed as a request.
 fn read_header(text: &[u8]) -> Result<RequestHeader, SubmitFault>
     ensures ok { IfOk result (λ header. header_of text.now ≡ Some header) }
-    ensures fault { IfErr result (λ e. (j : Journal) → IsCause (refusal_to_submit e) (submit_fault j text.now (header_of text.now))) }
+    ensures fault { IfErr result (λ e. (j : Journal) → IsFirstFault j text.now e) }
 {
     match check_request(text) {
         Ok(framed) => Ok(*framed.header()),

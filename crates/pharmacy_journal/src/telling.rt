@@ -1,15 +1,11 @@
 //! What a journal tells at once: its entries, and the payments that it counts.
 
 ghost use Rattle.std.specs.Prelude.{◌≡◌, map, IfOk};
-ghost use Rattle.std.specs.List.{list_any, filter_map};
-ghost use Rattle.bin_routes.specs.Table.{RouteMaps};
-ghost use Rattle.claim_model.specs.Words.{Auth as AuthSeen};
-ghost use Rattle.claim_model.specs.Bytes.{bytes_with};
-ghost use Rattle.claim_model.specs.Counted.{counted};
 ghost use Rattle.claim_model.specs.Journal.{stopped};
 ghost use Rattle.pharmacy_journal.specs.Entries.{kept_of};
 ghost use Rattle.pharmacy_journal.specs.Listing.{listed, listed_from};
-ghost use Rattle.pharmacy_journal.specs.Counting.{outcomes, counted_in, named_in, outcome_reverses, has_auth};
+ghost use Rattle.pharmacy_journal.specs.Counting.{outcomes, counted_in};
+ghost use Rattle.pharmacy_journal.specs.Telling.{NamesAll, ReversesAll, TellsPaid};
 
 use crate::at_rest::JournalAtRest;
 use crate::counting::{CountedPayment, Told, counted_of, nothing_told, take_slot};
@@ -23,7 +19,7 @@ impl Pharmacy {
     /// what `list` and `paid` give.
     pub fn told(&self) -> Result<(Vec<EntryView>, Vec<CountedPayment>), AllocError>
         ensures entries { IfOk result (λ told. told.0.items ≡ listed (stopped self.now)) }
-        ensures paid { (routes : RouteMaps) → IfOk result (λ told. told.1.items ≡ counted (bytes_with routes) (stopped self.now)) }
+        ensures paid { TellsPaid (stopped self.now) result }
     {
         told_by(self.allocator(), self.slots.as_slice())
     }
@@ -33,7 +29,7 @@ impl JournalAtRest {
     /// All entries and the payments that the pharmacy counts, as for one that is up.
     pub fn told(&self) -> Result<(Vec<EntryView>, Vec<CountedPayment>), AllocError>
         ensures entries { IfOk result (λ told. told.0.items ≡ listed self.now) }
-        ensures paid { (routes : RouteMaps) → IfOk result (λ told. told.1.items ≡ counted (bytes_with routes) self.now) }
+        ensures paid { TellsPaid self.now result }
     {
         told_by(self.allocator(), self.slots.as_slice())
     }
@@ -55,8 +51,8 @@ fn told_by(
 /// What is told of these entries one by one, and what they tell together.
 fn read_both(alloc: Global, slots: &[Slot]) -> Result<(Vec<EntryView>, Told), AllocError>
     ensures entries { IfOk result (λ told. told.0.items ≡ listed_from 1 (map kept_of slots.now)) }
-    ensures named { IfOk result (λ told. told.1.named.items ≡ filter_map named_in (outcomes (map kept_of slots.now))) }
-    ensures reversed { IfOk result (λ told. (a : AuthSeen) → has_auth told.1.reversed.keys a ≡ list_any (outcome_reverses a) (outcomes (map kept_of slots.now))) }
+    ensures named { IfOk result (λ told. NamesAll told.1 (outcomes (map kept_of slots.now))) }
+    ensures reversed { IfOk result (λ told. ReversesAll told.1 (outcomes (map kept_of slots.now))) }
 {
     let mut views = Vec::new(alloc);
     let mut told = nothing_told(alloc);

@@ -1,9 +1,9 @@
 //! Which entries the next tick sends, without a look at the others.
 
-ghost use Rattle.std.specs.Prelude.{◌≡◌, ◌<◌, ◌-◌, ◌++◌, ◌∷◌, [], ℕ, length, None, Some, OnOk, OnErr, IfOk, IfSome, option_map, slice_set, slice_index_or};
-ghost use Rattle.std.specs.List.{AllByRecursion, filter};
-ghost use Rattle.pharmacy_journal.specs.Retry.{IsRule, phases_of, node_of};
-ghost use Rattle.pharmacy_journal.specs.Timetable.{ticked_phases, ticked_rounds, due_next, is_open};
+ghost use Rattle.std.specs.Prelude.{◌≡◌, ◌<◌, ◌-◌, ◌++◌, ◌∷◌, [], ℕ, length, None, Some, OnOk, OnErr, IfOk, IfSome, slice_set};
+ghost use Rattle.std.specs.List.{filter};
+ghost use Rattle.pharmacy_journal.specs.Retry.{rule_with, IsRule, phases_of};
+ghost use Rattle.pharmacy_journal.specs.Timetable.{ticked_rounds, due_next, next_node, is_open, bucket_at, open_at, with_place, AreBelow};
 
 use crate::bucket::Bucket;
 use crate::retry::Retry;
@@ -38,8 +38,8 @@ impl Timetable {
         tries: u32,
         nodes: u32,
     ) -> Result<Timetable, AllocError>
-        requires { IsRule (record { again = again; tries = tries; nodes = nodes }) }
-        ensures { IfOk result (λ t. t ≡ record { rule = record { again = again; tries = tries; nodes = nodes }; phases = [] }) }
+        requires { IsRule (rule_with again tries nodes) }
+        ensures { IfOk result (λ t. t ≡ record { rule = rule_with again tries nodes; phases = [] }) }
     {
         let retry = Retry::new(again, tries, nodes);
         let buckets = empty_buckets(alloc, again)?;
@@ -98,7 +98,7 @@ impl Timetable {
     /// entries, and no more than those.
     pub(crate) fn due_next(&self) -> &[usize]
         ensures due { filter (is_open self.now.phases) result.now ≡ due_next self.now }
-        ensures in_range { AllByRecursion (λ k. k < length self.now.phases) result.now }
+        ensures in_range { AreBelow (length self.now.phases) result.now }
     {
         let bucket = self.retry.next_bucket();
         self.buckets[bucket].places()
@@ -107,7 +107,7 @@ impl Timetable {
     /// The switch, by its place in the list, at which an entry is after the next tick; none where it is settled.
     pub(crate) fn next_node(&self, place: usize) -> Option<usize>
         requires { place < length self.now.phases }
-        ensures value { result ≡ option_map (node_of self.now.rule) (slice_index_or (ticked_phases self.now) place None) }
+        ensures value { result ≡ next_node self.now place }
         ensures in_range { IfSome result (λ node. node < self.now.rule.nodes) }
     {
         match self.leads[place] {
@@ -127,7 +127,7 @@ impl Timetable {
 /// As many empty buckets.
 fn empty_buckets(alloc: Global, count: u32) -> Result<Vec<Bucket>, AllocError>
     ensures count { IfOk result (λ buckets. length buckets.items ≡ count) }
-    ensures empty { IfOk result (λ buckets. (b : ℕ) → slice_index_or buckets.items b [] ≡ []) }
+    ensures empty { IfOk result (λ buckets. (b : ℕ) → bucket_at buckets.items b ≡ []) }
 {
     let mut buckets = Vec::with_capacity(alloc, count as usize)?;
     for _ in 0..count {
@@ -139,7 +139,7 @@ fn empty_buckets(alloc: Global, count: u32) -> Result<Vec<Bucket>, AllocError>
 /// Puts a place into a bucket, behind the places that are there.
 fn put(buckets: &mut Vec<Bucket>, bucket: usize, place: usize) -> Result<(), AllocError>
     requires { bucket < length buckets.old.items }
-    ensures ok { OnOk result (buckets.new.items ≡ slice_set buckets.old.items bucket (slice_index_or buckets.old.items bucket [] ++ place ∷ [])) }
+    ensures ok { OnOk result (buckets.new.items ≡ with_place buckets.old.items bucket place) }
     ensures err { OnErr result (buckets.new.items ≡ buckets.old.items) }
 {
     buckets[bucket].push(place)?;
@@ -150,8 +150,9 @@ fn put(buckets: &mut Vec<Bucket>, bucket: usize, place: usize) -> Result<(), All
 fn leave_hole(buckets: &mut Vec<Bucket>, bucket: usize, leads: &[Option<u64>])
     requires { bucket < length buckets.old.items }
     ensures as_many { length buckets.new.items ≡ length buckets.old.items }
-    ensures same_open { (b : ℕ) → filter (is_open leads.now) (slice_index_or buckets.new.items b []) ≡ filter (is_open leads.now) (slice_index_or buckets.old.items b []) }
-    ensures in_range { (b n : ℕ) → AllByRecursion (λ k. k < n) (slice_index_or buckets.old.items b []) → AllByRecursion (λ k. k < n) (slice_index_or buckets.new.items b []) }
+    ensures same_open { (b : ℕ) → open_at leads.now buckets.new.items b ≡ open_at leads.now buckets.old.items b }
+    ensures in_range { (b n : ℕ)
+        → AreBelow n (bucket_at buckets.old.items b) → AreBelow n (bucket_at buckets.new.items b) }
 {
     buckets[bucket].leave_hole(leads);
 }

@@ -1,7 +1,7 @@
 //! Transactions of a pharmacy: open ones, which have a packet to send, and settled ones, which have an
 //! answer.
 
-ghost use Rattle.std.specs.Prelude.{◌≡◌, ◌≢◌, ◌≤◌, true, false, IsSome, IfOk, IfErr, OnOk, length, bytes_eq, ◌&&◌, ◌==◌};
+ghost use Rattle.std.specs.Prelude.{◌≡◌, ◌≢◌, ◌≤◌, true, false, IsSome, IfOk, IfErr, OnOk, length};
 ghost use Rattle.bin_routes.specs.Table.{RouteMaps};
 ghost use Rattle.d0_header.specs.Request.{request_of};
 ghost use Rattle.claim_profile.specs.Readable.{readable_header};
@@ -9,7 +9,7 @@ ghost use Rattle.claim_model.specs.Readable.{settles};
 ghost use Rattle.claim_model.specs.Bytes.{bytes_with};
 ghost use Rattle.envelope.specs.Envelope.{envelope_text};
 ghost use Rattle.envelope.specs.declared.opening.Kind.TheVariants.{Request};
-ghost use Rattle.pharmacy_journal.specs.Reading.{settles_with};
+ghost use Rattle.pharmacy_journal.specs.Reading.{has_same_words, settles_with};
 ghost use Rattle.pharmacy_journal.specs.declared.fault.SettleFault.TheVariants.{OutOfMemory};
 
 use crate::fault::SettleFault;
@@ -41,7 +41,8 @@ impl Model for OpenTxn {
 
     ghost view = { λ t. record { id = t.id; request = t.request } };
 
-    ghost invariant = { λ t. (IsSome (readable_header t.request)) × (ForSome t.packet (λ packet. packet ≡ envelope_text Request t.id t.request)) };
+    ghost invariant = { λ t. (IsSome (readable_header t.request))
+        × (ForSome t.packet (λ packet. packet ≡ envelope_text Request t.id t.request)) };
 }
 
 /// A transaction that has its answer. It has no packet.
@@ -124,9 +125,11 @@ impl OpenTxn {
     /// and bytes come back.
     pub fn settle(self, answer: Vec<u8>) -> Result<SettledTxn, (OpenTxn, Vec<u8>, SettleFault)>
         ensures kept { IfOk result (λ t. t ≡ record { id = self.id; request = self.request; answer = answer.items }) }
-        ensures fits { (routes : RouteMaps) → OnOk result (settles (bytes_with routes) self.request answer.items ≡ true) }
+        ensures fits { (routes : RouteMaps)
+            → OnOk result (settles (bytes_with routes) self.request answer.items ≡ true) }
         ensures back { IfErr result (λ e. (e.0 ≡ self) × (e.1.items ≡ answer.items)) }
-        ensures fault { (routes : RouteMaps) → IfErr result (λ e. e.2 ≢ OutOfMemory → settles (bytes_with routes) self.request answer.items ≡ false) }
+        ensures fault { (routes : RouteMaps) → IfErr result
+            (λ e. e.2 ≢ OutOfMemory → settles (bytes_with routes) self.request answer.items ≡ false) }
     {
         match judge(self.request.as_slice(), answer.as_slice()) {
             Ok(()) => Ok(self.settled(Octets::from_vec(answer))),
@@ -211,7 +214,7 @@ pub(crate) fn judge(request: &[u8], answer: &[u8]) -> Result<(), SettleFault>
 /// Whether a response has a readable request's code and count.
 fn fits(request: &[u8], response: &ResponseHeader) -> bool
     requires { IsSome (readable_header request.now) }
-    ensures { result ≡ (bytes_eq response.now.code (request_of request.now).code && (response.now.count == (request_of request.now).count)) }
+    ensures { result ≡ has_same_words response.now (request_of request.now) }
 {
     response.code() == code_of(request) && response.count() == count_of(request)
 }

@@ -1,5 +1,5 @@
 -- The model's steps, by what was read and found.
-use Rattle.std.proofs.Common.{◌≡◌, true, false, cond, List, ℕ, Option, Some, Result, Ok, Err, IfOk, ap, ◌∙◌, refl, bytes_eq}
+use Rattle.std.proofs.Common.{◌≡◌, true, false, cond, List, ℕ, Option, Some, Result, Ok, Err, IfOk, ap, ◌∙◌, bytes_eq}
 use Rattle.bin_routes.specs.Table.{RouteMaps}
 use Rattle.claim_profile.specs.Readable.{readable_header}
 use Rattle.claim_profile.specs.Ruling.{AnswerParts, answer_of}
@@ -10,6 +10,7 @@ use Rattle.claim_model.specs.Readable.{readable, is_request}
 use Rattle.claim_model.specs.Refusal.{Unreadable, NumberReused}
 use Rattle.claim_model.specs.Table.{Slot, Table, answer_back, requested, requested_readable, requested_by, requested_again, responded, responded_readable}
 use Rattle.claim_model.specs.Bytes.{bytes_with, answer_in}
+use Rattle.claim_model.proofs.BytesLaws.{readable_alike}
 
 -- a value that was given has what another property says
 pub IfOk-map : {T E : Type 0} (r : Result T E) (P Q : T → Type 0) → ((x : T) → P x → Q x) → IfOk r P → IfOk r Q
@@ -17,10 +18,6 @@ IfOk-map (Ok x) P Q f h = f x h
 IfOk-map (Err e) P Q f h = tt
 
 -- requests
-
-readable_is : (routes : RouteMaps) (text : List ℕ) → readable (bytes_with routes) text ≡ readable_header text
-unfolding readable readable_header
-readable_is routes text = refl
 
 module _ (routes : RouteMaps) (t : Table) (e : Envelope) where
   pub requested-other : is_request e ≡ false → requested (bytes_with routes) t e ≡ Err Unreadable
@@ -31,7 +28,7 @@ module _ (routes : RouteMaps) (t : Table) (e : Envelope) where
   unfolding requested
   requested-read text is read =
       ap (λ b. cond b (requested_readable (bytes_with routes) t e (readable (bytes_with routes) e.payload)) (Err Unreadable)) is
-      ∙ ap (requested_readable (bytes_with routes) t e) (readable_is routes e.payload ∙ read)
+      ∙ ap (requested_readable (bytes_with routes) t e) (readable_alike routes e.payload ∙ read)
 
 -- a known request that has its answer
 pub requested-answered : (ctx : Context) (t : Table) (e : Envelope) (h : RequestHeader) (s : Slot) (answer : List ℕ) → bytes_eq s.request e.payload ≡ true → s.answer ≡ Some answer → requested_by ctx t e h (Some s) ≡ Ok (record { table = t; routed = answer_back ctx e.id answer })

@@ -1,9 +1,11 @@
 -- What a switch makes of an envelope, beside the rules of its table.
-use Rattle.std.specs.Prelude.{◌≡◌, ℕ, List, Result, Ok, IfOk, IfErr}
+use Rattle.std.specs.Prelude.{◌≡◌, ℕ, Bool, List, Option, Result, Ok, IfOk, IfErr, if◌then◌else◌}
 use Rattle.envelope.specs.Envelope.{Opened}
 use Rattle.bin_routes.specs.Table.{RouteMaps}
+use Rattle.claim_model.specs.Words.{RequestHeader}
+use Rattle.claim_model.specs.Refusal.{Refusal}
 use Rattle.claim_model.specs.Bytes.{bytes_with}
-use Rattle.claim_model.specs.Table.{Table, requested, responded}
+use Rattle.claim_model.specs.Table.{Table, Slot, Responded, slot_of, filled, requested, requested_by, responded, responded_by}
 use Rattle.switch_node.specs.declared.fault.RequestFault.{RequestFault}
 use Rattle.switch_node.specs.declared.fault.ResponseFault.{ResponseFault}
 use Rattle.switch_node.specs.declared.routing.Routed.{Routed}
@@ -24,3 +26,34 @@ SendsResponse old envelope new result = IfOk result (λ packet. (routes : RouteM
 
 abbrev pub RefusesResponse : {A : Type 0} → Table → Opened → Result A ResponseFault → Type 0
 RefusesResponse table envelope result = IfErr result (λ fault. (routes : RouteMaps) → RefusesAs (response_refusal fault) (responded (bytes_with routes) table (content envelope)))
+
+-- a request has this header: what becomes of it hangs on what the table has of its id
+abbrev pub HasHeader : Opened → RequestHeader → Type 0
+HasHeader envelope h = (routes : RouteMaps) (t : Table)
+    → requested (bytes_with routes) t (content envelope) ≡ requested_by (bytes_with routes) t (content envelope) h (slot_of envelope.id t.entries)
+
+-- it is none, and refused for this cause whatever the table has
+abbrev pub IsNoRequest : Opened → RequestFault → Type 0
+IsNoRequest envelope fault = (routes : RouteMaps) (t : Table) → RefusesAs (request_refusal fault) (requested (bytes_with routes) t (content envelope))
+
+-- a request of this header, where the table has this of its id, goes on so and leaves this table
+abbrev pub GoesOn : RouteMaps → Opened → RequestHeader → Option Slot → Table → Table → Routed → Type 0
+GoesOn routes envelope h slot old new routed =
+    requested_by (bytes_with routes) old (content envelope) h slot ≡ Ok (record { table = new; routed = routed_as routed })
+
+-- what becomes of an answer, by what the table has of its id
+abbrev pub responded_at : RouteMaps → Table → Opened → Result Responded Refusal
+responded_at routes t envelope = responded_by (bytes_with routes) t (content envelope) (slot_of envelope.id t.entries)
+
+-- an envelope has an answer, or it has none, and is refused for this cause whatever the table has
+abbrev pub HasAnswer : Opened → Type 0
+HasAnswer envelope = (routes : RouteMaps) (t : Table) → responded (bytes_with routes) t (content envelope) ≡ responded_at routes t envelope
+
+abbrev pub IsNoAnswer : Opened → ResponseFault → Type 0
+IsNoAnswer envelope fault = (routes : RouteMaps) (t : Table) → RefusesAs (response_refusal fault) (responded (bytes_with routes) t (content envelope))
+
+-- an answer goes on, and is kept where it is the first
+abbrev pub KeepsFirst : Table → Opened → Bool → Type 0
+KeepsFirst t envelope is_first = (routes : RouteMaps)
+    → responded_at routes t envelope
+    ≡ Ok (record { table = if is_first then filled t envelope.id envelope.payload else t; bytes = (bytes_with routes).envelope (content envelope) })

@@ -5,6 +5,7 @@ ghost use Rattle.bin_routes.specs.Table.{RouteMaps};
 ghost use Rattle.envelope.specs.Envelope.{envelope_text, longest_payload};
 ghost use Rattle.claim_model.specs.Readable.{rejection};
 ghost use Rattle.claim_model.specs.Bytes.{bytes_with};
+ghost use Rattle.switch_node.specs.Sent.{packet_text};
 
 use claim_profile::{Code, HeaderStatus, Rejects, Ruling, write_answer};
 use d0_header::{RequestHeader, response_text_laws};
@@ -26,7 +27,7 @@ pub fn packet(alloc: Global, kind: Kind, id: TxnId, payload: &[u8]) -> Result<Oc
 
 /// The payload of an envelope, as the end of its packet.
 pub fn payload_in(envelope: &Envelope<'_>, packet: &Octets) -> Result<Octets, AllocError>
-    requires { packet.now ≡ envelope_text envelope.now.kind envelope.now.id envelope.now.payload }
+    requires { packet.now ≡ packet_text envelope.now }
     ensures value { IfOk result (λ payload. payload ≡ envelope.now.payload) }
     ensures short { IfOk result (λ payload. length payload ≤ longest_payload) }
 {
@@ -38,7 +39,8 @@ pub fn payload_in(envelope: &Envelope<'_>, packet: &Octets) -> Result<Octets, Al
 /// The answer to a request that has no route: header status `R` (501-F1), and for each transaction the reject
 /// code 01 (511-FB). It is a function of the request alone.
 pub fn rejection(alloc: Global, header: &RequestHeader) -> Result<Vec<u8>, AllocError>
-    ensures text { IfOk result (λ answer. (routes : RouteMaps) → answer.items ≡ rejection (bytes_with routes) header.now) }
+    ensures text { IfOk result (λ answer. (routes : RouteMaps)
+        → answer.items ≡ rejection (bytes_with routes) header.now) }
     ensures short { IfOk result (λ answer. length answer.items ≤ longest_payload) }
 {
     response_text_laws();

@@ -1,12 +1,9 @@
 //! Which envelopes a switch takes.
 
 ghost use Rattle.std.specs.Prelude.{◌≡◌, IfOk, IfErr, OnOk};
-ghost use Rattle.bin_routes.specs.Table.{RouteMaps};
 ghost use Rattle.claim_model.specs.Readable.{is_request};
-ghost use Rattle.claim_model.specs.Table.{Table, slot_of, requested, requested_by, responded, responded_by};
-ghost use Rattle.claim_model.specs.Bytes.{bytes_with};
-ghost use Rattle.switch_node.specs.Faults.{RefusesAs, request_refusal, response_refusal};
 ghost use Rattle.switch_node.specs.Sent.{content};
+ghost use Rattle.switch_node.specs.Steps.{HasHeader, IsNoRequest, HasAnswer, IsNoAnswer};
 
 use crate::fault::{RequestFault, ResponseFault};
 use claim_profile::{check_answer, check_readable};
@@ -15,8 +12,8 @@ use envelope::{Envelope, Kind};
 
 /// The header of the request in an envelope.
 pub fn header_of(envelope: &Envelope<'_>) -> Result<RequestHeader, RequestFault>
-    ensures read { IfOk result (λ h. (routes : RouteMaps) (t : Table) → requested (bytes_with routes) t (content envelope.now) ≡ requested_by (bytes_with routes) t (content envelope.now) h (slot_of envelope.now.id t.entries)) }
-    ensures fault { IfErr result (λ fault. (routes : RouteMaps) (t : Table) → RefusesAs (request_refusal fault) (requested (bytes_with routes) t (content envelope.now))) }
+    ensures read { IfOk result (λ h. HasHeader envelope.now h) }
+    ensures fault { IfErr result (λ fault. IsNoRequest envelope.now fault) }
 {
     if !is_request(envelope) {
         return Err(RequestFault::Unreadable);
@@ -29,8 +26,8 @@ pub fn header_of(envelope: &Envelope<'_>) -> Result<RequestHeader, RequestFault>
 
 /// Tests that an envelope has an answer.
 pub fn expect_answer(envelope: &Envelope<'_>) -> Result<(), ResponseFault>
-    ensures read { OnOk result ((routes : RouteMaps) (t : Table) → responded (bytes_with routes) t (content envelope.now) ≡ responded_by (bytes_with routes) t (content envelope.now) (slot_of envelope.now.id t.entries)) }
-    ensures fault { IfErr result (λ fault. (routes : RouteMaps) (t : Table) → RefusesAs (response_refusal fault) (responded (bytes_with routes) t (content envelope.now))) }
+    ensures read { OnOk result (HasAnswer envelope.now) }
+    ensures fault { IfErr result (λ fault. IsNoAnswer envelope.now fault) }
 {
     if is_request(envelope) {
         return Err(ResponseFault::Unreadable);

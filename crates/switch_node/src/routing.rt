@@ -1,13 +1,14 @@
 //! Where a request goes.
 
-ghost use Rattle.std.specs.Prelude.{◌≡◌, ◌≤◌, length, None, Some, Ok, IfOk, IfErr, OnErr};
-ghost use Rattle.envelope.specs.Envelope.{envelope_text, longest_payload};
+ghost use Rattle.std.specs.Prelude.{◌≡◌, ◌≤◌, length, None, Some, IfOk, IfErr, OnErr};
+ghost use Rattle.envelope.specs.Envelope.{longest_payload};
 ghost use Rattle.bin_routes.specs.Table.{RouteMaps};
 ghost use Rattle.claim_model.specs.Readable.{payer_for};
 ghost use Rattle.claim_model.specs.Table.{Table as ModelTable, slot_of, answer_back, routed_by, requested_by};
 ghost use Rattle.claim_model.specs.Bytes.{bytes_with};
 ghost use Rattle.switch_node.specs.Faults.{RefusesAs, request_refusal};
-ghost use Rattle.switch_node.specs.Sent.{content, routed_as};
+ghost use Rattle.switch_node.specs.Sent.{content, packet_text, routed_as};
+ghost use Rattle.switch_node.specs.Steps.{GoesOn};
 
 use crate::fault::RequestFault;
 use crate::packets::{packet, payload_in, rejection};
@@ -37,9 +38,11 @@ pub fn repeated(
     header: &RequestHeader,
     slot: &Slot,
 ) -> Result<Routed, RequestFault>
-    requires { packet.now ≡ envelope_text envelope.now.kind envelope.now.id envelope.now.payload }
-    ensures routed { IfOk result (λ routed. (t : ModelTable) → requested_by (bytes_with routes.now) t (content envelope.now) header.now (Some slot.now) ≡ Ok (record { table = t; routed = routed_as routed })) }
-    ensures fault { IfErr result (λ fault. (t : ModelTable) → RefusesAs (request_refusal fault) (requested_by (bytes_with routes.now) t (content envelope.now) header.now (Some slot.now))) }
+    requires { packet.now ≡ packet_text envelope.now }
+    ensures routed { IfOk result (λ routed. (t : ModelTable)
+        → GoesOn routes.now envelope.now header.now (Some slot.now) t t routed) }
+    ensures fault { IfErr result (λ fault. (t : ModelTable) → RefusesAs (request_refusal fault)
+        (requested_by (bytes_with routes.now) t (content envelope.now) header.now (Some slot.now))) }
 {
     if !slot.is_of(envelope.payload()) {
         return Err(RequestFault::NumberReused);
@@ -58,9 +61,9 @@ pub fn first(
     packet: &Octets,
     header: &RequestHeader,
 ) -> Result<Routed, AllocError>
-    requires packet { packet.now ≡ envelope_text envelope.now.kind envelope.now.id envelope.now.payload }
+    requires packet { packet.now ≡ packet_text envelope.now }
     requires new { slot_of envelope.now.id table.old.entries ≡ None }
-    ensures routed { IfOk result (λ routed. requested_by (bytes_with routes.now) table.old (content envelope.now) header.now None ≡ Ok (record { table = table.new; routed = routed_as routed })) }
+    ensures routed { IfOk result (λ routed. GoesOn routes.now envelope.now header.now None table.old table.new routed) }
     ensures unchanged { OnErr result (table.new ≡ table.old) }
 {
     let alloc = table.allocator();
@@ -88,8 +91,9 @@ fn sent(
     header: &RequestHeader,
     route: Option<PayerNo>,
 ) -> Result<Routed, AllocError>
-    requires { packet.now ≡ envelope_text envelope.now.kind envelope.now.id envelope.now.payload }
-    ensures { IfOk result (λ routed. (routes : RouteMaps) → routed_as routed ≡ routed_by (bytes_with routes) (content envelope.now) header.now route) }
+    requires { packet.now ≡ packet_text envelope.now }
+    ensures { IfOk result (λ routed. (routes : RouteMaps)
+        → routed_as routed ≡ routed_by (bytes_with routes) (content envelope.now) header.now route) }
 {
     match route {
         Some(payer) => Ok(Routed::Forward(payer, packet.copy()?)),
@@ -103,7 +107,8 @@ fn sent(
 /// Back with an answer.
 fn back(alloc: Global, id: TxnId, answer: &[u8]) -> Result<Routed, AllocError>
     requires { length answer.now ≤ longest_payload }
-    ensures { IfOk result (λ routed. (routes : RouteMaps) → routed_as routed ≡ answer_back (bytes_with routes) id answer.now) }
+    ensures { IfOk result (λ routed. (routes : RouteMaps)
+        → routed_as routed ≡ answer_back (bytes_with routes) id answer.now) }
 {
     let packet = packet(alloc, Kind::Answer, id, answer)?;
     Ok(Routed::Answer(packet))

@@ -1,20 +1,17 @@
 //! The switch.
 
-ghost use Rattle.std.specs.Prelude.{◌≡◌, ◌≤◌, [], length, map, Ok, IfOk, IfErr, OnErr, if◌then◌else◌};
+ghost use Rattle.std.specs.Prelude.{◌≡◌, ◌≤◌, [], length, map, IfOk, IfErr, OnErr};
 ghost use Rattle.std.specs.List.{IsDistinct};
 ghost use Rattle.std.specs.Map.{keys_of};
 ghost use Rattle.std.specs.Option.{option_copied};
-ghost use Rattle.envelope.specs.Envelope.{envelope_text};
 ghost use Rattle.bin_routes.specs.Table.{RouteMaps};
 ghost use Rattle.claim_model.specs.Node.{Up};
 ghost use Rattle.claim_model.specs.Held.{held_in_table};
 ghost use Rattle.claim_model.specs.Readable.{same_id};
-ghost use Rattle.claim_model.specs.Table.{slot_of, responded_by, filled};
-ghost use Rattle.claim_model.specs.Bytes.{bytes_with};
 ghost use Rattle.switch_node.specs.Ring.{in_flight};
 ghost use Rattle.switch_node.specs.Faults.{RefusesAs, response_refusal, first_or_equal};
-ghost use Rattle.switch_node.specs.Sent.{content};
-ghost use Rattle.switch_node.specs.Steps.{SendsRequest, RefusesRequest, SendsResponse, RefusesResponse};
+ghost use Rattle.switch_node.specs.Sent.{packet_text};
+ghost use Rattle.switch_node.specs.Steps.{SendsRequest, RefusesRequest, SendsResponse, RefusesResponse, responded_at, KeepsFirst};
 
 use crate::fault::{RequestFault, ResponseFault};
 use crate::packets::{packet, payload_in};
@@ -82,7 +79,7 @@ impl Switch {
         envelope: &Envelope<'_>,
         packet: &Octets,
     ) -> Result<Routed, RequestFault>
-        requires { packet.now ≡ envelope_text envelope.now.kind envelope.now.id envelope.now.payload }
+        requires { packet.now ≡ packet_text envelope.now }
         ensures routed { SendsRequest routes.now self.old envelope.now self.new result }
         ensures fault { RefusesRequest routes.now self.old envelope.now result }
         ensures unchanged { OnErr result (self.new ≡ self.old) }
@@ -118,7 +115,7 @@ impl Switch {
         envelope: &Envelope<'_>,
         packet: &Octets,
     ) -> Result<Octets, ResponseFault>
-        requires { packet.now ≡ envelope_text envelope.now.kind envelope.now.id envelope.now.payload }
+        requires { packet.now ≡ packet_text envelope.now }
         ensures sent { SendsResponse self.old envelope.now self.new result }
         ensures fault { RefusesResponse self.old envelope.now result }
         ensures unchanged { OnErr result (self.new ≡ self.old) }
@@ -135,7 +132,7 @@ impl Switch {
 
     /// The packet of an envelope.
     fn packet_of(&self, envelope: &Envelope<'_>) -> Result<Octets, AllocError>
-        ensures { IfOk result (λ packet. packet ≡ envelope_text envelope.now.kind envelope.now.id envelope.now.payload) }
+        ensures { IfOk result (λ packet. packet ≡ packet_text envelope.now) }
     {
         let alloc = self.table.allocator();
         packet(alloc, envelope.kind(), envelope.id(), envelope.payload())
@@ -182,9 +179,9 @@ impl Switch {
 
 /// Whether a response is the first to its request, and not an equal one again.
 fn waits(table: &Table, envelope: &Envelope<'_>) -> Result<bool, ResponseFault>
-    ensures kept { IfOk result (λ is_first. (routes : RouteMaps) → responded_by (bytes_with routes) table.now (content envelope.now) (slot_of envelope.now.id table.now.entries)
-        ≡ Ok (record { table = if is_first then filled table.now envelope.now.id envelope.now.payload else table.now; bytes = (bytes_with routes).envelope (content envelope.now) })) }
-    ensures fault { IfErr result (λ fault. (routes : RouteMaps) → RefusesAs (response_refusal fault) (responded_by (bytes_with routes) table.now (content envelope.now) (slot_of envelope.now.id table.now.entries))) }
+    ensures kept { IfOk result (λ is_first. KeepsFirst table.now envelope.now is_first) }
+    ensures fault { IfErr result (λ fault. (routes : RouteMaps)
+        → RefusesAs (response_refusal fault) (responded_at routes table.now envelope.now)) }
 {
     match table.get(envelope.id()) {
         None => Err(ResponseFault::NotWaiting),

@@ -148,7 +148,8 @@ fn next(place: usize, cap: usize) -> usize
 /// The ring after its oldest entry left for the last one, which stands in its place.
 fn replace(ring: &mut IndexMap<TxnId, Slot>, head: usize)
     requires { head + 1 < length ring.old.entries }
-    ensures entries { (rest : List (Txn × ModelSlot)) (last : Txn × ModelSlot) → ring.old.entries ≡ rest ++ last ∷ [] → ring.new.entries ≡ slice_set rest head last }
+    ensures entries { (rest : List (Txn × ModelSlot)) (last : Txn × ModelSlot)
+        → ring.old.entries ≡ rest ++ last ∷ [] → ring.new.entries ≡ slice_set rest head last }
     ensures unique { IsDistinct same_id (keys_of ring.new.entries) }
 {
     drop(ring.swap_remove_index(head));

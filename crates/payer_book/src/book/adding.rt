@@ -96,7 +96,8 @@ impl Book {
 
 /// What a kept answer says.
 fn said(alloc: Global, answer: &[u8]) -> Result<Answer, RowFault>
-    ensures read { IfOk result (λ a. reading.read_answer answer.now ≡ Some (record { header = a.header; rulings = a.rulings })) }
+    ensures read { IfOk result (λ a. reading.read_answer answer.now
+        ≡ Some (record { header = a.header; rulings = a.rulings })) }
     ensures pays { IfOk result (λ a. PaysAmounts a.rulings) }
     ensures fault { IfErr result (λ e. e ≢ OutOfMemory → reading.read_answer answer.now ≡ None) }
 {

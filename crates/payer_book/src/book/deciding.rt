@@ -1,11 +1,10 @@
 //! What a book decides on a request: the row that it has for it, or a new one. The book is not changed here.
 
-ghost use Rattle.std.specs.Prelude.{◌≡◌, true, IfOk, OnOk, Ok, Some, None};
+ghost use Rattle.std.specs.Prelude.{◌≡◌, IfOk, OnOk, Some, None};
 ghost use Rattle.claim_model.specs.Bytes.{bytes_with};
 ghost use Rattle.claim_model.specs.Readable.{is_payer, payer_for};
-ghost use Rattle.claim_model.specs.Book.{answered, row_of};
-ghost use Rattle.payer_book.specs.Added.{kept_answer};
-ghost use Rattle.payer_book.specs.Deciding.{IsKnown, IsNew};
+ghost use Rattle.claim_model.specs.Book.{row_of};
+ghost use Rattle.payer_book.specs.Deciding.{IsKnown, IsAgain, IsNew};
 ghost use Rattle.payer_book.specs.Answers.{Refuses};
 
 use crate::book::Book;
@@ -47,7 +46,7 @@ impl Book {
         request: &[u8],
     ) -> Result<(), BookFault>
         requires { row_of id self.now.rows ≡ Some row.now }
-        ensures decided { OnOk result (answered (bytes_with routes.now) self.now id request.now ≡ Ok (record { book = self.now; bytes = kept_answer row.now; kept = true })) }
+        ensures decided { OnOk result (IsAgain (bytes_with routes.now) self.now id request.now row.now) }
         ensures fault { Refuses routes.now self.now id request.now result }
     {
         if row.request() == request {
@@ -67,7 +66,7 @@ impl Book {
     /// asked.
     fn decide_again(&self, routes: &Routes, id: TxnId, row: &Row) -> Result<(), BookFault>
         requires { row_of id self.now.rows ≡ Some row.now }
-        ensures decided { OnOk result (answered (bytes_with routes.now) self.now id row.now.request ≡ Ok (record { book = self.now; bytes = kept_answer row.now; kept = true })) }
+        ensures decided { OnOk result (IsAgain (bytes_with routes.now) self.now id row.now.request row.now) }
         ensures fault { Refuses routes.now self.now id row.now.request result }
     {
         let (bin, pcn) = row.bin_and_pcn();
@@ -87,7 +86,8 @@ impl Book {
         request: &[u8],
     ) -> Result<Row, BookFault>
         requires { row_of id self.now.rows ≡ None }
-        ensures decided { IfOk result (λ row. IsNew (bytes_with routes.now) self.now id request.now row draft.new.changes.items) }
+        ensures decided { IfOk result
+            (λ row. IsNew (bytes_with routes.now) self.now id request.now row draft.new.changes.items) }
         ensures fault { Refuses routes.now self.now id request.now result }
     {
         let framed = match check_readable(request) {

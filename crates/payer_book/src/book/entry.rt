@@ -1,16 +1,16 @@
 //! Entering a new request: its row, and what the row changes among the payments.
 
-ghost use Rattle.std.specs.Prelude.{◌≡◌, ◌⊎◌, ◌<◌, length, false, OnOk, OnErr, IfOk, IfErr, Some, None};
+ghost use Rattle.std.specs.Prelude.{◌≡◌, ◌<◌, length, OnOk, OnErr, IfOk, Some, None};
 ghost use Rattle.std.specs.List.{list_all};
 ghost use Rattle.d0_segments.specs.Framing.{request_kind, transmission_of};
 ghost use Rattle.d0_segments.specs.FramedParts.{framed_parts};
 ghost use Rattle.claim_profile.specs.Readable.{readable_header};
 ghost use Rattle.claim_model.specs.Book.{serial_fits, row_of};
-ghost use Rattle.payer_book.specs.declared.fault.BookFault.TheVariants.{OutOfMemory, SerialsUsedUp};
+ghost use Rattle.payer_book.specs.Faults.{LacksSerial};
 ghost use Rattle.payer_book.specs.Drafts.{pricing};
 ghost use Rattle.payer_book.specs.Added.{with_row};
 ghost use Rattle.payer_book.specs.Made.{ArePrices};
-ghost use Rattle.payer_book.specs.Entries.{IsEntry, rulings_by};
+ghost use Rattle.payer_book.specs.Entries.{IsEntry, rulings_by, row_by};
 
 use crate::book::Book;
 use crate::book::row::Row;
@@ -42,8 +42,10 @@ impl Book {
         requires parts { transmission_of request_kind request.now ≡ Some (framed_parts framed.now) }
         requires readable { readable_header request.now ≡ Some framed.now.header }
         requires prices { ArePrices (pricing prices) }
-        ensures made { IfOk result (λ row. IsEntry self.now row draft.new.changes.items × (row ≡ record { id = id; request = request.now; rulings = rulings_by (pricing prices.entry) self.now id request.now })) }
-        ensures fault { IfErr result (λ e. (e ≡ OutOfMemory) ⊎ ((e ≡ SerialsUsedUp) × (list_all serial_fits (rulings_by (pricing prices.entry) self.now id request.now) ≡ false))) }
+        ensures made { IfOk result (λ row. IsEntry self.now row draft.new.changes.items
+            × (row ≡ row_by (pricing prices.entry) self.now id request.now)) }
+        ensures fault { LacksSerial
+            (list_all serial_fits (rulings_by (pricing prices.entry) self.now id request.now)) result }
     {
         orders_of_requests();
         bytes_keep_laws();

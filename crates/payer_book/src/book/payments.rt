@@ -1,13 +1,13 @@
 //! The payments of a book in the order of their serial numbers, with the place of each fill's standing one.
 
-ghost use Rattle.std.specs.Prelude.{◌≡◌, ◌+◌, ◌<◌, ◌≤◌, [], ◌∷◌, ◌++◌, map, find, filter, length, slice_get, option_and_then, None, Some, IsSome, MatchOption, OnOk, OnErr};
+ghost use Rattle.std.specs.Prelude.{◌≡◌, ◌+◌, ◌≤◌, [], ◌∷◌, ◌++◌, map, find, filter, length, slice_get, option_and_then, None, IsSome, OnOk};
 ghost use Rattle.std.specs.Option.{option_copied};
 ghost use Rattle.claim_model.specs.Payments.{same_auth};
 ghost use Rattle.payer_book.specs.declared.book.payment.Payment.TheVariants.{Standing as Stands};
-ghost use Rattle.payer_book.specs.Ledger.{IsLedger, still, payment_with, standing_in, standing_of, after_reversal, HasFillNumber};
-ghost use Rattle.claim_model.specs.Book.{last_serial};
-ghost use Rattle.payer_book.specs.Drafts.{auth_after};
-ghost use Rattle.payer_book.specs.Matches.{tally, is_match, matched, matches_between, fill_for};
+ghost use Rattle.payer_book.specs.Ledger.{IsLedger, SameButRoom, auth_next, still, payment_with, standing_in, standing_of, after_reversal, HasFillNumber};
+ghost use Rattle.payer_book.specs.Drafts.{IsAuthAfter};
+ghost use Rattle.payer_book.specs.PaymentPlaces.{IsPlaceOf};
+ghost use Rattle.payer_book.specs.Matches.{tally, is_match, matched_number, tally_between, fill_for};
 
 use crate::book::payment::{Payment, Standing};
 use crate::keys::{HashKeys, HashStart};
@@ -40,7 +40,12 @@ impl Model for Payments {
 
     ghost Value = { Ledger };
 
-    ghost view = { λ p. record { payer = p.payer; first = p.first; payments = p.list.items; room = min (vec_capacity p.list - vec_len p.list) (spare p.standing) } };
+    ghost view = { λ p. record {
+      payer = p.payer;
+      first = p.first;
+      payments = p.list.items;
+      room = min (vec_capacity p.list - vec_len p.list) (spare p.standing);
+    } };
 
     ghost invariant = { λ p. IsIndexed p.payer p.first p.list.items (get ⟦<Fill as PartialEq>⟧.eq p.standing) };
 }
@@ -71,7 +76,7 @@ impl Payments {
 
     /// The authorization of the next payment after some changes; None where its serial number would be over 999,999,999,999.
     pub(crate) fn next_auth(&self, changes: &[Change]) -> Option<Auth>
-        ensures { MatchOption result (last_serial < (auth_after self.now changes.now).serial) (λ a. (a ≡ auth_after self.now changes.now) × (a.serial ≤ last_serial)) }
+        ensures { IsAuthAfter self.now changes.now result }
     {
         let before = self.first.saturating_add(self.list.len() as u64);
         let serial = before.saturating_add(payments_in(changes) as u64);
@@ -80,7 +85,7 @@ impl Payments {
 
     /// The place of the payment of that authorization.
     fn place_of(&self, auth: Auth) -> Option<usize>
-        ensures { MatchOption result (payment_with auth self.now.payments ≡ None) (λ place. (place < length self.now.payments) × (slice_get self.now.payments place ≡ payment_with auth self.now.payments)) }
+        ensures { IsPlaceOf auth self.now.payments result }
     {
         if auth.payer() != self.payer.get() {
             return None;
@@ -141,7 +146,7 @@ impl Payments {
     ) -> Matches
         requires in_order { first ≤ end }
         requires bytes { end ≤ 256 }
-        ensures value { result ≡ tally (matches_between reversal.now changes.now first end (standing_in self.now.payments)) }
+        ensures value { result ≡ tally_between self.now reversal.now changes.now first end }
         ensures ledger { IsLedger self.now }
     {
         let _ = self.len();
@@ -160,7 +165,7 @@ impl Payments {
         number: u8,
         matches: Matches,
     ) -> Matches
-        ensures value { result ≡ matched reversal.now changes.now (standing_of (fill_for reversal.now number) (standing_in self.now.payments)) matches }
+        ensures value { result ≡ matched_number self.now reversal.now changes.now number matches }
         ensures ledger { IsLedger self.now }
     {
         match self.standing_of(&fill_for(reversal, number)) {
@@ -177,7 +182,7 @@ impl Payments {
 
     /// Room for so many more payments: so many calls of `push` then take no memory.
     pub(crate) fn reserve(&mut self, more: usize) -> Result<(), AllocError>
-        ensures same { (self.new.payer ≡ self.old.payer) × (self.new.first ≡ self.old.first) × (self.new.payments ≡ self.old.payments) }
+        ensures same { SameButRoom self.old self.new }
         ensures ok { OnOk result (more ≤ self.new.room) }
     {
         self.list.reserve(more)?;
@@ -187,7 +192,7 @@ impl Payments {
     /// Adds a payment at the end. There is room for it, it has the next serial number, and its fill has no standing payment.
     pub(crate) fn push(&mut self, payment: Standing)
         requires room { 1 ≤ self.old.room }
-        requires auth { payment.auth ≡ record { payer = self.old.payer; serial = self.old.first + length self.old.payments } }
+        requires auth { payment.auth ≡ auth_next self.old }
         requires number { HasFillNumber payment.claim }
         requires none { standing_of payment.claim.fill (standing_in self.old.payments) ≡ None }
         ensures same { (self.new.payer ≡ self.old.payer) × (self.new.first ≡ self.old.first) }

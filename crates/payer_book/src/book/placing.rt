@@ -1,9 +1,8 @@
 //! Answering a request with the row that keeps the answer, so that no byte of it is copied.
 
-ghost use Rattle.std.specs.Prelude.{◌≡◌, OnErr, IfOk, None};
-ghost use Rattle.claim_model.specs.Bytes.{bytes_with};
+ghost use Rattle.std.specs.Prelude.{◌≡◌, OnErr, None};
 ghost use Rattle.claim_model.specs.Book.{row_of};
-ghost use Rattle.payer_book.specs.Placing.{IsAnsweredAt};
+ghost use Rattle.payer_book.specs.Placing.{AnswersAt};
 ghost use Rattle.payer_book.specs.Answers.{Refuses};
 
 use crate::book::Book;
@@ -34,7 +33,7 @@ impl Book {
         id: TxnId,
         request: &[u8],
     ) -> Result<Placed, BookFault>
-        ensures ok { IfOk result (λ at. IsAnsweredAt (bytes_with routes.now) self.old id request.now self.new at.place at.kept) }
+        ensures ok { AnswersAt routes.now self.old id request.now self.new result }
         ensures fault { Refuses routes.now self.old id request.now result }
         ensures err { OnErr result (self.new ≡ self.old) }
     {
@@ -58,7 +57,7 @@ impl Book {
         request: &[u8],
     ) -> Result<Placed, BookFault>
         requires { row_of id self.old.rows ≡ None }
-        ensures ok { IfOk result (λ at. IsAnsweredAt (bytes_with routes.now) self.old id request.now self.new at.place at.kept) }
+        ensures ok { AnswersAt routes.now self.old id request.now self.new result }
         ensures fault { Refuses routes.now self.old id request.now result }
         ensures err { OnErr result (self.new ≡ self.old) }
     {

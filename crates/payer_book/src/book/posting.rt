@@ -1,12 +1,11 @@
 //! Answering a request with a packet.
 
-ghost use Rattle.std.specs.Prelude.{◌≡◌, ◌≤◌, [], ◌∷◌, length, None, OnErr, IfOk};
+ghost use Rattle.std.specs.Prelude.{◌≡◌, ◌≤◌, length, None, OnErr, IfOk};
 ghost use Rattle.envelope.specs.Envelope.{envelope_text, longest_payload};
 ghost use Rattle.claim_model.specs.Words.{Response};
 ghost use Rattle.claim_model.specs.Bytes.{bytes_with};
-ghost use Rattle.claim_model.specs.Book.{answered, row_of};
-ghost use Rattle.claim_model.specs.Node.{Node, Up, Done, after_answer};
-ghost use Rattle.payer_book.specs.Posted.{IsPosted};
+ghost use Rattle.claim_model.specs.Book.{row_of};
+ghost use Rattle.payer_book.specs.Posted.{IsPosted, SendsBack};
 ghost use Rattle.payer_book.specs.Answers.{Refuses};
 
 use crate::book::Book;
@@ -31,8 +30,7 @@ impl Book {
         request: &[u8],
     ) -> Result<Octets, BookFault>
         ensures ok { IfOk result (λ packet. IsPosted (bytes_with routes.now) self.old id request.now self.new packet) }
-        // So a payer's step that takes this request ends with this book and sends this packet to where the request came from.
-        ensures sent { IfOk result (λ packet. (from : Node) → after_answer (bytes_with routes.now) from id (answered (bytes_with routes.now) self.old id request.now) ≡ Done (Up self.new) (record { to = from; bytes = packet } ∷ [])) }
+        ensures sent { SendsBack routes.now self.old id request.now self.new result }
         ensures fault { Refuses routes.now self.old id request.now result }
         ensures err { OnErr result (self.new ≡ self.old) }
     {

@@ -1,13 +1,13 @@
 //! What rulings change among the payments, before any of it is entered.
 
-ghost use Rattle.std.specs.Prelude.{◌≡◌, count_by, filter, if◌then◌else◌};
+ghost use Rattle.std.specs.Prelude.{◌≡◌, count_by, filter};
 ghost use Rattle.std.specs.Option.{option_copied};
 ghost use Rattle.claim_model.specs.Bytes.{order_in};
 ghost use Rattle.claim_model.specs.Payments.{same_auth};
 ghost use Rattle.claim_model.specs.Judgement.{same_fill};
 ghost use Rattle.payer_book.specs.Ledger.{standing_of, is_for_payment};
 ghost use Rattle.payer_book.specs.Changes.{change_by, is_reversal_of, is_reversed, pays, left, left_by};
-ghost use Rattle.payer_book.specs.Matches.{tally, with_one};
+ghost use Rattle.payer_book.specs.Matches.{tally, with_own};
 
 use crate::book::payment::Standing;
 use crate::ruling::matches::{Matches, is_for};
@@ -149,7 +149,7 @@ pub(crate) fn left_matching(reversal: &Reversal, changes: &[Change]) -> Matches
 
 /// The matches, and this payment where the reversal is for it.
 fn add_match(matches: Matches, reversal: &Reversal, payment: &Standing) -> Matches
-    ensures { result ≡ (if is_for_payment reversal.now payment.now then with_one matches payment.now.auth else matches) }
+    ensures { result ≡ with_own reversal.now payment.now matches }
 {
     if is_for(reversal, payment.claim()) {
         matches.with(payment.auth())

@@ -1,14 +1,12 @@
 //! The rulings of a request, place by place, before any of it is entered.
 
-ghost use Rattle.std.specs.Prelude.{◌≡◌, ◌⊎◌, ◌≤◌, true, false, [], ◌∷◌, ◌++◌, length, MatchOption, Some, OnOk, IfOk, IfErr};
+ghost use Rattle.std.specs.Prelude.{◌≡◌, true, [], Some, OnOk};
 ghost use Rattle.std.specs.List.{list_all};
 ghost use Rattle.d0_segments.specs.FramedParts.{framed_parts};
 ghost use Rattle.claim_model.specs.Bytes.{order_in, orders_in};
-ghost use Rattle.claim_model.specs.Judgement.{priced};
 ghost use Rattle.claim_model.specs.Book.{serial_fits};
-ghost use Rattle.payer_book.specs.declared.fault.BookFault.TheVariants.{OutOfMemory, SerialsUsedUp};
-ghost use Rattle.payer_book.specs.Changes.{change_by, changes_by};
-ghost use Rattle.payer_book.specs.Drafts.{pricing, price_at, ruling_on, rulings_on, auth_after, IsDraft};
+ghost use Rattle.payer_book.specs.Faults.{LacksSerial};
+ghost use Rattle.payer_book.specs.Drafts.{pricing, ruling_on, rulings_on, IsDraft, next_ruling, AddsRuling, AddsChange, priced_after, IsRulingThatFits};
 
 use crate::book::payments::Payments;
 use crate::fault::BookFault;
@@ -36,8 +34,10 @@ pub(crate) fn rule_all(
     prices: Prices<'_>,
     framed: &Framed<'_, RequestHeader>,
 ) -> Result<(), BookFault>
-    ensures made { OnOk result (IsDraft payments.now (pricing prices.entry) (orders_in (Some (framed_parts framed.now))) draft.new) }
-    ensures fault { IfErr result (λ e. (e ≡ OutOfMemory) ⊎ ((e ≡ SerialsUsedUp) × (list_all serial_fits (rulings_on payments.now (pricing prices.entry) [] (orders_in (Some (framed_parts framed.now)))) ≡ false))) }
+    ensures made { OnOk result
+        (IsDraft payments.now (pricing prices.entry) (orders_in (Some (framed_parts framed.now))) draft.new) }
+    ensures fault { LacksSerial (list_all serial_fits
+        (rulings_on payments.now (pricing prices.entry) [] (orders_in (Some (framed_parts framed.now))))) result }
 {
     draft.clear();
     let places = framed.group_count();
@@ -72,10 +72,10 @@ impl Draft {
         prices: &Prices<'_>,
         order: &Result<Order, OrderFault>,
     ) -> Result<(), BookFault>
-        ensures rulings { OnOk result (self.new.rulings.items ≡ self.old.rulings.items ++ ruling_on payments.now (pricing prices.now) self.old.changes.items (order_in order.now) ∷ []) }
-        ensures changes { OnOk result (self.new.changes.items ≡ self.old.changes.items ++ change_by (order_in order.now) (ruling_on payments.now (pricing prices.now) self.old.changes.items (order_in order.now)) ∷ []) }
-        ensures fits { OnOk result (serial_fits (ruling_on payments.now (pricing prices.now) self.old.changes.items (order_in order.now)) ≡ true) }
-        ensures fault { IfErr result (λ e. (e ≡ OutOfMemory) ⊎ ((e ≡ SerialsUsedUp) × (serial_fits (ruling_on payments.now (pricing prices.now) self.old.changes.items (order_in order.now)) ≡ false))) }
+        ensures rulings { OnOk result (AddsRuling self.old payments.now prices.now order.now self.new) }
+        ensures changes { OnOk result (AddsChange self.old payments.now prices.now order.now self.new) }
+        ensures fits { OnOk result (serial_fits (next_ruling self.old payments.now prices.now order.now) ≡ true) }
+        ensures fault { LacksSerial (serial_fits (next_ruling self.old payments.now prices.now order.now)) result }
     {
         let Some(ruling) = ruling_on(payments, prices, self.changes.as_slice(), order) else {
             return Err(BookFault::SerialsUsedUp);
@@ -94,7 +94,7 @@ fn ruling_on(
     changes: &[Change],
     order: &Result<Order, OrderFault>,
 ) -> Option<Ruling>
-    ensures { MatchOption result (serial_fits (ruling_on payments.now (pricing prices.now) changes.now (order_in order.now)) ≡ false) (λ r. (r ≡ ruling_on payments.now (pricing prices.now) changes.now (order_in order.now)) × (serial_fits r ≡ true)) }
+    ensures { IsRulingThatFits (ruling_on payments.now (pricing prices.now) changes.now (order_in order.now)) result }
 {
     match judge(payments, changes, order) {
         Verdict::Unpriced(ruling) => Some(ruling),
@@ -109,8 +109,7 @@ fn priced(
     changes: &[Change],
     claim: &Claim,
 ) -> Option<Ruling>
-    ensures { MatchOption result (serial_fits (priced (auth_after payments.now changes.now) claim.now (price_at (pricing prices.now) (length changes.now) claim.now)) ≡ false)
-        (λ r. (r ≡ priced (auth_after payments.now changes.now) claim.now (price_at (pricing prices.now) (length changes.now) claim.now)) × (serial_fits r ≡ true)) }
+    ensures { IsRulingThatFits (priced_after payments.now (pricing prices.now) changes.now claim.now) result }
 {
     let Some(amounts) = prices.price(changes.len(), claim) else {
         return Some(rejected(Code::NotCovered));

@@ -1,13 +1,13 @@
 //! What is known of a group before a price is asked: no plan is looked at here.
 
-ghost use Rattle.std.specs.Prelude.{◌≡◌, filter, cond, [], ◌∷◌};
+ghost use Rattle.std.specs.Prelude.{◌≡◌, filter, [], ◌∷◌};
 ghost use Rattle.std.specs.Option.{option_copied, option_map};
-ghost use Rattle.claim_model.specs.Words.{Duplicate, Rejected, DuplicateClaim};
+ghost use Rattle.claim_model.specs.Words.{Rejected};
 ghost use Rattle.claim_model.specs.Bytes.{order_in};
 ghost use Rattle.claim_model.specs.Judgement.{only, same_claim, Unpriced};
-ghost use Rattle.payer_book.specs.Ledger.{standing_in, standing_of, is_for_payment};
-ghost use Rattle.payer_book.specs.Changes.{standing_after};
-ghost use Rattle.payer_book.specs.Drafts.{claim_on, reversal_by, judged_on, verdict};
+ghost use Rattle.payer_book.specs.Ledger.{standing_of, is_for_payment};
+ghost use Rattle.payer_book.specs.Changes.{still_standing};
+ghost use Rattle.payer_book.specs.Drafts.{claim_on, billed_again, reversal_by, judged_on, verdict};
 
 use crate::book::payment::Standing;
 use crate::book::payments::Payments;
@@ -26,7 +26,7 @@ pub(crate) fn judge<'a>(
     changes: &[Change],
     order: &'a Result<Order, OrderFault>,
 ) -> Verdict<'a>
-    ensures { verdict result ≡ judged_on (standing_after (standing_in payments.now.payments) changes.now) (order_in order.now) }
+    ensures { verdict result ≡ judged_on (still_standing payments.now changes.now) (order_in order.now) }
 {
     match order {
         Err(fault) => Verdict::Unpriced(refused(fault)),
@@ -35,7 +35,7 @@ pub(crate) fn judge<'a>(
 }
 
 fn judge_order<'a>(payments: &Payments, changes: &[Change], order: &'a Order) -> Verdict<'a>
-    ensures { verdict result ≡ judged_on (standing_after (standing_in payments.now.payments) changes.now) (Ok order.now) }
+    ensures { verdict result ≡ judged_on (still_standing payments.now changes.now) (Ok order.now) }
 {
     match order {
         Order::Claim(claim) => judge_claim(claim, standing_for(payments, changes, &claim.fill)),
@@ -60,7 +60,7 @@ fn judge_claim<'a>(claim: &'a Claim, standing: Option<&Standing>) -> Verdict<'a>
 
 /// The ruling of a claim whose fill has a standing payment: that payment once more where the claim is the same.
 fn billed_again(payment: &Standing, claim: &Claim) -> Ruling
-    ensures { result ≡ cond (same_claim payment.now.claim claim.now) (Duplicate payment.now.auth claim.now.fill.prescription payment.now.amounts) (Rejected (DuplicateClaim ∷ [])) }
+    ensures { result ≡ billed_again payment.now claim.now }
 {
     if same_claim(payment.claim(), claim) {
         Ruling::Duplicate {
@@ -102,7 +102,7 @@ fn standing_for<'a>(
     changes: &'a [Change],
     fill: &Fill,
 ) -> Option<&'a Standing>
-    ensures { option_copied result ≡ standing_of fill.now (standing_after (standing_in payments.now.payments) changes.now) }
+    ensures { option_copied result ≡ standing_of fill.now (still_standing payments.now changes.now) }
 {
     match payments.standing_of(fill) {
         Some(payment) => {
@@ -118,7 +118,8 @@ fn standing_for<'a>(
 
 /// The authorization of the only standing payment that a reversal is for, in the book or made by a place before.
 fn auth_to_reverse(payments: &Payments, changes: &[Change], reversal: &Reversal) -> Option<Auth>
-    ensures { result ≡ option_map (λ s. s.auth) (only (filter (is_for_payment reversal.now) (standing_after (standing_in payments.now.payments) changes.now))) }
+    ensures { result ≡ option_map (λ s. s.auth)
+        (only (filter (is_for_payment reversal.now) (still_standing payments.now changes.now))) }
 {
     let kept = payments.matching(reversal, changes);
     let made = left_matching(reversal, changes);

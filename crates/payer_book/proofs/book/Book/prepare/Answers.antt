@@ -12,13 +12,13 @@ use Rattle.claim_model.specs.Bytes.{orders_in}
 use Rattle.claim_model.specs.Readable.{readable}
 use Rattle.claim_model.specs.Rows.{Row, Book}
 use Rattle.claim_model.specs.Book.{serial_fits}
+use Rattle.claim_model.proofs.BytesLaws.{readable_alike}
 use Rattle.payer_book.specs.Changes.{changes_by}
 use Rattle.payer_book.specs.Drafts.{pricing, rulings_on}
 use Rattle.payer_book.specs.Books.{reading}
 use Rattle.payer_book.specs.Added.{kept_answer, kept_rulings, with_row, with_kept}
 use Rattle.payer_book.specs.Entries.{with_plan, rulings_by, IsEntry}
 use Rattle.payer_book.specs.Kept.{IsAnswered}
-use Rattle.payer_book.proofs.Readings.{readable_alike}
 use Rattle.payer_book.proofs.RulingLemmas.{rulings_writable, length_rulings}
 use Rattle.payer_book.proofs.Keeping.{rulings_by_on, kept_again}
 use Rattle.payer_book.proofs.Tellable.{rulings_told, prices_fit}

@@ -1,11 +1,12 @@
 use Rattle.std.proofs.Common.{◌≡◌, ◌<◌, List, Some, map, length, slice_get, sym, ap, ◌∙◌, subst}
 use Rattle.std.specs.Prelude.{find, option_and_then, IsSome}
 use Rattle.claim_model.specs.Payments.{same_auth}
+use Rattle.claim_model.proofs.Lists.{get_exists}
 use Rattle.payer_book.specs.declared.book.payment.Standing.{Standing}
 use Rattle.payer_book.specs.declared.book.payment.Payment.{Payment}
 use Rattle.payer_book.specs.declared.book.payment.Payment.TheVariants.{Standing as Stands}
 use Rattle.payer_book.specs.Ledger.{Ledger, still, standing_in, payment_with, after_reversal}
-use Rattle.payer_book.proofs.Lists.{none_some, get_exists}
+use Rattle.payer_book.proofs.Lists.{none_some}
 use Rattle.payer_book.proofs.Numbering.{none_stands, reversed_stands_not}
 use Rattle.payer_book.proofs.PaymentIndex.{less_by, indexed_less, reversed_list, still_at, auth_at}
 use Rattle.payer_book.proofs.book.payments.Payments.reverse.Goals as goal
