@@ -2,6 +2,7 @@
 use Rattle.std.proofs.Common.{◌≡◌, ℕ, zero, suc, ◌+◌, ◌-◌, ◌<◌, ◌≤◌, Bool, true, false, cond, not, List, [], ◌∷◌, length, map, Option, Some, None, Result, Ok, Err, IfOk, refl, ap, arith}
 use Rattle.std.specs.Prelude.{◌&&◌, ◌||◌, nat_lt, nat_le, IsSome, option_map, if◌then◌else◌}
 use Rattle.std.specs.List.{slice_get, list_all}
+use Rattle.std.proofs.lemmas.Bool.{and_parts}
 use Rattle.claim_model.specs.Numbered.{numbered}
 use Rattle.claim_model.specs.Journal.{PharmacySettings}
 use Rattle.claim_model.specs.Node.{Up}
@@ -27,10 +28,6 @@ mapped_there f (Some a) there = refl
 pub length-pharmacies_from : (m : ℕ) (ss : List PharmacySettings) → length (pharmacies_from m ss) ≡ length ss
 length-pharmacies_from m [] = refl
 length-pharmacies_from m (s ∷ ss) = ap suc (length-pharmacies_from (m + 1) ss)
-
-pub length-switches_of : (caps : List ℕ) → length (switches_of caps) ≡ length caps
-length-switches_of [] = refl
-length-switches_of (cap ∷ caps) = ap suc (length-switches_of caps)
 
 pub length-payers_from : (m : ℕ) (ps : List PayerSettings) → length (payers_from m (map payer_seen ps)) ≡ length ps
 length-payers_from m [] = refl
@@ -90,16 +87,12 @@ pub all_have_nodes : (s : WorldSettings) → settings_fault s ≡ None → list_
 all_have_nodes s h =
     no_none (nat_lt 256 (length s.pharmacies) || (nat_lt 64 (length s.switches) || nat_lt 64 (length s.payers))) (is_empty s.pharmacies) (is_empty s.switches) (is_empty s.payers) (list_all (has_nodes (length s.switches)) s.pharmacies) _ h
 
-both : (a b : Bool) → (a && b) ≡ true → (a ≡ true) × (b ≡ true)
-both true b h = (refl, h)
-both false b h = absurd (cc)
-
 -- each pharmacy tries some switch
 pub have_node : (switches : ℕ) (ss : List PharmacySettings) → list_all (has_nodes switches) ss ≡ true → list_all has_node ss ≡ true
 have_node switches [] all = refl
 have_node switches (s ∷ ss) all =
-    let split = both (has_nodes switches s) (list_all (has_nodes switches) ss) all in
-    let first = both (not (is_empty s.nodes)) (list_all (is_switch switches) s.nodes) split.0 in
+    let split = and_parts (has_nodes switches s) (list_all (has_nodes switches) ss) all in
+    let first = and_parts (not (is_empty s.nodes)) (list_all (is_switch switches) s.nodes) split.0 in
     rw (first.0) (have_node switches ss split.1)
 
 -- the payer of a number, from a copy of its settings

@@ -2,6 +2,7 @@ pub mod Records
 pub mod Powered
 pub mod Sends
 pub mod Outcomes
+pub mod Taking
 pub mod Refusing
 pub mod Reading
 pub mod Nodes

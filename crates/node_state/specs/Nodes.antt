@@ -3,7 +3,7 @@ use Rattle.std.specs.Prelude.{ℕ, Bool, true, false, not, nat_eq, List, length,
 use Rattle.claim_model.specs.Words.{TxnId}
 use Rattle.claim_model.specs.Context.{Context}
 use Rattle.claim_model.specs.Numbered.{numbered}
-use Rattle.claim_model.specs.Journal.{PharmacySettings, Journal, JournalAtRest, Kept}
+use Rattle.claim_model.specs.Journal.{PharmacySettings, JournalAtRest, Kept}
 use Rattle.claim_model.specs.Table.{Table}
 use Rattle.claim_model.specs.Rows.{Book}
 use Rattle.claim_model.specs.Book.{row_of}
@@ -41,9 +41,13 @@ journal_of (OfPharmacy node) = Some (journal_in node)
 journal_of (OfSwitch node) = None
 journal_of (OfPayer node) = None
 
+-- the request of this number in a journal
+abbrev pub request_in : JournalAtRest → ℕ → Option (List ℕ)
+request_in j number = option_map (λ (k : Kept). k.request) (numbered j.entries number)
+
 -- the request of a pharmacy's entry; none of another node
 abbrev pub request_of : AnyNode → ℕ → Option (List ℕ)
-request_of (OfPharmacy node) number = option_map (λ (k : Kept). k.request) (numbered (journal_in node).entries number)
+request_of (OfPharmacy node) number = request_in (journal_in node) number
 request_of (OfSwitch node) number = None
 request_of (OfPayer node) number = None
 

@@ -1,12 +1,11 @@
 //! The answers that pharmacies and payers hold, up or at rest.
 
 ghost use Rattle.std.specs.Prelude.{◌≡◌, IfOk};
-ghost use Rattle.std.specs.Option.{option_copied, option_map};
+ghost use Rattle.std.specs.Option.{option_copied};
 ghost use Rattle.bin_routes.specs.Table.{RouteMaps};
 ghost use Rattle.claim_model.specs.Bytes.{bytes_with};
-ghost use Rattle.claim_model.specs.Numbered.{numbered};
 ghost use Rattle.claim_model.specs.Held.{journal_in, book_in};
-ghost use Rattle.node_state.specs.Nodes.{held_in_journal, held_in_book};
+ghost use Rattle.node_state.specs.Nodes.{request_in, held_in_journal, held_in_book};
 
 use crate::payer::PayerNode;
 use crate::pharmacy::PharmacyNode;
@@ -29,7 +28,7 @@ impl PharmacyNode {
 
     /// A copy of the request of a number, from 1. At rest the record is read.
     pub fn request(&self, alloc: Global, number: u64) -> Result<Option<Octets>, AllocError>
-        ensures { IfOk result (λ request. request ≡ option_map (λ k. k.request) (numbered (journal_in self.now).entries number)) }
+        ensures { IfOk result (λ request. request ≡ request_in (journal_in self.now) number) }
     {
         let journal = self.journal(alloc)?;
         copied(alloc, journal.request(number))
@@ -39,7 +38,7 @@ impl PharmacyNode {
 impl PayerNode {
     /// A copy of the answer that its book holds for an id. At rest the record is read.
     pub fn held(&self, alloc: Global, id: TxnId) -> Result<Option<Octets>, AllocError>
-        ensures { (routes : RouteMaps) → IfOk result (λ held. held ≡ held_in_book (bytes_with routes) id (book_in self.now)) }
+        ensures { (routes : RouteMaps) → IfOk result (λ h. h ≡ held_in_book (bytes_with routes) id (book_in self.now)) }
     {
         let reading = self.book(alloc)?;
         copied(alloc, reading.book().held(id))

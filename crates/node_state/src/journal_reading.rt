@@ -1,7 +1,7 @@
 //! What is read of a pharmacy's journal, up or at rest.
 
 ghost use Rattle.std.specs.Prelude.{◌≡◌, length, None, Some, IfOk, option_and_then};
-ghost use Rattle.std.specs.Option.{option_copied, option_map};
+ghost use Rattle.std.specs.Option.{option_copied};
 ghost use Rattle.bin_routes.specs.Table.{RouteMaps};
 ghost use Rattle.claim_model.specs.Bytes.{bytes_with};
 ghost use Rattle.claim_model.specs.Counted.{counted};
@@ -9,6 +9,7 @@ ghost use Rattle.claim_model.specs.Journal.{stopped};
 ghost use Rattle.claim_model.specs.Numbered.{numbered};
 ghost use Rattle.pharmacy_journal.specs.Listing.{listed};
 ghost use Rattle.pharmacy_journal.specs.Entries.{IsEntryOf};
+ghost use Rattle.node_state.specs.Nodes.{request_in};
 
 use pharmacy_journal::{CountedPayment, EntryView, JournalAtRest, KeptEntry, Pharmacy};
 use std::alloc::AllocError;
@@ -88,7 +89,7 @@ impl<'a> JournalReading<'a> {
 
     /// The request of a number, from 1.
     pub fn request(&self, number: u64) -> Option<&[u8]>
-        ensures { option_copied result ≡ option_map (λ k. k.request) (numbered self.now.entries number) }
+        ensures { option_copied result ≡ request_in self.now number }
     {
         match self.entry(number) {
             Some(entry) => Some(entry.request),
@@ -128,8 +129,8 @@ impl<'a> JournalReading<'a> {
 
     /// All entries, in order of their numbers, and the payments that the pharmacy counts, with each answer read once.
     pub fn told(&self) -> Result<(Vec<EntryView>, Vec<CountedPayment>), AllocError>
-        ensures entries { IfOk result (λ told. told.0.items ≡ listed self.now) }
-        ensures paid { (routes : RouteMaps) → IfOk result (λ told. told.1.items ≡ counted (bytes_with routes) self.now) }
+        ensures entries { IfOk result (λ t. t.0.items ≡ listed self.now) }
+        ensures paid { (routes : RouteMaps) → IfOk result (λ t. t.1.items ≡ counted (bytes_with routes) self.now) }
     {
         match &self.source {
             JournalSource::Running(pharmacy) => pharmacy.told(),

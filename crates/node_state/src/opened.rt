@@ -27,7 +27,7 @@ impl NodeState {
     ) -> Result<NodeState, AllocError>
         requires taken { settings_fault (settings_seen settings.now) ≡ None }
         requires there { IsSome (node_at (opening (settings_seen settings.now)) (node_seen node)) }
-        ensures { IfOk result (λ opened. node_at (opening (settings_seen settings.now)) (node_seen node) ≡ Some opened) }
+        ensures { IfOk result (λ o. node_at (opening (settings_seen settings.now)) (node_seen node) ≡ Some o) }
     {
         match node {
             Node::Pharmacy(number) => {

@@ -1,13 +1,11 @@
 //! The calls on a payer that is up.
 
-ghost use Rattle.std.specs.Prelude.{◌≡◌, ◌≤◌, length, Ok, IfOk, OnErr};
+ghost use Rattle.std.specs.Prelude.{◌≡◌, ◌≤◌, length, IfOk, OnErr};
 ghost use Rattle.bin_routes.specs.Table.{RouteMaps};
-ghost use Rattle.claim_model.specs.Bytes.{bytes_with};
-ghost use Rattle.claim_model.specs.Book.{answered};
-ghost use Rattle.claim_model.specs.Node.{Up, Take, Reprice, payer_takes, after_answer};
-ghost use Rattle.switch_node.specs.Sent.{content};
+ghost use Rattle.claim_model.specs.Node.{Up, Take, Reprice};
 ghost use Rattle.world_setup.specs.Seen.{node_seen};
 ghost use Rattle.node_state.specs.Outcomes.{Makes, Refuses, PayerMakes, PayerRefuses};
+ghost use Rattle.node_state.specs.Taking.{payer_handles, payer_answers};
 
 use crate::faults::{book_fault, envelope_fault, plan_fault};
 use crate::opening::{is_request, read_envelope};
@@ -45,8 +43,8 @@ fn take_envelope(
     from: Node,
     envelope: &Envelope<'_>,
 ) -> Result<Vec<Sent>, StepFault>
-    ensures ok { Makes (payer_takes (bytes_with routes.now) book.old (node_seen from) (Ok (content envelope.now))) (Up book.new) result }
-    ensures fault { Refuses (payer_takes (bytes_with routes.now) book.old (node_seen from) (Ok (content envelope.now))) result }
+    ensures ok { Makes (payer_handles routes.now book.old (node_seen from) envelope.now) (Up book.new) result }
+    ensures fault { Refuses (payer_handles routes.now book.old (node_seen from) envelope.now) result }
     ensures few { IfOk result (λ sent. length sent.items ≤ 1) }
     ensures err { OnErr result (book.new ≡ book.old) }
 {
@@ -65,8 +63,8 @@ fn answer(
     from: Node,
     envelope: &Envelope<'_>,
 ) -> Result<Vec<Sent>, StepFault>
-    ensures ok { Makes (after_answer (bytes_with routes.now) (node_seen from) envelope.now.id (answered (bytes_with routes.now) book.old envelope.now.id envelope.now.payload)) (Up book.new) result }
-    ensures fault { Refuses (after_answer (bytes_with routes.now) (node_seen from) envelope.now.id (answered (bytes_with routes.now) book.old envelope.now.id envelope.now.payload)) result }
+    ensures ok { Makes (payer_answers routes.now book.old (node_seen from) envelope.now) (Up book.new) result }
+    ensures fault { Refuses (payer_answers routes.now book.old (node_seen from) envelope.now) result }
     ensures few { IfOk result (λ sent. length sent.items ≤ 1) }
     ensures err { OnErr result (book.new ≡ book.old) }
 {
@@ -88,7 +86,8 @@ pub fn change_plan(
     product: &[u8],
     price: Option<u32>,
 ) -> Result<Vec<Sent>, StepFault>
-    ensures ok { (routes : RouteMaps) → PayerMakes routes (Up book.old) (Reprice product.now price) (Up book.new) result }
+    ensures ok { (routes : RouteMaps)
+        → PayerMakes routes (Up book.old) (Reprice product.now price) (Up book.new) result }
     ensures fault { (routes : RouteMaps) → PayerRefuses routes (Up book.old) (Reprice product.now price) result }
     ensures few { IfOk result (λ sent. length sent.items ≤ 1) }
     ensures err { OnErr result (book.new ≡ book.old) }

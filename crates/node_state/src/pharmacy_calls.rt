@@ -3,12 +3,11 @@
 ghost use Rattle.std.specs.Prelude.{◌≡◌, ◌≤◌, length, None, IfOk, IfErr, OnErr};
 ghost use Rattle.envelope.specs.Envelope.{envelope_text};
 ghost use Rattle.bin_routes.specs.Table.{RouteMaps};
-ghost use Rattle.claim_model.specs.Bytes.{bytes_with};
-ghost use Rattle.claim_model.specs.Journal.{submitted, heard};
-ghost use Rattle.claim_model.specs.Node.{Node as ModelNode, Up, Submit, Tick, Take, after_hearing};
-ghost use Rattle.switch_node.specs.Sent.{content};
+ghost use Rattle.claim_model.specs.Journal.{submitted};
+ghost use Rattle.claim_model.specs.Node.{Node as ModelNode, Up, Submit, Tick, Take};
 ghost use Rattle.world_setup.specs.Refused.{refusal_of};
 ghost use Rattle.node_state.specs.Outcomes.{Makes, Refuses, PharmacyMakes, PharmacyRefuses};
+ghost use Rattle.node_state.specs.Taking.{hears};
 
 use crate::faults::{envelope_fault, hear_fault, submit_fault};
 use crate::opening::read_envelope;
@@ -72,8 +71,8 @@ fn hear(
     packet: &Octets,
 ) -> Result<Vec<Sent>, StepFault>
     requires { packet.now ≡ envelope_text envelope.now.kind envelope.now.id envelope.now.payload }
-    ensures ok { (routes : RouteMaps) → Makes (after_hearing (heard (bytes_with routes) pharmacy.old (content envelope.now))) (Up pharmacy.new) result }
-    ensures fault { (routes : RouteMaps) → Refuses (after_hearing (heard (bytes_with routes) pharmacy.old (content envelope.now))) result }
+    ensures ok { (routes : RouteMaps) → Makes (hears routes pharmacy.old envelope.now) (Up pharmacy.new) result }
+    ensures fault { (routes : RouteMaps) → Refuses (hears routes pharmacy.old envelope.now) result }
     ensures few { IfOk result (λ sent. length sent.items ≤ 1) }
     ensures err { OnErr result (pharmacy.new ≡ pharmacy.old) }
 {

@@ -1,13 +1,11 @@
 //! The calls on a switch that is up.
 
-ghost use Rattle.std.specs.Prelude.{◌≡◌, ◌≤◌, length, Ok, IfOk, OnErr};
+ghost use Rattle.std.specs.Prelude.{◌≡◌, ◌≤◌, length, IfOk, OnErr};
 ghost use Rattle.envelope.specs.Envelope.{envelope_text};
 ghost use Rattle.bin_routes.specs.Table.{RouteMaps};
-ghost use Rattle.claim_model.specs.Bytes.{bytes_with};
-ghost use Rattle.claim_model.specs.Table.{requested, responded};
-ghost use Rattle.claim_model.specs.Node.{Node as ModelNode, Up, Take, switch_takes, after_request, after_response};
-ghost use Rattle.switch_node.specs.Sent.{content};
+ghost use Rattle.claim_model.specs.Node.{Node as ModelNode, Up, Take};
 ghost use Rattle.node_state.specs.Outcomes.{Makes, Refuses, SwitchMakes, SwitchRefuses};
+ghost use Rattle.node_state.specs.Taking.{switch_handles, switch_requests, switch_responds};
 
 use crate::faults::{envelope_fault, request_fault, response_fault};
 use crate::opening::{is_request, read_envelope};
@@ -26,7 +24,8 @@ pub fn take(
     routes: &Routes,
     packet: &Octets,
 ) -> Result<Vec<Sent>, StepFault>
-    ensures ok { (from : ModelNode) → SwitchMakes routes.now (Up switch.old) (Take from packet.now) (Up switch.new) result }
+    ensures ok { (from : ModelNode)
+        → SwitchMakes routes.now (Up switch.old) (Take from packet.now) (Up switch.new) result }
     ensures fault { (from : ModelNode) → SwitchRefuses routes.now (Up switch.old) (Take from packet.now) result }
     ensures few { IfOk result (λ sent. length sent.items ≤ 1) }
     ensures err { OnErr result (switch.new ≡ switch.old) }
@@ -46,8 +45,8 @@ fn take_envelope(
     packet: &Octets,
 ) -> Result<Vec<Sent>, StepFault>
     requires { packet.now ≡ envelope_text envelope.now.kind envelope.now.id envelope.now.payload }
-    ensures ok { Makes (switch_takes (bytes_with routes.now) switch.old (Ok (content envelope.now))) (Up switch.new) result }
-    ensures fault { Refuses (switch_takes (bytes_with routes.now) switch.old (Ok (content envelope.now))) result }
+    ensures ok { Makes (switch_handles routes.now switch.old envelope.now) (Up switch.new) result }
+    ensures fault { Refuses (switch_handles routes.now switch.old envelope.now) result }
     ensures few { IfOk result (λ sent. length sent.items ≤ 1) }
     ensures err { OnErr result (switch.new ≡ switch.old) }
 {
@@ -67,8 +66,8 @@ fn request(
     packet: &Octets,
 ) -> Result<Vec<Sent>, StepFault>
     requires { packet.now ≡ envelope_text envelope.now.kind envelope.now.id envelope.now.payload }
-    ensures ok { Makes (after_request envelope.now.id (requested (bytes_with routes.now) switch.old (content envelope.now))) (Up switch.new) result }
-    ensures fault { Refuses (after_request envelope.now.id (requested (bytes_with routes.now) switch.old (content envelope.now))) result }
+    ensures ok { Makes (switch_requests routes.now switch.old envelope.now) (Up switch.new) result }
+    ensures fault { Refuses (switch_requests routes.now switch.old envelope.now) result }
     ensures few { IfOk result (λ sent. length sent.items ≤ 1) }
     ensures err { OnErr result (switch.new ≡ switch.old) }
 {
@@ -91,8 +90,8 @@ fn response(
     packet: &Octets,
 ) -> Result<Vec<Sent>, StepFault>
     requires { packet.now ≡ envelope_text envelope.now.kind envelope.now.id envelope.now.payload }
-    ensures ok { (routes : RouteMaps) → Makes (after_response envelope.now.id (responded (bytes_with routes) switch.old (content envelope.now))) (Up switch.new) result }
-    ensures fault { (routes : RouteMaps) → Refuses (after_response envelope.now.id (responded (bytes_with routes) switch.old (content envelope.now))) result }
+    ensures ok { (routes : RouteMaps) → Makes (switch_responds routes switch.old envelope.now) (Up switch.new) result }
+    ensures fault { (routes : RouteMaps) → Refuses (switch_responds routes switch.old envelope.now) result }
     ensures few { IfOk result (λ sent. length sent.items ≤ 1) }
     ensures err { OnErr result (switch.new ≡ switch.old) }
 {

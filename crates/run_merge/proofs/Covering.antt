@@ -1,7 +1,7 @@
 -- One log for each node: by tests over logs, and as a fact.
 use Rattle.std.proofs.Common.{◌≡◌, ℕ, zero, suc, ◌+◌, ◌-◌, ◌<◌, Bool, true, false, not, ◌||◌, cond, List, [], ◌∷◌, length, Some, slice_get, refl, sym, ap, ◌∙◌, subst, inl, inr, arith, ltb-true, ltb-false}
 use Rattle.std.specs.Prelude.{nat_lt}
-use Rattle.std.proofs.lemmas.Bool.{and_from, both_ways, cond-true, cond-false, lt-ltb, le-ltb}
+use Rattle.std.proofs.lemmas.Bool.{and_from, or_right, both_ways, cond-true, cond-false, lt-ltb, le-ltb}
 use Rattle.claim_model.specs.Node.{Node, Pharmacy, Switch, Payer}
 use Rattle.claim_model.specs.Numbered.{numbered}
 use Rattle.world_setup.specs.Seen.{settings_seen}
@@ -18,16 +18,12 @@ use Rattle.run_merge.proofs.Lines.{same_log, first_distinct}
 
 -- the log of a node
 
-or_second : (a b : Bool) → b ≡ true → (a || b) ≡ true
-or_second true b e = refl
-or_second false b e = e
-
 pub log_known : (logs : List NodeLog) (k : ℕ) (log : NodeLog) (node : Node) → slice_get logs k ≡ Some log → log.node ≡ node → has_log node logs ≡ true
 log_known [] k log node e s = absurd cc
 log_known (l ∷ logs) zero log node e s =
     let t : same_node l.node node ≡ true = ap (λ (x : NodeLog). same_node x.node node) (same_log l log e) ∙ (ap (λ (x : Node). same_node x node) s ∙ same_self node) in
     ap (λ (b : Bool). b || has_log node logs) t
-log_known (l ∷ logs) (suc k) log node e s = or_second (same_node l.node node) (has_log node logs) (log_known logs k log node e s)
+log_known (l ∷ logs) (suc k) log node e s = or_right (same_node l.node node) (has_log node logs) (log_known logs k log node e s)
 
 pub log_at : (node : Node) (logs : List NodeLog) → has_log node logs ≡ true → HasLog logs node
 log_at node [] h = absurd cc

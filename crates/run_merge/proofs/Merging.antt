@@ -18,6 +18,7 @@ use Rattle.world_setup.specs.declared.settings.WorldSettings.{WorldSettings as G
 use Rattle.claim_model.specs.Nodes.{AnyNode, node_at, same_node}
 use Rattle.claim_model.specs.Logs.{Logged, NodeLog, log_in}
 use Rattle.claim_model.specs.Interleavings.{IsInterleaving}
+use Rattle.claim_model.proofs.Options.{same_some}
 use Rattle.claim_model.proofs.Replaying.{absent_stays}
 use Rattle.run_merge.specs.Naming.{has_log, all_distinct, calls_of}
 use Rattle.run_merge.specs.Order.{InOrder, NoOrder, Leads, none_left}
@@ -28,7 +29,7 @@ use Rattle.run_merge.proofs.Ordering.{each_node}
 use Rattle.run_merge.proofs.Soundness.{sound, ordered, fits_none}
 use Rattle.run_merge.proofs.Lines.{calls_at, calls_found}
 use Rattle.run_merge.proofs.Covering.{log_at, has_one, once_by, once_distinct}
-use Rattle.run_merge.proofs.Places.{found_at, get_below, same_some}
+use Rattle.run_merge.proofs.Places.{found_at, get_below}
 
 -- what makes an interleaving
 

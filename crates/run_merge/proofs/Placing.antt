@@ -6,11 +6,12 @@ use Rattle.claim_model.specs.World.{Packet, posted}
 use Rattle.world_setup.specs.Seen.{node_seen, event_seen}
 use Rattle.world_setup.specs.declared.event.Event.{Event}
 use Rattle.claim_model.specs.Logs.{Logged, NodeLog}
+use Rattle.claim_model.proofs.Options.{same_some}
 use Rattle.run_merge.specs.Order.{InOrder, NoOrder}
 use Rattle.run_merge.specs.Line.{GoesAt, OrderParts, IsPlaced, IsStill, IsMadeByEvents, AllPlaced, AllWait}
 use Rattle.run_merge.specs.LineSeen.{line_seen, lines_seen}
 use Rattle.run_merge.specs.declared.line.Line.{Line}
-use Rattle.run_merge.proofs.Places.{found_at, same_some, map_more, placed_all, placed_not}
+use Rattle.run_merge.proofs.Places.{found_at, map_more, placed_all, placed_not}
 use Rattle.run_merge.proofs.Lines.{all_made, none_made}
 
 lines_set : (lines : List Line) (k : ℕ) (x : Line) → lines_seen (slice_set lines k x) ≡ slice_set (lines_seen lines) k (line_seen x)

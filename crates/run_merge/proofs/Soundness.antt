@@ -10,6 +10,8 @@ use Rattle.claim_model.specs.Logs.{Logged, logged_by, log_in}
 use Rattle.claim_model.specs.Interleavings.{IsDone, AllAccepted}
 use Rattle.run_merge.specs.Order.{FitsBy, Fits, advanced, Asks, Leads, none_left}
 use Rattle.run_merge.specs.Merged.{FitsThere}
+use Rattle.claim_model.proofs.Options.{same_some}
+use Rattle.claim_model.proofs.PharmacyStep.{done_same}
 use Rattle.claim_model.proofs.Steps.{follows, accepted, step_asked}
 use Rattle.claim_model.proofs.Names.{same_self}
 use Rattle.claim_model.proofs.Ends.{Unchanged, One_call, ended}
@@ -47,12 +49,6 @@ first_there : (ctx : Context) (o : Option AnyNode) (r : Logged) (calls : List Lo
 first_there ctx None r calls h = absurd cc
 first_there ctx (Some s) r calls h = first_by ctx s r calls (node_step ctx s r.call) refl h
 
-same_done : {A : Type 0} (a b : A) (s t : List Sent) → Done a s ≡ Done b t → (a ≡ b) × (s ≡ t)
-same_done a b s t e = (cc, cc)
-
-same_some : {A : Type 0} (a b : A) → ◌≡◌ {A = Option A} (Some a) (Some b) → a ≡ b
-same_some a b h = cc
-
 -- after its first call, what is left fits in the world then
 fits_next : (ctx : Context) (w v : World) (rest : Node → List Logged) (node : Node) (r : Logged) (calls : List Logged) (before after : AnyNode) → node_at w node ≡ Some before → node_step ctx before r.call ≡ Done after r.sent → Fits ctx after calls
     → ((m : Node) → FitsThere ctx (node_at w m) (rest m)) → Follows ctx w v node r.call r.sent → (m : Node) → FitsThere ctx (node_at v m) (advanced rest node calls m)
@@ -60,7 +56,7 @@ fits_next ctx w v rest node r calls before after is steps more f x m = elim (nam
   | inl s ↦
       let a : x.before ≡ before = same_some x.before before (sym x.was ∙ is) in
       let b : Done x.after r.sent ≡ Done after r.sent = sym x.steps ∙ (ap (λ y. node_step ctx y r.call) a ∙ steps) in
-      let c = same_done x.after after r.sent r.sent b in
+      let c = done_same x.after after r.sent r.sent b in
       let d : Some after ≡ node_at v m = ap Some (sym c.0) ∙ (sym x.is ∙ ap (node_at v) s.0) in
       let e : calls ≡ advanced rest node calls m = sym (advanced_same rest node m calls s.1) in
       subst (λ o. FitsThere ctx o (advanced rest node calls m)) d (subst (λ (y : List Logged). Fits ctx after y) e more)

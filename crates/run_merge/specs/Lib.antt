@@ -7,4 +7,5 @@ pub mod LineSeen
 pub mod SamePacket
 pub mod PacketNumbers
 pub mod Orders
+pub mod Found
 pub mod Merged

@@ -1,5 +1,5 @@
 -- Logs in the making of an order: what is left of each, and whose next call an event makes.
-use Rattle.std.specs.Prelude.{◌≡◌, ℕ, List, [], ◌∷◌, ◌++◌, slice_get, slice_set, true, Some}
+use Rattle.std.specs.Prelude.{◌≡◌, ℕ, Bool, MatchBool, List, [], ◌∷◌, ◌++◌, slice_get, slice_set, true, Some}
 use Rattle.claim_model.specs.Numbered.{numbered}
 use Rattle.claim_model.specs.Node.{Node, Call}
 use Rattle.claim_model.specs.World.{Packet, Event, posted}
@@ -71,6 +71,10 @@ pub record IsStill (old new : OrderParts) : Type 0 where
   pub packets : new.packets ≡ old.packets
   pub events : new.events ≡ old.events
   pub wait : AllWait old.packets old.lines
+
+-- a step tells whether it placed a call
+abbrev pub Steps : Bool → OrderParts → OrderParts → Type 0
+Steps placed old new = MatchBool placed (IsPlaced old new) (IsStill old new)
 
 -- no log has a call left
 abbrev pub AllPlaced : List NodeLog → Type 0

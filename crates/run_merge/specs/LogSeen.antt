@@ -1,7 +1,7 @@
 -- Logs as the model sees them.
-use Rattle.std.specs.Prelude.{map, List}
+use Rattle.std.specs.Prelude.{map, List, [], ◌∷◌, ◌++◌}
 use Rattle.world_setup.specs.Seen.{node_seen}
-use Rattle.claim_model.specs.Logs.{NodeLog}
+use Rattle.claim_model.specs.Logs.{Logged, NodeLog}
 use Rattle.run_merge.specs.declared.log.NodeLog.{NodeLog as Kept}
 
 -- a node's log
@@ -11,3 +11,7 @@ log_seen log = record { node = node_seen log.node; calls = log.calls.items }
 -- logs
 abbrev pub logs_seen : List Kept → List NodeLog
 logs_seen logs = map log_seen logs
+
+-- a log and one more call
+abbrev pub with_call : NodeLog → Logged → NodeLog
+with_call log r = record { node = log.node; calls = log.calls ++ r ∷ [] }

@@ -1,5 +1,7 @@
 -- Events that merge logs.
-use Rattle.std.specs.Prelude.{◌≡◌, ℕ, List, [], length, slice_get, true, Option, Some, None, IsSome}
+use Rattle.std.specs.Prelude.{◌≡◌, ℕ, List, [], length, map, slice_get, true, Option, Some, None, IsSome, MatchOption}
+use Rattle.std.specs.Option.{option_map}
+use Rattle.std.specs.Global.{Vec}
 use Rattle.bin_routes.specs.Fault.{first_fault}
 use Rattle.bin_routes.specs.Table.{routes_of}
 use Rattle.claim_model.specs.Context.{Context}
@@ -8,10 +10,11 @@ use Rattle.claim_model.specs.Settings.{settings_fault, opening}
 use Rattle.claim_model.specs.Settings as model
 use Rattle.claim_model.specs.Node.{Node}
 use Rattle.claim_model.specs.World.{Event}
-use Rattle.world_setup.specs.Seen.{settings_seen}
+use Rattle.world_setup.specs.Seen.{event_seen, settings_seen}
+use Rattle.world_setup.specs.declared.event.Event.{Event as Kept}
 use Rattle.world_setup.specs.declared.settings.WorldSettings.{WorldSettings}
 use Rattle.claim_model.specs.Nodes.{AnyNode, node_at}
-use Rattle.claim_model.specs.Logs.{Logged, NodeLog}
+use Rattle.claim_model.specs.Logs.{Logged, NodeLog, replay}
 use Rattle.claim_model.specs.Interleavings.{HasLog, IsInterleaving}
 use Rattle.run_merge.specs.Naming.{is_there}
 use Rattle.run_merge.specs.Order.{Fits}
@@ -27,6 +30,10 @@ pub record IsMerged (s : WorldSettings) (logs : List NodeLog) (events : List Eve
 -- no events are a legal interleaving
 abbrev pub NoMerge : WorldSettings → List NodeLog → Type 0
 NoMerge s logs = (events : List Event) → IsMerged s logs events → ⊥
+
+-- the events of a legal interleaving, if there are any
+abbrev pub MergeOf : WorldSettings → List NodeLog → Option (Vec Kept) → Type 0
+MergeOf s logs found = MatchOption found (NoMerge s logs) (λ events. IsMerged s logs (map event_seen events.items))
 
 -- logs are tangled where no events are a legal interleaving of them; want of memory says nothing
 abbrev pub WhereTangled : MergeFault → WorldSettings → List NodeLog → Type 0
@@ -50,3 +57,7 @@ pub record FitsAlone (ctx : Context) (s : model.WorldSettings) (log : NodeLog) :
 -- each log fits its node
 abbrev pub AllFit : Context → model.WorldSettings → List NodeLog → Type 0
 AllFit ctx s logs = (k : ℕ) (log : NodeLog) → slice_get logs k ≡ Some log → FitsAlone ctx s log
+
+-- the node of that name after these calls, from its opening state, where it is there
+abbrev pub replayed : WorldSettings → Node → List Logged → Option AnyNode
+replayed s node calls = option_map (λ n. replay (bytes_with (routes_of s.routes.items)) n calls) (node_at (opening (settings_seen s)) node)

@@ -11,6 +11,10 @@ use Rattle.run_merge.specs.declared.slip.Slip.{Slip}
 abbrev pub same_slip : Slip → Slip → Bool
 same_slip a b = same_packet (slip_seen a) (slip_seen b)
 
+-- a number of a packet; none where it is not there
+abbrev pub NumberOf : List Packet → Packet → Option ℕ → Type 0
+NumberOf packets p found = MatchOption found (IsAbsent packets p) (λ k. numbered packets k ≡ Some p)
+
 -- the number that the index has for a packet is a number of it, and it has none for a packet that is not there
 pub record IsNumbered (packets : List Packet) (number_of : Slip → Option ℕ) : Type 0 where
-  pub found : (slip : Slip) → MatchOption (number_of slip) (IsAbsent packets (slip_seen slip)) (λ k. numbered packets k ≡ Some (slip_seen slip))
+  pub found : (slip : Slip) → NumberOf packets (slip_seen slip) (number_of slip)

@@ -1,10 +1,8 @@
 //! Whether a log fits its node.
 
-ghost use Rattle.std.specs.Prelude.{◌≡◌, map, IfOk, MatchBool};
+ghost use Rattle.std.specs.Prelude.{IfOk};
 ghost use Rattle.claim_model.specs.Bytes.{bytes_with};
-ghost use Rattle.claim_model.specs.Node.{Done};
-ghost use Rattle.claim_model.specs.Nodes.{AnyNode, node_step};
-ghost use Rattle.run_merge.specs.Order.{Fits};
+ghost use Rattle.run_merge.specs.Order.{Fits, Tells, TellsMade};
 
 use crate::record::Record;
 use crate::same::is_same_sent;
@@ -20,7 +18,7 @@ pub(crate) fn fits(
     node: &mut NodeState,
     records: &[Record],
 ) -> Result<bool, AllocError>
-    ensures { IfOk result (λ yes. MatchBool yes (Fits (bytes_with routes.now) node.old records.now) (Fits (bytes_with routes.now) node.old records.now → ⊥)) }
+    ensures { IfOk result (λ yes. Tells yes (Fits (bytes_with routes.now) node.old records.now)) }
 {
     for record in records {
         if !does(alloc, routes, node, record)? {
@@ -37,7 +35,7 @@ fn does(
     node: &mut NodeState,
     one: &Record,
 ) -> Result<bool, AllocError>
-    ensures { IfOk result (λ yes. MatchBool yes (node_step (bytes_with routes.now) node.old one.now.call ≡ Done node.new one.now.sent) ((after : AnyNode) → node_step (bytes_with routes.now) node.old one.now.call ≡ Done after one.now.sent → ⊥)) }
+    ensures { IfOk result (λ yes. TellsMade yes (bytes_with routes.now) node.old one.now node.new) }
 {
     match node.step(alloc, routes, one.call()) {
         Ok(sent) => Ok(is_same_sent(sent.as_slice(), one.sent())),

@@ -1,14 +1,15 @@
 //! Merging logs into the events of one run.
 
-ghost use Rattle.std.specs.Prelude.{◌≡◌, ◌+◌, ◌<◌, ◌≤◌, length, map, true, None, Some, IfOk, IfErr, MatchBool, MatchOption};
+ghost use Rattle.std.specs.Prelude.{◌≡◌, ◌+◌, ◌<◌, ◌≤◌, length, map, true, None, Some, IfOk, IfErr};
 ghost use Rattle.bin_routes.specs.Fault.{first_fault};
 ghost use Rattle.bin_routes.specs.Table.{routes_of};
 ghost use Rattle.claim_model.specs.Bytes.{bytes_with};
 ghost use Rattle.claim_model.specs.Settings.{settings_fault};
 ghost use Rattle.world_setup.specs.Seen.{event_seen, settings_seen, node_seen};
 ghost use Rattle.run_merge.specs.Naming.{is_numbered, is_there, name_at, has_log, all_distinct};
+ghost use Rattle.run_merge.specs.Order.{Tells};
 ghost use Rattle.run_merge.specs.LogSeen.{log_seen, logs_seen};
-ghost use Rattle.run_merge.specs.Merged.{IsMerged, NoMerge, WhereTangled, EachHasLog, FitsAlone, AllFit};
+ghost use Rattle.run_merge.specs.Merged.{IsMerged, MergeOf, WhereTangled, EachHasLog, FitsAlone, AllFit};
 ghost use Rattle.run_merge.specs.declared.history.MergeFault.TheVariants.{OutOfMemory};
 
 use crate::fits::fits;
@@ -66,7 +67,7 @@ fn merged(
     settings: &WorldSettings,
     logs: &[NodeLog],
 ) -> Result<Option<Vec<Event>>, AllocError>
-    ensures { IfOk result (λ o. MatchOption o (NoMerge settings.now (logs_seen logs.now)) (λ events. IsMerged settings.now (logs_seen logs.now) (map event_seen events.items))) }
+    ensures { IfOk result (λ o. MergeOf settings.now (logs_seen logs.now) o) }
 {
     match settings.checked_routes(alloc) {
         Ok(routes) => merged_by(alloc, settings, &routes, logs),
@@ -85,7 +86,7 @@ fn merged_by(
     requires world { settings_fault (settings_seen settings.now) ≡ None }
     requires rows { first_fault (length settings.now.payers.items) settings.now.routes.items ≡ None }
     requires routes_are { routes.now ≡ routes_of settings.now.routes.items }
-    ensures { IfOk result (λ o. MatchOption o (NoMerge settings.now (logs_seen logs.now)) (λ events. IsMerged settings.now (logs_seen logs.now) (map event_seen events.items))) }
+    ensures { IfOk result (λ o. MergeOf settings.now (logs_seen logs.now) o) }
 {
     if !each_has_log(settings, logs) {
         return Ok(None);
@@ -102,7 +103,7 @@ fn merged_by(
 /// Whether each node of the settings has a log.
 fn each_has_log(settings: &WorldSettings, logs: &[NodeLog]) -> bool
     requires { settings_fault (settings_seen settings.now) ≡ None }
-    ensures { MatchBool result (EachHasLog (settings_seen settings.now) (logs_seen logs.now)) (EachHasLog (settings_seen settings.now) (logs_seen logs.now) → ⊥) }
+    ensures { Tells result (EachHasLog (settings_seen settings.now) (logs_seen logs.now)) }
 {
     let pharmacies = settings.pharmacies.len();
     let switches = settings.switches.len();
@@ -162,7 +163,8 @@ fn all_fit(
     logs: &[NodeLog],
 ) -> Result<bool, AllocError>
     requires { settings_fault (settings_seen settings.now) ≡ None }
-    ensures { IfOk result (λ yes. MatchBool yes (AllFit (bytes_with routes.now) (settings_seen settings.now) (logs_seen logs.now)) (AllFit (bytes_with routes.now) (settings_seen settings.now) (logs_seen logs.now) → ⊥)) }
+    ensures { IfOk result (λ yes.
+        Tells yes (AllFit (bytes_with routes.now) (settings_seen settings.now) (logs_seen logs.now))) }
 {
     for log in logs {
         if !fits_alone(alloc, settings, routes, log)? {
@@ -180,7 +182,8 @@ fn fits_alone(
     log: &NodeLog,
 ) -> Result<bool, AllocError>
     requires { settings_fault (settings_seen settings.now) ≡ None }
-    ensures { IfOk result (λ yes. MatchBool yes (FitsAlone (bytes_with routes.now) (settings_seen settings.now) (log_seen log.now)) (FitsAlone (bytes_with routes.now) (settings_seen settings.now) (log_seen log.now) → ⊥)) }
+    ensures { IfOk result (λ yes.
+        Tells yes (FitsAlone (bytes_with routes.now) (settings_seen settings.now) (log_seen log.now))) }
 {
     if !is_there(settings, log.node()) {
         return Ok(false);

@@ -1,10 +1,10 @@
 //! What is left of a log, while an order is made.
 
-ghost use Rattle.std.specs.Prelude.{◌≡◌, ◌<◌, drop, length, IfOk, MatchOption};
-ghost use Rattle.world_setup.specs.Seen.{node_seen, event_seen};
-ghost use Rattle.run_merge.specs.Line.{Waits, Goes};
+ghost use Rattle.std.specs.Prelude.{◌≡◌, ◌<◌, drop, length, IfOk};
+ghost use Rattle.world_setup.specs.Seen.{node_seen};
 ghost use Rattle.run_merge.specs.LineSeen.{line_seen};
 ghost use Rattle.run_merge.specs.LogSeen.{log_seen};
+ghost use Rattle.run_merge.specs.Found.{NextOf};
 
 use crate::log::NodeLog;
 use crate::posted::Posted;
@@ -33,7 +33,7 @@ impl<'a> Line<'a> {
 
     /// The event that makes the next call, where there is one.
     pub(crate) fn next(&self, posted: &Posted<'a>) -> Result<Option<Event>, AllocError>
-        ensures { IfOk result (λ o. MatchOption o (Waits posted.now (line_seen self.now)) (λ e. Goes posted.now (line_seen self.now) (event_seen e))) }
+        ensures { IfOk result (λ o. NextOf posted.now (line_seen self.now) o) }
     {
         if self.left.is_empty() {
             return Ok(None);

@@ -1,9 +1,9 @@
 //! The log of a node.
 
-ghost use Rattle.std.specs.Prelude.{◌≡◌, ◌<◌, ◌++◌, ◌∷◌, [], vec_len, vec_capacity, map, IfOk, OnOk};
+ghost use Rattle.std.specs.Prelude.{◌≡◌, ◌<◌, [], vec_len, vec_capacity, map, IfOk, OnOk};
 ghost use Rattle.world_setup.specs.Seen.{node_seen, call_seen, sent_seen};
 ghost use Rattle.claim_model.specs.Nodes.{same_node};
-ghost use Rattle.run_merge.specs.LogSeen.{log_seen};
+ghost use Rattle.run_merge.specs.LogSeen.{log_seen, with_call};
 
 use crate::record::Record;
 use crate::same::is_same_node;
@@ -39,7 +39,8 @@ impl NodeLog {
     /// Records an accepted call with what the step gave, in room that was made before.
     pub fn record(&mut self, call: Call, sent: Vec<Sent>)
         requires { vec_len self.old.calls < vec_capacity self.old.calls }
-        ensures { log_seen self.new ≡ record { node = node_seen self.old.node; calls = self.old.calls.items ++ record { call = call_seen call; sent = map sent_seen sent.items } ∷ [] } }
+        ensures { log_seen self.new
+            ≡ with_call (log_seen self.old) (record { call = call_seen call; sent = map sent_seen sent.items }) }
     {
         self.calls.push_reserved(Record::new(call, sent));
     }

@@ -1,14 +1,12 @@
 //! Ordering the calls of logs, one enabled call after another.
 
-ghost use Rattle.std.specs.Prelude.{◌≡◌, ◌==◌, [], length, map, true, Some, IfOk, IfSome, OnOk, MatchBool, MatchOption};
+ghost use Rattle.std.specs.Prelude.{◌≡◌, ◌==◌, [], length, true, IfOk, IfSome, OnOk};
 ghost use Rattle.std.specs.List.{list_all};
-ghost use Rattle.world_setup.specs.Seen.{event_seen};
 ghost use Rattle.run_merge.specs.Naming.{all_distinct, calls_of};
-ghost use Rattle.run_merge.specs.Order.{InOrder, NoOrder};
-ghost use Rattle.run_merge.specs.Line.{AllWait, GoesAt, IsPlaced, IsStill};
-ghost use Rattle.run_merge.specs.LineSeen.{lines_seen};
+ghost use Rattle.run_merge.specs.Line.{IsPlaced, Steps};
 ghost use Rattle.run_merge.specs.LogSeen.{logs_seen};
 ghost use Rattle.run_merge.specs.Orders.{order_seen};
+ghost use Rattle.run_merge.specs.Found.{IsTurn, TurnIn, OrderOf};
 
 use crate::line::Line;
 use crate::log::NodeLog;
@@ -36,7 +34,7 @@ struct Turn {
 /// Events that make all calls of the logs, each when a packet that it takes was sent; none where no events do.
 pub(crate) fn in_order(alloc: Global, logs: &[NodeLog]) -> Result<Option<Vec<Event>>, AllocError>
     requires { all_distinct (logs_seen logs.now) ≡ true }
-    ensures { IfOk result (λ o. MatchOption o (NoOrder (calls_of (logs_seen logs.now))) (λ events. InOrder (calls_of (logs_seen logs.now)) (map event_seen events.items))) }
+    ensures { IfOk result (λ o. OrderOf (calls_of (logs_seen logs.now)) o) }
 {
     let mut order = Order::new(alloc, logs)?;
     while order.step()? {}
@@ -50,7 +48,7 @@ pub(crate) fn in_order(alloc: Global, logs: &[NodeLog]) -> Result<Option<Vec<Eve
 impl<'a> Order<'a> {
     /// The order of no event: all calls are left.
     fn new(alloc: Global, logs: &'a [NodeLog]) -> Result<Order<'a>, AllocError>
-        ensures { IfOk result (λ order. order_seen order ≡ record { lines = logs_seen logs.now; packets = []; events = [] }) }
+        ensures { IfOk result (λ o. order_seen o ≡ record { lines = logs_seen logs.now; packets = []; events = [] }) }
     {
         let mut lines = Vec::new(alloc);
         for log in logs {
@@ -66,7 +64,7 @@ impl<'a> Order<'a> {
 
     /// Places one call, if an event makes the next call of any log.
     fn step(&mut self) -> Result<bool, AllocError>
-        ensures { IfOk result (λ yes. MatchBool yes (IsPlaced (order_seen self.old) (order_seen self.new)) (IsStill (order_seen self.old) (order_seen self.new))) }
+        ensures { IfOk result (λ yes. Steps yes (order_seen self.old) (order_seen self.new)) }
     {
         match self.turn()? {
             Some(turn) => {
@@ -81,7 +79,7 @@ impl<'a> Order<'a> {
     /// log is looked at once more, so that none is left which goes on, whatever was woken.
     fn turn(&mut self) -> Result<Option<Turn>, AllocError>
         ensures same { order_seen self.new ≡ order_seen self.old }
-        ensures turn { IfOk result (λ o. MatchOption o (AllWait self.new.posted (lines_seen self.new.lines.items)) (λ t. GoesAt self.new.posted (lines_seen self.new.lines.items) t.place (event_seen t.event))) }
+        ensures turn { IfOk result (λ o. TurnIn self.new o) }
     {
         while let Some(place) = self.woken.next() {
             match self.turn_at(place)? {
@@ -94,7 +92,7 @@ impl<'a> Order<'a> {
 
     /// The event that makes the next call of the log at a place, where there is one.
     fn turn_at(&self, place: usize) -> Result<Option<Turn>, AllocError>
-        ensures { IfOk result (λ o. IfSome o (λ t. GoesAt self.now.posted (lines_seen self.now.lines.items) t.place (event_seen t.event))) }
+        ensures { IfOk result (λ o. IfSome o (λ t. IsTurn self.now t)) }
     {
         match self.lines.get(place) {
             Some(line) => match line.next(&self.posted)? {
@@ -107,7 +105,7 @@ impl<'a> Order<'a> {
 
     /// The first log whose next call an event makes.
     fn first_turn(&self) -> Result<Option<Turn>, AllocError>
-        ensures { IfOk result (λ o. MatchOption o (AllWait self.now.posted (lines_seen self.now.lines.items)) (λ t. GoesAt self.now.posted (lines_seen self.now.lines.items) t.place (event_seen t.event))) }
+        ensures { IfOk result (λ o. TurnIn self.now o) }
     {
         for (place, line) in self.lines.iter().enumerate() {
             match line.next(&self.posted)? {
@@ -120,7 +118,7 @@ impl<'a> Order<'a> {
 
     /// Places the next call of a log, which an event makes.
     fn place(&mut self, turn: Turn) -> Result<(), AllocError>
-        requires { GoesAt self.old.posted (lines_seen self.old.lines.items) turn.place (event_seen turn.event) }
+        requires { IsTurn self.old turn }
         ensures { OnOk result (IsPlaced (order_seen self.old) (order_seen self.new)) }
     {
         let Turn { place, event } = turn;

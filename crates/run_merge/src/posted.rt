@@ -1,11 +1,10 @@
 //! The packets that were sent in an order.
 
-ghost use Rattle.std.specs.Prelude.{◌≡◌, [], ◌∷◌, ◌++◌, map, Some, OnOk, MatchOption};
-ghost use Rattle.claim_model.specs.Numbered.{numbered};
+ghost use Rattle.std.specs.Prelude.{◌≡◌, [], ◌∷◌, ◌++◌, map, OnOk};
 ghost use Rattle.claim_model.specs.World.{posted};
 ghost use Rattle.world_setup.specs.Seen.{node_seen, sent_seen};
-ghost use Rattle.run_merge.specs.Line.{IsAbsent};
 ghost use Rattle.run_merge.specs.LineSeen.{slip_seen};
+ghost use Rattle.run_merge.specs.PacketNumbers.{NumberOf};
 
 use crate::slip::Slip;
 use octets::Octets;
@@ -73,7 +72,7 @@ impl<'a> Posted<'a> {
 
     /// The number of a packet with this sender, this addressee and these bytes.
     pub(crate) fn find(&self, from: Node, to: Node, bytes: &'a Octets) -> Option<u64>
-        ensures { MatchOption result (IsAbsent self.now (record { from = node_seen from; to = node_seen to; bytes = bytes.now })) (λ k. numbered self.now k ≡ Some (record { from = node_seen from; to = node_seen to; bytes = bytes.now })) }
+        ensures { NumberOf self.now (record { from = node_seen from; to = node_seen to; bytes = bytes.now }) result }
     {
         match self.numbers.get(&Slip::new(from, to, bytes)) {
             Some(number) => Some(*number),

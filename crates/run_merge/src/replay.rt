@@ -1,7 +1,6 @@
 //! Replaying a log by itself.
 
 ghost use Rattle.std.specs.Prelude.{◌≡◌, ◌≤◌, length, None, Some, IsSome, IfOk, OnOk};
-ghost use Rattle.std.specs.Option.{option_map};
 ghost use Rattle.bin_routes.specs.Fault.{first_fault};
 ghost use Rattle.bin_routes.specs.Table.{routes_of};
 ghost use Rattle.claim_model.specs.Bytes.{bytes_with};
@@ -9,6 +8,7 @@ ghost use Rattle.claim_model.specs.Settings.{settings_fault, opening};
 ghost use Rattle.world_setup.specs.Seen.{node_seen, settings_seen};
 ghost use Rattle.claim_model.specs.Nodes.{node_step, node_at};
 ghost use Rattle.claim_model.specs.Logs.{node_after, replay};
+ghost use Rattle.run_merge.specs.Merged.{replayed};
 
 use crate::log::NodeLog;
 use crate::record::Record;
@@ -31,7 +31,7 @@ pub fn replay_log(
     requires world { settings_fault (settings_seen settings.now) ≡ None }
     requires rows { first_fault (length settings.now.payers.items) settings.now.routes.items ≡ None }
     requires there { IsSome (node_at (opening (settings_seen settings.now)) (node_seen log.now.node)) }
-    ensures { IfOk result (λ node. option_map (λ s. replay (bytes_with (routes_of settings.now.routes.items)) s log.now.calls.items) (node_at (opening (settings_seen settings.now)) (node_seen log.now.node)) ≡ Some node) }
+    ensures { IfOk result (λ node. replayed settings.now (node_seen log.now.node) log.now.calls.items ≡ Some node) }
 {
     let routes = routes_for(alloc, settings)?;
     let mut node = NodeState::opening(alloc, settings, log.node())?;

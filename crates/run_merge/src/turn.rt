@@ -1,9 +1,9 @@
 //! Which event makes a call.
 
-ghost use Rattle.std.specs.Prelude.{◌≡◌, Some, IfOk, MatchOption};
+ghost use Rattle.std.specs.Prelude.{IfOk};
 ghost use Rattle.claim_model.specs.Node.{Submit, Tick, Take, Stop, Start, Reprice};
-ghost use Rattle.world_setup.specs.Seen.{node_seen, call_seen, event_seen};
-ghost use Rattle.run_merge.specs.Line.{NoEvent, Does};
+ghost use Rattle.world_setup.specs.Seen.{node_seen, call_seen};
+ghost use Rattle.run_merge.specs.Found.{EventFor};
 
 use crate::posted::Posted;
 use octets::Octets;
@@ -17,7 +17,7 @@ pub(crate) fn event_for<'a>(
     node: Node,
     call: &'a Call,
 ) -> Result<Option<Event>, AllocError>
-    ensures { IfOk result (λ o. MatchOption o (NoEvent posted.now (node_seen node) (call_seen call.now)) (λ e. Does posted.now (node_seen node) (call_seen call.now) (event_seen e))) }
+    ensures { IfOk result (λ o. EventFor posted.now (node_seen node) (call_seen call.now) o) }
 {
     match call {
         Call::Submit(text) => submit(posted, node, text),
@@ -31,7 +31,7 @@ pub(crate) fn event_for<'a>(
 
 /// A submission, at a pharmacy.
 fn submit(posted: &Posted<'_>, node: Node, text: &Octets) -> Result<Option<Event>, AllocError>
-    ensures { IfOk result (λ o. MatchOption o (NoEvent posted.now (node_seen node) (Submit text.now)) (λ e. Does posted.now (node_seen node) (Submit text.now) (event_seen e))) }
+    ensures { IfOk result (λ o. EventFor posted.now (node_seen node) (Submit text.now) o) }
 {
     match node {
         Node::Pharmacy(pharmacy) => Ok(Some(Event::Submit {
@@ -45,7 +45,7 @@ fn submit(posted: &Posted<'_>, node: Node, text: &Octets) -> Result<Option<Event
 
 /// A tick, at a pharmacy.
 fn tick(posted: &Posted<'_>, node: Node) -> Option<Event>
-    ensures { MatchOption result (NoEvent posted.now (node_seen node) Tick) (λ e. Does posted.now (node_seen node) Tick (event_seen e)) }
+    ensures { EventFor posted.now (node_seen node) Tick result }
 {
     match node {
         Node::Pharmacy(pharmacy) => Some(Event::Tick { pharmacy }),
@@ -56,7 +56,7 @@ fn tick(posted: &Posted<'_>, node: Node) -> Option<Event>
 
 /// A delivery, of a packet that was sent.
 fn deliver<'a>(posted: &Posted<'a>, node: Node, from: Node, bytes: &'a Octets) -> Option<Event>
-    ensures { MatchOption result (NoEvent posted.now (node_seen node) (Take (node_seen from) bytes.now)) (λ e. Does posted.now (node_seen node) (Take (node_seen from) bytes.now) (event_seen e)) }
+    ensures { EventFor posted.now (node_seen node) (Take (node_seen from) bytes.now) result }
 {
     match posted.find(from, node, bytes) {
         Some(packet) => Some(Event::Deliver { packet }),
@@ -71,7 +71,7 @@ fn plan(
     product: &Octets,
     price: Option<u32>,
 ) -> Result<Option<Event>, AllocError>
-    ensures { IfOk result (λ o. MatchOption o (NoEvent posted.now (node_seen node) (Reprice product.now price)) (λ e. Does posted.now (node_seen node) (Reprice product.now price) (event_seen e))) }
+    ensures { IfOk result (λ o. EventFor posted.now (node_seen node) (Reprice product.now price) o) }
 {
     match node {
         Node::Payer(payer) => Ok(Some(Event::Plan {

@@ -2,11 +2,10 @@
 use Rattle.std.proofs.Common.{◌≡◌, ℕ, zero, suc, ◌<◌, ◌≤◌, ◌⊎◌, inl, inr, List, [], ◌∷◌, length, Option, Some, None, slice_get, slice_set, get_or, refl, sym, ap, ◌∙◌, subst, arith}
 use Rattle.claim_model.specs.Refusal.{Refusal, NoSuchNode}
 use Rattle.claim_model.specs.Numbered.{numbered}
-use Rattle.claim_model.specs.Journal.{Journal, JournalAtRest}
-use Rattle.claim_model.specs.Node.{Power, Sent, Outcome, Done, Refused}
-use Rattle.node_state.specs.Sends.{most_due}
+use Rattle.claim_model.specs.Node.{Sent, Outcome, Done, Refused}
 use Rattle.world_setup.specs.Refused.{RefusedAs}
-use Rattle.world_core.specs.Calling.{list_after, called_at, called, room_of, room_due}
+use Rattle.world_core.specs.Calling.{list_after, called_at, called}
+use Rattle.world_core.specs.Room.{most_of}
 
 pub numbered_at : {A : Type 0} (xs : List A) (n k : ℕ) (a : A) → n ≡ suc k → slice_get xs k ≡ Some a → numbered xs n ≡ Some a
 numbered_at xs n k a e h = subst (λ (m : ℕ). numbered xs m ≡ Some a) (sym e) h
@@ -44,8 +43,6 @@ node_at [] k a d h e = absurd (omega arith)
 node_at (x ∷ xs) zero a d h e = ap Some (sym e)
 node_at (x ∷ xs) (suc k) a d h e = node_at xs k a d (omega arith) e
 
-pub room_at : (nodes : List (Power Journal JournalAtRest)) (n k : ℕ) (node : Power Journal JournalAtRest) → n ≡ suc k → slice_get nodes k ≡ Some node → room_due nodes n ≡ most_due node
-room_at nodes n k node e h = ap room_of (numbered_at nodes n k node e h)
-
-pub room_enough : (nodes : List (Power Journal JournalAtRest)) (n k : ℕ) (node : Power Journal JournalAtRest) (m : ℕ) → n ≡ suc k → slice_get nodes k ≡ Some node → m ≤ most_due node → m ≤ room_due nodes n
-room_enough nodes n k node m e h l = rw (room_at nodes n k node e h) l
+-- what is at most sent by the node of a number
+pub most_at : {A : Type 0} (most : A → ℕ) (nodes : List A) (n k : ℕ) (node : A) (m : ℕ) → n ≡ suc k → slice_get nodes k ≡ Some node → m ≤ most node → m ≤ most_of most (numbered nodes n)
+most_at most nodes n k node m e h l = rw (numbered_at nodes n k node e h) l

@@ -1,5 +1,5 @@
 -- What a pharmacy counts is kept by the payer.
-use Rattle.std.proofs.Common.{◌≡◌, ℕ, zero, suc, List, [], Option, Some, None, refl, ap, ◌∙◌}
+use Rattle.std.proofs.Common.{◌≡◌, ℕ, List, Option, Some, None, refl, ap, ◌∙◌}
 use Rattle.std.specs.Prelude.{Bool, true, false, nat_eq, option_map, option_and_then}
 use Rattle.claim_model.specs.Words.{TxnId, Auth}
 use Rattle.claim_model.specs.Context.{Context}
@@ -15,15 +15,12 @@ use Rattle.claim_model.specs.Promises.{HeldOpen, CountedPaymentsStand}
 use Rattle.payer_book.specs.Views.{payment_view}
 use Rattle.world_core.specs.Reading.{or_none}
 use Rattle.world_core.specs.Headline.{IsOpenReversal, PaidIsKept}
-
-none_numbered : {A : Type 0} (k : ℕ) (a : A) → numbered [] k ≡ Some a → ⊥
-none_numbered zero a e = cc
-none_numbered (suc k) a e = cc
+use Rattle.claim_model.proofs.Runs.{no_entries}
 
 -- the journal of an element that `paid` gives
 paid_journal : (ctx : Context) (w : World) (k : ℕ) (c : Counted) (o : Option JournalAtRest) → numbered (or_none (option_map (counted ctx) o)) k ≡ Some c
     → (j : JournalAtRest) × (o ≡ Some j) × (numbered (counted ctx j) k ≡ Some c)
-paid_journal ctx w k c None e = absurd (none_numbered k c e)
+paid_journal ctx w k c None e = absurd (no_entries k c e)
 paid_journal ctx w k c (Some j) e = (j, refl, e)
 
 -- the payment that a book has

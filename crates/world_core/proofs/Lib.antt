@@ -1,8 +1,10 @@
 pub mod Holding
 pub mod Opened
-pub mod Delivering
 pub mod Asking
+pub mod Stepping
 pub mod Calls
+pub mod Rooms
 pub mod Running
 pub mod Keeping
 pub mod Standing
+pub mod Runs

@@ -13,10 +13,7 @@ use Rattle.claim_model.specs.Promises.{Reached}
 use Rattle.claim_recovery.specs.Help.{Timely}
 use Rattle.world_core.specs.Parts.{IsReached}
 use Rattle.world_core.specs.Stepping.{next_of}
-
-pub run_append : (ctx : Context) (w : World) (events more : List Event) → run ctx w (events ++ more) ≡ run ctx (run ctx w events) more
-run_append ctx w [] more = refl
-run_append ctx w (e ∷ events) more = run_append ctx (world_after w (step ctx w e)) events more
+use Rattle.claim_model.proofs.GoingOn.{run_append}
 
 -- one event more
 pub one_more : (ctx : Context) (settings : WorldSettings) (w : World) (event : Event) → Reached ctx settings w → Reached ctx settings (world_after w (step ctx w event))

@@ -1,7 +1,6 @@
 -- No fill is paid twice, in the words of `payment`.
-use Rattle.std.proofs.Common.{◌≡◌, ℕ, suc, Bool, true, false, cond, List, [], ◌∷◌, Option, Some, None, refl, sym, ap, ◌∙◌, subst, ◌⊎◌, inl, inr, eqb-true}
-use Rattle.std.proofs.lemmas.Bool.{and_parts}
-use Rattle.std.specs.Prelude.{find, filter, is_none, option_map, option_and_then, slice_get, ◌==◌}
+use Rattle.std.proofs.Common.{◌≡◌, ℕ, suc, Bool, true, false, cond, List, [], ◌∷◌, Option, Some, None, refl, sym, ap, ◌∙◌, subst, inl, inr}
+use Rattle.std.specs.Prelude.{find, filter, is_none, option_map, option_and_then, slice_get}
 use Rattle.claim_model.specs.Words.{Auth}
 use Rattle.claim_model.specs.Context.{Context}
 use Rattle.claim_model.specs.Payments.{Payment, same_auth, payments, is_standing, standing, payment_of}
@@ -13,12 +12,10 @@ use Rattle.claim_model.specs.Promises.{OneStandingPayment, rulings_of}
 use Rattle.payer_book.specs.declared.book.PaymentView.{PaymentView}
 use Rattle.payer_book.specs.Views.{payment_view}
 use Rattle.world_core.specs.Headline.{FillIsPaidOnce}
+use Rattle.claim_model.proofs.Lists.{find_cases, find_passes}
+use Rattle.claim_model.proofs.Tests.{auth_same}
 
 -- an element that a search finds, and that passes another test, stands where that test filters
-find_cases : {A : Type 0} (b : Bool) (x a : A) (rest : Option A) → cond b (Some x) rest ≡ Some a → ((b ≡ true) × (x ≡ a)) ⊎ ((b ≡ false) × (rest ≡ Some a))
-find_cases true x a rest h = inl (refl, cc)
-find_cases false x a rest h = inr (refl, h)
-
 kept_first : {A : Type 0} (b : Bool) (x : A) (more : List A) → b ≡ true → slice_get (cond b (x ∷ more) more) 0 ≡ Some x
 kept_first true x more e = refl
 kept_first false x more e = absurd cc
@@ -34,21 +31,6 @@ found_kept test keep (x ∷ xs) a h t =
       | inl e ↦ (0, subst (λ y. slice_get (cond (keep x) (x ∷ filter keep xs) (filter keep xs)) 0 ≡ Some y) e.1 (kept_first (keep x) x (filter keep xs) (ap keep e.1 ∙ t)))
       | inr e ↦ let r = found_kept test keep xs a e.1 t in kept_later (keep x) x a (filter keep xs) r.0 r.1
     ]
-
-find_passes : {A : Type 0} (test : A → Bool) (xs : List A) (a : A) → find test xs ≡ Some a → test a ≡ true
-find_passes test [] a h = absurd cc
-find_passes test (x ∷ xs) a h =
-    elim (find_cases (test x) x a (find test xs) h) [
-      | inl e ↦ subst (λ y. test y ≡ true) e.1 e.0
-      | inr e ↦ find_passes test xs a e.1
-    ]
-
-auth_same : (a b : Auth) → same_auth a b ≡ true → a ≡ b
-auth_same a b h =
-    let p = and_parts (a.payer == b.payer) (a.serial == b.serial) h in
-    let e : a.payer ≡ b.payer = eqb-true a.payer b.payer p.0 in
-    let f : a.serial ≡ b.serial = eqb-true a.serial b.serial p.1 in
-    λ i. record { payer = e i; serial = f i }
 
 -- what `payment` gives, as the payment that a book has
 payment_there : (ctx : Context) (auth : Auth) (p : PaymentView) (o : Option Book) → option_and_then (λ (b : Book). option_map payment_view (payment_of auth (ruled_rows ctx b.rows))) o ≡ Some p

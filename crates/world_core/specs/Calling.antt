@@ -1,10 +1,17 @@
 -- A call on one node of a list whose nodes are numbered from 1.
-use Rattle.std.specs.Prelude.{ℕ, List, Option, Some, None}
+use Rattle.std.specs.Prelude.{◌≡◌, ℕ, List, map, Option, Some, None, Result, IfOk}
+use Rattle.std.specs.Global.{Vec}
+use Rattle.bin_routes.specs.Table.{RouteMaps}
+use Rattle.claim_model.specs.Bytes.{bytes_with}
 use Rattle.claim_model.specs.Refusal.{NoSuchNode}
 use Rattle.claim_model.specs.Numbered.{numbered, renumbered}
-use Rattle.claim_model.specs.Journal.{Journal, JournalAtRest}
-use Rattle.claim_model.specs.Node.{Power, Outcome, Done, Refused}
-use Rattle.node_state.specs.Sends.{most_due}
+use Rattle.claim_model.specs.Node.{Node, Call, Outcome, Done, Refused}
+use Rattle.claim_model.specs.World.{Packet, on_node, posted}
+use Rattle.world_setup.specs.declared.call.Sent.{Sent}
+use Rattle.world_setup.specs.declared.fault.StepFault.{StepFault}
+use Rattle.world_setup.specs.Seen.{sent_seen}
+use Rattle.node_state.specs.Outcomes.{Refuses}
+use Rattle.world_core.specs.NodeLists.{NodeLists, world_of}
 
 abbrev pub list_after : {A : Type 0} → List A → ℕ → Outcome A → Outcome (List A)
 list_after nodes n (Refused why) = Refused why
@@ -18,10 +25,12 @@ called_at call nodes n (Some node) = list_after nodes n (call node)
 unfoldable pub called : {A : Type 0} → (A → Outcome A) → List A → ℕ → Outcome (List A)
 called call nodes n = called_at call nodes n (numbered nodes n)
 
-abbrev pub room_of : Option (Power Journal JournalAtRest) → ℕ
-room_of None = 0
-room_of (Some node) = most_due node
+-- a call on a node that is made leaves the world that the model's call leaves, whatever packets it has, and sends what that sends
+abbrev pub NodeMakes : RouteMaps → NodeLists → Node → Call → NodeLists → Result (Vec Sent) StepFault → Type 0
+NodeMakes routes old node call new result =
+    (packets : List Packet) → IfOk result (λ sent. on_node (bytes_with routes) (world_of old packets) node call ≡
+    Done (world_of new (posted packets node (map sent_seen sent.items))) (map sent_seen sent.items))
 
--- how many packets a tick of the pharmacy of a number sends at most
-abbrev pub room_due : List (Power Journal JournalAtRest) → ℕ → ℕ
-room_due nodes n = room_of (numbered nodes n)
+-- it is refused for the cause for which the model's call is refused; want of memory says nothing of it
+abbrev pub NodeRefuses : RouteMaps → NodeLists → Node → Call → Result (Vec Sent) StepFault → Type 0
+NodeRefuses routes lists node call result = (packets : List Packet) → Refuses (on_node (bytes_with routes) (world_of lists packets) node call) result

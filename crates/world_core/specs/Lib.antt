@@ -3,6 +3,7 @@ pub mod Parts
 pub mod Asked
 pub mod NodeLists
 pub mod Calling
+pub mod Room
 pub mod Stepping
 pub mod Opening
 pub mod RowViews

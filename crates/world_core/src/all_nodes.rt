@@ -1,25 +1,20 @@
 //! All nodes, and a call on one of them.
 
-ghost use Rattle.std.specs.Prelude.{◌≡◌, ◌≤◌, List, length, map, IfOk, OnErr};
+ghost use Rattle.std.specs.Prelude.{◌≡◌, ◌≤◌, length, IfOk, OnErr};
 ghost use Rattle.std.specs.Option.{option_copied};
-ghost use Rattle.bin_routes.specs.Table.{RouteMaps};
 ghost use Rattle.claim_model.specs.Numbered.{numbered};
-ghost use Rattle.claim_model.specs.Bytes.{bytes_with};
-ghost use Rattle.claim_model.specs.Node.{Done, Pharmacy, Tick};
-ghost use Rattle.claim_model.specs.World.{Packet as PacketSeen, on_node, posted};
-ghost use Rattle.world_setup.specs.Seen.{node_seen, sent_seen};
-ghost use Rattle.node_state.specs.Outcomes.{Refuses};
+ghost use Rattle.world_setup.specs.Seen.{node_seen, event_seen};
 ghost use Rattle.world_core.specs.Asked.{asked_seen};
-ghost use Rattle.world_core.specs.Calling.{room_due};
-ghost use Rattle.world_core.specs.NodeLists.{world_of};
+ghost use Rattle.world_core.specs.Calling.{NodeMakes, NodeRefuses};
+ghost use Rattle.world_core.specs.Room.{room_asked, room_for};
 
 use crate::asked::Asked;
-use crate::nodes::{ask_node, most_due, node_of, tick_pharmacy};
+use crate::nodes::{ask_node, most_due, node_of};
 use bin_routes::Routes;
 use node_state::{PayerNode, PharmacyNode, SwitchNode};
 use std::alloc::Global;
 use std::marker::Model;
-use world_setup::{Node, Sent, StepFault};
+use world_setup::{Event, Node, Sent, StepFault};
 
 /// All nodes, each kind numbered from 1.
 #[derive(Drop)]
@@ -34,7 +29,11 @@ impl Model for Nodes {
 
     ghost Value = { NodeLists };
 
-    ghost view = { λ n. record { pharmacies = n.pharmacies.items; switches = n.switches.items; payers = n.payers.items } };
+    ghost view = { λ n. record {
+      pharmacies = n.pharmacies.items;
+      switches = n.switches.items;
+      payers = n.payers.items;
+    } };
 }
 
 impl Nodes {
@@ -67,9 +66,10 @@ impl Nodes {
         node: Node,
         call: Asked<'_>,
     ) -> Result<Vec<Sent>, StepFault>
-        ensures ok { (packets : List PacketSeen) → IfOk result (λ sent. on_node (bytes_with routes.now) (world_of self.old packets) (node_seen node) (asked_seen call.entry) ≡ Done (world_of self.new (posted packets (node_seen node) (map sent_seen sent.items))) (map sent_seen sent.items)) }
-        ensures fault { (packets : List PacketSeen) → Refuses (on_node (bytes_with routes.now) (world_of self.old packets) (node_seen node) (asked_seen call.entry)) result }
-        ensures few { IfOk result (λ sent. length sent.items ≤ 1) }
+        ensures ok { NodeMakes routes.now self.old (node_seen node) (asked_seen call.entry) self.new result }
+        ensures fault { NodeRefuses routes.now self.old (node_seen node) (asked_seen call.entry) result }
+        ensures few { IfOk result
+            (λ sent. length sent.items ≤ room_asked self.old (node_seen node) (asked_seen call.entry)) }
         ensures err { OnErr result (self.new ≡ self.old) }
     {
         match node {
@@ -79,20 +79,17 @@ impl Nodes {
         }
     }
 
-    /// How many packets the next tick of a pharmacy sends at most.
-    pub(crate) fn most_due(&self, number: u16) -> usize
-        ensures { result ≡ room_due self.now.pharmacies number }
+    /// How many packets an event sends at most.
+    pub(crate) fn room_for(&self, event: &Event) -> usize
+        ensures { result ≡ room_for self.now (event_seen event.now) }
     {
-        most_due(self.pharmacies.as_slice(), number)
-    }
-
-    /// One tick of a pharmacy.
-    pub(crate) fn tick(&mut self, alloc: Global, number: u16) -> Result<Vec<Sent>, StepFault>
-        ensures ok { (routes : RouteMaps) (packets : List PacketSeen) → IfOk result (λ sent. on_node (bytes_with routes) (world_of self.old packets) (Pharmacy number) Tick ≡ Done (world_of self.new (posted packets (Pharmacy number) (map sent_seen sent.items))) (map sent_seen sent.items)) }
-        ensures fault { (routes : RouteMaps) (packets : List PacketSeen) → Refuses (on_node (bytes_with routes) (world_of self.old packets) (Pharmacy number) Tick) result }
-        ensures few { IfOk result (λ sent. length sent.items ≤ room_due self.old.pharmacies number) }
-        ensures err { OnErr result (self.new ≡ self.old) }
-    {
-        tick_pharmacy(&mut self.pharmacies, alloc, number)
+        match event {
+            Event::Tick { pharmacy } => most_due(self.pharmacies.as_slice(), *pharmacy),
+            Event::Submit { .. }
+            | Event::Deliver { .. }
+            | Event::Stop(_)
+            | Event::Start(_)
+            | Event::Plan { .. } => 1,
+        }
     }
 }

@@ -23,7 +23,8 @@ impl World {
     /// Whatever two nodes hold for one number is the same, now and after any further events: no two different
     /// answers to one numbered transaction.
     pub fn one_answer(&self)
-        ensures { (events : List Event) → OneAnswer (context_of self.now) self.now.world (run (context_of self.now) self.now.world events) }
+        ensures { (events : List Event)
+            → OneAnswer (context_of self.now) self.now.world (run (context_of self.now) self.now.world events) }
     {
         let _ = &self.parts;
         one_answer();
@@ -107,7 +108,8 @@ impl World {
 
     /// What journals and books had decided stays decided, whatever events come.
     pub fn decisions_stay(&self)
-        ensures { (events : List Event) → StaysDecided self.now.world (run (context_of self.now) self.now.world events) }
+        ensures { (events : List Event)
+            → StaysDecided self.now.world (run (context_of self.now) self.now.world events) }
     {
         decisions_stay();
     }
@@ -117,7 +119,10 @@ impl World {
     /// deliveries of packets that are sent on the way. After them the pharmacy holds the answer, and every other
     /// pharmacy, entry and book is as it was, but for the one row that the payer's book may have got.
     pub fn open_entries_recover(&self)
-        ensures { (id : TxnId) (request : List ℕ) (journal : JournalAtRest) → journal_at self.now.world id.pharmacy ≡ Some journal → IsOpen self.now.world id request → Answerable (context_of self.now) self.now.world id request → RecoveredAlone (context_of self.now) self.now.world journal id request }
+        ensures { (id : TxnId) (request : List ℕ) (journal : JournalAtRest)
+            → journal_at self.now.world id.pharmacy ≡ Some journal → IsOpen self.now.world id request
+            → Answerable (context_of self.now) self.now.world id request
+            → RecoveredAlone (context_of self.now) self.now.world journal id request }
     {
         let _ = &self.parts;
         nobody_else_is_touched();

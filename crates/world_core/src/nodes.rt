@@ -2,13 +2,11 @@
 
 ghost use Rattle.std.specs.Prelude.{◌≡◌, ◌<◌, ◌≤◌, ◌⊎◌, suc, length, IfOk, IfNone, IfSome, OnErr};
 ghost use Rattle.std.specs.Option.{option_copied};
-ghost use Rattle.bin_routes.specs.Table.{RouteMaps};
-ghost use Rattle.claim_model.specs.Bytes.{bytes_with};
 ghost use Rattle.claim_model.specs.Numbered.{numbered};
-ghost use Rattle.claim_model.specs.Node.{Tick, pharmacy_step};
 ghost use Rattle.node_state.specs.Outcomes.{Makes, Refuses};
 ghost use Rattle.world_core.specs.Asked.{asked_seen};
-ghost use Rattle.world_core.specs.Calling.{called, room_due};
+ghost use Rattle.world_core.specs.Calling.{called};
+ghost use Rattle.world_core.specs.Room.{most_of, room_due};
 
 use crate::asked::{Asked, Ruled};
 use bin_routes::Routes;
@@ -45,9 +43,12 @@ pub(crate) fn ask_node<N: Ruled>(
     number: u16,
     call: Asked<'_>,
 ) -> Result<Vec<Sent>, StepFault>
-    ensures ok { Makes (called (λ node. N.ruled routes.now node (asked_seen call.entry)) nodes.old.items number) nodes.new.items result }
-    ensures fault { Refuses (called (λ node. N.ruled routes.now node (asked_seen call.entry)) nodes.old.items number) result }
-    ensures few { IfOk result (λ sent. length sent.items ≤ 1) }
+    ensures ok { Makes (called
+        (λ node. N.ruled routes.now node (asked_seen call.entry)) nodes.old.items number) nodes.new.items result }
+    ensures fault { Refuses (called
+        (λ node. N.ruled routes.now node (asked_seen call.entry)) nodes.old.items number) result }
+    ensures few { IfOk result (λ sent. length sent.items
+        ≤ most_of (λ node. N.most node (asked_seen call.entry)) (numbered nodes.old.items number)) }
     ensures err { OnErr result (nodes.new.items ≡ nodes.old.items) }
 {
     match place_of(number, nodes.len()) {
@@ -63,22 +64,5 @@ pub(crate) fn most_due(nodes: &[PharmacyNode], number: u16) -> usize
     match place_of(number, nodes.len()) {
         Some(place) => nodes[place].most_due(),
         None => 0,
-    }
-}
-
-/// One tick of the pharmacy of a number.
-pub(crate) fn tick_pharmacy(
-    nodes: &mut Vec<PharmacyNode>,
-    alloc: Global,
-    number: u16,
-) -> Result<Vec<Sent>, StepFault>
-    ensures ok { (routes : RouteMaps) → Makes (called (λ node. pharmacy_step (bytes_with routes) node Tick) nodes.old.items number) nodes.new.items result }
-    ensures fault { (routes : RouteMaps) → Refuses (called (λ node. pharmacy_step (bytes_with routes) node Tick) nodes.old.items number) result }
-    ensures few { IfOk result (λ sent. length sent.items ≤ room_due nodes.old.items number) }
-    ensures err { OnErr result (nodes.new.items ≡ nodes.old.items) }
-{
-    match place_of(number, nodes.len()) {
-        Some(place) => nodes[place].tick(alloc),
-        None => Err(StepFault::NoSuchNode),
     }
 }

@@ -9,7 +9,8 @@ use world_setup::{Node, Packet, Sent};
 /// Posts what a node sent. The list has room for it.
 pub(crate) fn post(packets: &mut Vec<Packet>, from: Node, sent: Vec<Sent>)
     requires { vec_len packets.old + length sent.items ≤ vec_capacity packets.old }
-    ensures { map packet_seen packets.new.items ≡ posted (map packet_seen packets.old.items) (node_seen from) (map sent_seen sent.items) }
+    ensures { map packet_seen packets.new.items ≡ posted (map packet_seen packets.old.items) (node_seen from)
+        (map sent_seen sent.items) }
 {
     for each in sent {
         let Sent { to, bytes } = each;

@@ -1,6 +1,6 @@
 //! The world.
 
-ghost use Rattle.std.specs.Prelude.{◌≡◌, ◌≢◌, ◌+◌, ◌<◌, ◌⊎◌, length, map, take, None, Some, IfOk, IfErr, OnOk, OnErr};
+ghost use Rattle.std.specs.Prelude.{◌≡◌, ◌+◌, ◌<◌, ◌⊎◌, length, map, take, None, Some, IfOk, IfErr, OnOk, OnErr};
 ghost use Rattle.std.specs.Bool.{OnTrue, OnFalse};
 ghost use Rattle.bin_routes.specs.Table.{routes_of};
 ghost use Rattle.claim_model.specs.Settings.{opening};
@@ -10,7 +10,7 @@ ghost use Rattle.world_setup.specs.Taken.{world_fault};
 ghost use Rattle.world_setup.specs.declared.world_fault.WorldFault.TheVariants.{OutOfMemory};
 ghost use Rattle.node_state.specs.Outcomes.{Refuses};
 ghost use Rattle.world_core.specs.Parts.{context_of};
-ghost use Rattle.world_core.specs.Stepping.{next_of};
+ghost use Rattle.world_core.specs.Stepping.{next_of, outcome_in};
 
 use crate::parts::Parts;
 use bin_routes::Routes;
@@ -49,7 +49,10 @@ impl World {
     /// The first that stands: `TooMany`, `NoNode`, `SameProvider`, `BadRoute`. `OutOfMemory` may stand in place of any
     /// answer.
     pub fn new(alloc: Global, settings: WorldSettings) -> Result<World, WorldFault>
-        ensures made { IfOk result (λ w. w ≡ record { routes = routes_of settings.routes.items; world = opening (settings_seen settings) }) }
+        ensures made { IfOk result (λ w. w ≡ record {
+          routes = routes_of settings.routes.items;
+          world = opening (settings_seen settings);
+        }) }
         ensures taken { OnOk result (world_fault settings ≡ None) }
         ensures fault { IfErr result (λ fault. (fault ≡ OutOfMemory) ⊎ (world_fault settings ≡ Some fault)) }
     {
@@ -67,8 +70,12 @@ impl World {
     /// `NoSuchNode` or `NoSuchPacket`; then `Down` or `AlreadyUp`; then the node's own. `OutOfMemory` may stand in place
     /// of any answer. The world is then as it was.
     pub fn step(&mut self, event: &Event) -> Result<Range<u64>, StepFault>
-        ensures ok { OnOk result (next_of (step (context_of self.old) self.old.world (event_seen event.now)) ≡ Some self.new.world) }
-        ensures sent { IfOk result (λ range. range ≡ record { start = length self.old.world.packets + 1; end = length self.new.world.packets + 1 }) }
+        ensures ok { OnOk result (next_of (step (context_of self.old) self.old.world (event_seen event.now))
+            ≡ Some self.new.world) }
+        ensures sent { IfOk result (λ range. range ≡ record {
+          start = length self.old.world.packets + 1;
+          end = length self.new.world.packets + 1;
+        }) }
         ensures fault { Refuses (step (context_of self.old) self.old.world (event_seen event.now)) result }
         ensures err { OnErr result (self.new ≡ self.old) }
         ensures routes { self.new.routes ≡ self.old.routes }
@@ -85,8 +92,10 @@ impl World {
     /// Where memory is refused, the count of the events before the one that wanted it. They were made, and the others
     /// can be run later.
     pub fn run(&mut self, events: &[Event]) -> Result<(), (usize, AllocError)>
-        ensures ok { OnOk result (self.new.world ≡ run (context_of self.old) self.old.world (map event_seen events.now)) }
-        ensures err { IfErr result (λ e. self.new.world ≡ run (context_of self.old) self.old.world (map event_seen (take e.0 events.now))) }
+        ensures ok { OnOk result (self.new.world ≡ run (context_of self.old) self.old.world
+            (map event_seen events.now)) }
+        ensures err { IfErr result
+            (λ e. self.new.world ≡ run (context_of self.old) self.old.world (map event_seen (take e.0 events.now))) }
         ensures left { IfErr result (λ e. e.0 < length events.now) }
         ensures routes { self.new.routes ≡ self.old.routes }
     {
@@ -100,7 +109,7 @@ impl World {
 
     /// Makes an event of a run, and tells whether it wanted memory.
     fn lacks_memory(&mut self, event: &Event) -> bool
-        ensures made { OnFalse result (self.new.world ≡ world_after self.old.world (step (context_of self.old) self.old.world (event_seen event.now))) }
+        ensures made { OnFalse result (self.new.world ≡ world_after self.old.world (outcome_in self.old event.now)) }
         ensures wanted { OnTrue result (self.new ≡ self.old) }
         ensures routes { self.new.routes ≡ self.old.routes }
     {

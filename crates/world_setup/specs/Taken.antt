@@ -1,8 +1,9 @@
 -- Which settings a world takes, and why it does not take others.
-use Rattle.std.specs.Prelude.{Option, length}
+use Rattle.std.specs.Prelude.{Bool, ◌||◌, not, nat_lt, Option, length}
+use Rattle.std.specs.List.{list_all}
 use Rattle.std.specs.Option.{option_or, option_map}
 use Rattle.bin_routes.specs.Fault.{first_fault}
-use Rattle.claim_model.specs.Settings.{SettingsFault, settings_fault}
+use Rattle.claim_model.specs.Settings.{SettingsFault, settings_fault, is_empty, has_nodes}
 use Rattle.claim_model.specs.Settings as model
 use Rattle.world_setup.specs.declared.settings.WorldSettings.{WorldSettings}
 use Rattle.world_setup.specs.Seen.{settings_seen}
@@ -14,6 +15,18 @@ abbrev pub named : SettingsFault → WorldFault
 named model.TooMany = fault.TooMany
 named model.NoNode = fault.NoNode
 named model.SameProvider = fault.SameProvider
+
+-- more nodes of a kind than a world takes
+abbrev pub too_many : WorldSettings → Bool
+too_many s = nat_lt 256 (length s.pharmacies.items) || (nat_lt 64 (length s.switches.items) || nat_lt 64 (length s.payers.items))
+
+-- each pharmacy has switches to send to, all of which are there
+abbrev pub all_have_nodes : WorldSettings → Bool
+all_have_nodes s = list_all (has_nodes (length s.switches.items)) s.pharmacies.items
+
+-- no node of a kind, or a pharmacy that has no switch to send to, or one that is not there
+abbrev pub lacks_node : WorldSettings → Bool
+lacks_node s = is_empty s.pharmacies.items || (is_empty s.switches.items || (is_empty s.payers.items || not (all_have_nodes s)))
 
 -- what is wrong with the nodes of settings
 abbrev pub nodes_fault : WorldSettings → Option WorldFault

@@ -1,9 +1,9 @@
 //! Whether settings name nodes of which a world can be made.
 
-ghost use Rattle.std.specs.Prelude.{◌≡◌, ◌≤◌, ◌||◌, nat_lt, not, length};
+ghost use Rattle.std.specs.Prelude.{◌≡◌};
 ghost use Rattle.std.specs.List.{list_all, list_any};
-ghost use Rattle.claim_model.specs.Settings.{is_empty, is_switch, has_nodes, same_provider, some_provider_twice};
-ghost use Rattle.world_setup.specs.Taken.{nodes_fault};
+ghost use Rattle.claim_model.specs.Settings.{is_switch, has_nodes, same_provider, some_provider_twice};
+ghost use Rattle.world_setup.specs.Taken.{too_many, lacks_node, nodes_fault};
 
 use crate::settings::WorldSettings;
 use crate::world_fault::WorldFault;
@@ -32,7 +32,7 @@ pub(crate) fn nodes_fault(settings: &WorldSettings) -> Option<WorldFault>
 
 /// Whether there are more nodes of a kind than a world takes.
 fn is_too_many(settings: &WorldSettings) -> bool
-    ensures { result ≡ (nat_lt 256 (length settings.now.pharmacies.items) || (nat_lt 64 (length settings.now.switches.items) || nat_lt 64 (length settings.now.payers.items))) }
+    ensures { result ≡ too_many settings.now }
 {
     settings.pharmacies.len() > MOST_PHARMACIES
         || settings.switches.len() > MOST_OTHERS
@@ -42,7 +42,7 @@ fn is_too_many(settings: &WorldSettings) -> bool
 /// Whether there is no node of a kind, or a pharmacy has no switch to send to, or one that is not there.
 #[tactic(auto, using(crate::proofs::Checking::empty_by_length))]
 fn lacks_node(settings: &WorldSettings) -> bool
-    ensures { result ≡ (is_empty settings.now.pharmacies.items || (is_empty settings.now.switches.items || (is_empty settings.now.payers.items || not (list_all (has_nodes (length settings.now.switches.items)) settings.now.pharmacies.items)))) }
+    ensures { result ≡ lacks_node settings.now }
 {
     settings.pharmacies.is_empty()
         || settings.switches.is_empty()

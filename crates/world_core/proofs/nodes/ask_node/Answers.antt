@@ -3,7 +3,7 @@ use Rattle.std.proofs.lemmas.Result.{IfOk-weaker, IfErr-weaker}
 use Rattle.world_setup.specs.Seen.{sent_seen}
 use Rattle.world_setup.specs.Refused.{refusal_of}
 use Rattle.world_core.specs.Asked.{asked_seen}
-use Rattle.world_core.proofs.Calls.{node_at, called_done, called_refused, called_nobody}
+use Rattle.world_core.proofs.Calls.{node_at, called_done, called_refused, called_nobody, most_at}
 use Rattle.world_core.proofs.nodes.ask_node.Goals as goal
 
 pub returns-in-None-clause-fault : goal.returns-in-None-clause-fault
@@ -23,3 +23,9 @@ returns-in-Some-clause-fault g c =
     let within : c.in-Some.place < length c.args.nodes.now.items = omega (arith, c.in-Some.ensures.place.1, c.len.ensures) in
     let there : slice_get c.args.nodes.now.items c.in-Some.place ≡ Some c.index_mut.result.now = node_at _ _ _ _ within c.index_mut.ensures.value in
     IfErr-weaker c.ask.result _ _ (λ fault h. called_refused (λ node. g.N.Ruled.ruled c.args.routes.now node (asked_seen c.args.call)) c.args.nodes.now.items c.args.number c.in-Some.place c.index_mut.result.now (refusal_of fault) c.in-Some.ensures.place.0 there h) c.ask.ensures.fault
+
+pub returns-in-Some-clause-few : goal.returns-in-Some-clause-few
+returns-in-Some-clause-few g c =
+    let within : c.in-Some.place < length c.args.nodes.now.items = omega (arith, c.in-Some.ensures.place.1, c.len.ensures) in
+    let there : slice_get c.args.nodes.now.items c.in-Some.place ≡ Some c.index_mut.result.now = node_at _ _ _ _ within c.index_mut.ensures.value in
+    IfOk-weaker c.ask.result _ _ (λ sent h. most_at (λ node. g.N.Ruled.most node (asked_seen c.args.call)) c.args.nodes.now.items c.args.number c.in-Some.place c.index_mut.result.now (length sent.items) c.in-Some.ensures.place.0 there h) c.ask.ensures.few

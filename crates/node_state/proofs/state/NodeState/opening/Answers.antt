@@ -2,7 +2,8 @@ use Rattle.std.proofs.Common.{length, map, arith}
 use Rattle.claim_model.specs.Settings.{pharmacies_from, switches_of, payers_from}
 use Rattle.world_setup.specs.Seen.{settings_seen, payer_seen}
 use Rattle.node_state.specs.Nodes.{OfPharmacy, OfSwitch, OfPayer}
-use Rattle.node_state.proofs.Openings.{there_within, mapped_there, length-pharmacies_from, length-switches_of, length-payers_from, all_have_nodes, have_node}
+use Rattle.claim_model.proofs.Posts.{length_switches}
+use Rattle.node_state.proofs.Openings.{there_within, mapped_there, length-pharmacies_from, length-payers_from, all_have_nodes, have_node}
 use Rattle.node_state.proofs.state.NodeState.opening.Goals as goal
 
 pub pharmacy_of-requires-clause-nodes : goal.pharmacy_of-requires-clause-nodes
@@ -17,7 +18,7 @@ pharmacy_of-requires-clause-there c =
 pub switch_of-switch-requires-clause-there : goal.switch_of-switch-requires-clause-there
 switch_of-switch-requires-clause-there c =
     let within = there_within (switches_of c.args.settings.now.switches.items) c.in-Switch.number (mapped_there OfSwitch _ (rw c.in-Switch.is at c.requires.there)) in
-    rw c.as_slice-in-Switch.ensures.value (omega (arith, within.1, length-switches_of c.args.settings.now.switches.items))
+    rw c.as_slice-in-Switch.ensures.value (omega (arith, within.1, length_switches c.args.settings.now.switches.items))
 
 pub payer_of-requires-clause-there : goal.payer_of-requires-clause-there
 payer_of-requires-clause-there c =

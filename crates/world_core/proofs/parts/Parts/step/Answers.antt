@@ -1,42 +1,43 @@
-use Rattle.claim_model.specs.World.{step}
+use Rattle.std.proofs.Common.{◌≡◌, List, map, Some, None, sym, ap, ◌∙◌}
+use Rattle.std.proofs.lemmas.Result.{err_from_is_err_and}
+use Rattle.claim_model.specs.Bytes.{bytes_with}
+use Rattle.claim_model.specs.Nodes.{asked}
+use Rattle.claim_model.specs.World as model
+use Rattle.claim_model.specs.World.{posted}
+use Rattle.world_setup.specs.declared.call.Packet.{Packet}
+use Rattle.world_setup.specs.Seen.{node_seen, sent_seen, packet_seen, event_seen}
+use Rattle.world_core.specs.Asked.{asked_of}
+use Rattle.world_core.specs.NodeLists.{world_of}
+use Rattle.world_core.specs.Stepping.{next_of}
+use Rattle.world_core.proofs.Stepping.{asks, asks_nobody}
 use Rattle.world_core.proofs.parts.Parts.step.Goals as goal
 
-pub returns-in-Submit-clause-ok : goal.returns-in-Submit-clause-ok
-unfolding step
-returns-in-Submit-clause-ok c = rw c.in-Submit.is (rw c.as_slice.ensures at c.ask.ensures.ok)
+pub returns-in_default-clause-fault : goal.returns-in_default-clause-fault
+returns-in_default-clause-fault c =
+    let event = event_seen c.args.event.now in
+    let seen : c.as_slice.result.now ≡ c.self.inside.packets.items = c.as_slice.ensures.value ∙ c.in_ok-reserve.ensures.items in
+    let nobody : None ≡ asked (map packet_seen c.self.inside.packets.items) event = c.in_default.ensures ∙ ap (λ (ps : List Packet). asked (map packet_seen ps) event) seen in
+    rw (← c.self.view_is) (asks_nobody (bytes_with c.args.routes.now) (world_of c.self.inside.nodes (map packet_seen c.self.inside.packets.items)) event nobody)
 
-pub returns-in-Submit-clause-fault : goal.returns-in-Submit-clause-fault
-unfolding step
-returns-in-Submit-clause-fault c = rw c.in-Submit.is (rw c.as_slice.ensures at c.ask.ensures.fault)
+pub returns-in_err-sent-clause-fault : goal.returns-in_err-sent-clause-fault
+returns-in_err-sent-clause-fault c =
+    let e = err_from_is_err_and c.from_residual-in_err-sent.result c.from_residual-in_err-sent.ensures.1 in
+    let event = event_seen c.args.event.now in
+    let packets = map packet_seen c.self.inside.packets.items in
+    let a = asked_of (c.in-Some.node, c.in-Some.call) in
+    let seen : c.as_slice.result.now ≡ c.self.inside.packets.items = c.as_slice.ensures.value ∙ c.in_ok-reserve.ensures.items in
+    let some : Some a ≡ asked packets event = c.in-Some.ensures ∙ ap (λ (ps : List Packet). asked (map packet_seen ps) event) seen in
+    let is = asks (bytes_with c.args.routes.now) (world_of c.self.inside.nodes packets) event a some in
+    rw (e.1, e.2, ← c.self.view_is) (rw is (c.in_err-sent.ensures.fault packets))
 
-pub returns-in-Tick-clause-ok : goal.returns-in-Tick-clause-ok
-unfolding step
-returns-in-Tick-clause-ok c = rw c.in-Tick.is (c.tick.ensures.ok c.args.routes.now)
-
-pub returns-in-Tick-clause-fault : goal.returns-in-Tick-clause-fault
-unfolding step
-returns-in-Tick-clause-fault c = rw c.in-Tick.is (c.tick.ensures.fault c.args.routes.now)
-
-pub returns-in-Stop-clause-ok : goal.returns-in-Stop-clause-ok
-unfolding step
-returns-in-Stop-clause-ok c = rw c.in-Stop.is c.ask-in-Stop.ensures.ok
-
-pub returns-in-Stop-clause-fault : goal.returns-in-Stop-clause-fault
-unfolding step
-returns-in-Stop-clause-fault c = rw c.in-Stop.is c.ask-in-Stop.ensures.fault
-
-pub returns-in-Start-clause-ok : goal.returns-in-Start-clause-ok
-unfolding step
-returns-in-Start-clause-ok c = rw c.in-Start.is c.ask-in-Start.ensures.ok
-
-pub returns-in-Start-clause-fault : goal.returns-in-Start-clause-fault
-unfolding step
-returns-in-Start-clause-fault c = rw c.in-Start.is c.ask-in-Start.ensures.fault
-
-pub returns-in-Plan-clause-ok : goal.returns-in-Plan-clause-ok
-unfolding step
-returns-in-Plan-clause-ok c = rw c.in-Plan.is (rw c.as_slice-in-Plan.ensures at c.ask-in-Plan.ensures.ok)
-
-pub returns-in-Plan-clause-fault : goal.returns-in-Plan-clause-fault
-unfolding step
-returns-in-Plan-clause-fault c = rw c.in-Plan.is (rw c.as_slice-in-Plan.ensures at c.ask-in-Plan.ensures.fault)
+pub returns-clause-ok : goal.returns-clause-ok
+returns-clause-ok c =
+    let event = event_seen c.args.event.now in
+    let packets = map packet_seen c.self.inside.packets.items in
+    let a = asked_of (c.in-Some.node, c.in-Some.call) in
+    let seen : c.as_slice.result.now ≡ c.self.inside.packets.items = c.as_slice.ensures.value ∙ c.in_ok-reserve.ensures.items in
+    let some : Some a ≡ asked packets event = c.in-Some.ensures ∙ ap (λ (ps : List Packet). asked (map packet_seen ps) event) seen in
+    let is = asks (bytes_with c.args.routes.now) (world_of c.self.inside.nodes packets) event a some in
+    let kept = ap (λ (ps : List Packet). posted (map packet_seen ps) (node_seen c.in-Some.node) (map sent_seen c.in_ok-sent.sent.items)) c.in_ok-reserve.ensures.items in
+    let all : map packet_seen c.post.new.packets.items ≡ posted packets (node_seen c.in-Some.node) (map sent_seen c.in_ok-sent.sent.items) = c.post.ensures ∙ kept in
+    rw (← c.self.view_is) (ap next_of (is ∙ c.in_ok-sent.ensures.ok packets) ∙ ap (λ (ps : List model.Packet). Some (world_of c.call.new.self ps)) (sym all))
