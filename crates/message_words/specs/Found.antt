@@ -1,8 +1,6 @@
 -- What is known of the values of a field.
-use Rattle.std.specs.Prelude.{ℕ, Bool, true, false, List, [], ◌∷◌}
+use Rattle.std.specs.Prelude.{ℕ, Bool, true, false, List}
 use Rattle.d0_segments.specs.Parts.{FieldParts, SegmentParts}
-use Rattle.d0_segments.specs.Inside.{fields_left}
-use Rattle.d0_segments.specs.declared.cursor.SegmentAt.{SegmentAt}
 use Rattle.claim_profile.specs.Fields.{trimmed, untrimmed, values, fields_of}
 use Rattle.claim_profile.specs.Tally.{Tally, Absent, Single, Many, tallied}
 use Rattle.message_words.specs.declared.found.Found.{Found}
@@ -26,7 +24,3 @@ after_fields sought t fields = tallied t (values (reading sought.is_text) sought
 
 abbrev pub after_segments : Sought → Tally → List SegmentParts → Tally
 after_segments sought t segments = after_fields sought t (fields_of sought.segment segments)
-
--- a segment in place
-abbrev pub segment_seen : SegmentAt → SegmentParts
-segment_seen s = record { id = s.first ∷ s.second ∷ []; fields = fields_left s.fields.bytes.now }

@@ -3,7 +3,9 @@
 ghost use Rattle.std.specs.Prelude.{◌≡◌, ◌<◌, [], ◌∷◌, ◌++◌, length, map, IfOk, OnOk};
 ghost use Rattle.d0_segments.specs.Pieces.{shared_of, groups_of};
 ghost use Rattle.d0_segments.specs.FramedParts.{framed_parts};
+ghost use Rattle.message_words.specs.Found.{found_seen};
 ghost use Rattle.message_words.specs.Causes.{
+  cause_seen,
   causes_seen,
   condition_seen,
   holding,
@@ -22,7 +24,7 @@ ghost use Rattle.message_words.specs.Causes.{
   given_fill_condition,
 };
 
-use crate::found::{Found, Sought};
+use crate::found::Found;
 use crate::names::FieldName;
 use crate::values::{
     is_bad_amount, is_bad_fee, is_bad_given_fill, is_bad_number, is_bad_text, is_exactly,
@@ -41,6 +43,15 @@ pub struct Cause<'a> {
     pub field: FieldName,
     /// What stands in it; nothing of the date of service, which stands in the header.
     pub found: Found<'a>,
+}
+
+impl<'a> Cause<'a> {
+    /// A cause of these parts.
+    fn of(code: Code, field: FieldName, found: Found<'a>) -> Cause<'a>
+        ensures { cause_seen result ≡ record { code = code; field = field; found = found_seen found.entry } }
+    {
+        Cause { code, field, found }
+    }
 }
 
 /// All causes for which the transaction at `place`, from 0, is rejected, in the order in which their codes are told;
@@ -71,11 +82,7 @@ pub fn all_causes<'a>(
 fn uncarried_causes<'a>(alloc: Global) -> Result<Vec<Cause<'a>>, AllocError>
     ensures { IfOk result (λ found. causes_seen found.items ≡ uncarried_cause ∷ []) }
 {
-    let cause = Cause {
-        code: Code::NotCovered,
-        field: FieldName::TransactionCode,
-        found: Found::Nothing,
-    };
+    let cause = Cause::of(Code::NotCovered, FieldName::TransactionCode, Found::Nothing);
     collect(alloc, &[(true, cause)])
 }
 
@@ -155,17 +162,8 @@ fn put_holding<'a>(
 fn cardholder(from: Cursor<'_>) -> (bool, Cause<'_>)
     ensures { condition_seen result ≡ cardholder_condition (shared_of from.entry.bytes.now) }
 {
-    let sought = Sought {
-        segment: *b"04",
-        field: *b"C2",
-        is_text: true,
-    };
-    let found = Found::of(from, sought);
-    let cause = Cause {
-        code: Code::Cardholder,
-        field: FieldName::Cardholder,
-        found,
-    };
+    let found = Found::text(from, *b"04", *b"C2");
+    let cause = Cause::of(Code::Cardholder, FieldName::Cardholder, found);
     (is_bad_text(found, 20), cause)
 }
 
@@ -174,11 +172,11 @@ fn cardholder(from: Cursor<'_>) -> (bool, Cause<'_>)
 fn date<'a>(header: &RequestHeader) -> (bool, Cause<'a>)
     ensures { condition_seen result ≡ date_condition header.now }
 {
-    let cause = Cause {
-        code: Code::DateOfService,
-        field: FieldName::DateOfService,
-        found: Found::Nothing,
-    };
+    let cause = Cause::of(
+        Code::DateOfService,
+        FieldName::DateOfService,
+        Found::Nothing,
+    );
     (!is_date(&header.date()), cause)
 }
 
@@ -187,31 +185,17 @@ fn date<'a>(header: &RequestHeader) -> (bool, Cause<'a>)
 fn prescription(from: Cursor<'_>) -> (bool, Cause<'_>)
     ensures { condition_seen result ≡ prescription_condition (shared_of from.entry.bytes.now) }
 {
-    let sought = Sought {
-        segment: *b"07",
-        field: *b"EM",
-        is_text: true,
-    };
-    let qualifier = Found::of(from, sought);
+    let qualifier = Found::text(from, *b"07", *b"EM");
     if !is_exactly(qualifier, b"1") {
-        let cause = Cause {
-            code: Code::Prescription,
-            field: FieldName::PrescriptionQualifier,
-            found: qualifier,
-        };
+        let cause = Cause::of(
+            Code::Prescription,
+            FieldName::PrescriptionQualifier,
+            qualifier,
+        );
         return (true, cause);
     }
-    let sought = Sought {
-        segment: *b"07",
-        field: *b"D2",
-        is_text: false,
-    };
-    let found = Found::of(from, sought);
-    let cause = Cause {
-        code: Code::Prescription,
-        field: FieldName::Prescription,
-        found,
-    };
+    let found = Found::value(from, *b"07", *b"D2");
+    let cause = Cause::of(Code::Prescription, FieldName::Prescription, found);
     (is_bad_number(found, 12), cause)
 }
 
@@ -220,17 +204,8 @@ fn prescription(from: Cursor<'_>) -> (bool, Cause<'_>)
 fn fill(from: Cursor<'_>) -> (bool, Cause<'_>)
     ensures { condition_seen result ≡ fill_condition (shared_of from.entry.bytes.now) }
 {
-    let sought = Sought {
-        segment: *b"07",
-        field: *b"D3",
-        is_text: false,
-    };
-    let found = Found::of(from, sought);
-    let cause = Cause {
-        code: Code::FillNumber,
-        field: FieldName::FillNumber,
-        found,
-    };
+    let found = Found::value(from, *b"07", *b"D3");
+    let cause = Cause::of(Code::FillNumber, FieldName::FillNumber, found);
     (is_bad_number(found, 2), cause)
 }
 
@@ -239,31 +214,13 @@ fn fill(from: Cursor<'_>) -> (bool, Cause<'_>)
 fn product(from: Cursor<'_>) -> (bool, Cause<'_>)
     ensures { condition_seen result ≡ product_condition (shared_of from.entry.bytes.now) }
 {
-    let sought = Sought {
-        segment: *b"07",
-        field: *b"E1",
-        is_text: true,
-    };
-    let qualifier = Found::of(from, sought);
+    let qualifier = Found::text(from, *b"07", *b"E1");
     if !is_exactly(qualifier, b"03") {
-        let cause = Cause {
-            code: Code::Product,
-            field: FieldName::ProductQualifier,
-            found: qualifier,
-        };
+        let cause = Cause::of(Code::Product, FieldName::ProductQualifier, qualifier);
         return (true, cause);
     }
-    let sought = Sought {
-        segment: *b"07",
-        field: *b"D7",
-        is_text: true,
-    };
-    let found = Found::of(from, sought);
-    let cause = Cause {
-        code: Code::Product,
-        field: FieldName::Product,
-        found,
-    };
+    let found = Found::text(from, *b"07", *b"D7");
+    let cause = Cause::of(Code::Product, FieldName::Product, found);
     (is_bad_text(found, 19), cause)
 }
 
@@ -272,17 +229,8 @@ fn product(from: Cursor<'_>) -> (bool, Cause<'_>)
 fn quantity(from: Cursor<'_>) -> (bool, Cause<'_>)
     ensures { condition_seen result ≡ quantity_condition (shared_of from.entry.bytes.now) }
 {
-    let sought = Sought {
-        segment: *b"07",
-        field: *b"E7",
-        is_text: false,
-    };
-    let found = Found::of(from, sought);
-    let cause = Cause {
-        code: Code::Quantity,
-        field: FieldName::Quantity,
-        found,
-    };
+    let found = Found::value(from, *b"07", *b"E7");
+    let cause = Cause::of(Code::Quantity, FieldName::Quantity, found);
     (is_bad_number(found, 10), cause)
 }
 
@@ -291,17 +239,8 @@ fn quantity(from: Cursor<'_>) -> (bool, Cause<'_>)
 fn cost(from: Cursor<'_>) -> (bool, Cause<'_>)
     ensures { condition_seen result ≡ cost_condition (shared_of from.entry.bytes.now) }
 {
-    let sought = Sought {
-        segment: *b"11",
-        field: *b"D9",
-        is_text: false,
-    };
-    let found = Found::of(from, sought);
-    let cause = Cause {
-        code: Code::IngredientCost,
-        field: FieldName::IngredientCost,
-        found,
-    };
+    let found = Found::value(from, *b"11", *b"D9");
+    let cause = Cause::of(Code::IngredientCost, FieldName::IngredientCost, found);
     (is_bad_amount(found), cause)
 }
 
@@ -310,17 +249,8 @@ fn cost(from: Cursor<'_>) -> (bool, Cause<'_>)
 fn fee(from: Cursor<'_>) -> (bool, Cause<'_>)
     ensures { condition_seen result ≡ fee_condition (shared_of from.entry.bytes.now) }
 {
-    let sought = Sought {
-        segment: *b"11",
-        field: *b"DC",
-        is_text: false,
-    };
-    let found = Found::of(from, sought);
-    let cause = Cause {
-        code: Code::DispensingFee,
-        field: FieldName::DispensingFee,
-        found,
-    };
+    let found = Found::value(from, *b"11", *b"DC");
+    let cause = Cause::of(Code::DispensingFee, FieldName::DispensingFee, found);
     (is_bad_fee(found), cause)
 }
 
@@ -329,16 +259,7 @@ fn fee(from: Cursor<'_>) -> (bool, Cause<'_>)
 fn given_fill(from: Cursor<'_>) -> (bool, Cause<'_>)
     ensures { condition_seen result ≡ given_fill_condition (shared_of from.entry.bytes.now) }
 {
-    let sought = Sought {
-        segment: *b"07",
-        field: *b"D3",
-        is_text: false,
-    };
-    let found = Found::of(from, sought);
-    let cause = Cause {
-        code: Code::FillNumber,
-        field: FieldName::FillNumber,
-        found,
-    };
+    let found = Found::value(from, *b"07", *b"D3");
+    let cause = Cause::of(Code::FillNumber, FieldName::FillNumber, found);
     (is_bad_given_fill(found), cause)
 }

@@ -1,12 +1,13 @@
 //! The values of one field of an order, wherever they stand in the segments of its identification.
 
-ghost use Rattle.std.specs.Prelude.{◌≡◌, ◌≤◌, [], ◌∷◌, length, filter, codes};
+ghost use Rattle.std.specs.Prelude.{◌≡◌, ◌≤◌, [], ◌∷◌, length, filter};
 ghost use Rattle.d0_segments.specs.Views.{field_parts};
 ghost use Rattle.d0_segments.specs.Pieces.{shared_of};
 ghost use Rattle.d0_segments.specs.Inside.{fields_left};
-ghost use Rattle.claim_profile.specs.Fields.{is_filled};
+ghost use Rattle.d0_segments.specs.Cursors.{segment_at};
+ghost use Rattle.claim_profile.specs.Fields.{is_filled, texts_in, values_in};
 ghost use Rattle.claim_profile.specs.Tally.{Absent, tallied};
-ghost use Rattle.message_words.specs.Found.{found_seen, reading, after_fields, after_segments, segment_seen};
+ghost use Rattle.message_words.specs.Found.{found_seen, reading, after_fields, after_segments};
 
 use claim_profile::trimmed;
 use d0_segments::{Cursor, Field, SegmentAt};
@@ -32,6 +33,36 @@ pub(crate) struct Sought {
 }
 
 impl<'a> Found<'a> {
+    /// What stands in the place of a text.
+    pub(crate) fn text(from: Cursor<'a>, segment: [u8; 2], field: [u8; 2]) -> Found<'a>
+        ensures { found_seen result ≡ tallied Absent (texts_in segment field (shared_of from.entry.bytes.now)) }
+    {
+        let is_text = true;
+        Found::of(
+            from,
+            Sought {
+                segment,
+                field,
+                is_text,
+            },
+        )
+    }
+
+    /// What stands in the place of a field that is no text.
+    pub(crate) fn value(from: Cursor<'a>, segment: [u8; 2], field: [u8; 2]) -> Found<'a>
+        ensures { found_seen result ≡ tallied Absent (values_in segment field (shared_of from.entry.bytes.now)) }
+    {
+        let is_text = false;
+        Found::of(
+            from,
+            Sought {
+                segment,
+                field,
+                is_text,
+            },
+        )
+    }
+
     /// What stands in the place of a field in the segments that follow up to the next group.
     pub(crate) fn of(from: Cursor<'a>, sought: Sought) -> Found<'a>
         ensures { found_seen result ≡ after_segments sought Absent (shared_of from.entry.bytes.now) }
@@ -49,7 +80,8 @@ impl<'a> Found<'a> {
     /// Counts the fields of a segment, where it is one of those sought, and gives a place from which the same
     /// segments follow.
     fn count_in(self, sought: Sought, segment: SegmentAt<'a>) -> (Found<'a>, Cursor<'a>)
-        ensures values { found_seen result.0 ≡ after_segments sought (found_seen self.entry) (segment_seen segment.entry ∷ []) }
+        ensures values { found_seen result.0
+            ≡ after_segments sought (found_seen self.entry) (segment_at segment.entry ∷ []) }
         ensures segments { shared_of segment.entry.fields.bytes.now ≡ shared_of result.1.bytes.now }
         ensures shorter { length result.1.bytes.now ≤ length segment.entry.fields.bytes.now }
     {
@@ -61,7 +93,8 @@ impl<'a> Found<'a> {
 
     /// Counts the fields that are left of a segment, and gives the place behind them.
     fn count_fields(self, sought: Sought, inside: Cursor<'a>) -> (Found<'a>, Cursor<'a>)
-        ensures values { found_seen result.0 ≡ after_fields sought (found_seen self.entry) (fields_left inside.entry.bytes.now) }
+        ensures values { found_seen result.0
+            ≡ after_fields sought (found_seen self.entry) (fields_left inside.entry.bytes.now) }
         ensures segments { shared_of inside.entry.bytes.now ≡ shared_of result.1.bytes.now }
         ensures shorter { length result.1.bytes.now ≤ length inside.entry.bytes.now }
     {

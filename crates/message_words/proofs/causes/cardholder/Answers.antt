@@ -10,4 +10,4 @@ use Rattle.message_words.proofs.causes.cardholder.Goals as goal
 
 pub returns : goal.returns
 unfolding cardholder_condition
-returns c = required_condition code.Cardholder field.Cardholder (text_up_to 20) (texts_in (codes "04") (codes "C2") (shared_of c.args.from.bytes.now)) _ _ c.of-found.ensures c.is_bad_text.ensures
+returns c = rw c.of-cause.ensures (required_condition code.Cardholder field.Cardholder (text_up_to 20) (texts_in (codes "04") (codes "C2") (shared_of c.args.from.bytes.now)) _ _ c.text-found.ensures c.is_bad_text.ensures)

@@ -10,4 +10,4 @@ use Rattle.message_words.proofs.causes.cost.Goals as goal
 
 pub returns : goal.returns
 unfolding cost_condition
-returns c = required_condition code.IngredientCost field.IngredientCost amount_in_cents (values_in (codes "11") (codes "D9") (shared_of c.args.from.bytes.now)) _ _ c.of-found.ensures c.is_bad_amount.ensures
+returns c = rw c.of-cause.ensures (required_condition code.IngredientCost field.IngredientCost amount_in_cents (values_in (codes "11") (codes "D9") (shared_of c.args.from.bytes.now)) _ _ c.value-found.ensures c.is_bad_amount.ensures)

@@ -10,4 +10,4 @@ use Rattle.message_words.proofs.causes.fee.Goals as goal
 
 pub returns : goal.returns
 unfolding fee_condition
-returns c = optional_condition code.DispensingFee field.DispensingFee 0 amount_in_cents (values_in (codes "11") (codes "DC") (shared_of c.args.from.bytes.now)) _ _ c.of-found.ensures c.is_bad_fee.ensures
+returns c = rw c.of-cause.ensures (optional_condition code.DispensingFee field.DispensingFee 0 amount_in_cents (values_in (codes "11") (codes "DC") (shared_of c.args.from.bytes.now)) _ _ c.value-found.ensures c.is_bad_fee.ensures)

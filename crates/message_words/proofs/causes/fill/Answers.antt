@@ -10,4 +10,4 @@ use Rattle.message_words.proofs.causes.fill.Goals as goal
 
 pub returns : goal.returns
 unfolding fill_condition
-returns c = required_condition code.FillNumber field.FillNumber (number_up_to 2) (values_in (codes "07") (codes "D3") (shared_of c.args.from.bytes.now)) _ _ c.of-found.ensures c.is_bad_number.ensures
+returns c = rw c.of-cause.ensures (required_condition code.FillNumber field.FillNumber (number_up_to 2) (values_in (codes "07") (codes "D3") (shared_of c.args.from.bytes.now)) _ _ c.value-found.ensures c.is_bad_number.ensures)

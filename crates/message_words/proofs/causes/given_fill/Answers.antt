@@ -9,4 +9,4 @@ use Rattle.message_words.proofs.causes.given_fill.Goals as goal
 
 pub returns : goal.returns
 unfolding given_fill_condition
-returns c = optional_condition code.FillNumber field.FillNumber _ _ (values_in (codes "07") (codes "D3") (shared_of c.args.from.bytes.now)) _ _ c.of-found.ensures c.is_bad_given_fill.ensures
+returns c = rw c.of-cause.ensures (optional_condition code.FillNumber field.FillNumber _ _ (values_in (codes "07") (codes "D3") (shared_of c.args.from.bytes.now)) _ _ c.value-found.ensures c.is_bad_given_fill.ensures)

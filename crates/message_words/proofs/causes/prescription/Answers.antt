@@ -12,10 +12,10 @@ pub returns-then-not-is_exactly : goal.returns-then-not-is_exactly
 unfolding prescription_condition
 returns-then-not-is_exactly c =
     let group = shared_of c.args.from.bytes.now in
-    other_qualifier code.Prescription (codes "1") field.PrescriptionQualifier (texts_in (codes "07") (codes "EM") group) field.Prescription (number_up_to 12) (values_in (codes "07") (codes "D2") group) _ c.of-qualifier.ensures c.if-not-is_exactly.ensures
+    rw c.of-cause.ensures (other_qualifier code.Prescription (codes "1") field.PrescriptionQualifier (texts_in (codes "07") (codes "EM") group) field.Prescription (number_up_to 12) (values_in (codes "07") (codes "D2") group) _ c.text-qualifier.ensures c.if-not-is_exactly.ensures)
 
 pub returns : goal.returns
 unfolding prescription_condition
 returns c =
     let group = shared_of c.args.from.bytes.now in
-    the_qualifier code.Prescription (codes "1") field.PrescriptionQualifier (texts_in (codes "07") (codes "EM") group) field.Prescription (number_up_to 12) (values_in (codes "07") (codes "D2") group) _ _ _ c.of-qualifier.ensures c.if-not-is_exactly.ensures c.of-found.ensures c.is_bad_number.ensures
+    rw c.of-cause-2.ensures (the_qualifier code.Prescription (codes "1") field.PrescriptionQualifier (texts_in (codes "07") (codes "EM") group) field.Prescription (number_up_to 12) (values_in (codes "07") (codes "D2") group) _ _ _ c.text-qualifier.ensures c.if-not-is_exactly.ensures c.value-found.ensures c.is_bad_number.ensures)

@@ -12,10 +12,10 @@ pub returns-then-not-is_exactly : goal.returns-then-not-is_exactly
 unfolding product_condition
 returns-then-not-is_exactly c =
     let group = shared_of c.args.from.bytes.now in
-    other_qualifier code.Product (codes "03") field.ProductQualifier (texts_in (codes "07") (codes "E1") group) field.Product (text_up_to 19) (texts_in (codes "07") (codes "D7") group) _ c.of-qualifier.ensures c.if-not-is_exactly.ensures
+    rw c.of-cause.ensures (other_qualifier code.Product (codes "03") field.ProductQualifier (texts_in (codes "07") (codes "E1") group) field.Product (text_up_to 19) (texts_in (codes "07") (codes "D7") group) _ c.text-qualifier.ensures c.if-not-is_exactly.ensures)
 
 pub returns : goal.returns
 unfolding product_condition
 returns c =
     let group = shared_of c.args.from.bytes.now in
-    the_qualifier code.Product (codes "03") field.ProductQualifier (texts_in (codes "07") (codes "E1") group) field.Product (text_up_to 19) (texts_in (codes "07") (codes "D7") group) _ _ _ c.of-qualifier.ensures c.if-not-is_exactly.ensures c.of-found.ensures c.is_bad_text.ensures
+    rw c.of-cause-2.ensures (the_qualifier code.Product (codes "03") field.ProductQualifier (texts_in (codes "07") (codes "E1") group) field.Product (text_up_to 19) (texts_in (codes "07") (codes "D7") group) _ _ _ c.text-qualifier.ensures c.if-not-is_exactly.ensures c.text-found.ensures c.is_bad_text.ensures)

@@ -10,4 +10,4 @@ use Rattle.message_words.proofs.causes.quantity.Goals as goal
 
 pub returns : goal.returns
 unfolding quantity_condition
-returns c = required_condition code.Quantity field.Quantity (number_up_to 10) (values_in (codes "07") (codes "E7") (shared_of c.args.from.bytes.now)) _ _ c.of-found.ensures c.is_bad_number.ensures
+returns c = rw c.of-cause.ensures (required_condition code.Quantity field.Quantity (number_up_to 10) (values_in (codes "07") (codes "E7") (shared_of c.args.from.bytes.now)) _ _ c.value-found.ensures c.is_bad_number.ensures)
