@@ -2,5 +2,6 @@ mod Lanes
 mod Places
 mod Reading
 mod RoundTrip
-mod Splitting
+pub mod Splitting
+pub mod Joining
 mod Runs

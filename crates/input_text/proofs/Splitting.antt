@@ -26,7 +26,7 @@ lines_at bs i here =
     ap lines_of_parts parts ∙ lines_of_parts-cons (take i bs) (slice_split is_newline (drop (i + 1) bs)) (omega (arith, length-slice_split is_newline (drop (i + 1) bs)))
 
 -- no place is given where the test fails
-le_from_None : (n m : ℕ) (e : cond (ltb m n) (Some m) None ≡ None) → n ≤ m
+pub le_from_None : (n m : ℕ) (e : cond (ltb m n) (Some m) None ≡ None) → n ≤ m
 le_from_None n m e =
     elim (cases_lt m n) [
       | inl lt ↦ let test : ltb m n ≡ true = lt-ltb m n lt in let some : Some m ≡ None = rw test at e in cc

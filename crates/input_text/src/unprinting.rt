@@ -57,7 +57,8 @@ pub fn unprint(alloc: Global, text: &[u8]) -> Result<Vec<u8>, PrintedFault>
 /// spelling of a byte begins.
 fn unprint_over(out: &mut [u8], text: &[u8]) -> Result<usize, usize>
     requires { length text.now ≤ length out.old }
-    ensures { MatchResult result (λ end. unprinted text.now ≡ Ok (take end out.new)) (λ place. unprinted text.now ≡ Err place) }
+    ensures { MatchResult result (λ end. unprinted text.now ≡ Ok (take end out.new))
+        (λ place. unprinted text.now ≡ Err place) }
 {
     let mut place = 0;
     let mut end = 0;
@@ -119,7 +120,8 @@ fn separator_at(text: &[u8], place: usize) -> Option<u8>
 #[inline(always)]
 #[tactic(auto, unfolding(crate::specs::Printing::first_spelling, crate::specs::Printing::escaped))]
 fn frequent_separator(byte: u8, letter: u8) -> Option<u8>
-    ensures { IfSome result (λ separator. (rest : List ℕ) → first_spelling (byte ∷ letter ∷ rest) ≡ Some (separator, 2)) }
+    ensures { IfSome result (λ separator. (rest : List ℕ)
+        → first_spelling (byte ∷ letter ∷ rest) ≡ Some (separator, 2)) }
 {
     if byte == b'\\' && matches!(letter, b'F'..=b'G') {
         Some(letter - b'F' + 0x1C)

@@ -5,13 +5,14 @@ use Rattle.std.proofs.lemmas.Bool.Decides.{nat_tests}
 use Rattle.std.proofs.lemmas.List.{take_at, take_all, take-append-le}
 use Rattle.claim_model.specs.Node.{Node, Pharmacy, Switch, Payer}
 use Rattle.claim_model.specs.Logs.{Logged, NodeLog}
+use Rattle.run_merge.specs.LogSeen.{with_call}
 use Rattle.kept_logs.specs.declared.fault.LogFault.TheVariants.{Short}
 use Rattle.kept_logs.specs.Fields.{bytes_at, node_text, node_at}
 use Rattle.kept_logs.specs.Records.{logged_text}
 use Rattle.kept_logs.specs.Frames.{check_of, frame_text, Whole, met}
-use Rattle.kept_logs.specs.Logs.{owner_text, head_text, calls_text, log_text, head_in, calls_in, log_in}
+use Rattle.kept_logs.specs.Logs.{owner_text, head_text, calls_text, log_text, head_in, calls_in, log_in, ReadsAs}
 use Rattle.kept_logs.specs.Fits.{FitsNode, FitsLog}
-use Rattle.kept_logs.specs.Cuts.{whole_within, first_calls, calls_within, log_within, with_call, ReadsBack}
+use Rattle.kept_logs.specs.Cuts.{whole_within, first_calls, calls_within, log_within, ReadsBack}
 use Rattle.kept_logs.proofs.Meeting.{met-append, met-short}
 use Rattle.kept_logs.proofs.FieldsBack.{bytes_at-put, node_at-put}
 use Rattle.kept_logs.proofs.FramesBack.{check_length, take_over, taken_at_most}
@@ -124,7 +125,7 @@ reads_back digest log n h fits long =
       text = ap (take (length (log_text digest (first_calls k log)))) (text_split digest log k) ∙ take_at (log_text digest (first_calls k log)) (calls_text (1 + k) (drop k log.calls)) (length (log_text digest (first_calls k log))) refl;
     }
 
-pub reads_whole : (digest : List ℕ) (log : NodeLog) → length digest ≡ 32 → FitsLog log → log_in digest (log_text digest log) ≡ Ok (record { log = log; whole = length (log_text digest log) })
+pub reads_whole : (digest : List ℕ) (log : NodeLog) → length digest ≡ 32 → FitsLog log → ReadsAs digest (log_text digest log) log
 reads_whole digest log h fits =
     let text : List ℕ = log_text digest log in
     let n : ℕ = length text in

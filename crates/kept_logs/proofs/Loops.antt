@@ -1,6 +1,5 @@
 -- Loops over packets and records: what is done, and what is left.
-use Rattle.std.proofs.Common.{◌≡◌, ℕ, suc, ◌+◌, ◌-◌, ◌<◌, ◌≤◌, List, [], ◌∷◌, ◌++◌, length, drop, get_or, Option, Some, None, option_map, Result, Ok, Err, refl, ap, ◌∙◌, sym, arith, append_assoc, append-nil}
-use Rattle.std.proofs.lemmas.List.{drop_more}
+use Rattle.std.proofs.Common.{◌≡◌, ℕ, ◌+◌, ◌-◌, ◌<◌, ◌≤◌, List, [], ◌∷◌, ◌++◌, length, Option, Some, None, option_map, Result, Ok, Err, refl, ap, ◌∙◌, sym, arith, append_assoc, append-nil}
 use Rattle.std.specs.List.{AllByRecursion}
 use Rattle.claim_model.specs.Node.{Node, Sent}
 use Rattle.claim_model.specs.Logs.{Logged, NodeLog}
@@ -10,10 +9,7 @@ use Rattle.kept_logs.specs.Records.{sent_text, sent_at, sents_text, sents_in, lo
 use Rattle.kept_records.specs.Options.{◌>>=◌}
 use Rattle.kept_logs.specs.Frames.{frame_text}
 use Rattle.kept_logs.specs.Logs.{head_text, calls_text, log_text, record_in, behind, calls_in}
-
--- what is left at a place begins with what stands there
-pub left_at : {A : Type 0} (xs : List A) (k : ℕ) (x : A) → k < length xs → x ≡ get_or xs k x → drop k xs ≡ x ∷ drop (k + 1) xs
-left_at xs k x h e = drop_more xs k x h ∙ ap (λ y. y ∷ drop (k + 1) xs) (sym e)
+use Rattle.kept_records.proofs.EntriesRead.{one_less, none_left}
 
 -- ---- packets that are put
 
@@ -56,12 +52,6 @@ calls_end before now all number left none so_far = (sym (append-nil now) ∙ ap 
 -- what was taken and then what is left is all
 abbrev pub and_these : List Sent → Option (List Sent) → Option (List Sent)
 and_these done o = option_map (λ more. done ++ more) o
-
-one_less : (count i : ℕ) → i < count → count - i ≡ suc (count - (i + 1))
-one_less count i h = omega arith
-
-none_left : (count i : ℕ) → count ≤ i → count - i ≡ 0
-none_left count i h = omega arith
 
 pub sents_taken : (count i : ℕ) (done : List Sent) (bytes : List ℕ) (one : Sent) (rest : List ℕ) → i < count → sent_at bytes ≡ Some (one, rest)
     → and_these done (sents_in (count - i) bytes) ≡ and_these (done ++ one ∷ []) (sents_in (count - (i + 1)) rest)

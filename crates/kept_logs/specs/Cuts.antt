@@ -1,5 +1,5 @@
 -- Logs whose text is cut off.
-use Rattle.std.specs.Prelude.{◌≡◌, ℕ, suc, ◌+◌, ◌-◌, ◌<◌, ◌≤◌, cond, List, [], ◌∷◌, ◌++◌, length, take, nat_lt, Ok}
+use Rattle.std.specs.Prelude.{◌≡◌, ℕ, suc, ◌+◌, ◌-◌, ◌<◌, ◌≤◌, cond, List, [], ◌∷◌, ◌++◌, length, take, nat_lt, slice_index, Ok}
 use Rattle.claim_model.specs.Logs.{Logged, NodeLog}
 use Rattle.kept_logs.specs.Records.{logged_text}
 use Rattle.kept_logs.specs.Frames.{frame_text, CutOff, frame_at}
@@ -23,10 +23,6 @@ calls_within n log = whole_within 1 (n - 46) log.calls
 abbrev pub log_within : ℕ → NodeLog → NodeLog
 log_within n log = first_calls (calls_within n log) log
 
--- a log and one more call
-abbrev pub with_call : NodeLog → Logged → NodeLog
-with_call log r = record { node = log.node; calls = log.calls ++ r ∷ [] }
-
 -- the first n bytes of a log's text are read as the records that stand whole in them
 pub record ReadsBack (digest : List ℕ) (n : ℕ) (log : NodeLog) : Type 0 where
   pub read : log_in digest (take n (log_text digest log)) ≡ Ok (record { log = log_within n log; whole = length (log_text digest (log_within n log)) })
@@ -42,6 +38,10 @@ pub record Begins (number : ℕ) (bytes : List ℕ) : Type 0 where
   pub missing : List ℕ
   pub some : 0 < length missing
   pub is : bytes ++ missing ≡ frame_text number body
+
+-- each of these numbers is a byte
+abbrev pub EachIsByte : List ℕ → Type 0
+EachIsByte bytes = (i : ℕ) → slice_index bytes i < 256
 
 -- the bytes that a log was read from: its text, and behind it nothing, or the beginning of a record that is cut off
 pub record IsLogOf (digest : List ℕ) (bytes : List ℕ) (read : Reading) : Type 0 where

@@ -1,5 +1,5 @@
 -- The text of a log, and what bytes are as a log.
-use Rattle.std.specs.Prelude.{ℕ, zero, suc, ◌+◌, ◌-◌, List, [], ◌∷◌, ◌++◌, length, codes, Option, Some, None, Result, Ok, Err}
+use Rattle.std.specs.Prelude.{◌≡◌, ℕ, zero, suc, ◌+◌, ◌-◌, List, [], ◌∷◌, ◌++◌, length, codes, Option, Some, None, Result, Ok, Err}
 use Rattle.claim_model.specs.Node.{Node}
 use Rattle.claim_model.specs.Logs.{Logged, NodeLog}
 use Rattle.kept_logs.specs.declared.fault.LogFault.{LogFault}
@@ -77,6 +77,10 @@ unfoldable pub calls_in : ℕ → ℕ → ℕ → List ℕ → Result (List Logg
 calls_in total number zero bytes = Ok ([], bytes)
 calls_in total number (suc most) bytes = and_more bytes (λ after. calls_in total (number + 1) most after) (record_in number (total - length bytes) bytes)
 
+-- the same of all records, numbered from 1
+abbrev pub records_in : ℕ → List ℕ → Result (List Logged × List ℕ) LogFault
+records_in total bytes = calls_in total 1 (length bytes) bytes
+
 -- a log that was read, and how many bytes its text has; what stands behind these is the beginning of a record that is cut off
 pub record Reading : Type 0 where
   pub log : NodeLog
@@ -86,5 +90,9 @@ pub record Reading : Type 0 where
 unfoldable pub log_in : List ℕ → List ℕ → Result Reading LogFault
 log_in digest bytes = do
   head ← head_in digest bytes
-  calls ← calls_in (length bytes) 1 (length head.1) head.1
+  calls ← records_in (length bytes) head.1
   Ok (record { log = record { node = head.0; calls = calls.0 }; whole = length bytes - length calls.1 })
+
+-- bytes are the whole text of this log
+abbrev pub ReadsAs : List ℕ → List ℕ → NodeLog → Type 0
+ReadsAs digest bytes log = log_in digest bytes ≡ Ok (record { log = log; whole = length bytes })

@@ -1,29 +1,36 @@
 //! What holds of every log and its text, as facts that a caller cites by a call.
 
-ghost use Rattle.std.specs.Prelude.{◌≡◌, ℕ, ◌+◌, ◌<◌, ◌≤◌, ◌++◌, List, length, take, slice_index, Ok, Err};
+ghost use Rattle.std.specs.Prelude.{◌≡◌, ℕ, ◌+◌, ◌<◌, ◌≤◌, ◌++◌, List, length, take, Ok, Err};
 ghost use Rattle.claim_model.specs.Logs.{Logged, NodeLog};
+ghost use Rattle.run_merge.specs.LogSeen.{with_call};
 ghost use Rattle.kept_logs.specs.declared.fault.LogFault.TheVariants.{Short};
 ghost use Rattle.kept_logs.specs.Records.{logged_text};
 ghost use Rattle.kept_logs.specs.Frames.{frame_text, frame_at, CutOff};
-ghost use Rattle.kept_logs.specs.Logs.{log_text, Reading, log_in};
+ghost use Rattle.kept_logs.specs.Logs.{log_text, Reading, log_in, ReadsAs};
 ghost use Rattle.kept_logs.specs.Fits.{FitsLog};
-ghost use Rattle.kept_logs.specs.Cuts.{ReadsBack, with_call, Begins, IsLogOf};
+ghost use Rattle.kept_logs.specs.Cuts.{EachIsByte, ReadsBack, Begins, IsLogOf};
 
 /// The first n bytes of a log's text are read as the calls whose records stand whole in them, for every n; a log has
 /// no text of fewer bytes than its head has.
 pub fn log_reads_back()
-    ensures cut { (digest : List ℕ) (log : NodeLog) (n : ℕ) → length digest ≡ 32 → FitsLog log → 46 ≤ n → ReadsBack digest n log }
-    ensures short { (digest : List ℕ) (log : NodeLog) (n : ℕ) → length digest ≡ 32 → n < 46 → log_in digest (take n (log_text digest log)) ≡ Err Short }
-    ensures whole { (digest : List ℕ) (log : NodeLog) → length digest ≡ 32 → FitsLog log → log_in digest (log_text digest log) ≡ Ok (record { log = log; whole = length (log_text digest log) }) }
+    ensures cut { (digest : List ℕ) (log : NodeLog) (n : ℕ)
+        → length digest ≡ 32 → FitsLog log → 46 ≤ n → ReadsBack digest n log }
+    ensures short { (digest : List ℕ) (log : NodeLog) (n : ℕ)
+        → length digest ≡ 32 → n < 46 → log_in digest (take n (log_text digest log)) ≡ Err Short }
+    ensures whole { (digest : List ℕ) (log : NodeLog)
+        → length digest ≡ 32 → FitsLog log → ReadsAs digest (log_text digest log) log }
 {}
 
 /// The text of a log with one call more is its text, and behind it the record of that call under the next number.
 pub fn log_takes_one_more()
-    ensures { (digest : List ℕ) (log : NodeLog) (r : Logged) → log_text digest (with_call log r) ≡ log_text digest log ++ frame_text (length log.calls + 1) (logged_text r) }
+    ensures { (digest : List ℕ) (log : NodeLog) (r : Logged)
+        → log_text digest (with_call log r) ≡ log_text digest log ++ frame_text (length log.calls + 1) (logged_text r) }
 {}
 
 /// Bytes that are read as a log are its text, and behind it nothing or the beginning of a record that is cut off.
 pub fn log_is_its_text()
-    ensures text { (digest bytes : List ℕ) (read : Reading) → length digest ≡ 32 → ((i : ℕ) → slice_index bytes i < 256) → log_in digest bytes ≡ Ok read → IsLogOf digest bytes read }
-    ensures cut { (number : ℕ) (bytes : List ℕ) → ((i : ℕ) → slice_index bytes i < 256) → frame_at number bytes ≡ CutOff → Begins number bytes }
+    ensures text { (digest bytes : List ℕ) (read : Reading)
+        → length digest ≡ 32 → EachIsByte bytes → log_in digest bytes ≡ Ok read → IsLogOf digest bytes read }
+    ensures cut { (number : ℕ) (bytes : List ℕ)
+        → EachIsByte bytes → frame_at number bytes ≡ CutOff → Begins number bytes }
 {}

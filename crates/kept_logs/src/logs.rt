@@ -1,6 +1,6 @@
 //! Logs as they are written and read.
 
-ghost use Rattle.std.specs.Prelude.{◌≡◌, ◌≢◌, ◌++◌, length, Ok, Err, IfOk, IfErr, OnOk};
+ghost use Rattle.std.specs.Prelude.{◌≡◌, ◌≢◌, ◌++◌, Ok, Err, IfOk, IfErr, OnOk};
 ghost use Rattle.std.specs.List.{AllByRecursion};
 ghost use Rattle.std.specs.Option.{option_map};
 ghost use Rattle.world_setup.specs.Seen.{node_seen};
@@ -8,7 +8,7 @@ ghost use Rattle.run_merge.specs.LogSeen.{log_seen};
 ghost use Rattle.kept_logs.specs.declared.fault.LogFault.TheVariants.{OutOfMemory};
 ghost use Rattle.kept_logs.specs.Records.{logged_text, logged_in};
 ghost use Rattle.kept_logs.specs.Frames.{frame_text};
-ghost use Rattle.kept_logs.specs.Logs.{calls_text, log_text, read_record, record_in, calls_in, log_in};
+ghost use Rattle.kept_logs.specs.Logs.{calls_text, log_text, read_record, record_in, records_in, log_in, ReadsAs};
 ghost use Rattle.kept_logs.specs.Cuts.{IsLogOf};
 ghost use Rattle.kept_logs.specs.LogSeen.{entry_seen, reading_seen, CallsAre};
 ghost use Rattle.kept_logs.specs.Fits.{FitsLogged, FitsLog};
@@ -42,7 +42,7 @@ pub fn write_log(
     ensures text { IfOk result (λ text. text.items ≡ log_text settings.now (log_seen log.now)) }
     ensures fits { IfOk result (λ _. FitsLog (log_seen log.now)) }
     // It is read as this log.
-    ensures read { IfOk result (λ text. log_in settings.now text.items ≡ Ok (record { log = log_seen log.now; whole = length text.items })) }
+    ensures read { IfOk result (λ text. ReadsAs settings.now text.items (log_seen log.now)) }
 {
     log_reads_back();
     let _ = settings.as_slice();
@@ -117,8 +117,8 @@ fn read_calls(
     total: usize,
     bytes: &[u8],
 ) -> Result<(NodeLog, usize), LogFault>
-    ensures ok { IfOk result (λ read. CallsAre (calls_in total 1 (length bytes.now) bytes.now) (log_seen read.0) (node_seen node) read.1) }
-    ensures fault { IfErr result (λ e. e ≢ OutOfMemory → calls_in total 1 (length bytes.now) bytes.now ≡ Err e) }
+    ensures ok { IfOk result (λ read. CallsAre (records_in total bytes.now) (log_seen read.0) (node_seen node) read.1) }
+    ensures fault { IfErr result (λ e. e ≢ OutOfMemory → records_in total bytes.now ≡ Err e) }
 {
     let mut log = NodeLog::new(alloc, node);
     let mut rest = bytes;
@@ -143,7 +143,8 @@ fn take_record(
     start: usize,
     bytes: &[u8],
 ) -> Result<Option<(Entry, &[u8])>, LogFault>
-    ensures ok { IfOk result (λ o. record_in number start bytes.now ≡ Ok (option_map (λ taken. (entry_seen taken.0, taken.1.now)) o)) }
+    ensures ok { IfOk result (λ o.
+        record_in number start bytes.now ≡ Ok (option_map (λ taken. (entry_seen taken.0, taken.1.now)) o)) }
     ensures fault { IfErr result (λ e. e ≢ OutOfMemory → record_in number start bytes.now ≡ Err e) }
 {
     match take_frame(number, bytes) {
@@ -160,7 +161,8 @@ fn take_entry<'a>(
     body: &[u8],
     after: &'a [u8],
 ) -> Result<Option<(Entry, &'a [u8])>, LogFault>
-    ensures ok { IfOk result (λ o. read_record start after.now (logged_in body.now) ≡ Ok (option_map (λ taken. (entry_seen taken.0, taken.1.now)) o)) }
+    ensures ok { IfOk result (λ o. read_record start after.now (logged_in body.now)
+        ≡ Ok (option_map (λ taken. (entry_seen taken.0, taken.1.now)) o)) }
     ensures fault { IfErr result (λ e. e ≢ OutOfMemory → read_record start after.now (logged_in body.now) ≡ Err e) }
 {
     match entry_of(alloc, body)? {

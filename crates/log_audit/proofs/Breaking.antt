@@ -1,5 +1,5 @@
 -- Calls that a node makes one after another, up to the first that it does not.
-use Rattle.std.proofs.Common.{◌≡◌, ℕ, zero, suc, ◌+◌, ◌<◌, List, [], ◌∷◌, drop, length, get_or, map, refl, sym, ap, ◌∙◌, subst, arith}
+use Rattle.std.proofs.Common.{◌≡◌, ℕ, suc, ◌+◌, ◌<◌, List, ◌∷◌, drop, length, get_or, refl, sym, ap, ◌∙◌, subst, arith}
 use Rattle.std.proofs.lemmas.List.{at_drop_more}
 use Rattle.std.specs.Prelude.{Option, Some, None, MatchOption}
 use Rattle.claim_model.specs.Context.{Context}
@@ -30,10 +30,3 @@ drop_at xs k r h e = at_drop_more (λ (left : List Logged). left) xs k r h ∙ a
 pub does_it : {A : Type 0} (found : Option A) (P : Type 0) (Q : A → Type 0) → ((x : A) → found ≡ Some x → ⊥) → MatchOption found P Q → P
 does_it None P Q n h = h
 does_it (Some x) P Q n h = absurd (n x refl)
-
--- equal lists, seen, have equal elements, seen, at each place
-pub same_at : {A B : Type 0} (f : A → B) (a b : List A) (k : ℕ) (x y : A) → k < length a → k < length b → x ≡ get_or a k x → y ≡ get_or b k y → map f a ≡ map f b → f x ≡ f y
-same_at f [] b k x y h g p q e = absurd (omega arith)
-same_at f (p ∷ a) [] k x y h g s t e = absurd (omega arith)
-same_at f (p ∷ a) (q ∷ b) zero x y h g s t e = let u : f p ≡ f q = cc in ap f s ∙ (u ∙ ap f (sym t))
-same_at f (p ∷ a) (q ∷ b) (suc k) x y h g s t e = same_at f a b k x y (omega arith) (omega arith) s t cc

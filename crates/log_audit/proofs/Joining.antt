@@ -11,10 +11,6 @@ use Rattle.log_audit.specs.Payments.{told_from}
 pub cons_alike : {A : Type 0} {x y : A} {xs ys : List A} → x ≡ y → xs ≡ ys → (x ∷ xs) ≡ (y ∷ ys)
 cons_alike e es = cc
 
--- one text behind another, behind what was there
-pub texts_join : (a b c x y : List ℕ) → b ≡ a ++ x → c ≡ b ++ y → c ≡ a ++ (x ++ y)
-texts_join a b c x y one two = two ∙ (ap (λ (t : List ℕ). t ++ y) one ∙ append_assoc a x y)
-
 pub rows_text-append : (style : Style) (xs ys : List Row) → rows_text style (xs ++ ys) ≡ rows_text style xs ++ rows_text style ys
 unfolding rows_text
 rows_text-append style xs ys = flat_map-append (row_text style) xs ys

@@ -1,10 +1,15 @@
 -- The settings and the logs that bytes are, before anything is judged.
-use Rattle.std.specs.Prelude.{◌≡◌, ℕ, List, [], ◌∷◌, Some, Ok, ⊤}
+use Rattle.std.specs.Prelude.{◌≡◌, ℕ, List, [], ◌∷◌, map, Some, Ok, ⊤}
+use Rattle.std.specs.Global.{Vec}
 use Rattle.sha2.specs.Sha256.{sha256}
 use Rattle.claim_model.specs.Logs.{NodeLog}
 use Rattle.world_setup.specs.declared.settings.WorldSettings.{WorldSettings}
 use Rattle.world_settings.specs.Document.{document_seen, settings_in}
 use Rattle.kept_logs.specs.Logs.{log_in}
+
+-- the bytes of each
+abbrev pub bytes_of : List (Vec ℕ) → List (List ℕ)
+bytes_of logs = map (λ (bytes : Vec ℕ). bytes.items) logs
 
 -- bytes are a log under settings of this digest, up to a record that is cut off
 pub record IsLog (digest bytes : List ℕ) (log : NodeLog) : Type 0 where

@@ -3,6 +3,7 @@ pub mod Seen
 pub mod Quoting
 pub mod Values
 pub mod Rows
+pub mod Adding
 pub mod Kinds
 pub mod Payments
 pub mod Rulings

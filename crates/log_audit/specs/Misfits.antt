@@ -1,11 +1,17 @@
 -- The first call of a log that its node does not make.
-use Rattle.std.specs.Prelude.{◌≡◌, ℕ, zero, suc, List, [], ◌∷◌, Option, Some, None}
+use Rattle.std.specs.Prelude.{◌≡◌, ℕ, zero, suc, List, [], ◌∷◌, map, Option, Some, None}
 use Rattle.claim_model.specs.Context.{Context}
 use Rattle.claim_model.specs.Node.{Done}
 use Rattle.claim_model.specs.Nodes.{AnyNode, node_step}
 use Rattle.claim_model.specs.Logs.{Logged}
+use Rattle.world_setup.specs.declared.call.Sent.{Sent}
+use Rattle.world_setup.specs.Seen.{sent_seen}
 use Rattle.run_merge.specs.Order.{FitsBy, Fits}
 use Rattle.log_audit.specs.declared.replaying.FirstMisfit.{FirstMisfit}
+
+-- the same was sent: to the same nodes in the same order, with the same bytes
+abbrev pub SentAlike : List Sent → List Sent → Type 0
+SentAlike made kept = map sent_seen made ≡ map sent_seen kept
 
 -- a node makes a call as the log has it, and is then in this state
 abbrev pub Does : Context → AnyNode → Logged → AnyNode → Type 0

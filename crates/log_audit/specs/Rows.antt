@@ -7,10 +7,14 @@ use Rattle.log_audit.specs.Values.{csv_value, json_value}
 use Rattle.log_audit.specs.declared.tables.layout.Style.{Style}
 use Rattle.log_audit.specs.declared.tables.layout.Style.TheVariants.{Csv, Json}
 
+-- texts with a comma before each
+abbrev pub behind_commas : {A : Type 0} → (A → List ℕ) → List A → List ℕ
+behind_commas text xs = flat_map (λ x. 44 ∷ text x) xs
+
 -- texts with a comma between them
 abbrev pub separated : {A : Type 0} → (A → List ℕ) → List A → List ℕ
 separated text [] = []
-separated text (x ∷ more) = text x ++ flat_map (λ y. 44 ∷ text y) more
+separated text (x ∷ more) = text x ++ behind_commas text more
 
 abbrev pub csv_member : Member → List ℕ
 csv_member m = csv_value m.value

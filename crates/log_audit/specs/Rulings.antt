@@ -4,7 +4,7 @@ use Rattle.std.specs.List.{flat_map}
 use Rattle.claim_profile.specs.Authorization.{authorization_text}
 use Rattle.claim_profile.specs.Readable.{readable_header}
 use Rattle.claim_profile.specs.Reject.{code_text}
-use Rattle.claim_model.specs.Words.{Code, Ruling, Paid, Duplicate, Reversed, Rejected}
+use Rattle.claim_model.specs.Words.{Code, Ruling, TxnId, Paid, Duplicate, Reversed, Rejected}
 use Rattle.claim_model.specs.Rows as model
 use Rattle.claim_model.specs.Rows.{Book}
 use Rattle.log_audit.specs.Members.{Row}
@@ -28,6 +28,11 @@ pub record At : Type 0 where
 abbrev pub at_seen : RuledAt → At
 at_seen at = record { payer = at.payer; pharmacy = at.pharmacy; number = at.number; kind = at.kind.now; transaction = at.transaction }
 
+-- a transaction of a request
+abbrev pub ruled_at : ℕ → TxnId → List ℕ → ℕ → At
+ruled_at payer id kind transaction =
+    record { payer = payer; pharmacy = id.pharmacy; number = id.number; kind = kind; transaction = transaction }
+
 -- the row of a transaction that was answered like this
 unfoldable pub answered_row : At → List ℕ → List ℕ → List ℕ → Row
 answered_row at ruling authorization rejects =
@@ -49,13 +54,8 @@ ruling_row at (Rejected rejects) = answered_row at (codes "rejected") [] (codes_
 
 -- the row of a ruling on a transaction of a row of the book
 abbrev pub ruling_rows : ℕ → model.Row → ℕ → Ruling → List Row
-ruling_rows payer row transaction ruling = ruling_row (record {
-  payer = payer;
-  pharmacy = row.id.pharmacy;
-  number = row.id.number;
-  kind = kind_in (readable_header row.request);
-  transaction = transaction;
-}) ruling ∷ []
+ruling_rows payer row transaction ruling =
+    ruling_row (ruled_at payer row.id (kind_in (readable_header row.request)) transaction) ruling ∷ []
 
 -- the transactions of a row of the book
 abbrev pub row_rulings : Book → model.Row → List Row

@@ -1,5 +1,5 @@
 -- The tables of what a run left.
-use Rattle.std.specs.Prelude.{ℕ, Bool, List, [], ◌∷◌, ◌++◌, codes, map}
+use Rattle.std.specs.Prelude.{◌≡◌, ◌||◌, ℕ, Bool, List, [], ◌∷◌, ◌++◌, codes, map}
 use Rattle.std.specs.List.{flat_map, list_any}
 use Rattle.claim_model.specs.Words.{Auth}
 use Rattle.claim_model.specs.Context.{Context}
@@ -10,6 +10,7 @@ use Rattle.claim_model.specs.Node.{Power}
 use Rattle.claim_model.specs.Payments.{same_auth}
 use Rattle.claim_model.specs.Rows.{Book}
 use Rattle.claim_model.specs.World.{World}
+use Rattle.pharmacy_journal.specs.Counting.{has_auth}
 use Rattle.pharmacy_journal.specs.Listing.{listed}
 use Rattle.log_audit.specs.Members.{Member, Row}
 use Rattle.log_audit.specs.Rows.{rows_text, head_text, list_text}
@@ -24,6 +25,10 @@ use Rattle.log_audit.specs.declared.tables.table.Table.TheVariants.{Payments, En
 -- one of these payments has this authorization
 abbrev pub names_auth : List Counted → Auth → Bool
 names_auth cs auth = list_any (λ (c : Counted). same_auth c.auth auth) cs
+
+-- the authorizations of which this holds join those that were there
+abbrev pub Joins : List Auth → List Auth → (Auth → Bool) → Type 0
+Joins old new more = (a : Auth) → has_auth new a ≡ (has_auth old a || more a)
 
 abbrev pub node_counted : Context → Power Journal JournalAtRest → List Counted
 node_counted ctx node = counted ctx (journal_in node)
@@ -77,6 +82,10 @@ table_names Packets = codes "packet" ∷ codes "event" ∷ codes "from" ∷ code
 -- the names of the columns of a row
 abbrev pub names_in : Row → List (List ℕ)
 names_in row = map (λ (m : Member). m.name) row
+
+-- a row has the columns of a table, in its order
+abbrev pub HasColumns : Row → Table → Type 0
+HasColumns row table = names_in row ≡ table_names table
 
 -- a table as CSV: the line of its columns' names, and a line for each row
 unfoldable pub table_csv : Context → World → List ℕ → Table → List ℕ

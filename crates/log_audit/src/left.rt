@@ -1,9 +1,10 @@
 //! What a run left: as counts, as one table, or as all tables.
 
-ghost use Rattle.std.specs.Prelude.{◌≡◌, ◌++◌, map, IfOk, OnOk};
+ghost use Rattle.std.specs.Prelude.{◌≡◌, map, IfOk, OnOk};
 ghost use Rattle.bin_routes.specs.Table.{routes_of};
 ghost use Rattle.claim_model.specs.Settings.{opening};
 ghost use Rattle.world_setup.specs.Seen.{event_seen, settings_seen};
+ghost use Rattle.log_audit.specs.Adding.{Adds};
 ghost use Rattle.log_audit.specs.Tabled.{run_csv};
 
 use crate::fault::AuditFault;
@@ -37,7 +38,7 @@ pub(crate) fn put_left_table(
     events: &[Event],
     table: Table,
 ) -> Result<(), AuditFault>
-    ensures { OnOk result (text.new.items ≡ text.old.items ++ run_csv settings (map event_seen events.now) table) }
+    ensures { OnOk result (Adds text.old text.new (run_csv settings (map event_seen events.now) table)) }
 {
     let mut world = opened(alloc, settings)?;
     let senders = run_noting(alloc, &mut world, events)?;
@@ -60,7 +61,8 @@ pub(crate) fn put_left_tables(
 
 /// The opening world of these settings.
 fn opened(alloc: Global, settings: WorldSettings) -> Result<World, AuditFault>
-    ensures { IfOk result (λ w. w ≡ record { routes = routes_of settings.routes.items; world = opening (settings_seen settings) }) }
+    ensures { IfOk result (λ w. w
+        ≡ record { routes = routes_of settings.routes.items; world = opening (settings_seen settings) }) }
 {
     match World::new(alloc, settings) {
         Ok(world) => Ok(world),

@@ -1,11 +1,11 @@
 //! What is read before anything is judged: the settings, and the logs.
 
-ghost use Rattle.std.specs.Prelude.{◌≡◌, ◌++◌, ◌∷◌, [], map, Some, Ok, IfOk, OnOk};
+ghost use Rattle.std.specs.Prelude.{◌≡◌, ◌++◌, ◌∷◌, [], Some, Ok, IfOk, OnOk};
 ghost use Rattle.world_settings.specs.Document.{document_seen, settings_in};
 ghost use Rattle.run_merge.specs.LogSeen.{logs_seen};
 ghost use Rattle.kept_logs.specs.Logs.{log_in};
 ghost use Rattle.kept_logs.specs.LogSeen.{reading_seen};
-ghost use Rattle.log_audit.specs.Given.{AreLogs, IsRead};
+ghost use Rattle.log_audit.specs.Given.{AreLogs, IsRead, bytes_of};
 
 use crate::fault::AuditFault;
 use kept_logs::{LogFault, ReadLog, SettingsDigest, read_log};
@@ -29,7 +29,8 @@ pub struct Audited {
 /// `Settings`, then `World`, then `Log` for the first log that is none under these settings; `OutOfMemory`.
 pub fn read_audited(alloc: Global, text: Vec<u8>, logs: &[Vec<u8>]) -> Result<Audited, AuditFault>
     // What is judged is what the text spells and the bytes are.
-    ensures { IfOk result (λ audited. IsRead text.items (map (λ bytes. bytes.items) logs.now) audited.settings (logs_seen audited.logs.items)) }
+    ensures { IfOk result (λ audited.
+        IsRead text.items (bytes_of logs.now) audited.settings (logs_seen audited.logs.items)) }
 {
     let settings = settings_of(alloc, text.as_slice())?;
     check_world(alloc, &settings)?;
@@ -67,7 +68,7 @@ fn read_logs(
     digest: &SettingsDigest,
     logs: &[Vec<u8>],
 ) -> Result<ReadLogs, AuditFault>
-    ensures { IfOk result (λ read. AreLogs digest.now (map (λ bytes. bytes.items) logs.now) (logs_seen read.logs.items)) }
+    ensures { IfOk result (λ read. AreLogs digest.now (bytes_of logs.now) (logs_seen read.logs.items)) }
 {
     let mut read = ReadLogs {
         logs: Vec::new(alloc),

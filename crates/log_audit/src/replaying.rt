@@ -1,11 +1,11 @@
 //! One log, replayed by itself.
 
-ghost use Rattle.std.specs.Prelude.{◌≡◌, ◌↔◌, map, None, IfOk, IsTrue, MatchOption};
+ghost use Rattle.std.specs.Prelude.{◌≡◌, ◌↔◌, None, IfOk, IsTrue, MatchOption};
 ghost use Rattle.claim_model.specs.Bytes.{bytes_with};
 ghost use Rattle.claim_model.specs.Settings.{opening, settings_fault};
 ghost use Rattle.claim_model.specs.Nodes.{node_at};
 ghost use Rattle.world_setup.specs.Seen.{node_seen, sent_seen, settings_seen};
-ghost use Rattle.log_audit.specs.Misfits.{Does, DoesNot, IsFirst, IsFirstOf};
+ghost use Rattle.log_audit.specs.Misfits.{Does, DoesNot, IsFirst, IsFirstOf, SentAlike};
 
 use bin_routes::Routes;
 use node_state::NodeState;
@@ -43,7 +43,8 @@ pub(crate) fn first_misfit(
     log: &NodeLog,
 ) -> Result<Option<FirstMisfit>, AllocError>
     requires { settings_fault (settings_seen settings.now) ≡ None }
-    ensures { IfOk result (λ found. IsFirstOf (bytes_with routes.now) (node_at (opening (settings_seen settings.now)) (node_seen log.now.node)) log.now.calls.items found) }
+    ensures { IfOk result (λ found. IsFirstOf (bytes_with routes.now)
+        (node_at (opening (settings_seen settings.now)) (node_seen log.now.node)) log.now.calls.items found) }
 {
     if !is_there(settings, log.node()) {
         return Ok(None);
@@ -76,7 +77,8 @@ fn misfit_of(
     node: &mut NodeState,
     one: &Record,
 ) -> Result<Option<Misfit>, AllocError>
-    ensures { IfOk result (λ found. MatchOption found (Does (bytes_with routes.now) node.old one.now node.new) (λ misfit. DoesNot (bytes_with routes.now) node.old one.now)) }
+    ensures { IfOk result (λ found. MatchOption found (Does (bytes_with routes.now) node.old one.now node.new)
+        (λ misfit. DoesNot (bytes_with routes.now) node.old one.now)) }
 {
     match node.step(alloc, routes, one.call()) {
         Ok(sent) => Ok(misfit_in(sent.as_slice(), one.sent())),
@@ -87,7 +89,7 @@ fn misfit_of(
 
 /// What is wrong with what a node sends; nothing exactly where the log has the same.
 fn misfit_in(made: &[Sent], kept: &[Sent]) -> Option<Misfit>
-    ensures { MatchOption result (map sent_seen made.now ≡ map sent_seen kept.now) (λ misfit. map sent_seen made.now ≡ map sent_seen kept.now → ⊥) }
+    ensures { MatchOption result (SentAlike made.now kept.now) (λ misfit. SentAlike made.now kept.now → ⊥) }
 {
     if is_same_sent(made, kept) {
         None
@@ -98,7 +100,7 @@ fn misfit_in(made: &[Sent], kept: &[Sent]) -> Option<Misfit>
 
 /// Whether the same was sent: to the same nodes in the same order, with the same bytes.
 fn is_same_sent(a: &[Sent], b: &[Sent]) -> bool
-    ensures { IsTrue result ↔ (map sent_seen a.now ≡ map sent_seen b.now) }
+    ensures { IsTrue result ↔ SentAlike a.now b.now }
 {
     if a.len() != b.len() {
         return false;

@@ -51,7 +51,8 @@ pub fn report_on(alloc: Global, audited: Audited, form: Form) -> Result<Report, 
     // It is said that there is a run exactly where some events are a legal interleaving of the logs.
     ensures told { IfOk result (λ report. IsTold audited.settings (logs_seen audited.logs.items) report.legal) }
     // A table is that of the world which these events leave.
-    ensures table { IfOk result (λ report. IsTabled audited.settings (logs_seen audited.logs.items) form report.legal report.text.items) }
+    ensures table { IfOk result (λ report.
+        IsTabled audited.settings (logs_seen audited.logs.items) form report.legal report.text.items) }
 {
     match judge(alloc, &audited.settings, audited.logs.as_slice())? {
         Verdict::Legal(events) => legal(alloc, audited, events.as_slice(), form),
@@ -67,7 +68,8 @@ fn legal(
     form: Form,
 ) -> Result<Report, AuditFault>
     ensures legal { IfOk result (λ report. report.legal ≡ true) }
-    ensures table { IfOk result (λ report. IsTextOf audited.settings (map event_seen events.now) form report.text.items) }
+    ensures table { IfOk result (λ report.
+        IsTextOf audited.settings (map event_seen events.now) form report.text.items) }
 {
     match form {
         Form::Lines => lines_of(alloc, audited, events),
@@ -110,7 +112,8 @@ fn table_of(
     table: Table,
 ) -> Result<Report, AuditFault>
     ensures legal { IfOk result (λ report. report.legal ≡ true) }
-    ensures table { IfOk result (λ report. report.text.items ≡ run_csv audited.settings (map event_seen events.now) table) }
+    ensures table { IfOk result (λ report. report.text.items
+        ≡ run_csv audited.settings (map event_seen events.now) table) }
 {
     let mut text = Vec::new(alloc);
     put_left_table(alloc, &mut text, audited.settings, events, table)?;

@@ -59,3 +59,10 @@ Gives given (Ok made) buffer after before size = (bytes : List ℕ) × ((given �
 Gives given (Err why) buffer after before size =
     ((why ≡ ShortBuffer) × ((bytes : List ℕ) × ((given ≡ Some (Ok bytes)) × Lacks bytes buffer after size)))
     ⊎ (((after ≡ buffer) × (size ≡ before)) × ((why ≡ OutOfMemory) ⊎ (((why ≡ Closed) × (given ≡ None)) ⊎ (given ≡ Some (Err why)))))
+
+-- so is a request, or an answer
+abbrev pub GivesRequest : ℕ → Option Serving → Said → List ℕ → List ℕ → ℕ → ℕ → Type 0
+GivesRequest number node said buffer after before size = Gives (option_map (request_in number) node) said buffer after before size
+
+abbrev pub GivesAnswer : ℕ → ℕ → Option Serving → Said → List ℕ → List ℕ → ℕ → ℕ → Type 0
+GivesAnswer pharmacy number node said buffer after before size = Gives (option_map (answer_in pharmacy number) node) said buffer after before size

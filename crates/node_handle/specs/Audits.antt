@@ -1,5 +1,6 @@
 -- What is said of logs that stand one behind another.
-use Rattle.std.specs.Prelude.{◌≡◌, ◌≢◌, ◌⊎◌, ℕ, nat_lt, Bool, true, false, List, [], ◌∷◌, length, take, drop, Ok, Err, Option, Some, None, if◌then◌else◌}
+use Rattle.std.specs.Prelude.{◌≡◌, ◌≢◌, ◌⊎◌, ℕ, nat_lt, Bool, true, false, List, [], ◌∷◌, map, length, take, drop, Ok, Err, Option, Some, None, MatchOption, if◌then◌else◌}
+use Rattle.std.specs.Global.{Vec}
 use Rattle.std.specs.Option.{option_map}
 use Rattle.claim_model.specs.Logs.{NodeLog}
 use Rattle.world_setup.specs.declared.settings.WorldSettings.{WorldSettings}
@@ -13,6 +14,14 @@ abbrev pub cut_at : List ℕ → List ℕ → Option (List (List ℕ))
 cut_at [] [] = Some []
 cut_at [] (byte ∷ more) = None
 cut_at (size ∷ sizes) bytes = if nat_lt (length bytes) size then None else option_map (λ pieces. take size bytes ∷ pieces) (cut_at sizes (drop size bytes))
+
+-- the bytes of each piece
+abbrev pub bytes_of : List (Vec ℕ) → List (List ℕ)
+bytes_of pieces = map (λ piece. piece.items) pieces
+
+-- the pieces that were cut, or none
+abbrev pub IsCutInto : List ℕ → List ℕ → Option (Vec (Vec ℕ)) → Type 0
+IsCutInto sizes bytes found = MatchOption found (cut_at sizes bytes ≡ None) (λ pieces. cut_at sizes bytes ≡ Some (bytes_of pieces.items))
 
 -- pieces of bytes are logs under the settings that a text spells, of one legal run or of none
 pub record IsReported (text : List ℕ) (pieces : List (List ℕ)) (legal : Bool) : Type 0 where

@@ -1,10 +1,10 @@
 -- What a call on a handle makes of its node, and of what the caller lends.
-use Rattle.std.specs.Prelude.{◌≡◌, ◌⊎◌, ℕ, ◌<◌, List, [], ◌++◌, length, drop, Result, Ok, Err, Option, Some, None, IsSome}
+use Rattle.std.specs.Prelude.{◌≡◌, ◌⊎◌, ℕ, ◌<◌, List, ◌++◌, length, drop, Result, Ok, Err, Option, Some, None, IsSome}
 use Rattle.std.specs.Option.{option_map}
 use Rattle.world_setup.specs.Seen.{node_seen}
 use Rattle.world_setup.specs.declared.node.Node.{Node}
 use Rattle.node_service.specs.Names.{node_in}
-use Rattle.node_service.specs.Serving.{Serving, after_line}
+use Rattle.node_service.specs.Serving.{Serving, after_line, cleared}
 use Rattle.node_service.specs.Opened.{IsOpened}
 use Rattle.node_handle.specs.declared.refusal.Refusal.{Refusal}
 use Rattle.node_handle.specs.declared.refusal.Refusal.TheVariants.{OutOfMemory, Closed, ShortBuffer, Damaged, BadRecord}
@@ -25,10 +25,6 @@ Opens old settings name log (Err why) before kept new = (new ≡ old) × ((kept 
 abbrev pub Serves : Option Serving → List ℕ → Said → Option Serving → Type 0
 Serves old line (Ok made) new = IsSome old × (new ≡ option_map (λ s. after_line s line) old)
 Serves old line (Err why) new = ((why ≡ OutOfMemory) × (new ≡ None)) ⊎ ((why ≡ Closed) × ((old ≡ None) × (new ≡ None)))
-
--- a node with nothing to be appended to its log, and nothing to be written
-abbrev pub cleared : Serving → Serving
-cleared s = record { settings = s.settings; node = s.node; state = s.state; calls = s.calls; records = []; out = [] }
 
 -- what was handed out is forgotten
 abbrev pub Clears : Option Serving → Said → Option Serving → Type 0
@@ -62,3 +58,10 @@ abbrev pub Copies : Option (List ℕ) → Said → List ℕ → List ℕ → ℕ
 Copies given (Ok made) buffer after before size = (bytes : List ℕ) × ((given ≡ Some bytes) × Stands bytes buffer after size)
 Copies given (Err why) buffer after before size =
     ((why ≡ Closed) × ((given ≡ None) × ((after ≡ buffer) × (size ≡ before)))) ⊎ ((why ≡ ShortBuffer) × ((bytes : List ℕ) × ((given ≡ Some bytes) × Lacks bytes buffer after size)))
+
+-- so are what is to be appended to the log, and what is to be written
+abbrev pub CopiesRecords : Option Serving → Said → List ℕ → List ℕ → ℕ → ℕ → Type 0
+CopiesRecords node said buffer after before size = Copies (option_map records_of node) said buffer after before size
+
+abbrev pub CopiesWritten : Option Serving → Said → List ℕ → List ℕ → ℕ → ℕ → Type 0
+CopiesWritten node said buffer after before size = Copies (option_map written_of node) said buffer after before size

@@ -85,3 +85,7 @@ Lists given (Ok made) room after before count = (list : List PlainPayment) × ((
 Lists given (Err why) room after before count =
     ((why ≡ ShortBuffer) × ((list : List PlainPayment) × ((given ≡ Some list) × Lacks list room after count)))
     ⊎ (((after ≡ room) × (count ≡ before)) × ((why ≡ OutOfMemory) ⊎ ((why ≡ Closed) × (given ≡ None))))
+
+-- so of its payments
+abbrev pub ListsPayments : Option Serving → Said → List PlainPayment → List PlainPayment → ℕ → ℕ → Type 0
+ListsPayments node said room after before count = Lists (option_map payments_in node) said room after before count

@@ -1,12 +1,11 @@
 //! What is asked most of a node: how many entries, slots or rows it has, and of one of them the request or the answer.
 
 ghost use Rattle.std.specs.Prelude.{◌≡◌, ◌⊎◌, Some, IfOk};
-ghost use Rattle.std.specs.Option.{option_map};
 ghost use Rattle.world_setup.specs.Seen.{node_seen};
 ghost use Rattle.node_state.specs.Nodes.{held_of};
 ghost use Rattle.node_logged.specs.Setting.{context_of};
 ghost use Rattle.node_handle.specs.declared.refusal.Refusal.TheVariants.{OutOfMemory};
-ghost use Rattle.node_handle.specs.Asked.{Gives, Sizes, answer_for, answer_in, is_pharmacy, lacking_in, request_in};
+ghost use Rattle.node_handle.specs.Asked.{Gives, GivesAnswer, GivesRequest, Sizes, answer_for, answer_in, is_pharmacy, lacking_in, request_in};
 
 use crate::handle::NodeHandle;
 use crate::reading::copy_out;
@@ -47,7 +46,7 @@ impl NodeHandle {
         size: &mut usize,
     ) -> Result<(), Refusal>
         ensures kept { self.new.part.node ≡ self.old.part.node }
-        ensures copied { Gives (option_map (request_in number) self.old.part.node) result buffer.old buffer.new size.old size.new }
+        ensures copied { GivesRequest number self.old.part.node result buffer.old buffer.new size.old size.new }
     {
         if !self.held {
             return Err(Refusal::Closed);
@@ -72,7 +71,7 @@ impl NodeHandle {
         size: &mut usize,
     ) -> Result<(), Refusal>
         ensures kept { self.new.part.node ≡ self.old.part.node }
-        ensures copied { Gives (option_map (answer_in pharmacy number) self.old.part.node) result buffer.old buffer.new size.old size.new }
+        ensures copied { GivesAnswer pharmacy number self.old.part.node result buffer.old buffer.new size.old size.new }
     {
         if !self.held {
             return Err(Refusal::Closed);

@@ -1,10 +1,10 @@
 //! Whether logs are those of one legal run, as claimaudit tells it.
 
-ghost use Rattle.std.specs.Prelude.{◌≡◌, ◌≢◌, map, true, false, IfOk, IfErr, OnOk};
+ghost use Rattle.std.specs.Prelude.{◌≡◌, ◌≢◌, true, false, IfOk, IfErr, OnOk};
 ghost use Rattle.run_merge.specs.LogSeen.{logs_seen};
 ghost use Rattle.log_audit.specs.Given.{IsRead};
 ghost use Rattle.node_handle.specs.declared.refusal.Refusal.TheVariants.{NoRun};
-ghost use Rattle.node_handle.specs.Audits.{Audits, IsJudged, IsReported, JudgedAs};
+ghost use Rattle.node_handle.specs.Audits.{Audits, bytes_of, IsJudged, IsReported, JudgedAs};
 
 use crate::cutting::pieces_of;
 use crate::reading::copy_out;
@@ -85,7 +85,7 @@ fn report_on_pieces(
     logs: &[Vec<u8>],
     place: &mut usize,
 ) -> Result<Report, Refusal>
-    ensures judged { IfOk result (λ report. IsReported settings.now (map (λ bytes. bytes.items) logs.now) report.legal) }
+    ensures judged { IfOk result (λ report. IsReported settings.now (bytes_of logs.now) report.legal) }
     ensures refused { IfErr result (λ why. why ≢ NoRun) }
 {
     match reported(alloc, style, settings, logs) {
@@ -101,7 +101,7 @@ fn reported(
     settings: &[u8],
     logs: &[Vec<u8>],
 ) -> Result<Report, AuditFault>
-    ensures { IfOk result (λ report. IsReported settings.now (map (λ bytes. bytes.items) logs.now) report.legal) }
+    ensures { IfOk result (λ report. IsReported settings.now (bytes_of logs.now) report.legal) }
 {
     let audited = audited(alloc, settings, logs)?;
     report_on(alloc, audited, form_of(style))
@@ -109,7 +109,7 @@ fn reported(
 
 /// The settings and the logs that bytes are.
 fn audited(alloc: Global, settings: &[u8], logs: &[Vec<u8>]) -> Result<Audited, AuditFault>
-    ensures { IfOk result (λ audited. IsRead settings.now (map (λ bytes. bytes.items) logs.now) audited.settings (logs_seen audited.logs.items)) }
+    ensures { IfOk result (λ a. IsRead settings.now (bytes_of logs.now) a.settings (logs_seen a.logs.items)) }
 {
     match Vec::from_slice(alloc, settings) {
         Ok(text) => read_audited(alloc, text, logs),

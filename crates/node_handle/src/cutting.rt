@@ -1,7 +1,7 @@
 //! Bytes that stand one behind another.
 
-ghost use Rattle.std.specs.Prelude.{◌≡◌, nat_lt, length, map, take, drop, true, false, [], Some, None, IfOk, MatchOption};
-ghost use Rattle.node_handle.specs.Audits.{cut_at};
+ghost use Rattle.std.specs.Prelude.{◌≡◌, nat_lt, length, take, drop, true, false, [], Some, None, IfOk, MatchOption};
+ghost use Rattle.node_handle.specs.Audits.{cut_at, IsCutInto};
 
 use std::alloc::{AllocError, Global};
 
@@ -11,7 +11,7 @@ pub(crate) fn pieces_of(
     bytes: &[u8],
     sizes: &[usize],
 ) -> Result<Option<Vec<Vec<u8>>>, AllocError>
-    ensures { IfOk result (λ found. MatchOption found (cut_at sizes.now bytes.now ≡ None) (λ pieces. cut_at sizes.now bytes.now ≡ Some (map (λ piece. piece.items) pieces.items))) }
+    ensures { IfOk result (λ found. IsCutInto sizes.now bytes.now found) }
 {
     let mut pieces = Vec::new(alloc);
     let mut rest = bytes;
@@ -27,7 +27,9 @@ pub(crate) fn pieces_of(
 
 /// The first bytes, so many, and what is behind them; none where there are fewer.
 fn cut(bytes: &[u8], size: usize) -> Option<(&[u8], &[u8])>
-    ensures { MatchOption result (nat_lt (length bytes.now) size ≡ true) (λ parts. (nat_lt (length bytes.now) size ≡ false) × ((parts.0.now ≡ take size bytes.now) × (parts.1.now ≡ drop size bytes.now))) }
+    ensures { MatchOption result (nat_lt (length bytes.now) size ≡ true)
+        (λ parts. (nat_lt (length bytes.now) size ≡ false)
+        × ((parts.0.now ≡ take size bytes.now) × (parts.1.now ≡ drop size bytes.now))) }
 {
     if bytes.len() < size {
         return None;

@@ -5,10 +5,9 @@ ghost use Rattle.std.specs.declared.option.Option.TheVariants.{None, Some};
 ghost use Rattle.world_setup.specs.Seen.{node_seen};
 ghost use Rattle.node_service.specs.Names.{node_in};
 ghost use Rattle.node_service.specs.Opened.{IsOpened};
-ghost use Rattle.std.specs.Option.{option_map};
 ghost use Rattle.world_setup.specs.declared.node.Node.{Node};
 ghost use Rattle.node_handle.specs.declared.refusal.Refusal.TheVariants.{Damaged, BadRecord};
-ghost use Rattle.node_handle.specs.Calls.{Opens, Serves, Clears, Counts, Copies, records_of, written_of};
+ghost use Rattle.node_handle.specs.Calls.{Opens, Serves, Clears, Counts, CopiesRecords, CopiesWritten};
 
 use crate::loose::Loose;
 use crate::part::Part;
@@ -157,7 +156,7 @@ impl NodeHandle {
         size: &mut usize,
     ) -> Result<(), Refusal>
         ensures kept { self.new.part.node ≡ self.old.part.node }
-        ensures copied { Copies (option_map records_of self.old.part.node) result buffer.old buffer.new size.old size.new }
+        ensures copied { CopiesRecords self.old.part.node result buffer.old buffer.new size.old size.new }
     {
         if !self.held {
             return Err(Refusal::Closed);
@@ -176,7 +175,7 @@ impl NodeHandle {
         size: &mut usize,
     ) -> Result<(), Refusal>
         ensures kept { self.new.part.node ≡ self.old.part.node }
-        ensures copied { Copies (option_map written_of self.old.part.node) result buffer.old buffer.new size.old size.new }
+        ensures copied { CopiesWritten self.old.part.node result buffer.old buffer.new size.old size.new }
     {
         if !self.held {
             return Err(Refusal::Closed);
@@ -197,7 +196,8 @@ fn opened(
     seed: &[u8],
     kept: &mut usize,
 ) -> Result<Box<Service>, Refusal>
-    ensures opened { IfOk result (λ o. (node : Node) × ((node_in name.now ≡ Some node) × IsOpened settings.now (node_seen node) log.now kept.new o.value)) }
+    ensures opened { IfOk result (λ o. (node : Node)
+        × ((node_in name.now ≡ Some node) × IsOpened settings.now (node_seen node) log.now kept.new o.value)) }
     ensures refused { IfErr result (λ why. (kept.new ≡ kept.old) ⊎ ((why ≡ Damaged) ⊎ (why ≡ BadRecord))) }
 {
     let Some(node) = node_in(name) else {

@@ -6,7 +6,7 @@ ghost use Rattle.std.specs.Option.{option_map, option_to_list};
 ghost use Rattle.bin_routes.specs.Table.{RouteMaps};
 ghost use Rattle.claim_model.specs.Bytes.{bytes_with};
 ghost use Rattle.node_state.specs.Nodes.{book_of, journal_of};
-ghost use Rattle.node_handle.specs.Payments.{Lists, book_payments, booked_plain, counted_plain, journal_payments, number_by, payments_by, payments_in, pharmacy_by, plain, row_payments, ruling_payment};
+ghost use Rattle.node_handle.specs.Payments.{Lists, ListsPayments, book_payments, booked_plain, counted_plain, journal_payments, number_by, payments_by, payments_in, pharmacy_by, plain, row_payments, ruling_payment};
 
 use crate::handle::NodeHandle;
 use crate::refusal::Refusal;
@@ -64,7 +64,7 @@ impl NodeHandle {
         count: &mut usize,
     ) -> Result<(), Refusal>
         ensures kept { self.new.part.node ≡ self.old.part.node }
-        ensures copied { Lists (option_map payments_in self.old.part.node) result buffer.old buffer.new count.old count.new }
+        ensures copied { ListsPayments self.old.part.node result buffer.old buffer.new count.old count.new }
     {
         if !self.held {
             return Err(Refusal::Closed);
@@ -116,7 +116,8 @@ fn payments_of(alloc: Global, node: &Service) -> Result<Vec<PlainPayment>, Alloc
 
 /// The payments of a node as it stands.
 fn payments_at(alloc: Global, state: &NodeState) -> Result<Vec<PlainPayment>, AllocError>
-    ensures { (routes : RouteMaps) → IfOk result (λ list. list.items ≡ payments_by (bytes_with routes) (journal_of state.now) (book_of state.now)) }
+    ensures { (routes : RouteMaps)
+        → IfOk result (λ l. l.items ≡ payments_by (bytes_with routes) (journal_of state.now) (book_of state.now)) }
 {
     match state.journal(alloc)? {
         Some(journal) => journal_payments(alloc, &journal),
@@ -126,7 +127,8 @@ fn payments_at(alloc: Global, state: &NodeState) -> Result<Vec<PlainPayment>, Al
 
 /// The payments of a node that is no pharmacy.
 fn other_payments(alloc: Global, state: &NodeState) -> Result<Vec<PlainPayment>, AllocError>
-    ensures { (routes : RouteMaps) → IfOk result (λ list. list.items ≡ payments_by (bytes_with routes) None (book_of state.now)) }
+    ensures { (routes : RouteMaps)
+        → IfOk result (λ l. l.items ≡ payments_by (bytes_with routes) None (book_of state.now)) }
 {
     match state.book(alloc)? {
         Some(reading) => book_payments(alloc, reading.book()),
@@ -139,7 +141,7 @@ fn journal_payments(
     alloc: Global,
     journal: &JournalReading<'_>,
 ) -> Result<Vec<PlainPayment>, AllocError>
-    ensures { (routes : RouteMaps) → IfOk result (λ list. list.items ≡ journal_payments (bytes_with routes) journal.now) }
+    ensures { (routes : RouteMaps) → IfOk result (λ l. l.items ≡ journal_payments (bytes_with routes) journal.now) }
 {
     let paid = journal.paid()?;
     counted_list(alloc, paid.as_slice())
@@ -176,7 +178,8 @@ fn book_payments(alloc: Global, book: &Book) -> Result<Vec<PlainPayment>, AllocE
 
 /// Appends the payments that a row of a book made.
 fn put_row(list: &mut Vec<PlainPayment>, book: &Book, row: &Row) -> Result<(), AllocError>
-    ensures { (routes : RouteMaps) → OnOk result (list.new.items ≡ list.old.items ++ row_payments (bytes_with routes) book.now row.now) }
+    ensures { (routes : RouteMaps)
+        → OnOk result (list.new.items ≡ list.old.items ++ row_payments (bytes_with routes) book.now row.now) }
 {
     for ruling in row.rulings() {
         put_ruling(list, book, ruling)?;
@@ -186,7 +189,8 @@ fn put_row(list: &mut Vec<PlainPayment>, book: &Book, row: &Row) -> Result<(), A
 
 /// Appends the payment that a ruling made, as the book has it by now.
 fn put_ruling(list: &mut Vec<PlainPayment>, book: &Book, ruling: &Ruling) -> Result<(), AllocError>
-    ensures { (routes : RouteMaps) → OnOk result (list.new.items ≡ list.old.items ++ ruling_payment (bytes_with routes) book.now ruling.now) }
+    ensures { (routes : RouteMaps)
+        → OnOk result (list.new.items ≡ list.old.items ++ ruling_payment (bytes_with routes) book.now ruling.now) }
 {
     match *ruling {
         Ruling::Paid { auth, .. } => put_booked(list, auth, book.payment(auth)),

@@ -82,11 +82,13 @@ fn line_of_packet(alloc: Global, from: &[u8], packet: &[u8]) -> Result<Vec<u8>, 
 /// The line of a request asks for the submission of these very bytes: a printed text reads back, as input_text proves.
 #[tactic(auto, using(crate::proofs::Lines::asks_request))]
 pub fn requests_are_asked()
-    ensures { (request : List ℕ) → unprinted (printed request) ≡ Ok request → asked_of (submit_line request) ≡ Some (Calls (Submit request)) }
+    ensures { (request : List ℕ)
+        → unprinted (printed request) ≡ Ok request → asked_of (submit_line request) ≡ Some (Calls (Submit request)) }
 {}
 
 /// The line of a packet asks to take these very bytes from this node.
 #[tactic(auto, using(crate::proofs::Lines::asks_packet))]
 pub fn packets_are_asked()
-    ensures { (from : List ℕ) (node : Node) (packet : List ℕ) → node_in from ≡ Some node → unprinted (printed packet) ≡ Ok packet → asked_of (take_line from packet) ≡ Some (Calls (Take node packet)) }
+    ensures { (from : List ℕ) (node : Node) (packet : List ℕ) → node_in from ≡ Some node
+        → unprinted (printed packet) ≡ Ok packet → asked_of (take_line from packet) ≡ Some (Calls (Take node packet)) }
 {}

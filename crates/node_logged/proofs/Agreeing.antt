@@ -1,7 +1,6 @@
 -- The ledgers of logs are those of the world that their interleavings lead to.
 use Rattle.std.proofs.Common.{◌≡◌, ℕ, zero, suc, ◌+◌, List, [], ◌∷◌, map, Option, Some, None, slice_get, Result, Ok, Err, IfOk, refl, sym, ap, ◌∙◌, subst, arith}
 use Rattle.std.specs.Prelude.{is_some, option_map}
-use Rattle.bin_routes.specs.Table.{routes_of}
 use Rattle.claim_model.specs.Context.{Context}
 use Rattle.claim_model.specs.Journal.{Journal, JournalAtRest}
 use Rattle.claim_model.specs.Node.{Node, Pharmacy, Power}
@@ -22,7 +21,7 @@ use Rattle.run_merge.specs.Merged.{IsMerged}
 use Rattle.run_merge.specs.declared.log.NodeLog.{NodeLog as Kept}
 use Rattle.run_merge.proofs.Lines.{calls_at}
 use Rattle.run_merge.proofs.Merging.{legal_distinct}
-use Rattle.node_logged.specs.Setting.{context_of}
+use Rattle.node_logged.specs.Setting.{context_of, world_after_run}
 use Rattle.node_logged.specs.Replayed.{entries_in, ledger_after, ledger_in, ledgers_from, ledgers_of, AreOfWorld}
 use Rattle.node_logged.specs.declared.judging.verdict.Finished.{Finished}
 use Rattle.node_logged.specs.declared.judging.finish_fault.FinishFault.{FinishFault}
@@ -87,7 +86,7 @@ agree s logs es m (suc k) =
 
 -- so they are where the end of a system is such a world
 pub ends_agree : (s : WorldSettings) (logs : List Kept) (r : Result Finished FinishFault) → IfOk r (λ f. IsMerged s (logs_seen logs) (map event_seen f.events.items))
-    → IfOk r (λ f. f.world ≡ record { routes = routes_of s.routes.items; world = run (context_of s) (opening (settings_seen s)) (map event_seen f.events.items) })
+    → IfOk r (λ f. f.world ≡ world_after_run s (map event_seen f.events.items))
     → IfOk r (λ f. AreOfWorld (ledgers_of s (logs_seen logs)) f.world.world)
 ends_agree s logs (Ok f) merged world = subst (λ w. AreOfWorld (ledgers_of s (logs_seen logs)) w.world) (sym world) (agree s (logs_seen logs) (map event_seen f.events.items) merged)
 ends_agree s logs (Err why) merged world = tt

@@ -1,9 +1,9 @@
 -- What tests of tills and ledgers tell.
-use Rattle.std.proofs.Common.{◌≡◌, ℕ, zero, suc, ◌+◌, ◌<◌, ◌==◌, Bool, true, false, cond, ◌||◌, List, [], ◌∷◌, length, Option, Some, None, slice_get, nat_eq, refl, sym, ap, ◌∙◌, subst, inl, inr, arith, eqb-true, eq-eqb}
+use Rattle.std.proofs.Common.{◌≡◌, ℕ, zero, suc, ◌+◌, ◌<◌, ◌==◌, Bool, true, false, cond, List, [], ◌∷◌, length, Option, Some, None, slice_get, nat_eq, refl, sym, ap, ◌∙◌, subst, inl, inr, arith, eqb-true, eq-eqb}
 use Rattle.std.specs.Prelude.{Contains}
 use Rattle.std.specs.List.{list_all, AllByRecursion}
 use Rattle.std.specs.Cmp.Lexicographic.{pointwise, bytes_decides}
-use Rattle.std.proofs.lemmas.Bool.{and_parts, and_from, or_cases, both_ways}
+use Rattle.std.proofs.lemmas.Bool.{and_parts, and_from, or_left, or_right, or_cases, both_ways}
 use Rattle.claim_model.specs.Context.{Context}
 use Rattle.claim_model.specs.Journal.{Journal, JournalAtRest, Kept}
 use Rattle.claim_model.specs.Node.{Power}
@@ -50,14 +50,6 @@ one_there number request (r ∷ rs) h =
       | inl e ↦ subst (λ (x : Receipt). Contains (r ∷ rs) x) (is_one number request r e) (first r rs)
       | inr e ↦ later r rs (record { number = number; request = request }) (one_there number request rs e)
     ]
-
-or_left : (a b : Bool) → a ≡ true → (a || b) ≡ true
-or_left true b e = refl
-or_left false b e = absurd cc
-
-or_right : (a b : Bool) → b ≡ true → (a || b) ≡ true
-or_right true b e = refl
-or_right false b e = e
 
 one_found : (number : ℕ) (request : List ℕ) (rs : List Receipt) → Contains rs (record { number = number; request = request }) → has_one number request rs ≡ true
 one_found number request [] (k, h, e) = absurd (omega (arith, h))

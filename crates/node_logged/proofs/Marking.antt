@@ -1,10 +1,11 @@
 -- Marks of the entries that have a receipt.
-use Rattle.std.proofs.Common.{◌≡◌, ℕ, suc, ◌+◌, ◌<◌, ◌==◌, Bool, true, false, ◌&&◌, ◌||◌, List, [], ◌∷◌, length, Option, Some, slice_get, slice_set, nat_eq, refl, sym, ap, ◌∙◌, subst, inl, inr, arith, eq-eqb}
+use Rattle.std.proofs.Common.{◌≡◌, ℕ, suc, ◌+◌, ◌<◌, ◌==◌, Bool, true, false, ◌&&◌, ◌||◌, List, [], ◌∷◌, length, Some, slice_get, slice_set, nat_eq, refl, sym, ap, ◌∙◌, subst, inl, inr, arith, eq-eqb}
 use Rattle.std.specs.List.{list_all}
 use Rattle.std.specs.Cmp.Lexicographic.{pointwise, bytes_decides}
 use Rattle.std.proofs.lemmas.Bool.{and_parts, and_from, cases_eq, eqb-true}
 use Rattle.std.proofs.lemmas.List.{length-set}
 use Rattle.claim_model.specs.Journal.{Kept}
+use Rattle.claim_model.proofs.Options.{same_some}
 use Rattle.claim_model.proofs.Lists.{get_put, get_put_other, get_within, get_exists}
 use Rattle.node_logged.specs.Tills.{Receipt}
 use Rattle.node_logged.specs.Ledgers.{is_receipt, has_one, each_has_one, IsEntryOf, IsOfNone}
@@ -18,9 +19,6 @@ either_false : (b : Bool) → (b || false) ≡ b
 either_false true = refl
 either_false false = refl
 
-some_is : {A : Type 0} (a b : A) → ◌≡◌ {A = Option A} (Some a) (Some b) → a ≡ b
-some_is a b e = cc
-
 -- a receipt that has the number and the request of an entry is of that entry
 is_of : (entries : List Kept) (r : Receipt) (k : ℕ) (entry : Kept) → slice_get entries k ≡ Some entry → is_receipt (suc k) entry.request r ≡ true → IsEntryOf entries r k
 is_of entries r k entry e h =
@@ -30,7 +28,7 @@ is_of entries r k entry e h =
 -- and the other way round
 of_is : (entries : List Kept) (r : Receipt) (k : ℕ) (entry : Kept) → slice_get entries k ≡ Some entry → IsEntryOf entries r k → is_receipt (suc k) entry.request r ≡ true
 of_is entries r k entry e i =
-    let same : i.entry ≡ entry = some_is i.entry entry (sym i.at ∙ e) in
+    let same : i.entry ≡ entry = same_some i.entry entry (sym i.at ∙ e) in
     and_from (r.number == suc k) (pointwise nat_eq entry.request r.request) (eq-eqb r.number (suc k) i.number) ((bytes_decides entry.request r.request).1 (ap (λ (x : Kept). x.request) (sym same) ∙ i.same))
 
 -- a receipt of no entry marks nothing
@@ -61,7 +59,7 @@ marks_one entries r place left all marks i m =
     here k same entry mark e g =
         let old = get_exists marks k (subst (λ (n : ℕ). k < n) (sym m.size) (get_within entries k entry e)) in
         let h = of_is entries r k entry e (subst (IsEntryOf entries r) same i) in
-        let is : mark ≡ true = some_is mark true (sym g ∙ (ap (λ (n : ℕ). slice_get (slice_set marks n true) k) same ∙ get_put marks k old.0 true old.1)) in
+        let is : mark ≡ true = same_some mark true (sym g ∙ (ap (λ (n : ℕ). slice_get (slice_set marks n true) k) same ∙ get_put marks k old.0 true old.1)) in
         ap (λ b. b || has_one (suc k) entry.request left) is
         ∙ (sym (either_true old.0) ∙ (ap (λ b. old.0 || (b || has_one (suc k) entry.request left)) (sym h) ∙ m.each k entry old.0 e old.1))
 

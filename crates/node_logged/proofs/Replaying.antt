@@ -2,7 +2,7 @@
 use Rattle.std.proofs.Common.{◌≡◌, ℕ, zero, suc, ◌+◌, ◌<◌, ◌≤◌, List, [], ◌∷◌, ◌++◌, drop, length, Option, Some, None, slice_get, refl, sym, ap, ◌∙◌, subst, arith, append_assoc}
 use Rattle.std.specs.Prelude.{IsSome, option_map}
 use Rattle.std.proofs.lemmas.Bool.{lt-ltb}
-use Rattle.std.proofs.lemmas.List.{append-nil}
+use Rattle.std.proofs.lemmas.List.{append-nil, drop_all}
 use Rattle.claim_model.specs.Context.{Context}
 use Rattle.claim_model.specs.Journal.{PharmacySettings, Journal, JournalAtRest}
 use Rattle.claim_model.specs.Node.{Power, Outcome, Done, Refused, pharmacy_step}
@@ -11,10 +11,10 @@ use Rattle.claim_model.specs.Settings.{pharmacies_from}
 use Rattle.claim_model.specs.Nodes.{AnyNode, OfPharmacy, as_node}
 use Rattle.claim_model.specs.Logs.{Logged, NodeLog, node_after, replay}
 use Rattle.node_state.specs.Nodes.{journal_of}
+use Rattle.node_state.proofs.Openings.{length-pharmacies_from}
 use Rattle.run_merge.proofs.Opens.{pharmacy_there}
 use Rattle.node_logged.specs.Ledgers.{Ledger}
 use Rattle.node_logged.specs.Replayed.{ledger_after, ledgers_from}
-use Rattle.node_logged.proofs.Rests.{drop_end}
 
 -- the pharmacy at a place is there
 pub there_at : (ss : List PharmacySettings) (k : ℕ) → k < length ss → IsSome (option_map OfPharmacy (numbered (pharmacies_from 1 ss) (k + 1)))
@@ -64,13 +64,9 @@ ledgers_step ctx logs ps k before new all l e is was =
         let same : ledger_after ctx logs (k + 1) p ≡ l = cc in
         ap (ledgers_from ctx logs (k + 1)) (rest_at ps k p g) ∙ ap (λ (x : Ledger). x ∷ ledgers_from ctx logs (k + 1 + 1) (drop (suc k) ps)) same
 
-pharmacies_length : (m : ℕ) (ss : List PharmacySettings) → length (pharmacies_from m ss) ≡ length ss
-pharmacies_length m [] = refl
-pharmacies_length m (s ∷ ss) = ap suc (pharmacies_length (m + 1) ss)
-
 -- all ledgers
 pub ledgers_end : (ctx : Context) (logs : List NodeLog) (ss : List PharmacySettings) (k : ℕ) (made all : List Ledger) → length ss ≤ k → made ++ ledgers_from ctx logs (k + 1) (drop k (pharmacies_from 1 ss)) ≡ all → made ≡ all
 ledgers_end ctx logs ss k made all h was =
-    let few : length (pharmacies_from 1 ss) ≤ k = subst (λ (n : ℕ). n ≤ k) (sym (pharmacies_length 1 ss)) h in
-    let none : ledgers_from ctx logs (k + 1) (drop k (pharmacies_from 1 ss)) ≡ [] = ap (ledgers_from ctx logs (k + 1)) (drop_end (pharmacies_from 1 ss) k few) in
+    let few : length (pharmacies_from 1 ss) ≤ k = subst (λ (n : ℕ). n ≤ k) (sym (length-pharmacies_from 1 ss)) h in
+    let none : ledgers_from ctx logs (k + 1) (drop k (pharmacies_from 1 ss)) ≡ [] = ap (ledgers_from ctx logs (k + 1)) (drop_all k (pharmacies_from 1 ss) few) in
     sym (append-nil made) ∙ (ap (λ ls. made ++ ls) (sym none) ∙ was)

@@ -2,9 +2,9 @@
 use Rattle.std.specs.Prelude.{◌≡◌, List, [], ◌∷◌, ◌++◌, ◌-◌, length, slice_get, Option, Some, None, option_map, unwrap_or}
 use Rattle.claim_model.specs.Node.{Call, Stop, Start, Sent, Outcome, Done, Refused}
 use Rattle.claim_model.specs.Nodes.{AnyNode, node_step}
-use Rattle.claim_model.specs.Logs.{Logged, NodeLog, replay}
+use Rattle.claim_model.specs.Logs.{Logged, NodeLog}
 use Rattle.world_setup.specs.declared.settings.WorldSettings.{WorldSettings}
-use Rattle.run_merge.specs.Merged.{FitsThere}
+use Rattle.run_merge.specs.Merged.{FitsThere, replayed}
 use Rattle.node_logged.specs.Setting.{context_of, opened}
 
 -- the settings that all nodes share, a node, and its log
@@ -15,7 +15,7 @@ pub record Holding : Type 0 where
 
 -- the node is the replay, from its opening, of the log beside it
 abbrev pub IsReplay : WorldSettings → AnyNode → NodeLog → Type 0
-IsReplay settings state log = option_map (λ s. replay (context_of settings) s log.calls) (opened settings log.node) ≡ Some state
+IsReplay settings state log = replayed settings log.node log.calls ≡ Some state
 
 -- the node is the replay of the log beside it, and by itself accepts each call of the log in its turn and sends with it what stands beside the call
 pub record IsKept (settings : WorldSettings) (state : AnyNode) (log : NodeLog) : Type 0 where

@@ -25,6 +25,10 @@ entries_in (OfPayer node) = []
 abbrev pub ledger_after : Context → List NodeLog → ℕ → Power Journal JournalAtRest → Ledger
 ledger_after ctx logs number pharmacy = record { pharmacy = number; entries = entries_in (replay ctx (OfPharmacy pharmacy) (calls_of logs (Pharmacy number))) }
 
+-- the ledger of the pharmacy of a number, after the calls of its log, where it is there
+abbrev pub ledger_at : WorldSettings → List NodeLog → ℕ → Option Ledger
+ledger_at s logs number = option_map (ledger_after (context_of s) logs number) (numbered (opening (settings_seen s)).pharmacies number)
+
 -- the ledgers of pharmacies that are numbered from this number on
 abbrev pub ledgers_from : Context → List NodeLog → ℕ → List (Power Journal JournalAtRest) → List Ledger
 ledgers_from ctx logs number [] = []

@@ -1,18 +1,14 @@
 -- What the end of a system tells, of the logs that its answer carries.
 use Rattle.std.specs.Prelude.{◌≡◌, List, [], map}
-use Rattle.std.specs.List.{AllByRecursion}
-use Rattle.bin_routes.specs.Table.{routes_of}
-use Rattle.claim_model.specs.Settings.{opening}
-use Rattle.claim_model.specs.World.{run}
-use Rattle.world_setup.specs.Seen.{event_seen, settings_seen}
+use Rattle.world_setup.specs.Seen.{event_seen}
 use Rattle.world_setup.specs.declared.settings.WorldSettings.{WorldSettings}
 use Rattle.run_merge.specs.LogSeen.{logs_seen}
 use Rattle.run_merge.specs.Merged.{IsMerged}
 use Rattle.run_merge.specs.declared.log.NodeLog.{NodeLog}
 use Rattle.node_logged.specs.Tills.{Till}
-use Rattle.node_logged.specs.Setting.{context_of}
+use Rattle.node_logged.specs.Setting.{world_after_run}
 use Rattle.node_logged.specs.Replayed.{AreOfWorld, ledgers_of}
-use Rattle.node_logged.specs.Judged.{AreReceipts, AreHeard}
+use Rattle.node_logged.specs.Judged.{AllReceipts, AllHeard}
 use Rattle.node_logged.specs.declared.judging.verdict.Finished.{Finished}
 use Rattle.node_logged.specs.declared.judging.finish_fault.FinishFault.{FinishFault}
 use Rattle.node_logged.specs.declared.judging.finish_fault.FinishFault.TheVariants as fault
@@ -20,10 +16,10 @@ use Rattle.node_logged.specs.declared.judging.finish_fault.FinishFault.TheVarian
 -- the events are a legal interleaving of the logs, the world is their run, and the tills have the receipts and answers of the world's journals
 pub record IsRun (s : WorldSettings) (tills : List Till) (f : Finished) (logs : List NodeLog) : Type 0 where
   pub events : IsMerged s (logs_seen logs) (map event_seen f.events.items)
-  pub world : f.world ≡ record { routes = routes_of s.routes.items; world = run (context_of s) (opening (settings_seen s)) (map event_seen f.events.items) }
+  pub world : f.world ≡ world_after_run s (map event_seen f.events.items)
   pub ledgers : AreOfWorld (ledgers_of s (logs_seen logs)) f.world.world
-  pub receipts : AllByRecursion (AreReceipts tills) (ledgers_of s (logs_seen logs))
-  pub heard : AllByRecursion (AreHeard tills) (ledgers_of s (logs_seen logs))
+  pub receipts : AllReceipts tills (ledgers_of s (logs_seen logs))
+  pub heard : AllHeard tills (ledgers_of s (logs_seen logs))
 
 -- the logs that a refusal carries; want of memory has none
 abbrev pub logs_in : FinishFault → List NodeLog

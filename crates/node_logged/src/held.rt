@@ -131,7 +131,7 @@ impl Held {
         requires { self.old.log.node ≡ Pharmacy till.old.pharmacy }
         ensures step { OnOk result (after_call self.old (Submit request.now) ≡ Some self.new) }
         ensures number { IfOk result (λ number. number ≡ entries_of self.new.state) }
-        ensures receipt { IfOk result (λ number. till_seen till.new ≡ with_receipt number request.now (till_seen till.old)) }
+        ensures receipt { IfOk result (λ n. till_seen till.new ≡ with_receipt n request.now (till_seen till.old)) }
         ensures fault { Refuses (node_step (context_of self.old.settings) self.old.state (Submit request.now)) result }
         ensures same_node { OnErr result (self.new ≡ self.old) }
         ensures same_till { OnErr result (till_seen till.new ≡ till_seen till.old) }

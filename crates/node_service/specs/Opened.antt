@@ -1,14 +1,13 @@
 -- The node that is served, from the bytes of its log.
 use Rattle.std.specs.Prelude.{◌≡◌, ◌⊎◌, ℕ, zero, List, [], length, Some, Ok, Err}
-use Rattle.std.specs.Option.{option_map}
 use Rattle.sha2.specs.Sha256.{sha256}
 use Rattle.claim_model.specs.Node.{Node}
-use Rattle.claim_model.specs.Logs.{NodeLog, replay}
+use Rattle.claim_model.specs.Logs.{NodeLog}
 use Rattle.world_setup.specs.declared.settings.WorldSettings.{WorldSettings}
 use Rattle.world_settings.specs.Document.{document_seen, settings_in}
 use Rattle.kept_logs.specs.declared.fault.LogFault.TheVariants.{Short}
 use Rattle.kept_logs.specs.Logs.{log_text, log_in}
-use Rattle.node_logged.specs.Setting.{context_of, opened}
+use Rattle.run_merge.specs.Merged.{replayed}
 use Rattle.node_service.specs.Serving.{Serving}
 
 -- a node's log with no call
@@ -30,7 +29,7 @@ pub record IsOpened (text : List ℕ) (node : Node) (bytes : List ℕ) (kept : �
   pub own : log.node ≡ node
   pub begun : IsBegun (sha256 text) node bytes log kept s.records
   pub calls : s.calls ≡ length log.calls
-  pub state : option_map (λ opening. replay (context_of s.settings) opening log.calls) (opened s.settings node) ≡ Some s.state
+  pub state : replayed s.settings node log.calls ≡ Some s.state
   pub silent : s.out ≡ []
 
 -- the node that is served is the replay of this log under these settings; so many bytes stay, and this is to be appended
@@ -38,7 +37,7 @@ pub record IsServed (settings : WorldSettings) (log : NodeLog) (kept : ℕ) (rec
   pub own : s.settings ≡ settings
   pub named : s.node ≡ log.node
   pub calls : s.calls ≡ length log.calls
-  pub state : option_map (λ opening. replay (context_of settings) opening log.calls) (opened settings log.node) ≡ Some s.state
+  pub state : replayed settings log.node log.calls ≡ Some s.state
   pub append : s.records ≡ records
   pub silent : s.out ≡ []
   pub stays : stay ≡ kept

@@ -1,7 +1,7 @@
 -- What a line makes of a node that is served: the node, the records for its log, and what is written.
-use Rattle.std.specs.Prelude.{ℕ, zero, ◌+◌, ◌&&◌, nat_lt, List, ◌++◌, codes, Option, Some, None, if◌then◌else◌}
+use Rattle.std.specs.Prelude.{ℕ, zero, ◌+◌, ◌&&◌, nat_lt, List, [], ◌++◌, codes, Option, Some, None, if◌then◌else◌}
 use Rattle.claim_model.specs.Context.{Context}
-use Rattle.claim_model.specs.Node.{Node, Pharmacy, Switch, Payer, Call, Submit, Tick, Take, Stop, Start, Reprice, Outcome, Done, Refused}
+use Rattle.claim_model.specs.Node.{Node, Pharmacy, Switch, Payer, Sent, Call, Submit, Tick, Take, Stop, Start, Reprice, Outcome, Done, Refused}
 use Rattle.claim_model.specs.Nodes.{AnyNode, node_step}
 use Rattle.node_state.specs.Nodes.{entries_of, request_of, held_of}
 use Rattle.world_setup.specs.Names.{refusal_name}
@@ -31,6 +31,10 @@ last_line Stop next = done_line
 last_line Start next = done_line
 last_line (Reprice product price) next = done_line
 
+-- what is written of a call that was made
+abbrev pub made_lines : Call → List Sent → AnyNode → List ℕ
+made_lines call sent next = sent_lines sent ++ last_line call next
+
 -- what is written without a call
 abbrev pub saying : Serving → List ℕ → Serving
 saying s text = record { settings = s.settings; node = s.node; state = s.state; calls = s.calls; records = s.records; out = s.out ++ text }
@@ -43,9 +47,13 @@ after_call s call (Done next sent) = record {
   state = next;
   calls = s.calls + 1;
   records = s.records ++ frame_text (s.calls + 1) (logged_text (record { call = call; sent = sent }));
-  out = s.out ++ (sent_lines sent ++ last_line call next);
+  out = s.out ++ made_lines call sent next;
 }
 after_call s call (Refused why) = saying s (refused_line (refusal_name why))
+
+-- a call is made, or refused
+abbrev pub making : Serving → Call → Serving
+making s call = after_call s call (node_step (context_of s.settings) s.state call)
 
 -- an answer that is held, or whether the number has an entry
 abbrev pub answer_text : Option (List ℕ) → Option (List ℕ) → List ℕ
@@ -60,10 +68,18 @@ answer_of ctx state (Pharmacy pharmacy) number =
 answer_of ctx state (Switch switch) number = codes "none\n"
 answer_of ctx state (Payer payer) number = codes "none\n"
 
+-- the answer to a number is said
+abbrev pub answering : Serving → ℕ → Serving
+answering s number = saying s (answer_of (context_of s.settings) s.state s.node number)
+
+-- the records are on disk, and what was to be written was written
+abbrev pub cleared : Serving → Serving
+cleared s = record { settings = s.settings; node = s.node; state = s.state; calls = s.calls; records = []; out = [] }
+
 abbrev pub after_asked : Serving → Option Asked → Serving
 after_asked s None = saying s (refused_line (codes "Line"))
-after_asked s (Some (Calls call)) = after_call s (call_seen call) (node_step (context_of s.settings) s.state (call_seen call))
-after_asked s (Some (AnswerTo number)) = saying s (answer_of (context_of s.settings) s.state s.node number)
+after_asked s (Some (Calls call)) = making s (call_seen call)
+after_asked s (Some (AnswerTo number)) = answering s number
 
 -- what a line makes of it
 unfoldable pub after_line : Serving → List ℕ → Serving

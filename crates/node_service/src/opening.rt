@@ -5,7 +5,7 @@ ghost use Rattle.sha2.specs.Sha256.{sha256};
 ghost use Rattle.world_setup.specs.Seen.{node_seen};
 ghost use Rattle.world_settings.specs.Document.{document_seen, settings_in};
 ghost use Rattle.run_merge.specs.LogSeen.{log_seen};
-ghost use Rattle.node_logged.specs.Setting.{context_of, opened};
+ghost use Rattle.node_logged.specs.Setting.{opened};
 ghost use Rattle.kept_logs.specs.Logs.{log_text};
 ghost use Rattle.kept_logs.specs.LogSeen.{reading_seen};
 ghost use Rattle.node_service.specs.Opened.{IsBegun, IsOpened, IsServed, empty_log};
@@ -68,7 +68,8 @@ fn settings_of(alloc: Global, keys: &HashKeys, text: &[u8]) -> Result<WorldSetti
 /// The log of this node that bytes are, or one that is begun where they end before its head does.
 fn begin(alloc: Global, text: &[u8], node: Node, bytes: &[u8]) -> Result<Begun, ServiceFault>
     ensures own { IfOk result (λ begun. (log_seen begun.log).node ≡ node_seen node) }
-    ensures begun { IfOk result (λ begun. IsBegun (sha256 text.now) (node_seen node) bytes.now (log_seen begun.log) begun.kept begun.records.items) }
+    ensures begun { IfOk result (λ begun.
+        IsBegun (sha256 text.now) (node_seen node) bytes.now (log_seen begun.log) begun.kept begun.records.items) }
 {
     let digest = SettingsDigest::of(text);
     match read_log(alloc, &digest, bytes) {
@@ -81,7 +82,8 @@ fn begin(alloc: Global, text: &[u8], node: Node, bytes: &[u8]) -> Result<Begun, 
 /// A log that was read, where it is this node's.
 fn own(alloc: Global, node: Node, read: ReadLog) -> Result<Begun, ServiceFault>
     ensures own { IfOk result (λ begun. (log_seen begun.log).node ≡ node_seen node) }
-    ensures read { IfOk result (λ begun. (log_seen begun.log ≡ (reading_seen read).log) × ((begun.kept ≡ (reading_seen read).whole) × (begun.records.items ≡ []))) }
+    ensures read { IfOk result (λ begun. (log_seen begun.log ≡ (reading_seen read).log)
+        × ((begun.kept ≡ (reading_seen read).whole) × (begun.records.items ≡ []))) }
 {
     let ReadLog { log, whole } = read;
     if !log.is_of(node) {
@@ -97,7 +99,8 @@ fn own(alloc: Global, node: Node, read: ReadLog) -> Result<Begun, ServiceFault>
 /// A log that is begun.
 fn new(alloc: Global, digest: &SettingsDigest, node: Node) -> Result<Begun, ServiceFault>
     ensures log { IfOk result (λ begun. log_seen begun.log ≡ empty_log (node_seen node)) }
-    ensures new { IfOk result (λ begun. (begun.kept ≡ 0) × (begun.records.items ≡ log_text digest.now (empty_log (node_seen node)))) }
+    ensures new { IfOk result (λ begun. (begun.kept ≡ 0)
+        × (begun.records.items ≡ log_text digest.now (empty_log (node_seen node)))) }
 {
     let log = NodeLog::new(alloc, node);
     let records = write_log(alloc, digest, &log)?;
@@ -111,7 +114,7 @@ fn new(alloc: Global, digest: &SettingsDigest, node: Node) -> Result<Begun, Serv
 /// The node that is the replay of a log.
 fn serve_from(alloc: Global, shared: Shared, begun: Begun) -> Result<(Service, usize), ServiceFault>
     requires { IsSome (opened shared (log_seen begun.log).node) }
-    ensures { IfOk result (λ served. IsServed shared (log_seen begun.log) begun.kept begun.records.items served.1 served.0) }
+    ensures { IfOk result (λ s. IsServed shared (log_seen begun.log) begun.kept begun.records.items s.1 s.0) }
 {
     let Begun { log, kept, records } = begun;
     let state = replay_log(alloc, shared.settings(), &log)?;

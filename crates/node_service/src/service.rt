@@ -1,12 +1,10 @@
 //! A node that is served.
 
-ghost use Rattle.std.specs.Prelude.{◌≡◌, [], codes, OnOk};
+ghost use Rattle.std.specs.Prelude.{◌≡◌, codes, OnOk};
 ghost use Rattle.claim_model.specs.Node.{Done};
-ghost use Rattle.claim_model.specs.Nodes.{node_step};
-ghost use Rattle.node_logged.specs.Setting.{context_of};
 ghost use Rattle.world_setup.specs.Seen.{call_seen, node_seen};
 ghost use Rattle.node_service.specs.Answering.{refused_line};
-ghost use Rattle.node_service.specs.Serving.{after_call, after_line, answer_of, saying};
+ghost use Rattle.node_service.specs.Serving.{after_call, after_line, answering, cleared, making, saying};
 
 use crate::answering::put_refused;
 use crate::asking::{Asked, asked_of};
@@ -36,7 +34,14 @@ impl Model for Service {
 
     ghost Value = { Serving };
 
-    ghost view = { λ s. record { settings = s.shared; node = node_seen s.name; state = s.state; calls = s.calls; records = s.records.items; out = s.out.items } };
+    ghost view = { λ s. record {
+      settings = s.shared;
+      node = node_seen s.name;
+      state = s.state;
+      calls = s.calls;
+      records = s.records.items;
+      out = s.out.items;
+    } };
 }
 
 impl Service {
@@ -61,7 +66,7 @@ impl Service {
 
     /// Says the answer to a number.
     fn answer(&mut self, alloc: Global, number: u64) -> Result<(), AllocError>
-        ensures { OnOk result (self.new ≡ saying self.old (answer_of (context_of self.old.settings) self.old.state self.old.node number)) }
+        ensures { OnOk result (self.new ≡ answering self.old number) }
     {
         put_answer_to(alloc, &mut self.out, &self.state, self.name, number)
     }
@@ -76,7 +81,7 @@ impl Service {
     /// Makes a call, and records it where it was made.
     #[tactic(auto, unfolding(crate::specs::Serving::after_call))]
     fn make(&mut self, alloc: Global, call: Call) -> Result<(), AllocError>
-        ensures { OnOk result (self.new ≡ after_call self.old (call_seen call) (node_step (context_of self.old.settings) self.old.state (call_seen call))) }
+        ensures { OnOk result (self.new ≡ making self.old (call_seen call)) }
     {
         match self.state.step(alloc, self.shared.routes(), &call) {
             Ok(sent) => self.record(alloc, &Record::new(call, sent)),
@@ -137,7 +142,7 @@ impl Service {
 
     /// Notes that the records are on disk and the rest was written.
     pub fn clear(&mut self)
-        ensures { self.new ≡ record { settings = self.old.settings; node = self.old.node; state = self.old.state; calls = self.old.calls; records = []; out = [] } }
+        ensures { self.new ≡ cleared self.old }
     {
         self.records.clear();
         self.out.clear();

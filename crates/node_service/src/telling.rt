@@ -5,8 +5,7 @@ ghost use Rattle.bin_routes.specs.Table.{RouteMaps};
 ghost use Rattle.claim_model.specs.Bytes.{bytes_with};
 ghost use Rattle.claim_model.specs.Node.{Pharmacy};
 ghost use Rattle.world_setup.specs.Seen.{call_seen, node_seen};
-ghost use Rattle.node_service.specs.Answering.{sent_lines};
-ghost use Rattle.node_service.specs.Serving.{answer_of, answer_text, last_line};
+ghost use Rattle.node_service.specs.Serving.{answer_of, answer_text, last_line, made_lines};
 
 use crate::answering::{put_answer, put_done, put_number, put_sent};
 use envelope::TxnId;
@@ -23,7 +22,7 @@ pub(crate) fn put_made(
     state: &NodeState,
     one: &Record,
 ) -> Result<(), AllocError>
-    ensures { OnOk result (out.new.items ≡ out.old.items ++ (sent_lines one.now.sent ++ last_line one.now.call state.now)) }
+    ensures { OnOk result (out.new.items ≡ out.old.items ++ made_lines one.now.call one.now.sent state.now) }
 {
     put_sent(out, one.sent())?;
     put_last(alloc, out, state, one.call())
@@ -56,7 +55,8 @@ pub(crate) fn put_answer_to(
     name: Node,
     number: u64,
 ) -> Result<(), AllocError>
-    ensures { (routes : RouteMaps) → OnOk result (out.new.items ≡ out.old.items ++ answer_of (bytes_with routes) state.now (node_seen name) number) }
+    ensures { (routes : RouteMaps) → OnOk result (out.new.items
+        ≡ out.old.items ++ answer_of (bytes_with routes) state.now (node_seen name) number) }
 {
     match name {
         Node::Pharmacy(pharmacy) => put_own(alloc, out, state, pharmacy, number),
@@ -73,7 +73,8 @@ fn put_own(
     pharmacy: u16,
     number: u64,
 ) -> Result<(), AllocError>
-    ensures { (routes : RouteMaps) → OnOk result (out.new.items ≡ out.old.items ++ answer_of (bytes_with routes) state.now (Pharmacy pharmacy) number) }
+    ensures { (routes : RouteMaps) → OnOk result (out.new.items
+        ≡ out.old.items ++ answer_of (bytes_with routes) state.now (Pharmacy pharmacy) number) }
 {
     let Some(id) = TxnId::new(pharmacy, number) else {
         return out.extend_from_slice(b"none\n");

@@ -1,19 +1,15 @@
 -- A verdict on logs, said of the logs that it carries.
 use Rattle.std.proofs.Common.{◌≡◌, List, map, Result, Ok, Err, sym, subst, IfOk}
 use Rattle.std.specs.Prelude.{IfErr, OnOk}
-use Rattle.std.specs.List.{AllByRecursion}
-use Rattle.bin_routes.specs.Table.{routes_of}
-use Rattle.claim_model.specs.Settings.{opening}
-use Rattle.claim_model.specs.World.{run}
-use Rattle.world_setup.specs.Seen.{event_seen, settings_seen}
+use Rattle.world_setup.specs.Seen.{event_seen}
 use Rattle.world_setup.specs.declared.settings.WorldSettings.{WorldSettings}
 use Rattle.run_merge.specs.LogSeen.{logs_seen}
 use Rattle.run_merge.specs.Merged.{IsMerged}
 use Rattle.run_merge.specs.declared.log.NodeLog.{NodeLog}
 use Rattle.node_logged.specs.Tills.{Till}
-use Rattle.node_logged.specs.Setting.{context_of}
+use Rattle.node_logged.specs.Setting.{world_after_run}
 use Rattle.node_logged.specs.Replayed.{AreOfWorld, ledgers_of}
-use Rattle.node_logged.specs.Judged.{AreReceipts, AreHeard}
+use Rattle.node_logged.specs.Judged.{AllReceipts, AllHeard}
 use Rattle.node_logged.specs.Causes.{IsCause}
 use Rattle.node_logged.specs.Verdicts.{IsRun, logs_in}
 use Rattle.node_logged.specs.declared.judging.verdict.Finished.{Finished}
@@ -23,10 +19,10 @@ use Rattle.node_logged.specs.declared.judging.finish_fault.FinishFault.TheVarian
 pub run_carried : (s : WorldSettings) (tills : List Till) (logs : List NodeLog) (r : Result Finished FinishFault)
     → IfOk r (λ f. f.logs.items ≡ logs)
     → IfOk r (λ f. IsMerged s (logs_seen logs) (map event_seen f.events.items))
-    → IfOk r (λ f. f.world ≡ record { routes = routes_of s.routes.items; world = run (context_of s) (opening (settings_seen s)) (map event_seen f.events.items) })
+    → IfOk r (λ f. f.world ≡ world_after_run s (map event_seen f.events.items))
     → IfOk r (λ f. AreOfWorld (ledgers_of s (logs_seen logs)) f.world.world)
-    → OnOk r (AllByRecursion (AreReceipts tills) (ledgers_of s (logs_seen logs)))
-    → OnOk r (AllByRecursion (AreHeard tills) (ledgers_of s (logs_seen logs)))
+    → OnOk r (AllReceipts tills (ledgers_of s (logs_seen logs)))
+    → OnOk r (AllHeard tills (ledgers_of s (logs_seen logs)))
     → IfOk r (λ f. IsRun s tills f f.logs.items)
 run_carried s tills logs (Ok f) same events world ledgers receipts heard =
     subst (λ (l : List NodeLog). IsRun s tills f l) (sym same) (record { events = events; world = world; ledgers = ledgers; receipts = receipts; heard = heard })

@@ -33,7 +33,8 @@ impl Model for Hall {
 
     ghost view = { λ h. arc_value h.shared };
 
-    ghost invariant = { λ h. AreStations (arc_value h.shared) (vec_len h.pharmacies) (vec_len h.switches) (vec_len h.payers) };
+    ghost invariant = { λ h.
+        AreStations (arc_value h.shared) (vec_len h.pharmacies) (vec_len h.switches) (vec_len h.payers) };
 }
 
 impl Hall {

@@ -1,18 +1,19 @@
 //! A running system: each node behind a lock of its own, with a thread that delivers what comes into its inbox.
 
-ghost use Rattle.std.specs.Prelude.{◌≡◌, ◌⊎◌, ◌↔◌, [], false, None, Some, Err, is_ok, IfOk, IfErr, IfSome, OnOk, OnErr, option_map};
+ghost use Rattle.std.specs.Prelude.{◌≡◌, ◌⊎◌, ◌↔◌, [], false, None, Some, Err, is_ok, IfOk, IfErr, OnOk, OnErr, option_map};
 ghost use Rattle.claim_model.specs.Node.{Pharmacy, Payer};
 ghost use Rattle.run_merge.specs.Naming.{is_there};
 ghost use Rattle.world_setup.specs.Seen.{node_seen, settings_seen};
 ghost use Rattle.world_setup.specs.Taken.{world_fault};
 ghost use Rattle.world_setup.specs.declared.fault.StepFault.TheVariants.{NoSuchNode};
 ghost use Rattle.world_setup.specs.declared.world_fault.WorldFault.TheVariants.{OutOfMemory};
-ghost use Rattle.node_logged.specs.Tills.{has_receipt, answer_heard, with_receipt};
+ghost use Rattle.node_logged.specs.Tills.{has_receipt, with_receipt};
 ghost use Rattle.node_logged.specs.TillSeen.{till_seen};
 ghost use Rattle.node_logged.specs.Causes.{IsCause};
 ghost use Rattle.node_logged.specs.LedgerSeen.{tills_seen};
 ghost use Rattle.node_logged.specs.Verdicts.{IsRun, logs_in};
-ghost use Rattle.node_threads.specs.Telling.{told, after_telling};
+ghost use Rattle.node_threads.specs.Halls.{RefusesAbsent};
+ghost use Rattle.node_threads.specs.Telling.{told, ToldAgain, after_telling};
 ghost use Rattle.node_threads.specs.declared.starting.StartFault.TheVariants.{World, NoThread};
 ghost use Rattle.node_threads.specs.declared.status.StatusFault.TheVariants.{NotThisTill};
 
@@ -64,7 +65,8 @@ impl System {
         G: Gate + Send + Sync + Drop + 'static,
         ensures settings { IfOk result (λ started. started.0 ≡ settings) }
         ensures taken { OnOk result (world_fault settings ≡ None) }
-        ensures fault { IfErr result (λ fault. (fault ≡ NoThread) ⊎ ((fault ≡ World OutOfMemory) ⊎ (option_map World (world_fault settings) ≡ Some fault))) }
+        ensures fault { IfErr result (λ fault. (fault ≡ NoThread)
+            ⊎ ((fault ≡ World OutOfMemory) ⊎ (option_map World (world_fault settings) ≡ Some fault))) }
         ensures no_thread { IfErr result (λ fault. fault ≡ NoThread → world_fault settings ≡ None) }
     {
         let shared = Arc::new(alloc, Shared::new(alloc, settings)?)?;
@@ -88,7 +90,7 @@ impl System {
     pub fn till(&self, pharmacy: u16) -> Result<Till, StepFault>
         ensures missing { (result ≡ Err NoSuchNode) ↔ (is_there (settings_seen self.now) (Pharmacy pharmacy) ≡ false) }
         ensures refused { IfErr result (λ fault. fault ≡ NoSuchNode) }
-        ensures empty { IfOk result (λ till. till_seen till ≡ record { pharmacy = pharmacy; receipts = []; heard = [] }) }
+        ensures empty { IfOk result (λ t. till_seen t ≡ record { pharmacy = pharmacy; receipts = []; heard = [] }) }
     {
         match self.hall.station(Node::Pharmacy(pharmacy)) {
             Some(_) => Ok(Till::new(self.hall.alloc(), pharmacy)),
@@ -103,8 +105,8 @@ impl System {
     /// `NoSuchNode` for a till of a pharmacy that is not there; `Down`; then the refusal of the pharmacy. The till is
     /// then as it was.
     pub fn submit<R: Wait>(&self, rt: &R, till: &mut Till, request: &[u8]) -> Result<u64, StepFault>
-        ensures missing { is_there (settings_seen self.now) (Pharmacy till.old.pharmacy) ≡ false → result ≡ Err NoSuchNode }
-        ensures receipt { IfOk result (λ number. till_seen till.new ≡ with_receipt number request.now (till_seen till.old)) }
+        ensures missing { RefusesAbsent self.now (Pharmacy till.old.pharmacy) result }
+        ensures receipt { IfOk result (λ n. till_seen till.new ≡ with_receipt n request.now (till_seen till.old)) }
         ensures same { OnErr result (till_seen till.new ≡ till_seen till.old) }
     {
         let station = self.there(Node::Pharmacy(till.pharmacy()))?;
@@ -118,7 +120,7 @@ impl System {
     /// # Errors
     /// `NoSuchNode`; `Down`.
     pub fn tick<R: Wait>(&self, rt: &R, pharmacy: u16) -> Result<(), StepFault>
-        ensures { is_there (settings_seen self.now) (Pharmacy pharmacy) ≡ false → result ≡ Err NoSuchNode }
+        ensures { RefusesAbsent self.now (Pharmacy pharmacy) result }
     {
         self.call(rt, Node::Pharmacy(pharmacy), Call::Tick)
     }
@@ -147,7 +149,7 @@ impl System {
         product: &[u8],
         price: Option<u32>,
     ) -> Result<(), StepFault>
-        ensures { is_there (settings_seen self.now) (Payer payer) ≡ false → result ≡ Err NoSuchNode }
+        ensures { RefusesAbsent self.now (Payer payer) result }
     {
         let node = Node::Payer(payer);
         self.there(node)?;
@@ -169,7 +171,7 @@ impl System {
     ) -> Result<Status, StatusFault>
         ensures not_this { (result ≡ Err NotThisTill) ↔ (has_receipt number (till_seen till.old) ≡ false) }
         ensures heard { IfOk result (λ status. till_seen till.new ≡ after_telling number (till_seen till.old) status) }
-        ensures again { IfOk result (λ status. IfSome (answer_heard number (till_seen till.old)) (λ answer. told status ≡ Some answer)) }
+        ensures again { IfOk result (λ status. ToldAgain number (till_seen till.old) (told status)) }
         ensures same { OnErr result (till_seen till.new ≡ till_seen till.old) }
     {
         if !till.has(number) {
@@ -216,7 +218,7 @@ impl System {
 
     /// Makes a call on a node, and sends on what the node sends.
     fn call<R: Wait>(&self, rt: &R, node: Node, call: Call) -> Result<(), StepFault>
-        ensures { is_there (settings_seen self.now) (node_seen node) ≡ false → result ≡ Err NoSuchNode }
+        ensures { RefusesAbsent self.now (node_seen node) result }
     {
         let station = self.there(node)?;
         let sent = station.call(rt, self.hall.alloc(), call)?;
@@ -226,7 +228,7 @@ impl System {
 
     /// The answer that a till has heard for a number, or else the one that its pharmacy's journal has.
     fn known<R: Wait>(&self, rt: &R, till: &Till, number: u64) -> Result<Option<Octets>, AllocError>
-        ensures { IfOk result (λ known. IfSome (answer_heard number (till_seen till.now)) (λ answer. known ≡ Some answer)) }
+        ensures { IfOk result (λ known. ToldAgain number (till_seen till.now) known) }
     {
         match till.answer(number) {
             Some(answer) => Ok(Some(Octets::copy_of(self.hall.alloc(), answer)?)),

@@ -1,11 +1,12 @@
 -- How the marks of events follow one another.
-use Rattle.std.proofs.Common.{◌≡◌, ℕ, ◌+◌, ◌<◌, ◌≤◌, List, [], ◌∷◌, ◌++◌, length, drop, get_or, map, Some, refl, sym, ap, ◌∙◌, append_assoc, append-nil}
+use Rattle.std.proofs.Common.{◌≡◌, ℕ, ◌+◌, ◌<◌, ◌≤◌, List, [], ◌∷◌, ◌++◌, length, drop, get_or, map, Some, refl, sym, ap, ◌∙◌, append-nil}
 use Rattle.std.proofs.lemmas.List.{at_drop_more, drop_all, drop-map, map-append}
+use Rattle.input_text.proofs.Joining.{lists_join}
 use Rattle.claim_model.specs.Context.{Context}
 use Rattle.claim_model.specs.Refusal.{Refusal}
 use Rattle.claim_model.specs.Node.{Outcome, Done, Refused}
 use Rattle.claim_model.specs.World as model
-use Rattle.claim_model.specs.World.{World, step, world_after, run}
+use Rattle.claim_model.specs.World.{World, step, world_after}
 use Rattle.world_setup.specs.declared.call.Packet.{Packet}
 use Rattle.world_setup.specs.declared.event.Event.{Event}
 use Rattle.world_setup.specs.Seen.{event_seen, packet_seen}
@@ -14,10 +15,6 @@ use Rattle.world_core.specs.Stepping.{next_of}
 use Rattle.run_picture.specs.declared.mark.Mark as code
 use Rattle.run_picture.specs.Marks.{Mark, Sent, Turned, made_mark, sent_marks, event_marks, marks_from}
 use Rattle.run_picture.specs.Seen.{mark_seen}
-
--- marks behind marks
-pub marks_join : (a b c x y : List Mark) → b ≡ a ++ x → c ≡ b ++ y → c ≡ a ++ (x ++ y)
-marks_join a b c x y one two = two ∙ (ap (λ (t : List Mark). t ++ y) one ∙ append_assoc a x y)
 
 -- a mark that is pushed
 pub pushed : (old new : List code.Mark) (mark : code.Mark) (told : Mark) → new ≡ old ++ mark ∷ [] → mark_seen mark ≡ told → map mark_seen new ≡ map mark_seen old ++ told ∷ []
@@ -33,7 +30,7 @@ sent_goes_on a b whole number i packets packet lt is one so_far =
     let marks = λ (left : List Packet). a ++ sent_marks number (i + 1) (map packet_seen left) in
     let more = drop (i + 1) packets in
     let others = sent_marks number ((i + 1) + 1) (map packet_seen more) in
-    marks_join a b (b ++ others) (Sent number (i + 1) (packet_seen packet).from (packet_seen packet).to ∷ []) others one refl
+    lists_join a b (b ++ others) (Sent number (i + 1) (packet_seen packet).from (packet_seen packet).to ∷ []) others one refl
     ∙ (ap (λ (p : Packet). marks (p ∷ more)) is ∙ (sym (at_drop_more marks packets i packet lt) ∙ so_far))
 
 pub sent_is_done : (a whole : List Mark) (number i : ℕ) (packets : List Packet) → length packets ≤ i → a ++ sent_marks number (i + 1) (map packet_seen (drop i packets)) ≡ whole → a ≡ whole
@@ -55,7 +52,7 @@ events_go_on ctx w v a b whole events i event lt is one made so_far =
     let more = drop (i + 1) events in
     let its = event_marks (i + 1) (length w.packets) (event_seen event) (step ctx w (event_seen event)) in
     let others = marks_from ctx v ((i + 1) + 1) (map event_seen more) in
-    marks_join a b (b ++ others) its others one refl
+    lists_join a b (b ++ others) its others one refl
     ∙ (ap (λ (u : World). a ++ (its ++ marks_from ctx u ((i + 1) + 1) (map event_seen more))) made
     ∙ (ap (λ (e : Event). marks (e ∷ more)) is ∙ (sym (at_drop_more marks events i event lt) ∙ so_far)))
 
@@ -63,17 +60,6 @@ pub events_are_told : (ctx : Context) (w : World) (a whole : List Mark) (events 
     → a ++ marks_from ctx w (i + 1) (map event_seen (drop i events)) ≡ whole → a ≡ whole
 events_are_told ctx w a whole events i le so_far =
     sym (append-nil a) ∙ (sym (ap (λ (left : List Event). a ++ marks_from ctx w (i + 1) (map event_seen left)) (drop_all i events le)) ∙ so_far)
-
--- the world after an event, and after the others
-pub run_goes_on : (ctx : Context) (w v last : World) (events : List Event) (i : ℕ) (event : Event) → i < length events → event ≡ get_or events i event
-    → v ≡ world_after w (step ctx w (event_seen event)) → run ctx w (map event_seen (drop i events)) ≡ last → run ctx v (map event_seen (drop (i + 1) events)) ≡ last
-run_goes_on ctx w v last events i event lt is made so_far =
-    let after = λ (left : List Event). run ctx w (map event_seen left) in
-    let more = drop (i + 1) events in
-    ap (λ (u : World). run ctx u (map event_seen more)) made ∙ (ap (λ (e : Event). after (e ∷ more)) is ∙ (sym (at_drop_more after events i event lt) ∙ so_far))
-
-pub run_is_done : (ctx : Context) (w last : World) (events : List Event) (i : ℕ) → length events ≤ i → run ctx w (map event_seen (drop i events)) ≡ last → w ≡ last
-run_is_done ctx w last events i le so_far = sym (ap (λ (left : List Event). run ctx w (map event_seen left)) (drop_all i events le)) ∙ so_far
 
 -- the marks and the world of an event that was made, and of one that was refused
 pub made_marks : (number posted : ℕ) (event : model.Event) (next : World) (outcome : Outcome World) → next_of outcome ≡ Some next

@@ -1,8 +1,9 @@
 //! From the input of a replay to the picture of its run.
 
-ghost use Rattle.std.specs.Prelude.{◌≡◌, ◌≢◌, ◌+◌, ◌≤◌, IfOk, IfErr, IfSome, IsTrue, IsErrOf, OnOk};
+ghost use Rattle.std.specs.Prelude.{◌≡◌, ◌≢◌, ◌+◌, ◌≤◌, IfOk, IfErr, IsTrue, IsErrOf, OnOk};
+ghost use Rattle.schedule_cli.specs.Serving.{StopsSoundly};
 ghost use Rattle.schedule_cli.specs.Replays.{replay_of};
-ghost use Rattle.schedule_cli.specs.Stops.{IsUnread, StopsFor};
+ghost use Rattle.schedule_cli.specs.Stops.{IsUnread};
 ghost use Rattle.run_picture.specs.Drawn.{IsDrawn, DrawnBehind, BeginningBehind};
 
 use crate::extent::Extent;
@@ -31,14 +32,15 @@ pub fn draw_replay<S: Source, K: Sink>(
     // A call of the source failed, or the input is too long.
     ensures read { IsErrOf result ProgramFault.Read → IsUnread (S.has_failed source.new) (S.remaining source.old) }
     // Settings are refused only where they open no world, and a line only where it is the first that spells no event.
-    ensures stops { IfErr result (λ fault. IfSome (S.remaining source.old) (λ input. StopsFor fault input (replay_of input))) }
+    ensures stops { StopsSoundly replay_of result (S.remaining source.old) }
     // Nothing is written before all is checked, run and drawn.
     ensures quiet { IfErr result (λ fault. fault ≢ ProgramFault.Write → sink.new ≡ sink.old) }
     // What was written is flushed.
     ensures flushed { OnOk result (IsTrue (K.is_flushed sink.new)) }
     // A call of the sink failed, and a beginning of a picture was written.
     ensures write { IsErrOf result ProgramFault.Write → IsTrue (K.has_failed sink.new) }
-    ensures beginning { IsErrOf result ProgramFault.Write → BeginningBehind (K.contents sink.old) (K.contents sink.new) }
+    ensures beginning { IsErrOf result ProgramFault.Write
+        → BeginningBehind (K.contents sink.old) (K.contents sink.new) }
     ensures calls { S.calls source.new ≤ S.calls source.old + MOST_CALLS }
 {
     match read_scheduled(alloc, source) {

@@ -1,12 +1,14 @@
 //! The marks of a run, made while it runs.
 
-ghost use Rattle.std.specs.Prelude.{◌≡◌, ◌+◌, ◌++◌, ◌∷◌, [], ◌≤◌, length, map, drop, IfOk, IfSome, IsSome, OnOk};
-ghost use Rattle.claim_model.specs.World.{step, world_after, run};
+ghost use Rattle.std.specs.Prelude.{◌≡◌, ◌∷◌, [], map, IfOk, IfSome, IsSome, OnOk};
+ghost use Rattle.claim_model.specs.World.{world_after, run};
 ghost use Rattle.world_setup.specs.Seen.{event_seen, packet_seen};
 ghost use Rattle.world_setup.specs.Refused.{refusal_of};
 ghost use Rattle.world_setup.specs.Names.{refusal_name};
 ghost use Rattle.world_core.specs.Parts.{context_of};
-ghost use Rattle.run_picture.specs.Marks.{Turned, made_mark, sent_marks, event_marks, marks_from};
+ghost use Rattle.world_core.specs.Stepping.{outcome_in};
+ghost use Rattle.run_picture.specs.Marking.{AddsMarks, marks_in};
+ghost use Rattle.run_picture.specs.Marks.{Turned, made_mark, marks_from, marks_behind};
 ghost use Rattle.run_picture.specs.Seen.{mark_seen};
 
 use crate::mark::Mark;
@@ -19,8 +21,10 @@ use world_setup::{Event, Packet, StepFault};
 /// # Errors
 /// Where memory is refused. Some of the events may have been made then.
 pub fn mark_run(alloc: Global, world: &mut World, events: &[Event]) -> Result<Vec<Mark>, AllocError>
-    ensures marks { IfOk result (λ marks. map mark_seen marks.items ≡ marks_from (context_of world.old) world.old.world 1 (map event_seen events.now)) }
-    ensures made { OnOk result (world.new.world ≡ run (context_of world.old) world.old.world (map event_seen events.now)) }
+    ensures marks { IfOk result (λ marks. map mark_seen marks.items
+        ≡ marks_from (context_of world.old) world.old.world 1 (map event_seen events.now)) }
+    ensures made { OnOk result (world.new.world
+        ≡ run (context_of world.old) world.old.world (map event_seen events.now)) }
     ensures routes { world.new.routes ≡ world.old.routes }
 {
     let mut marks = Vec::new(alloc);
@@ -37,8 +41,8 @@ fn mark_event(
     number: u64,
     event: &Event,
 ) -> Result<(), AllocError>
-    ensures marks { OnOk result (map mark_seen marks.new.items ≡ map mark_seen marks.old.items ++ event_marks number (length world.old.world.packets) (event_seen event.now) (step (context_of world.old) world.old.world (event_seen event.now))) }
-    ensures made { OnOk result (world.new.world ≡ world_after world.old.world (step (context_of world.old) world.old.world (event_seen event.now))) }
+    ensures marks { OnOk result (AddsMarks marks.old marks.new (marks_in world.old number event.now)) }
+    ensures made { OnOk result (world.new.world ≡ world_after world.old.world (outcome_in world.old event.now)) }
     ensures routes { world.new.routes ≡ world.old.routes }
 {
     let posted = world.packets().len();
@@ -56,7 +60,8 @@ fn mark_made(
     number: u64,
     event: &Event,
 ) -> Result<(), AllocError>
-    ensures { OnOk result (map mark_seen marks.new.items ≡ map mark_seen marks.old.items ++ made_mark number (event_seen event.now) ∷ sent_marks number (posted + 1) (drop posted (map packet_seen packets.now))) }
+    ensures { OnOk result (AddsMarks marks.old marks.new
+        (made_mark number (event_seen event.now) ∷ marks_behind number posted (map packet_seen packets.now))) }
 {
     marks.push(made_mark(number, event))?;
     mark_sent(marks, packets, posted, number)
@@ -101,7 +106,7 @@ fn mark_sent(
     posted: usize,
     number: u64,
 ) -> Result<(), AllocError>
-    ensures { OnOk result (map mark_seen marks.new.items ≡ map mark_seen marks.old.items ++ sent_marks number (posted + 1) (drop posted (map packet_seen packets.now))) }
+    ensures { OnOk result (AddsMarks marks.old marks.new (marks_behind number posted (map packet_seen packets.now))) }
 {
     for place in posted..packets.len() {
         let packet = &packets[place];
@@ -117,7 +122,8 @@ fn mark_sent(
 
 /// Adds the mark of an event that was refused.
 fn mark_refused(marks: &mut Vec<Mark>, number: u64, fault: StepFault) -> Result<(), AllocError>
-    ensures marks { OnOk result (IfSome (refusal_of fault) (λ why. map mark_seen marks.new.items ≡ map mark_seen marks.old.items ++ Turned number (refusal_name why) ∷ [])) }
+    ensures marks { OnOk result (IfSome (refusal_of fault)
+        (λ why. AddsMarks marks.old marks.new (Turned number (refusal_name why) ∷ []))) }
     ensures known { OnOk result (IsSome (refusal_of fault)) }
 {
     match fault {

@@ -1,10 +1,10 @@
 -- Texts at their first comma, and the actions that their parts name.
-use Rattle.std.proofs.Common.{◌≡◌, ℕ, ◌+◌, ◌≤◌, true, cond, ltb, List, [], ◌∷◌, ◌++◌, length, take, drop, Option, Some, None, inl, inr, arith}
+use Rattle.std.proofs.Common.{◌≡◌, ℕ, ◌+◌, ◌≤◌, List, [], ◌∷◌, ◌++◌, length, take, drop, Option, Some, None, arith}
 use Rattle.std.specs.List.{slice_split, position, position_or_len}
 use Rattle.std.proofs.lemmas.List.Splits.{slice_split_none, slice_split_first}
 use Rattle.std.proofs.lemmas.List.Quantifiers.{position-Some}
-use Rattle.std.proofs.lemmas.Bool.{lt-ltb, cases_lt}
 use Rattle.std.proofs.lemmas.List.Sums.{position_or_len_is, fails_before_first}
+use Rattle.input_text.proofs.Splitting.{le_from_None}
 use Rattle.world_setup.specs.declared.link.Action.{Action}
 use Rattle.schedule.specs.Faults.{is_comma}
 
@@ -14,14 +14,6 @@ parts_at text i here =
     let found = position-Some is_comma text i 0 here in
     let n : position_or_len is_comma text ≡ i = position_or_len_is is_comma text i 0 (omega arith) found.2 (λ _. found.1) in
     rw n at (slice_split_first is_comma text 0 (omega arith))
-
--- no place is given where the test fails
-le_from_None : (n m : ℕ) (e : cond (ltb m n) (Some m) None ≡ None) → n ≤ m
-le_from_None n m e =
-    elim (cases_lt m n) [
-      | inl lt ↦ let test : ltb m n ≡ true = lt-ltb m n lt in let some : Some m ≡ None = rw test at e in cc
-      | inr le ↦ le
-    ]
 
 -- a text without one is one part
 pub parts_none : (text : List ℕ) → position is_comma text ≡ None → slice_split is_comma text ≡ text ∷ []

@@ -25,6 +25,14 @@ ended line = line ++ 10 ∷ []
 abbrev pub ended_lines : List (List ℕ) → List ℕ
 ended_lines all = flat_map ended all
 
+-- the lines of the settings of an input, each with a newline behind it
+abbrev pub ended_settings : List ℕ → List ℕ
+ended_settings input = ended_lines (settings_lines (lines input))
+
+-- the lines of the schedule of an input
+abbrev pub scheduled_lines : List ℕ → List (List ℕ)
+scheduled_lines input = schedule_lines (lines input)
+
 -- the last byte of the input is a newline
 abbrev pub ends_in_newline : List ℕ → Bool
 ends_in_newline input = slice_index input (length input - 1) == 10
@@ -36,5 +44,5 @@ is_ended input = list_any is_divider (lines input) || ends_in_newline input
 -- the text of the settings: their lines, each with the newline that it has in the input
 unfoldable pub settings_text : List ℕ → List ℕ
 settings_text input =
-    let text = ended_lines (settings_lines (lines input)) in
+    let text = ended_settings input in
     if is_ended input then text else take (length text - 1) text

@@ -30,9 +30,13 @@ named_actions (word ∷ rest) = onto (action_in word) (named_actions rest)
 abbrev pub is_comma : ℕ → Bool
 is_comma byte = byte == 44
 
+-- the parts of a text between its commas
+abbrev pub comma_parts : List ℕ → List (List ℕ)
+comma_parts text = slice_split is_comma text
+
 -- one or more actions joined by commas
 abbrev pub actions_in : List ℕ → Option (List Action)
-actions_in text = named_actions (slice_split is_comma text)
+actions_in text = named_actions (comma_parts text)
 
 -- two nodes of any kind, from one to the other, and actions
 unfoldable pub link_fault : List ℕ → Option LinkFault

@@ -3,7 +3,7 @@
 ghost use Rattle.std.specs.Prelude.{◌≡◌, ◌++◌, [], OnOk, IfOk, IfSome, IfNone, is_some};
 ghost use Rattle.std.specs.List.{list_any};
 ghost use Rattle.std.specs.Str.Lines.{lines};
-ghost use Rattle.schedule.specs.Division.{ended_lines, ends_in_newline, is_divider, schedule_lines, settings_lines, settings_text};
+ghost use Rattle.schedule.specs.Division.{ended_settings, ends_in_newline, is_divider, scheduled_lines, settings_text};
 
 use input_text::Lines;
 use std::alloc::{AllocError, Global};
@@ -26,7 +26,7 @@ pub struct Division<'a> {
 #[tactic(auto, unfolding(crate::specs::Division::settings_text))]
 pub fn divide(alloc: Global, input: &[u8]) -> Result<Division<'_>, AllocError>
     ensures settings { IfOk result (λ parts. parts.settings.items ≡ settings_text input.now) }
-    ensures schedule { IfOk result (λ parts. lines parts.schedule.now ≡ schedule_lines (lines input.now)) }
+    ensures schedule { IfOk result (λ parts. lines parts.schedule.now ≡ scheduled_lines input.now) }
 {
     let mut settings = Vec::new(alloc);
     let schedule = match front(&mut settings, input)? {
@@ -43,10 +43,10 @@ pub fn divide(alloc: Global, input: &[u8]) -> Result<Division<'_>, AllocError>
 
 /// Appends the lines before the first that divides, each with a newline, and gives what stands behind that line.
 fn front<'a>(settings: &mut Vec<u8>, input: &'a [u8]) -> Result<Option<&'a [u8]>, AllocError>
-    ensures settings { OnOk result (settings.new.items ≡ settings.old.items ++ ended_lines (settings_lines (lines input.now))) }
-    ensures schedule { IfOk result (λ schedule. IfSome schedule (λ rest. lines rest.now ≡ schedule_lines (lines input.now))) }
+    ensures settings { OnOk result (settings.new.items ≡ settings.old.items ++ ended_settings input.now) }
+    ensures schedule { IfOk result (λ schedule. IfSome schedule (λ rest. lines rest.now ≡ scheduled_lines input.now)) }
     ensures divided { IfOk result (λ schedule. is_some schedule ≡ list_any is_divider (lines input.now)) }
-    ensures whole { IfOk result (λ schedule. IfNone schedule (schedule_lines (lines input.now) ≡ [])) }
+    ensures whole { IfOk result (λ schedule. IfNone schedule (scheduled_lines input.now ≡ [])) }
 {
     let mut lines = Lines::new(input);
     while let Some(line) = lines.next() {

@@ -1,8 +1,7 @@
 //! The fault of a link that a line of `run` spells.
 
 ghost use Rattle.std.specs.Prelude.{◌≡◌, ◌<◌, ◌∷◌, [], length, position, IfOk, IfSome, IfNone};
-ghost use Rattle.std.specs.List.{slice_split};
-ghost use Rattle.schedule.specs.Faults.{action_in, actions_in, fault_of, is_comma, link_fault};
+ghost use Rattle.schedule.specs.Faults.{action_in, actions_in, comma_parts, fault_of, is_comma, link_fault};
 
 use crate::nodes::node_in;
 use input_text::split_word;
@@ -84,9 +83,9 @@ fn action_in(word: &[u8]) -> Option<Action>
 
 /// What stands before the first comma and what stands behind it; `None` where there is no comma.
 fn split_comma(text: &[u8]) -> Option<(&[u8], &[u8])>
-    ensures parts { IfSome result (λ parts. slice_split is_comma text.now ≡ parts.0.now ∷ slice_split is_comma parts.1.now) }
+    ensures parts { IfSome result (λ parts. comma_parts text.now ≡ parts.0.now ∷ comma_parts parts.1.now) }
     ensures shorter { IfSome result (λ parts. length parts.1.now < length text.now) }
-    ensures whole { IfNone result (slice_split is_comma text.now ≡ text.now ∷ []) }
+    ensures whole { IfNone result (comma_parts text.now ≡ text.now ∷ []) }
 {
     match comma_in(text) {
         Some(comma) => Some((&text[..comma], &text[comma + 1..])),

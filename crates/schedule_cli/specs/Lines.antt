@@ -38,10 +38,14 @@ book_after book (Err refusal) = book
 abbrev pub said_to : RouteMaps → Book → Entry → Result Answered Refusal
 said_to maps book e = answered (bytes_with maps) book e.id e.request
 
+-- the line of an entry, by what this book says to it
+abbrev pub entry_line : RouteMaps → Book → Entry → List ℕ
+entry_line maps book e = line_of e.id.number (said_to maps book e)
+
 -- the lines of requests, one after another over the book as the earlier ones left it
 abbrev pub answer_lines : RouteMaps → Book → List Entry → List ℕ
 answer_lines maps book [] = []
-answer_lines maps book (e ∷ more) = line_of e.id.number (said_to maps book e) ++ answer_lines maps (book_after book (said_to maps book e)) more
+answer_lines maps book (e ∷ more) = entry_line maps book e ++ answer_lines maps (book_after book (said_to maps book e)) more
 
 -- the lines for the entries of an input
 abbrev pub lines_for : Result (List Entry) InputFault → Result (List ℕ) InputFault

@@ -20,7 +20,7 @@ pub record Serves {W : Type 0} (output_of : List ℕ → Result (List ℕ) Input
   pub beginning : IsErrOf result Write → IfSome input (λ bytes. BeginningWritten (contents old) (contents new) (output_of bytes))
 
 -- an input is refused only for what is bad in it, and a write fails only where nothing is
-abbrev pub StopsSoundly : (List ℕ → Result (List ℕ) InputFault) → Result (Unit {0}) ProgramFault → Option (List ℕ) → Type 0
+abbrev pub StopsSoundly : {A : Type 0} → (List ℕ → Result (List ℕ) InputFault) → Result A ProgramFault → Option (List ℕ) → Type 0
 StopsSoundly output_of result input = IfErr result (λ fault. IfSome input (λ bytes. StopsFor fault bytes (output_of bytes)))
 
 -- there are no settings that could be refused

@@ -60,7 +60,11 @@ abbrev pub Written : {E : Type 0} → Option (List ℕ) → Option (List ℕ) �
 Written before after (Ok output) = Appends before after output
 Written before after (Err why) = ⊥
 
+-- a beginning of this text was written
+abbrev pub AppendsSome : Option (List ℕ) → Option (List ℕ) → List ℕ → Type 0
+AppendsSome before after text = (count : ℕ) × Appends before after (take count text)
+
 -- an input has this output, and a beginning of it was written
 abbrev pub BeginningWritten : {E : Type 0} → Option (List ℕ) → Option (List ℕ) → Result (List ℕ) E → Type 0
-BeginningWritten before after (Ok output) = (count : ℕ) × Appends before after (take count output)
+BeginningWritten before after (Ok output) = AppendsSome before after output
 BeginningWritten before after (Err why) = ⊥

@@ -2,7 +2,7 @@
 
 ghost use Rattle.std.specs.Prelude.{◌≡◌, ◌≢◌, ◌++◌, Ok, Err, IfOk, IfErr, OnOk};
 ghost use Rattle.payer_book.specs.declared.fault.BookFault.TheVariants.{OutOfMemory as NoMemory};
-ghost use Rattle.schedule_cli.specs.Lines.{answer_lines, book_after, line_of, output_of, said_to};
+ghost use Rattle.schedule_cli.specs.Lines.{answer_lines, book_after, entry_line, output_of, said_to};
 ghost use Rattle.schedule_cli.specs.Sample.{opening_book, sample_routes};
 ghost use Rattle.schedule_cli.specs.Said.{fault_name, said_text};
 ghost use Rattle.schedule_cli.specs.Stops.{RefusedFor, schedule_told};
@@ -51,7 +51,7 @@ fn put_line(
     routes: &Routes,
     entry: &Entry,
 ) -> Result<(), AllocError>
-    ensures line { OnOk result (output.new.items ≡ output.old.items ++ line_of entry.now.id.number (said_to routes.now book.old entry.now)) }
+    ensures line { OnOk result (output.new.items ≡ output.old.items ++ entry_line routes.now book.old entry.now) }
     ensures book { OnOk result (book.new ≡ book_after book.old (said_to routes.now book.old entry.now)) }
 {
     put_decimal(output, entry.id.number())?;

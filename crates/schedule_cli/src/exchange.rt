@@ -1,8 +1,9 @@
 //! What a replay begins with, for programs that have an output of their own for it.
 
 ghost use Rattle.std.specs.Prelude.{◌≢◌, ◌+◌, ◌≤◌, Ok, IfOk, IfErr, IfSome, IsOk, IsErrOf, OnOk};
+ghost use Rattle.schedule_cli.specs.Serving.{StopsSoundly};
 ghost use Rattle.schedule_cli.specs.Replays.{replay_of, Begins};
-ghost use Rattle.schedule_cli.specs.Stops.{IsTaken, IsUnread, RefusedFor, StopsFor};
+ghost use Rattle.schedule_cli.specs.Stops.{IsTaken, IsUnread, RefusedFor};
 
 use crate::fault::{CheckFault, InputFault, ProgramFault};
 use crate::input::{MOST_CALLS, read_all};
@@ -51,7 +52,7 @@ pub fn read_scheduled<S: Source>(alloc: Global, source: &mut S) -> Result<Schedu
     // What is taken was read to its end, is not too long, and has a report.
     ensures taken { OnOk result (IfSome (S.remaining source.old) (λ input. IsTaken input (replay_of input))) }
     // Settings are refused only where they open no world, and a line only where it is the first that spells no event.
-    ensures stops { IfErr result (λ fault. IfSome (S.remaining source.old) (λ input. StopsFor fault input (replay_of input))) }
+    ensures stops { StopsSoundly replay_of result (S.remaining source.old) }
     // Nothing is written.
     ensures faults { IfErr result (λ fault. fault ≢ ProgramFault.Write) }
     ensures calls { S.calls source.new ≤ S.calls source.old + MOST_CALLS }

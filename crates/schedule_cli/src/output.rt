@@ -1,7 +1,8 @@
 //! Writing a finished output.
 
-ghost use Rattle.std.specs.Prelude.{◌≡◌, ℕ, take, IfErr, IsTrue, OnOk, OnErr};
+ghost use Rattle.std.specs.Prelude.{◌≡◌, IfErr, IsTrue, OnOk, OnErr};
 ghost use Rattle.std.specs.Io.KnownBytes.{Appends};
+ghost use Rattle.schedule_cli.specs.Stops.{AppendsSome};
 
 use crate::fault::ProgramFault;
 use crate::sink::Sink;
@@ -12,7 +13,7 @@ use crate::sink::Sink;
 /// `Write` where a call of the sink failed; what was written until then is a beginning of the bytes.
 pub fn write_output<K: Sink>(sink: &mut K, bytes: &[u8]) -> Result<(), ProgramFault>
     ensures all { OnOk result (Appends (K.contents sink.old) (K.contents sink.new) bytes.now) }
-    ensures front { OnErr result ((count : ℕ) × Appends (K.contents sink.old) (K.contents sink.new) (take count bytes.now)) }
+    ensures front { OnErr result (AppendsSome (K.contents sink.old) (K.contents sink.new) bytes.now) }
     ensures flushed { OnOk result (IsTrue (K.is_flushed sink.new)) }
     ensures same_reference { K.loan sink.new ≡ K.loan sink.old }
     ensures faults { IfErr result (λ fault. fault ≡ ProgramFault.Write) }

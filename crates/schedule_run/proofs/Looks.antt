@@ -10,7 +10,7 @@ use Rattle.node_threads.specs.declared.status.StatusFault.{StatusFault}
 use Rattle.node_threads.specs.declared.status.StatusFault.TheVariants.{NotThisTill}
 use Rattle.schedule_run.specs.Places.{places_asked}
 use Rattle.schedule_run.specs.Told.{Tells, TellsAnswer, TellsNone, TellsOpen, answer_lines, open_lines, refusal_line}
-use Rattle.schedule_run.proofs.Words.{one_line_text}
+use Rattle.world_report.proofs.JoinedWords.{lines_text-one}
 
 -- a receipt is there, where its number is not refused
 pub is_there : (r : Result Status StatusFault) (status : Status) (there : Bool) → r ≡ Ok status → ((r ≡ Err NotThisTill) ↔ (there ≡ false)) → there ≡ true
@@ -46,6 +46,6 @@ pub none_told : (pharmacy number : ℕ) (a b : List ℕ) (old new : Till) → Te
     → (lines : List Line) × (b ≡ a ++ lines_text lines) × Tells pharmacy number lines old new
 none_told pharmacy number a b old new tells told = (
   refusal_line (codes "NotThisTill") ∷ [],
-  told ∙ ap (λ (t : List ℕ). a ++ t) (sym (one_line_text (refusal_line (codes "NotThisTill")))),
+  told ∙ ap (λ (t : List ℕ). a ++ t) (sym (lines_text-one (refusal_line (codes "NotThisTill")))),
   inr (inr (refl, tells)),
 )

@@ -12,7 +12,7 @@ use Rattle.node_logged.specs.TillSeen.{till_seen}
 use Rattle.node_logged.specs.LedgerSeen.{tills_seen}
 use Rattle.node_logged.specs.declared.till.Till.{Till}
 use Rattle.schedule_run.specs.Told.{IsAwaited, IsEmpty, IsRefusal, IsSubmitted, Tells, TillChanges, number_line}
-use Rattle.schedule_run.proofs.Words.{one_line_text}
+use Rattle.world_report.proofs.JoinedWords.{lines_text-one}
 
 -- one till more
 pub empty_more : (ts : List Till) (t : Till) → AllByRecursion IsEmpty (tills_seen ts) → IsEmpty (till_seen t) → AllByRecursion IsEmpty (tills_seen (ts ++ t ∷ []))
@@ -49,12 +49,12 @@ pub submission_told : (pharmacy : ℕ) (request a b : List ℕ) (ts : List Till)
     → (lines : List Line) × (b ≡ a ++ lines_text lines) × IsSubmitted pharmacy request (tills_seen ts) lines (tills_seen (slice_set ts place new))
 submission_told pharmacy request a b ts place old new (Ok number) at of taken same told = (
   told.0 ∷ [],
-  told.1 ∙ ap (λ (t : List ℕ). a ++ t) (sym (one_line_text told.0)),
+  told.1 ∙ ap (λ (t : List ℕ). a ++ t) (sym (lines_text-one told.0)),
   inr (number, ap (λ (l : Line). l ∷ []) told.2, till_changes pharmacy (λ before after. after ≡ with_receipt number request before) ts place old new at of taken),
 )
 submission_told pharmacy request a b ts place old new (Err fault) at of taken same told = (
   told.0 ∷ [],
-  told.1 ∙ ap (λ (t : List ℕ). a ++ t) (sym (one_line_text told.0)),
+  told.1 ∙ ap (λ (t : List ℕ). a ++ t) (sym (lines_text-one told.0)),
   inl ((told.0, refl, told.2), tills_stay ts place old new at same),
 )
 
@@ -62,7 +62,7 @@ submission_told pharmacy request a b ts place old new (Err fault) at of taken sa
 pub submission_refused : (pharmacy : ℕ) (request a b : List ℕ) (ts : List Till) → (line : Line) × (b ≡ a ++ line_text line) × IsRefusal line
     → (lines : List Line) × (b ≡ a ++ lines_text lines) × IsSubmitted pharmacy request (tills_seen ts) lines (tills_seen ts)
 submission_refused pharmacy request a b ts told =
-    (told.0 ∷ [], told.1 ∙ ap (λ (t : List ℕ). a ++ t) (sym (one_line_text told.0)), inl ((told.0, refl, told.2), refl))
+    (told.0 ∷ [], told.1 ∙ ap (λ (t : List ℕ). a ++ t) (sym (lines_text-one told.0)), inl ((told.0, refl, told.2), refl))
 
 -- what a till told
 pub till_told : (pharmacy number : ℕ) (a b : List ℕ) (ts : List Till) (place : ℕ) (old new : Till) (lines : List Line) → slice_get ts place ≡ Some old
@@ -75,4 +75,4 @@ till_told pharmacy number a b ts place old new lines at of told tells =
 pub await_refused : (pharmacy number : ℕ) (a b : List ℕ) (ts : List Till) → (line : Line) × (b ≡ a ++ line_text line) × IsRefusal line
     → (lines : List Line) × (b ≡ a ++ lines_text lines) × IsAwaited pharmacy number (tills_seen ts) lines (tills_seen ts)
 await_refused pharmacy number a b ts told =
-    (told.0 ∷ [], told.1 ∙ ap (λ (t : List ℕ). a ++ t) (sym (one_line_text told.0)), inl ((told.0, refl, told.2), refl))
+    (told.0 ∷ [], told.1 ∙ ap (λ (t : List ℕ). a ++ t) (sym (lines_text-one told.0)), inl ((told.0, refl, told.2), refl))

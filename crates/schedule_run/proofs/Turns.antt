@@ -6,17 +6,16 @@ use Rattle.std.specs.Prelude.{Option}
 use Rattle.world_setup.specs.declared.fault.StepFault.{StepFault}
 use Rattle.schedule.specs.declared.commands.Command.{Command}
 use Rattle.world_report.specs.Words.{Line, line_text, lines_text}
-use Rattle.world_report.proofs.JoinedWords.{lines_join, lines_text-append, lines_text-nil}
+use Rattle.world_report.proofs.JoinedWords.{lines_join, lines_text-append, lines_text-nil, lines_text-one}
 use Rattle.schedule_cli.proofs.KnownOutput.{Appends-append}
 use Rattle.node_logged.specs.Tills.{Till}
-use Rattle.schedule_run.proofs.Words.{one_line_text}
 use Rattle.schedule_run.specs.Told.{AreTold, IsCalled, IsRefusal, IsTold, done_line}
 
 -- a call that gives nothing
 pub call_told : {U : Type 0} (a b : List ℕ) (ts : List Till) (outcome : Result U StepFault) → (line : Line) × (b ≡ a ++ line_text line) × MatchResult outcome (λ _. line ≡ done_line) (λ _. IsRefusal line)
     → (lines : List Line) × (b ≡ a ++ lines_text lines) × IsCalled ts lines ts
-call_told a b ts (Ok done) told = (told.0 ∷ [], told.1 ∙ ap (λ (t : List ℕ). a ++ t) (sym (one_line_text told.0)), ((told.0, refl, inl told.2), refl))
-call_told a b ts (Err fault) told = (told.0 ∷ [], told.1 ∙ ap (λ (t : List ℕ). a ++ t) (sym (one_line_text told.0)), ((told.0, refl, inr told.2), refl))
+call_told a b ts (Ok done) told = (told.0 ∷ [], told.1 ∙ ap (λ (t : List ℕ). a ++ t) (sym (lines_text-one told.0)), ((told.0, refl, inl told.2), refl))
+call_told a b ts (Err fault) told = (told.0 ∷ [], told.1 ∙ ap (λ (t : List ℕ). a ++ t) (sym (lines_text-one told.0)), ((told.0, refl, inr told.2), refl))
 
 -- one fault more, of so many
 pub faults_go_on : (a b whole : List ℕ) (count i : ℕ) → i < count → b ≡ a ++ line_text done_line → a ++ lines_text (replicate (count - i) done_line) ≡ whole

@@ -8,20 +8,16 @@ use Rattle.claim_profile.specs.declared.answer_reading.AnswerFault.TheVariants a
 use Rattle.claim_model.specs.Refusal.{Refusal}
 use Rattle.world_setup.specs.Names.{refusal_name}
 use Rattle.world_report.specs.Words.{Line, behind_spaces, line_text, lines_text}
-use Rattle.world_report.proofs.JoinedWords.{texts_join}
+use Rattle.input_text.proofs.Joining.{lists_join}
+use Rattle.world_report.proofs.JoinedWords.{lines_text-one}
 use Rattle.schedule_run.specs.Told.{IsRefusal, answer_lines, is_unreadable, refusal_line}
 
 -- more of the last word of a line
 pub word_more : (a b c word more : List ℕ) → b ≡ a ++ behind_spaces (word ∷ []) → c ≡ b ++ more → c ≡ a ++ behind_spaces ((word ++ more) ∷ [])
 unfolding behind_spaces
 word_more a b c word more one two =
-    texts_join a b c (behind_spaces (word ∷ [])) more one two
+    lists_join a b c (behind_spaces (word ∷ [])) more one two
     ∙ ap (λ (t : List ℕ). a ++ (32 ∷ t)) (ap (λ (t : List ℕ). t ++ more) (append-nil word) ∙ sym (append-nil (word ++ more)))
-
--- one line is the text of a list of one
-pub one_line_text : (line : Line) → lines_text (line ∷ []) ≡ line_text line
-unfolding lines_text
-one_line_text line = append-nil (line_text line)
 
 -- the line of a refusal that is known
 pub refusal_told : (known : Option Refusal) (a b : List ℕ) → IfSome known (λ why. b ≡ a ++ line_text (refusal_line (refusal_name why))) × IsSome known → (line : Line) × (b ≡ a ++ line_text line) × IsRefusal line
@@ -49,5 +45,5 @@ unread_told pharmacy number fault.BadClaim reading fails is = ap (answer_lines p
 pub unread_lines : (pharmacy number : ℕ) (a b : List ℕ) (fault : AnswerFault) (reading : Result AnswerParts AnswerFault) → FailsAs fault reading
     → (b ≡ a ++ line_text (refusal_line (codes "Unreadable"))) × (is_unreadable fault ≡ true) → b ≡ a ++ lines_text (answer_lines pharmacy number reading)
 unread_lines pharmacy number a b fault reading fails told =
-    told.0 ∙ (ap (λ (t : List ℕ). a ++ t) (sym (one_line_text (refusal_line (codes "Unreadable"))))
+    told.0 ∙ (ap (λ (t : List ℕ). a ++ t) (sym (lines_text-one (refusal_line (codes "Unreadable"))))
     ∙ ap (λ (ls : List Line). a ++ lines_text ls) (sym (unread_told pharmacy number fault reading fails told.1)))

@@ -1,9 +1,8 @@
 -- What a run writes, and why it stops.
-use Rattle.std.specs.Prelude.{◌≡◌, ℕ, ◌≤◌, Bool, true, false, not, ◌⊎◌, List, [], ◌++◌, length, take, Option, Some, Result, Ok, IfErr, IfSome, OnOk, OnErr}
+use Rattle.std.specs.Prelude.{◌≡◌, ℕ, ◌≤◌, Bool, true, false, not, ◌⊎◌, List, [], ◌++◌, length, take, Option, Result, Ok, IfErr, IfSome, OnOk, OnErr}
 use Rattle.std.specs.Io.KnownBytes.{Appends}
 use Rattle.world_setup.specs.declared.world_fault.WorldFault.TheVariants as world
 use Rattle.world_setup.specs.declared.settings.WorldSettings.{WorldSettings}
-use Rattle.world_settings.specs.Document.{document_seen}
 use Rattle.world_core.specs.Parts.{WorldParts, context_of}
 use Rattle.schedule.specs.Division.{settings_text}
 use Rattle.schedule.specs.Runs.{RunParts}
@@ -16,7 +15,6 @@ use Rattle.node_logged.specs.declared.judging.finish_fault.FinishFault.{FinishFa
 use Rattle.node_logged.specs.declared.judging.finish_fault.FinishFault.TheVariants as finish
 use Rattle.world_report.specs.Words.{Line, lines_text}
 use Rattle.world_report.specs.Nodes.{world_lines}
-use Rattle.schedule_cli.specs.Replays.{world_in, opened_world}
 use Rattle.schedule_cli.specs.Stops.{IsTaken, StopsFor}
 use Rattle.schedule_cli.specs.declared.input.TheConstants.{MOST_INPUT}
 use Rattle.schedule_cli.specs.declared.fault.InputFault.{InputFault}
@@ -26,12 +24,16 @@ use Rattle.schedule_cli.specs.declared.fault.ProgramFault.TheVariants.{OutOfMemo
 use Rattle.schedule_run.specs.declared.fault.RunFault.{RunFault}
 use Rattle.schedule_run.specs.declared.fault.RunFault.TheVariants.{Program, Finish, NoThread}
 use Rattle.schedule_run.specs.declared.fault.Unjudged.TheVariants as unjudged
-use Rattle.schedule_run.specs.Asked.{asked_in}
+use Rattle.schedule_run.specs.Asked.{asked_in, Opens}
 use Rattle.schedule_run.specs.Told.{RunCutOff, RunTold}
 
 -- the lines of the nodes of a world
 abbrev pub node_lines : WorldParts → List Line
 node_lines w = world_lines (context_of w) w.world
+
+-- their text
+abbrev pub nodes_text : WorldParts → List ℕ
+nodes_text w = lines_text (node_lines w)
 
 -- nodes of these settings ended in this world, of which the commands were told these lines: it is the world of a run that is judged by the tills of the
 -- one who made the commands, so each receipt is an entry of a journal, each entry has its receipt, and the first answer that was told for a number is the journal's
@@ -65,7 +67,7 @@ pub record IsOutput (input output : List ℕ) : Type 0 where
   pub run : RunParts
   pub asked : asked_in input ≡ Ok run
   pub settings : WorldSettings
-  pub opens : world_in (settings_text input) ≡ Some (opened_world (document_seen settings))
+  pub opens : Opens (settings_text input) settings
   pub reported : IsReported settings run output
 
 -- a beginning of what the first commands that an input asks for were told
@@ -85,9 +87,17 @@ pub record OutputCutOff (input written : List ℕ) : Type 0 where
 abbrev pub IsBeginning : List ℕ → List ℕ → Type 0
 IsBeginning input written = (written ≡ []) ⊎ (ToldCutOff input written ⊎ OutputCutOff input written)
 
--- a beginning of these bytes was appended
+-- bytes were appended of which this holds
 abbrev pub AppendsFront : Option (List ℕ) → Option (List ℕ) → (List ℕ → Type 0) → Type 0
 AppendsFront old new P = (written : List ℕ) × P written × Appends old new written
+
+-- a writer has these bytes more, of which that holds
+abbrev pub Writes : {W : Type 0} → (W → Option (List ℕ)) → W → W → (List ℕ → Type 0) → Type 0
+Writes contents old new P = AppendsFront (contents old) (contents new) P
+
+-- it has these lines more
+abbrev pub WritesLines : {W : Type 0} → (W → Option (List ℕ)) → W → W → (List Line → Type 0) → Type 0
+WritesLines contents old new P = (lines : List Line) × Appends (contents old) (contents new) (lines_text lines) × P lines
 
 -- all commands of a run were told, and their lines written
 pub record AllAreTold (old new : Option (List ℕ)) (run : RunParts) : Type 0 where
@@ -137,6 +147,10 @@ abbrev pub is_unjudged : RunFault → Bool
 is_unjudged (Program why) = false
 is_unjudged (Finish why) = true
 is_unjudged NoThread = false
+
+-- what the nodes did is judged only once all commands were told, and their lines written
+abbrev pub JudgedLast : {A : Type 0} → Result A RunFault → Option (List ℕ) → Option (List ℕ) → RunParts → Type 0
+JudgedLast result old new run = IfErr result (λ fault. is_unjudged fault ≡ true → AllAreTold old new run)
 
 -- what a fault says of the input; nodes start only where nothing is bad in it
 abbrev pub StopsRun : RunFault → List ℕ → Result RunParts InputFault → Type 0

@@ -1,15 +1,18 @@
 -- What the commands of a run are told, as lines of words. Which of the stated lines they are hangs on the threads.
-use Rattle.std.specs.Prelude.{◌≡◌, ◌⊎◌, ℕ, Bool, true, false, List, [], ◌∷◌, ◌++◌, length, map, replicate, set, slice_get, take, Some, None, IfSome, Result, Ok, Err, codes, decimal}
+use Rattle.std.specs.Prelude.{◌≡◌, ◌⊎◌, ℕ, Bool, true, false, List, [], ◌∷◌, ◌++◌, length, map, replicate, set, slice_get, take, Some, None, IfSome, MatchResult, Result, Ok, Err, codes, decimal}
+use Rattle.std.specs.Global.{Vec}
 use Rattle.std.specs.List.{AllByRecursion}
 use Rattle.claim_model.specs.Refusal.{Refusal}
 use Rattle.claim_model.specs.Words.{Ruling}
+use Rattle.world_setup.specs.declared.fault.StepFault.{StepFault}
 use Rattle.world_setup.specs.Names.{refusal_name}
 use Rattle.schedule.specs.declared.commands.Command.{Command}
 use Rattle.schedule.specs.declared.commands.Command.TheVariants.{Submit, Tick, Plan, Restart, Await}
 use Rattle.schedule.specs.Runs.{RunParts}
 use Rattle.world_report.specs.Words.{Line, lines_text}
+use Rattle.world_report.specs.Adding.{AddsLines}
 use Rattle.world_report.specs.Rulings.{ruling_words}
-use Rattle.world_report.specs.Places.{place_lines}
+use Rattle.world_report.specs.Places.{place_line, place_lines}
 use Rattle.claim_profile.specs.Ruling.{AnswerParts, answer_of}
 use Rattle.claim_profile.specs.declared.answer_reading.AnswerFault.{AnswerFault}
 use Rattle.claim_profile.specs.declared.answer_reading.AnswerFault.TheVariants.{OutOfMemory, Framing, NoStatus, BadStatus, BadAmount, BadAuthorization, BadRejects, BadClaim}
@@ -32,6 +35,14 @@ refusal_line name = codes "refused" ∷ name ∷ []
 abbrev pub pharmacy_word : ℕ → List ℕ
 pharmacy_word pharmacy = codes "ph" ++ decimal pharmacy
 
+-- the line of one place of a request, without a ruling and with it
+abbrev pub open_line : ℕ → ℕ → ℕ → ℕ → Line
+open_line pharmacy number count place = pharmacy_word pharmacy ∷ place_line (decimal number) count place (codes "open") []
+
+abbrev pub settled_line : ℕ → ℕ → ℕ → ℕ → Ruling → Line
+settled_line pharmacy number count place ruling =
+    pharmacy_word pharmacy ∷ place_line (decimal number) count place (codes "settled") (ruling_words ruling)
+
 -- a line for each place of a request: its number and the place, and the ruling there
 abbrev pub settled_lines : ℕ → ℕ → List Ruling → List Line
 settled_lines pharmacy number rulings =
@@ -49,6 +60,14 @@ IsRefusal line = (why : Refusal) × (line ≡ refusal_line (refusal_name why))
 -- made, or refused
 abbrev pub IsOutcome : Line → Type 0
 IsOutcome line = (line ≡ done_line) ⊎ IsRefusal line
+
+-- the line of a call: of what it made, or of its refusal
+abbrev pub IsLineOf : {A : Type 0} → (A → Line) → Result A StepFault → Line → Type 0
+IsLineOf told outcome line = MatchResult outcome (λ made. line ≡ told made) (λ _. IsRefusal line)
+
+-- lines come behind a text, of which this holds
+abbrev pub AddsTold : Vec ℕ → Vec ℕ → (List Line → Type 0) → Type 0
+AddsTold old new P = (lines : List Line) × AddsLines old new lines × P lines
 
 -- one line, which refuses
 abbrev pub RefusedBy : List Line → Type 0

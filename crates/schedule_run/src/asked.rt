@@ -7,7 +7,7 @@ ghost use Rattle.schedule.specs.Division.{settings_text};
 ghost use Rattle.schedule.specs.Runs.{run_seen};
 ghost use Rattle.schedule_cli.specs.Replays.{world_in, opened_by, opened_world, OpensNone};
 ghost use Rattle.schedule_cli.specs.Stops.{RefusedFor};
-ghost use Rattle.schedule_run.specs.Asked.{asked_in};
+ghost use Rattle.schedule_run.specs.Asked.{asked_in, Opens};
 
 use schedule::{Run, ScheduleFault, divide, read_run};
 use schedule_cli::{CheckFault, HashKeys, InputFault};
@@ -29,7 +29,7 @@ pub(crate) struct Asked {
 /// `Settings` where the settings are none; then `Line` of the first line that spells no fault and no command in its place;
 /// `OutOfMemory`.
 pub(crate) fn asked_of(alloc: Global, keys: &HashKeys, input: &[u8]) -> Result<Asked, CheckFault>
-    ensures opens { IfOk result (λ a. world_in (settings_text input.now) ≡ Some (opened_world (document_seen a.settings))) }
+    ensures opens { IfOk result (λ a. Opens (settings_text input.now) a.settings) }
     ensures taken { IfOk result (λ a. world_fault a.settings ≡ None) }
     ensures asked { IfOk result (λ a. asked_in input.now ≡ Ok (run_seen a.run)) }
     ensures fault { IfErr result (λ fault. RefusedFor fault (asked_in input.now)) }
@@ -46,7 +46,7 @@ pub(crate) fn asked_of(alloc: Global, keys: &HashKeys, input: &[u8]) -> Result<A
 /// The settings that a text spells, where they open a world, with these keys.
 #[tactic(auto, unfolding(schedule_cli::specs::Replays::world_in))]
 fn settings_of(alloc: Global, keys: &HashKeys, text: &[u8]) -> Result<WorldSettings, SettingsFault>
-    ensures opens { IfOk result (λ settings. world_in text.now ≡ Some (opened_world (document_seen settings))) }
+    ensures opens { IfOk result (λ settings. Opens text.now settings) }
     ensures taken { IfOk result (λ settings. world_fault settings ≡ None) }
     ensures fault { IfErr result (λ fault. OpensNone fault (world_in text.now)) }
 {
@@ -59,7 +59,8 @@ fn settings_of(alloc: Global, keys: &HashKeys, text: &[u8]) -> Result<WorldSetti
 
 /// The settings, where they open a world.
 fn taken(alloc: Global, settings: WorldSettings) -> Result<WorldSettings, SettingsFault>
-    ensures opens { IfOk result (λ taken. opened_by (document_seen settings) ≡ Some (opened_world (document_seen taken))) }
+    ensures opens { IfOk result (λ taken. opened_by (document_seen settings)
+        ≡ Some (opened_world (document_seen taken))) }
     ensures taken { IfOk result (λ taken. world_fault taken ≡ None) }
     ensures fault { IfErr result (λ fault. OpensNone fault (opened_by (document_seen settings))) }
 {

@@ -1,12 +1,10 @@
 //! Making the commands of a run.
 
-ghost use Rattle.std.specs.Prelude.{◌≡◌, ◌++◌, ◌<◌, ◌⊎◌, List, length, slice_get, IfErr, IfSome, OnOk, OnErr};
-ghost use Rattle.std.specs.Io.KnownBytes.{Appends};
-ghost use Rattle.world_report.specs.Words.{Line, lines_text};
+ghost use Rattle.std.specs.Prelude.{◌≡◌, ◌<◌, ◌⊎◌, length, slice_get, IfErr, IfSome, OnOk, OnErr};
 ghost use Rattle.node_logged.specs.TillSeen.{till_seen};
 ghost use Rattle.node_logged.specs.LedgerSeen.{tills_seen};
-ghost use Rattle.schedule_run.specs.Told.{AreTold, IsAwaited, IsCutOff, IsSubmitted, IsTold, Tells};
-ghost use Rattle.schedule_run.specs.Output.{AppendsFront};
+ghost use Rattle.schedule_run.specs.Output.{Writes, WritesLines};
+ghost use Rattle.schedule_run.specs.Told.{AreTold, IsAwaited, IsCutOff, IsSubmitted, IsTold, Tells, AddsTold};
 
 use crate::awaiting::{Awaited, wait_for};
 use crate::lines::{put_open, put_outcome, put_refused, put_settled, put_submitted};
@@ -32,8 +30,10 @@ pub(crate) fn make_commands<T: Wait + Clock, K: Sink>(
     commands: &[Command],
     sink: &mut K,
 ) -> Result<(), ProgramFault>
-    ensures told { OnOk result ((lines : List Line) × Appends (K.contents sink.old) (K.contents sink.new) (lines_text lines) × AreTold commands.now (tills_seen tills.old) lines (tills_seen tills.new)) }
-    ensures cut_off { OnErr result (AppendsFront (K.contents sink.old) (K.contents sink.new) (IsCutOff commands.now (tills_seen tills.old))) }
+    ensures told { OnOk result (WritesLines K.contents sink.old sink.new
+        (λ lines. AreTold commands.now (tills_seen tills.old) lines (tills_seen tills.new))) }
+    ensures cut_off { OnErr result (Writes K.contents sink.old sink.new
+        (IsCutOff commands.now (tills_seen tills.old))) }
     ensures faults { IfErr result (λ fault. (fault ≡ ProgramFault.Write) ⊎ (fault ≡ ProgramFault.OutOfMemory)) }
     ensures same_reference { K.loan sink.new ≡ K.loan sink.old }
 {
@@ -54,7 +54,8 @@ fn make_command<T: Wait + Clock>(
     tills: &mut [Till],
     command: &Command,
 ) -> Result<(), AllocError>
-    ensures { OnOk result ((lines : List Line) × (told.new.items ≡ told.old.items ++ lines_text lines) × IsTold command.now (tills_seen tills.old) lines (tills_seen tills.new)) }
+    ensures { OnOk result (AddsTold told.old told.new
+        (λ lines. IsTold command.now (tills_seen tills.old) lines (tills_seen tills.new))) }
 {
     match command {
         Command::Submit { pharmacy, text } => {
@@ -85,7 +86,8 @@ fn submit<T: Wait>(
     pharmacy: u16,
     request: &[u8],
 ) -> Result<(), AllocError>
-    ensures { OnOk result ((lines : List Line) × (told.new.items ≡ told.old.items ++ lines_text lines) × IsSubmitted pharmacy request.now (tills_seen tills.old) lines (tills_seen tills.new)) }
+    ensures { OnOk result (AddsTold told.old told.new
+        (λ lines. IsSubmitted pharmacy request.now (tills_seen tills.old) lines (tills_seen tills.new))) }
 {
     match place_of(tills, pharmacy) {
         Some(place) => put_submitted(told, system.submit(rt, &mut tills[place], request)),
@@ -103,7 +105,8 @@ fn await_answer<T: Wait + Clock>(
     pharmacy: u16,
     number: u64,
 ) -> Result<(), AllocError>
-    ensures { OnOk result ((lines : List Line) × (told.new.items ≡ told.old.items ++ lines_text lines) × IsAwaited pharmacy number (tills_seen tills.old) lines (tills_seen tills.new)) }
+    ensures { OnOk result (AddsTold told.old told.new
+        (λ lines. IsAwaited pharmacy number (tills_seen tills.old) lines (tills_seen tills.new))) }
 {
     match place_of(tills, pharmacy) {
         Some(place) => await_at(told, rt, alloc, system, &mut tills[place], pharmacy, number),
@@ -121,7 +124,8 @@ fn await_at<T: Wait + Clock>(
     pharmacy: u16,
     number: u64,
 ) -> Result<(), AllocError>
-    ensures { OnOk result ((lines : List Line) × (told.new.items ≡ told.old.items ++ lines_text lines) × Tells pharmacy number lines (till_seen till.old) (till_seen till.new)) }
+    ensures { OnOk result (AddsTold told.old told.new
+        (λ lines. Tells pharmacy number lines (till_seen till.old) (till_seen till.new))) }
 {
     match wait_for(rt, system, till, number)? {
         Awaited::Settled(answer) => {

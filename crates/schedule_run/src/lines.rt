@@ -1,13 +1,13 @@
 //! The lines of commands.
 
-ghost use Rattle.std.specs.Prelude.{◌≡◌, ◌∷◌, [], ◌++◌, true, codes, decimal, IfSome, IsSome, MatchResult, OnOk};
+ghost use Rattle.std.specs.Prelude.{◌≡◌, ◌∷◌, [], ◌++◌, true, codes, decimal, IfSome, IsSome, OnOk};
 ghost use Rattle.claim_profile.specs.Ruling.{answer_of};
 ghost use Rattle.world_setup.specs.Refused.{refusal_of};
 ghost use Rattle.world_setup.specs.Names.{refusal_name};
-ghost use Rattle.world_report.specs.Words.{Line, behind_spaces, line_text, lines_text};
-ghost use Rattle.world_report.specs.Rulings.{ruling_words};
-ghost use Rattle.world_report.specs.Places.{place_line, place_mark};
-ghost use Rattle.schedule_run.specs.Told.{IsRefusal, is_unreadable, done_line, number_line, refusal_line, pharmacy_word, answer_lines, open_lines, settled_lines};
+ghost use Rattle.world_report.specs.Words.{Line};
+ghost use Rattle.world_report.specs.Adding.{AddsLine, AddsLines, AddsWords};
+ghost use Rattle.world_report.specs.Places.{place_mark};
+ghost use Rattle.schedule_run.specs.Told.{is_unreadable, done_line, number_line, refusal_line, pharmacy_word, answer_lines, open_lines, settled_lines, open_line, settled_line, IsLineOf};
 
 use claim_profile::{AnswerFault, Ruling, read_answer};
 use input_text::put_decimal;
@@ -20,7 +20,7 @@ pub(crate) fn put_outcome(
     out: &mut Vec<u8>,
     outcome: Result<(), StepFault>,
 ) -> Result<(), AllocError>
-    ensures { OnOk result ((line : Line) × (out.new.items ≡ out.old.items ++ line_text line) × MatchResult outcome (λ _. line ≡ done_line) (λ _. IsRefusal line)) }
+    ensures { OnOk result ((line : Line) × AddsLine out.old out.new line × IsLineOf (λ _. done_line) outcome line) }
 {
     match outcome {
         Ok(()) => put_done(out),
@@ -33,7 +33,7 @@ pub(crate) fn put_submitted(
     out: &mut Vec<u8>,
     outcome: Result<u64, StepFault>,
 ) -> Result<(), AllocError>
-    ensures { OnOk result ((line : Line) × (out.new.items ≡ out.old.items ++ line_text line) × MatchResult outcome (λ number. line ≡ number_line number) (λ _. IsRefusal line)) }
+    ensures { OnOk result ((line : Line) × AddsLine out.old out.new line × IsLineOf number_line outcome line) }
 {
     match outcome {
         Ok(number) => put_entered(out, number),
@@ -43,7 +43,7 @@ pub(crate) fn put_submitted(
 
 /// Appends the line of what was made.
 pub(crate) fn put_done(out: &mut Vec<u8>) -> Result<(), AllocError>
-    ensures { OnOk result (out.new.items ≡ out.old.items ++ line_text done_line) }
+    ensures { OnOk result (AddsLine out.old out.new done_line) }
 {
     out.extend_from_slice(b"ok")?;
     end_line(out)
@@ -51,7 +51,7 @@ pub(crate) fn put_done(out: &mut Vec<u8>) -> Result<(), AllocError>
 
 /// Appends the line of a submission that was taken.
 fn put_entered(out: &mut Vec<u8>, number: u64) -> Result<(), AllocError>
-    ensures { OnOk result (out.new.items ≡ out.old.items ++ line_text (number_line number)) }
+    ensures { OnOk result (AddsLine out.old out.new (number_line number)) }
 {
     out.extend_from_slice(b"number")?;
     put_number(out, number)?;
@@ -60,7 +60,8 @@ fn put_entered(out: &mut Vec<u8>, number: u64) -> Result<(), AllocError>
 
 /// Appends the line of what a node refused.
 fn put_fault(out: &mut Vec<u8>, fault: StepFault) -> Result<(), AllocError>
-    ensures line { OnOk result (IfSome (refusal_of fault) (λ why. out.new.items ≡ out.old.items ++ line_text (refusal_line (refusal_name why)))) }
+    ensures line { OnOk result (IfSome (refusal_of fault)
+        (λ why. AddsLine out.old out.new (refusal_line (refusal_name why)))) }
     ensures known { OnOk result (IsSome (refusal_of fault)) }
 {
     match fault {
@@ -71,7 +72,7 @@ fn put_fault(out: &mut Vec<u8>, fault: StepFault) -> Result<(), AllocError>
 
 /// Appends the line of a refusal.
 pub(crate) fn put_refused(out: &mut Vec<u8>, name: &[u8]) -> Result<(), AllocError>
-    ensures { OnOk result (out.new.items ≡ out.old.items ++ line_text (refusal_line name.now)) }
+    ensures { OnOk result (AddsLine out.old out.new (refusal_line name.now)) }
 {
     out.extend_from_slice(b"refused")?;
     put_word(out, name)?;
@@ -85,7 +86,7 @@ pub(crate) fn put_open(
     number: u64,
     places: u8,
 ) -> Result<(), AllocError>
-    ensures { OnOk result (out.new.items ≡ out.old.items ++ lines_text (open_lines pharmacy number places)) }
+    ensures { OnOk result (AddsLines out.old out.new (open_lines pharmacy number places)) }
 {
     let count = u64::from(places);
     for passed in 0..count {
@@ -102,7 +103,7 @@ fn put_open_place(
     place: u64,
     count: u64,
 ) -> Result<(), AllocError>
-    ensures { OnOk result (out.new.items ≡ out.old.items ++ line_text (pharmacy_word pharmacy ∷ place_line (decimal number) count place (codes "open") [])) }
+    ensures { OnOk result (AddsLine out.old out.new (open_line pharmacy number count place)) }
 {
     put_pharmacy(out, pharmacy)?;
     put_place(out, number, place, count)?;
@@ -118,7 +119,7 @@ pub(crate) fn put_settled(
     number: u64,
     answer: &[u8],
 ) -> Result<(), AllocError>
-    ensures { OnOk result (out.new.items ≡ out.old.items ++ lines_text (answer_lines pharmacy number (answer_of answer.now))) }
+    ensures { OnOk result (AddsLines out.old out.new (answer_lines pharmacy number (answer_of answer.now))) }
 {
     match read_answer(alloc, answer) {
         Ok(answer) => put_rulings(out, pharmacy, number, answer.rulings()),
@@ -128,7 +129,7 @@ pub(crate) fn put_settled(
 
 /// Appends the line of an answer that cannot be read.
 fn put_unread(out: &mut Vec<u8>, fault: AnswerFault) -> Result<(), AllocError>
-    ensures line { OnOk result (out.new.items ≡ out.old.items ++ line_text (refusal_line (codes "Unreadable"))) }
+    ensures line { OnOk result (AddsLine out.old out.new (refusal_line (codes "Unreadable"))) }
     ensures known { OnOk result (is_unreadable fault ≡ true) }
 {
     match fault {
@@ -144,7 +145,7 @@ fn put_rulings(
     number: u64,
     rulings: &[Ruling],
 ) -> Result<(), AllocError>
-    ensures { OnOk result (out.new.items ≡ out.old.items ++ lines_text (settled_lines pharmacy number rulings.now)) }
+    ensures { OnOk result (AddsLines out.old out.new (settled_lines pharmacy number rulings.now)) }
 {
     let count = rulings.len() as u64;
     for (passed, ruling) in rulings.iter().enumerate() {
@@ -162,7 +163,7 @@ fn put_settled_place(
     count: u64,
     ruling: &Ruling,
 ) -> Result<(), AllocError>
-    ensures { OnOk result (out.new.items ≡ out.old.items ++ line_text (pharmacy_word pharmacy ∷ place_line (decimal number) count place (codes "settled") (ruling_words ruling.now))) }
+    ensures { OnOk result (AddsLine out.old out.new (settled_line pharmacy number count place ruling.now)) }
 {
     put_pharmacy(out, pharmacy)?;
     put_place(out, number, place, count)?;
@@ -181,7 +182,7 @@ fn put_pharmacy(out: &mut Vec<u8>, pharmacy: u16) -> Result<(), AllocError>
 
 /// Appends the number of a request, and the place where it has several.
 fn put_place(out: &mut Vec<u8>, number: u64, place: u64, count: u64) -> Result<(), AllocError>
-    ensures { OnOk result (out.new.items ≡ out.old.items ++ behind_spaces ((decimal number ++ place_mark count place) ∷ [])) }
+    ensures { OnOk result (AddsWords out.old out.new ((decimal number ++ place_mark count place) ∷ [])) }
 {
     put_number(out, number)?;
     put_mark(out, count, place)

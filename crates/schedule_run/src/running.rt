@@ -1,14 +1,15 @@
 //! A run from its input to its report.
 
-ghost use Rattle.std.specs.Prelude.{◌≡◌, ◌⊎◌, ◌+◌, ◌≤◌, ℕ, true, false, None, List, [], length, replicate, take, IfOk, IfErr, OnOk, OnErr};
+ghost use Rattle.std.specs.Prelude.{◌≡◌, ◌⊎◌, ◌+◌, ◌≤◌, true, false, None, [], length, replicate, IfOk, IfErr, OnOk, OnErr};
 ghost use Rattle.std.specs.Io.KnownBytes.{Appends};
 ghost use Rattle.std.specs.List.{AllByRecursion};
 ghost use Rattle.world_setup.specs.Taken.{world_fault};
-ghost use Rattle.world_report.specs.Words.{Line, lines_text};
+ghost use Rattle.world_report.specs.Words.{lines_text};
 ghost use Rattle.schedule.specs.Runs.{run_seen};
 ghost use Rattle.node_logged.specs.LedgerSeen.{tills_seen};
 ghost use Rattle.schedule_run.specs.Told.{IsEmpty, RunCutOff, RunTold, done_line};
-ghost use Rattle.schedule_run.specs.Output.{AllAreTold, AppendsFront, IsReported, IsStopped, Runs, EndsAs, is_early, is_start, is_unjudged, node_lines};
+ghost use Rattle.schedule_run.specs.Output.{IsReported, IsStopped, Runs, EndsAs, is_early, is_start, Writes, WritesLines, JudgedLast, nodes_text};
+ghost use Rattle.schedule_cli.specs.Stops.{AppendsSome};
 
 use crate::asked::{Asked, asked_of};
 use crate::commands::make_commands;
@@ -113,11 +114,13 @@ fn run_asked<T, K: Sink>(rt: &T, alloc: Global, asked: Asked, sink: &mut K) -> R
 where
     T: Threads + Wait + Clock + Copy + Send + 'static,
     requires taken { world_fault asked.settings ≡ None }
-    ensures output { OnOk result ((output : List ℕ) × IsReported asked.settings (run_seen asked.run) output × Appends (K.contents sink.old) (K.contents sink.new) output) }
+    ensures output { OnOk result (Writes K.contents sink.old sink.new
+        (IsReported asked.settings (run_seen asked.run))) }
     ensures unwritten { IfErr result (λ fault. is_early fault ≡ true → sink.new ≡ sink.old) }
     ensures started { IfErr result (λ fault. is_start fault ≡ true) }
-    ensures stopped { OnErr result (AppendsFront (K.contents sink.old) (K.contents sink.new) (IsStopped asked.settings (run_seen asked.run))) }
-    ensures told { IfErr result (λ fault. is_unjudged fault ≡ true → AllAreTold (K.contents sink.old) (K.contents sink.new) (run_seen asked.run)) }
+    ensures stopped { OnErr result (Writes K.contents sink.old sink.new
+        (IsStopped asked.settings (run_seen asked.run))) }
+    ensures told { JudgedLast result (K.contents sink.old) (K.contents sink.new) (run_seen asked.run) }
     ensures same_reference { K.loan sink.new ≡ K.loan sink.old }
 {
     let Asked { settings, run } = asked;
@@ -141,10 +144,11 @@ fn run_to_end<T, K: Sink>(
 ) -> Result<World, RunFault>
 where
     T: Threads + Wait + Clock,
-    ensures ended { IfOk result (λ world. (lines : List Line) × Appends (K.contents sink.old) (K.contents sink.new) (lines_text lines) × EndsAs system (run_seen run.now) lines world) }
+    ensures ended { IfOk result (λ world. WritesLines K.contents sink.old sink.new
+        (λ lines. EndsAs system (run_seen run.now) lines world)) }
     ensures faults { IfErr result (λ fault. is_early fault ≡ false) }
-    ensures cut_off { OnErr result (AppendsFront (K.contents sink.old) (K.contents sink.new) (RunCutOff (run_seen run.now))) }
-    ensures unjudged { IfErr result (λ fault. is_unjudged fault ≡ true → AllAreTold (K.contents sink.old) (K.contents sink.new) (run_seen run.now)) }
+    ensures cut_off { OnErr result (Writes K.contents sink.old sink.new (RunCutOff (run_seen run.now))) }
+    ensures unjudged { JudgedLast result (K.contents sink.old) (K.contents sink.new) (run_seen run.now) }
     ensures same_reference { K.loan sink.new ≡ K.loan sink.old }
 {
     let mut tills = Vec::new(alloc);
@@ -165,8 +169,9 @@ fn serve<T: Wait + Clock, K: Sink>(
     sink: &mut K,
 ) -> Result<(), ProgramFault>
     requires none { tills.now.items ≡ [] }
-    ensures told { OnOk result ((lines : List Line) × Appends (K.contents sink.old) (K.contents sink.new) (lines_text lines) × RunTold (run_seen run.now) lines (tills_seen tills.new.items)) }
-    ensures cut_off { OnErr result (AppendsFront (K.contents sink.old) (K.contents sink.new) (RunCutOff (run_seen run.now))) }
+    ensures told { OnOk result (WritesLines K.contents sink.old sink.new
+        (λ lines. RunTold (run_seen run.now) lines (tills_seen tills.new.items))) }
+    ensures cut_off { OnErr result (Writes K.contents sink.old sink.new (RunCutOff (run_seen run.now))) }
     ensures faults { IfErr result (λ fault. (fault ≡ ProgramFault.Write) ⊎ (fault ≡ ProgramFault.OutOfMemory)) }
     ensures same_reference { K.loan sink.new ≡ K.loan sink.old }
 {
@@ -212,8 +217,8 @@ fn faults_told(alloc: Global, faults: &[LinkFault]) -> Result<Vec<u8>, AllocErro
 
 /// Writes the lines of all nodes.
 fn write_nodes<K: Sink>(alloc: Global, world: &World, sink: &mut K) -> Result<(), ProgramFault>
-    ensures all { OnOk result (Appends (K.contents sink.old) (K.contents sink.new) (lines_text (node_lines world.now))) }
-    ensures front { OnErr result ((count : ℕ) × Appends (K.contents sink.old) (K.contents sink.new) (take count (lines_text (node_lines world.now)))) }
+    ensures all { OnOk result (Appends (K.contents sink.old) (K.contents sink.new) (nodes_text world.now)) }
+    ensures front { OnErr result (AppendsSome (K.contents sink.old) (K.contents sink.new) (nodes_text world.now)) }
     ensures faults { IfErr result (λ fault. (fault ≡ ProgramFault.Write) ⊎ (fault ≡ ProgramFault.OutOfMemory)) }
     ensures same_reference { K.loan sink.new ≡ K.loan sink.old }
 {

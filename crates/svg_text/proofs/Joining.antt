@@ -1,22 +1,20 @@
 -- How texts follow one another.
-use Rattle.std.proofs.Common.{◌≡◌, ℕ, Bool, true, false, List, [], ◌∷◌, ◌++◌, refl, sym, ap, ◌∙◌, append_assoc, append-nil}
+use Rattle.std.proofs.Common.{◌≡◌, ℕ, Bool, true, false, List, [], ◌∷◌, ◌++◌, refl, sym, ap, ◌∙◌, append-nil}
 use Rattle.std.specs.Prelude.{codes, flat_map, if◌then◌else◌}
 use Rattle.std.proofs.lemmas.Grind.{flat_map-append}
+use Rattle.input_text.proofs.Joining.{lists_join}
 use Rattle.svg_text.specs.Pieces.{Piece, piece_text, pieces_text}
 use Rattle.svg_text.specs.Picture.{Framed, head_text, picture_text, IsPieces, IsPicture}
 
--- one text behind another, behind what was there
-pub two_join : (a b c x y : List ℕ) → b ≡ a ++ x → c ≡ b ++ y → c ≡ a ++ (x ++ y)
-two_join a b c x y one two = two ∙ (ap (λ (t : List ℕ). t ++ y) one ∙ append_assoc a x y)
-
+-- several texts, each behind the one before
 pub three_join : (a b c d x y z : List ℕ) → b ≡ a ++ x → c ≡ b ++ y → d ≡ c ++ z → d ≡ a ++ (x ++ (y ++ z))
-three_join a b c d x y z one two three = two_join a b d x (y ++ z) one (two_join b c d y z two three)
+three_join a b c d x y z one two three = lists_join a b d x (y ++ z) one (lists_join b c d y z two three)
 
 pub four_join : (a b c d e x y z u : List ℕ) → b ≡ a ++ x → c ≡ b ++ y → d ≡ c ++ z → e ≡ d ++ u → e ≡ a ++ (x ++ (y ++ (z ++ u)))
-four_join a b c d e x y z u one two three four = two_join a b e x (y ++ (z ++ u)) one (three_join b c d e y z u two three four)
+four_join a b c d e x y z u one two three four = lists_join a b e x (y ++ (z ++ u)) one (three_join b c d e y z u two three four)
 
 pub five_join : (a b c d e f x y z u v : List ℕ) → b ≡ a ++ x → c ≡ b ++ y → d ≡ c ++ z → e ≡ d ++ u → f ≡ e ++ v → f ≡ a ++ (x ++ (y ++ (z ++ (u ++ v))))
-five_join a b c d e f x y z u v one two three four five = two_join a b f x (y ++ (z ++ (u ++ v))) one (four_join b c d e f y z u v two three four five)
+five_join a b c d e f x y z u v one two three four five = lists_join a b f x (y ++ (z ++ (u ++ v))) one (four_join b c d e f y z u v two three four five)
 
 -- elements
 pub no_pieces : IsPieces []

@@ -38,9 +38,13 @@ arrowhead =
 unfoldable pub head_text : Framed → List ℕ
 head_text f = start_text (codes "svg") root_style (size_numbers f.size) ++ (view_text f.size ++ (told_text f.title f.description ++ arrowhead))
 
+-- the file that has this text of elements in its root element
+abbrev pub file_text : Framed → List ℕ → List ℕ
+file_text f elements = head_text f ++ (elements ++ codes "</svg>\n")
+
 -- the text of a picture: one root element, its title and description, and all elements after one another
 unfoldable pub picture_text : Framed → List Piece → List ℕ
-picture_text f pieces = head_text f ++ (pieces_text pieces ++ codes "</svg>\n")
+picture_text f pieces = file_text f (pieces_text pieces)
 
 -- a text is that of elements
 pub record IsPieces (text : List ℕ) : Type 0 where

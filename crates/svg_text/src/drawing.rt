@@ -1,9 +1,9 @@
 //! A picture that is drawn element by element, and the file that it becomes.
 
-ghost use Rattle.std.specs.Prelude.{◌≡◌, ◌++◌, [], codes, IfOk, OnOk, OnErr};
+ghost use Rattle.std.specs.Prelude.{◌≡◌, ◌++◌, [], IfOk, OnOk, OnErr};
 ghost use Rattle.svg_text.specs.Framing.{framed};
 ghost use Rattle.svg_text.specs.Pieces.{line_text, box_text, words_text};
-ghost use Rattle.svg_text.specs.Picture.{IsPicture, head_text};
+ghost use Rattle.svg_text.specs.Picture.{IsPicture, file_text};
 
 use crate::frame::{Frame, put_head};
 use crate::shapes::{Point, Size, put_box, put_line, put_words};
@@ -77,7 +77,7 @@ impl Drawing {
 
     /// The file of the picture in this frame.
     pub fn file(&self, frame: &Frame<'_>) -> Result<Vec<u8>, AllocError>
-        ensures text { IfOk result (λ file. file.items ≡ head_text (framed frame.now) ++ (self.now ++ codes "</svg>\n")) }
+        ensures text { IfOk result (λ file. file.items ≡ file_text (framed frame.now) self.now) }
         ensures picture { IfOk result (λ file. IsPicture (framed frame.now) file.items) }
     {
         let mut file = Vec::new(*self.text.allocator());

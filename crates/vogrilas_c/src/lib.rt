@@ -6,14 +6,13 @@
 #![tactic(auto)]
 
 ghost use Rattle.std.specs.Prelude.{◌≡◌, IfErr};
-ghost use Rattle.std.specs.Option.{option_map};
 ghost use Rattle.std.specs.declared.option.Option.TheVariants.{None};
 ghost use Rattle.node_handle.specs.Numbers.{Says};
-ghost use Rattle.node_handle.specs.Calls.{Clears, Copies, Counts, Opens, Serves, records_of, written_of};
+ghost use Rattle.node_handle.specs.Calls.{Clears, CopiesRecords, CopiesWritten, Counts, Opens, Serves};
 ghost use Rattle.node_handle.specs.Texts.{Prints, Unprints};
 ghost use Rattle.node_handle.specs.Typed.{Takes, submit_line};
-ghost use Rattle.node_handle.specs.Asked.{Gives, Sizes, answer_in, request_in};
-ghost use Rattle.node_handle.specs.Payments.{Lists, payments_in};
+ghost use Rattle.node_handle.specs.Asked.{GivesAnswer, GivesRequest, Sizes};
+ghost use Rattle.node_handle.specs.Payments.{ListsPayments};
 ghost use Rattle.node_handle.specs.Audits.{Audits};
 
 use node_handle::{NodeHandle, PlainPayment, Style, audit, describe, number_of, print, unprint};
@@ -41,7 +40,8 @@ pub extern "C" fn vogrilas_open(
     seed: &[u8],
     kept: &mut usize,
 ) -> u32
-    ensures { Says result (λ said. Opens node.old.part.node settings.now name.now log.now said kept.old kept.new node.new.part.node) }
+    ensures { Says result (λ said.
+        Opens node.old.part.node settings.now name.now log.now said kept.old kept.new node.new.part.node) }
 {
     number_of(node.open(alloc, settings, name, log, seed, kept))
 }
@@ -84,7 +84,8 @@ pub extern "C" fn vogrilas_records(
     size: &mut usize,
 ) -> u32
     ensures kept { node.new.part.node ≡ node.old.part.node }
-    ensures copied { Says result (λ said. Copies (option_map records_of node.old.part.node) said buffer.old buffer.new size.old size.new) }
+    ensures copied { Says result (λ said.
+        CopiesRecords node.old.part.node said buffer.old buffer.new size.old size.new) }
 {
     number_of(node.records(alloc, buffer, size))
 }
@@ -98,7 +99,8 @@ pub extern "C" fn vogrilas_written(
     size: &mut usize,
 ) -> u32
     ensures kept { node.new.part.node ≡ node.old.part.node }
-    ensures copied { Says result (λ said. Copies (option_map written_of node.old.part.node) said buffer.old buffer.new size.old size.new) }
+    ensures copied { Says result (λ said.
+        CopiesWritten node.old.part.node said buffer.old buffer.new size.old size.new) }
 {
     number_of(node.written(alloc, buffer, size))
 }
@@ -131,7 +133,8 @@ pub extern "C" fn vogrilas_request(
     size: &mut usize,
 ) -> u32
     ensures kept { node.new.part.node ≡ node.old.part.node }
-    ensures copied { Says result (λ said. Gives (option_map (request_in number) node.old.part.node) said buffer.old buffer.new size.old size.new) }
+    ensures copied { Says result (λ said.
+        GivesRequest number node.old.part.node said buffer.old buffer.new size.old size.new) }
 {
     number_of(node.request(alloc, number, buffer, size))
 }
@@ -147,7 +150,8 @@ pub extern "C" fn vogrilas_answer(
     size: &mut usize,
 ) -> u32
     ensures kept { node.new.part.node ≡ node.old.part.node }
-    ensures copied { Says result (λ said. Gives (option_map (answer_in pharmacy number) node.old.part.node) said buffer.old buffer.new size.old size.new) }
+    ensures copied { Says result (λ said.
+        GivesAnswer pharmacy number node.old.part.node said buffer.old buffer.new size.old size.new) }
 {
     number_of(node.answer(alloc, pharmacy, number, buffer, size))
 }
@@ -161,7 +165,8 @@ pub extern "C" fn vogrilas_payments(
     count: &mut usize,
 ) -> u32
     ensures kept { node.new.part.node ≡ node.old.part.node }
-    ensures copied { Says result (λ said. Lists (option_map payments_in node.old.part.node) said payments.old payments.new count.old count.new) }
+    ensures copied { Says result (λ said.
+        ListsPayments node.old.part.node said payments.old payments.new count.old count.new) }
 {
     number_of(node.payments(alloc, payments, count))
 }

@@ -2,30 +2,14 @@
 use Rattle.std.proofs.Common.{◌≡◌, ℕ, ◌+◌, ◌<◌, ◌≤◌, List, [], ◌∷◌, ◌++◌, length, drop, get_or, map, refl, sym, ap, ◌∙◌, append_assoc, append-nil}
 use Rattle.std.specs.List.{flat_map}
 use Rattle.std.proofs.lemmas.List.{at_drop_more, drop_all}
-use Rattle.std.proofs.lemmas.Grind.{flat_map-append}
 use Rattle.world_report.specs.Words.{Line, line_text, lines_text}
 use Rattle.world_report.specs.Nodes.{lines_from}
-
-pub lines_text-append : (xs ys : List Line) → lines_text (xs ++ ys) ≡ lines_text xs ++ lines_text ys
-unfolding lines_text
-lines_text-append xs ys = flat_map-append line_text xs ys
-
-pub lines_text-nil : lines_text [] ≡ []
-unfolding lines_text
-lines_text-nil = refl
-
-pub lines_text-one : (line : Line) → lines_text (line ∷ []) ≡ line_text line
-unfolding lines_text
-lines_text-one line = append-nil (line_text line)
+use Rattle.world_report.proofs.JoinedWords.{lines_text-append, lines_text-nil, lines_text-one}
 
 -- lines behind lines
 pub lines_join : (a b c : List ℕ) (xs ys : List Line) → b ≡ a ++ lines_text xs → c ≡ b ++ lines_text ys → c ≡ a ++ lines_text (xs ++ ys)
 lines_join a b c xs ys one two =
     two ∙ (ap (λ (t : List ℕ). t ++ lines_text ys) one ∙ (append_assoc a (lines_text xs) (lines_text ys) ∙ ap (λ (t : List ℕ). a ++ t) (sym (lines_text-append xs ys))))
-
--- a line, and lines behind it
-pub line_joins : (a b c : List ℕ) (line : Line) (more : List Line) → b ≡ a ++ line_text line → c ≡ b ++ lines_text more → c ≡ a ++ lines_text (line ∷ more)
-line_joins a b c line more one two = lines_join a b c (line ∷ []) more (one ∙ ap (λ (t : List ℕ). a ++ t) (sym (lines_text-one line))) two
 
 -- a block of lines, and then those of what is left
 pub block_goes_on : (a b whole : List ℕ) (block more : List Line) → b ≡ a ++ lines_text block → a ++ lines_text (block ++ more) ≡ whole → b ++ lines_text more ≡ whole

@@ -4,7 +4,10 @@ use Rattle.claim_model.specs.Context.{Context}
 use Rattle.claim_model.specs.Node.{Outcome, Done, Refused}
 use Rattle.claim_model.specs.Settings.{WorldSettings, opening}
 use Rattle.claim_model.specs.World.{World, Event, step, world_after, run}
+use Rattle.world_setup.specs.declared.event.Event.{Event as EventGiven}
 use Rattle.world_setup.specs.Names.{refusal_name}
+use Rattle.world_core.specs.Parts.{WorldParts}
+use Rattle.world_core.specs.Stepping.{outcome_in}
 use Rattle.world_report.specs.Words.{Line, lines_text}
 use Rattle.world_report.specs.Heads.{done_line, refused_line, numbers_from}
 use Rattle.world_report.specs.Nodes.{world_lines}
@@ -13,6 +16,10 @@ use Rattle.world_report.specs.Nodes.{world_lines}
 abbrev pub event_line : ℕ → ℕ → Outcome World → Line
 event_line number posted (Done next sent) = done_line number (numbers_from (posted + 1) (length next.packets - posted))
 event_line number posted (Refused why) = refused_line number (refusal_name why)
+
+-- the line that an event has in a world as it stands
+abbrev pub line_in : WorldParts → ℕ → EventGiven → Line
+line_in w number event = event_line number (length w.world.packets) (outcome_in w event)
 
 -- a line for each event, made or refused
 abbrev pub event_lines : Context → World → ℕ → List Event → List Line

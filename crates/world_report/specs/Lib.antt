@@ -1,5 +1,6 @@
 -- In the order in which one explains them.
 pub mod Words
+pub mod Adding
 pub mod Rulings
 pub mod Places
 pub mod BookRows

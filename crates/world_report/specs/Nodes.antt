@@ -18,10 +18,13 @@ use Rattle.world_report.specs.Places.{entry_lines, flight_line}
 use Rattle.world_report.specs.BookRows.{row_lines}
 use Rattle.world_report.specs.Heads.{head_line}
 
--- a pharmacy: its entries in order of their numbers, and then the payments that it counts
+-- the entries of a journal in order of their numbers, and then the payments that it counts
+abbrev pub told_lines : Context → JournalAtRest → List Line
+told_lines ctx j = flat_map entry_lines (listed j) ++ map paid_line (counted ctx j)
+
+-- a pharmacy: its head, and what is told of its journal
 abbrev pub journal_lines : Context → ℕ → Bool → JournalAtRest → List Line
-journal_lines ctx number up j =
-    head_line (codes "pharmacy") number up (codes "entries") (length j.entries) ∷ (flat_map entry_lines (listed j) ++ map paid_line (counted ctx j))
+journal_lines ctx number up j = head_line (codes "pharmacy") number up (codes "entries") (length j.entries) ∷ told_lines ctx j
 
 abbrev pub pharmacy_lines : Context → ℕ → Power Journal JournalAtRest → List Line
 pharmacy_lines ctx number node = journal_lines ctx number (is_up node) (journal_in node)

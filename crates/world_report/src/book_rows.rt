@@ -1,12 +1,12 @@
 //! The lines of the rows of a payer's book.
 
-ghost use Rattle.std.specs.Prelude.{◌≡◌, ◌++◌, OnOk};
+ghost use Rattle.std.specs.Prelude.{◌≡◌};
 ghost use Rattle.bin_routes.specs.Table.{RouteMaps};
 ghost use Rattle.claim_profile.specs.Readable.{readable_header};
 ghost use Rattle.claim_model.specs.Bytes.{bytes_with};
 ghost use Rattle.claim_model.specs.Payments.{payment_of};
 ghost use Rattle.claim_model.specs.Rows.{ruled_rows};
-ghost use Rattle.world_report.specs.Words.{lines_text};
+ghost use Rattle.world_report.specs.Adding.{TellsLines};
 ghost use Rattle.world_report.specs.BookRows.{code_in, is_reversed, was_reversed, row_lines};
 
 use crate::places::Place;
@@ -17,7 +17,7 @@ use std::alloc::AllocError;
 
 /// Appends the lines of a row of this book: one for each place of its request, and behind a payment whether it stands.
 pub fn put_row(out: &mut Vec<u8>, book: &Book, row: &Row) -> Result<(), AllocError>
-    ensures { (routes : RouteMaps) → OnOk result (out.new.items ≡ out.old.items ++ lines_text (row_lines (bytes_with routes) book.now.rows row.now)) }
+    ensures { TellsLines out.old out.new (λ ctx. row_lines ctx book.now.rows row.now) result }
 {
     let (id, code) = (row.id(), request_code(row));
     let rulings = row.rulings();
@@ -55,7 +55,8 @@ fn was_reversed(book: &Book, ruling: &Ruling) -> bool
 
 /// Whether the payment of an authorization was reversed.
 fn is_reversed(book: &Book, auth: Auth) -> bool
-    ensures { (routes : RouteMaps) → result ≡ is_reversed (payment_of auth (ruled_rows (bytes_with routes) book.now.rows)) }
+    ensures { (routes : RouteMaps)
+        → result ≡ is_reversed (payment_of auth (ruled_rows (bytes_with routes) book.now.rows)) }
 {
     match book.payment(auth) {
         Some(payment) => payment.reversed_by.is_some(),

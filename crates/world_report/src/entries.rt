@@ -1,9 +1,9 @@
 //! The lines of entries.
 
-ghost use Rattle.std.specs.Prelude.{◌≡◌, ◌∷◌, [], ◌++◌, codes, decimal, map, replicate, OnOk};
-ghost use Rattle.world_report.specs.Words.{line_text, lines_text};
+ghost use Rattle.std.specs.Prelude.{◌∷◌, [], codes, decimal, map, OnOk};
+ghost use Rattle.world_report.specs.Adding.{AddsLine, AddsLines};
 ghost use Rattle.world_report.specs.Rulings.{ruling_words};
-ghost use Rattle.world_report.specs.Places.{place_line, place_lines, entry_lines};
+ghost use Rattle.world_report.specs.Places.{entry_lines, told_at, places_told, open_places};
 
 use crate::places::{Place, put_mark};
 use crate::rulings::put_ruling;
@@ -15,7 +15,7 @@ use std::alloc::AllocError;
 
 /// Appends the lines of an entry of a journal: one for each place of its request.
 pub fn put_entry(out: &mut Vec<u8>, entry: &EntryView) -> Result<(), AllocError>
-    ensures { OnOk result (out.new.items ≡ out.old.items ++ lines_text (entry_lines entry.now)) }
+    ensures { OnOk result (AddsLines out.old out.new (entry_lines entry.now)) }
 {
     let rulings = entry.rulings();
     if rulings.is_empty() {
@@ -27,7 +27,7 @@ pub fn put_entry(out: &mut Vec<u8>, entry: &EntryView) -> Result<(), AllocError>
 
 /// Appends the lines of an entry without an answer.
 fn put_open(out: &mut Vec<u8>, entry: &EntryView) -> Result<(), AllocError>
-    ensures { OnOk result (out.new.items ≡ out.old.items ++ lines_text (place_lines (decimal entry.now.number) entry.now.count entry.now.code 1 (replicate entry.now.count (codes "open" ∷ [])))) }
+    ensures { OnOk result (AddsLines out.old out.new (places_told entry.now (open_places entry.now.count))) }
 {
     let (number, code) = (entry.number(), entry.code());
     let count = u64::from(entry.count());
@@ -44,7 +44,7 @@ fn put_open(out: &mut Vec<u8>, entry: &EntryView) -> Result<(), AllocError>
 
 /// Appends the line of a place without an answer.
 fn put_open_place(out: &mut Vec<u8>, number: u64, place: &Place) -> Result<(), AllocError>
-    ensures { OnOk result (out.new.items ≡ out.old.items ++ line_text (place_line (decimal number) place.now.count place.now.number place.now.code (codes "open" ∷ []))) }
+    ensures { OnOk result (AddsLine out.old out.new (told_at (decimal number) place.now (codes "open" ∷ []))) }
 {
     put_decimal(out, number)?;
     put_mark(out, place.count, place.number)?;
@@ -55,7 +55,7 @@ fn put_open_place(out: &mut Vec<u8>, number: u64, place: &Place) -> Result<(), A
 
 /// Appends the lines of an entry with these rulings.
 fn put_told(out: &mut Vec<u8>, entry: &EntryView, rulings: &[Ruling]) -> Result<(), AllocError>
-    ensures { OnOk result (out.new.items ≡ out.old.items ++ lines_text (place_lines (decimal entry.now.number) entry.now.count entry.now.code 1 (map ruling_words rulings.now))) }
+    ensures { OnOk result (AddsLines out.old out.new (places_told entry.now (map ruling_words rulings.now))) }
 {
     let (number, code) = (entry.number(), entry.code());
     let count = u64::from(entry.count());
@@ -77,7 +77,7 @@ fn put_told_place(
     place: &Place,
     ruling: &Ruling,
 ) -> Result<(), AllocError>
-    ensures { OnOk result (out.new.items ≡ out.old.items ++ line_text (place_line (decimal number) place.now.count place.now.number place.now.code (ruling_words ruling.now))) }
+    ensures { OnOk result (AddsLine out.old out.new (told_at (decimal number) place.now (ruling_words ruling.now))) }
 {
     put_decimal(out, number)?;
     put_mark(out, place.count, place.number)?;

@@ -1,14 +1,15 @@
 //! The lines of events, each made in a world as the earlier ones left it.
 
-ghost use Rattle.std.specs.Prelude.{◌≡◌, ◌++◌, length, map, IfSome, IsSome, OnOk};
-ghost use Rattle.claim_model.specs.World.{step, world_after, run};
+ghost use Rattle.std.specs.Prelude.{◌≡◌, map, IfSome, IsSome, OnOk};
+ghost use Rattle.claim_model.specs.World.{world_after, run};
 ghost use Rattle.world_setup.specs.Seen.{event_seen};
 ghost use Rattle.world_setup.specs.Refused.{refusal_of};
 ghost use Rattle.world_setup.specs.Names.{refusal_name};
 ghost use Rattle.world_core.specs.Parts.{context_of};
-ghost use Rattle.world_report.specs.Words.{line_text, lines_text};
+ghost use Rattle.world_core.specs.Stepping.{outcome_in};
+ghost use Rattle.world_report.specs.Adding.{AddsLine, AddsLines};
 ghost use Rattle.world_report.specs.Heads.{refused_line};
-ghost use Rattle.world_report.specs.Events.{event_line, event_lines};
+ghost use Rattle.world_report.specs.Events.{event_lines, line_in};
 
 use crate::{put_done, put_refused};
 use std::alloc::AllocError;
@@ -21,8 +22,10 @@ pub(crate) fn put_events(
     world: &mut World,
     events: &[Event],
 ) -> Result<(), AllocError>
-    ensures lines { OnOk result (out.new.items ≡ out.old.items ++ lines_text (event_lines (context_of world.old) world.old.world 1 (map event_seen events.now))) }
-    ensures made { OnOk result (world.new.world ≡ run (context_of world.old) world.old.world (map event_seen events.now)) }
+    ensures lines { OnOk result (AddsLines out.old out.new
+        (event_lines (context_of world.old) world.old.world 1 (map event_seen events.now))) }
+    ensures made { OnOk result (world.new.world
+        ≡ run (context_of world.old) world.old.world (map event_seen events.now)) }
     ensures routes { world.new.routes ≡ world.old.routes }
 {
     for (place, event) in events.iter().enumerate() {
@@ -38,8 +41,8 @@ fn put_event(
     number: u64,
     event: &Event,
 ) -> Result<(), AllocError>
-    ensures line { OnOk result (out.new.items ≡ out.old.items ++ line_text (event_line number (length world.old.world.packets) (step (context_of world.old) world.old.world (event_seen event.now)))) }
-    ensures made { OnOk result (world.new.world ≡ world_after world.old.world (step (context_of world.old) world.old.world (event_seen event.now))) }
+    ensures line { OnOk result (AddsLine out.old out.new (line_in world.old number event.now)) }
+    ensures made { OnOk result (world.new.world ≡ world_after world.old.world (outcome_in world.old event.now)) }
     ensures routes { world.new.routes ≡ world.old.routes }
 {
     match world.step(event) {
@@ -50,7 +53,8 @@ fn put_event(
 
 /// Appends the line of a refused event.
 fn put_fault(out: &mut Vec<u8>, number: u64, fault: StepFault) -> Result<(), AllocError>
-    ensures line { OnOk result (IfSome (refusal_of fault) (λ why. out.new.items ≡ out.old.items ++ line_text (refused_line number (refusal_name why)))) }
+    ensures line { OnOk result (IfSome (refusal_of fault)
+        (λ why. AddsLine out.old out.new (refused_line number (refusal_name why)))) }
     ensures known { OnOk result (IsSome (refusal_of fault)) }
 {
     match fault {

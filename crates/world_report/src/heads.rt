@@ -1,7 +1,8 @@
 //! The lines of events, and those that name a node.
 
-ghost use Rattle.std.specs.Prelude.{◌≡◌, ◌≤◌, ◌∷◌, [], ◌-◌, ◌++◌, drop, decimal, map, IsTrue, OnOk};
-ghost use Rattle.world_report.specs.Words.{behind_spaces, line_text};
+ghost use Rattle.std.specs.Prelude.{◌≡◌, ◌≤◌, ◌∷◌, [], ◌-◌, drop, decimal, map, IsTrue, OnOk};
+ghost use Rattle.world_report.specs.Words.{line_text};
+ghost use Rattle.world_report.specs.Adding.{AddsLine, AddsWords};
 ghost use Rattle.world_report.specs.Heads.{power_word, head_line, numbers_from, done_line, refused_line};
 
 use crate::backwards::{LINE, byte_before, digits_before};
@@ -19,7 +20,7 @@ pub fn put_head(
     noun: &[u8],
     count: u64,
 ) -> Result<(), AllocError>
-    ensures { OnOk result (out.new.items ≡ out.old.items ++ line_text (head_line kind.now number up noun.now count)) }
+    ensures { OnOk result (AddsLine out.old out.new (head_line kind.now number up noun.now count)) }
 {
     out.extend_from_slice(kind)?;
     put_number(out, number)?;
@@ -29,7 +30,7 @@ pub fn put_head(
 
 /// Appends whether a node is up, and how many entries or rows it has.
 fn put_state(out: &mut Vec<u8>, up: bool, noun: &[u8], count: u64) -> Result<(), AllocError>
-    ensures { OnOk result (out.new.items ≡ out.old.items ++ behind_spaces (power_word up ∷ noun.now ∷ decimal count ∷ [])) }
+    ensures { OnOk result (AddsWords out.old out.new (power_word up ∷ noun.now ∷ decimal count ∷ [])) }
 {
     put_word(out, power_word(up))?;
     put_word(out, noun)?;
@@ -44,7 +45,8 @@ fn power_word(up: bool) -> &'static [u8]
 
 /// Appends the line of an event that was made: its number from 1, and the numbers of the packets that it sent.
 pub fn put_done(out: &mut Vec<u8>, event: u64, sent: Range<u64>) -> Result<(), AllocError>
-    ensures { OnOk result (out.new.items ≡ out.old.items ++ line_text (done_line event (numbers_from sent.start (sent.end - sent.start)))) }
+    ensures { OnOk result (AddsLine out.old out.new
+        (done_line event (numbers_from sent.start (sent.end - sent.start)))) }
 {
     if is_one(&sent) {
         return put_done_with_one(out, event, sent.start);
@@ -65,7 +67,7 @@ fn is_one(range: &Range<u64>) -> bool
 
 /// Appends the line of an event that sent one packet, as most do, in one piece.
 fn put_done_with_one(out: &mut Vec<u8>, event: u64, packet: u64) -> Result<(), AllocError>
-    ensures { OnOk result (out.new.items ≡ out.old.items ++ line_text (done_line event (packet ∷ []))) }
+    ensures { OnOk result (AddsLine out.old out.new (done_line event (packet ∷ []))) }
 {
     let mut text = [0; LINE];
     let start = write_done(event, packet, &mut text);
@@ -89,7 +91,7 @@ fn write_done(event: u64, packet: u64, text: &mut [u8; LINE]) -> usize
 
 /// Appends the numbers from `first` on, up to the one before `past`.
 fn put_numbers(out: &mut Vec<u8>, first: u64, past: u64) -> Result<(), AllocError>
-    ensures { OnOk result (out.new.items ≡ out.old.items ++ behind_spaces (map decimal (numbers_from first (past - first)))) }
+    ensures { OnOk result (AddsWords out.old out.new (map decimal (numbers_from first (past - first)))) }
 {
     for number in first..past {
         put_number(out, number)?;
@@ -99,7 +101,7 @@ fn put_numbers(out: &mut Vec<u8>, first: u64, past: u64) -> Result<(), AllocErro
 
 /// Appends the line of an event that was refused: its number from 1, and the refusal's name.
 pub fn put_refused(out: &mut Vec<u8>, event: u64, name: &[u8]) -> Result<(), AllocError>
-    ensures { OnOk result (out.new.items ≡ out.old.items ++ line_text (refused_line event name.now)) }
+    ensures { OnOk result (AddsLine out.old out.new (refused_line event name.now)) }
 {
     put_decimal(out, event)?;
     put_word(out, b"refused")?;

@@ -1,10 +1,8 @@
 //! The lines of lists: the entries of a journal, counted payments, requests in flight, the rows of a book.
 
-ghost use Rattle.std.specs.Prelude.{◌≡◌, ◌++◌, map, OnOk};
+ghost use Rattle.std.specs.Prelude.{map, OnOk};
 ghost use Rattle.std.specs.List.{flat_map};
-ghost use Rattle.bin_routes.specs.Table.{RouteMaps};
-ghost use Rattle.claim_model.specs.Bytes.{bytes_with};
-ghost use Rattle.world_report.specs.Words.{lines_text};
+ghost use Rattle.world_report.specs.Adding.{AddsLines, TellsLines};
 ghost use Rattle.world_report.specs.Rulings.{paid_line};
 ghost use Rattle.world_report.specs.Places.{entry_lines};
 ghost use Rattle.world_report.specs.BookRows.{row_lines};
@@ -18,7 +16,7 @@ use switch_node::InFlight;
 
 /// Appends the lines of entries.
 pub(crate) fn put_entries(out: &mut Vec<u8>, entries: &[EntryView]) -> Result<(), AllocError>
-    ensures { OnOk result (out.new.items ≡ out.old.items ++ lines_text (flat_map entry_lines entries.now)) }
+    ensures { OnOk result (AddsLines out.old out.new (flat_map entry_lines entries.now)) }
 {
     for entry in entries {
         put_entry(out, entry)?;
@@ -28,7 +26,7 @@ pub(crate) fn put_entries(out: &mut Vec<u8>, entries: &[EntryView]) -> Result<()
 
 /// Appends the lines of counted payments.
 pub(crate) fn put_payments(out: &mut Vec<u8>, payments: &[CountedPayment]) -> Result<(), AllocError>
-    ensures { OnOk result (out.new.items ≡ out.old.items ++ lines_text (map paid_line payments.now)) }
+    ensures { OnOk result (AddsLines out.old out.new (map paid_line payments.now)) }
 {
     for payment in payments {
         put_paid(out, payment)?;
@@ -38,7 +36,7 @@ pub(crate) fn put_payments(out: &mut Vec<u8>, payments: &[CountedPayment]) -> Re
 
 /// Appends the lines of requests in flight.
 pub(crate) fn put_table(out: &mut Vec<u8>, table: &[InFlight]) -> Result<(), AllocError>
-    ensures { OnOk result (out.new.items ≡ out.old.items ++ lines_text (map in_flight_line table.now)) }
+    ensures { OnOk result (AddsLines out.old out.new (map in_flight_line table.now)) }
 {
     for request in table {
         put_in_flight(out, request)?;
@@ -48,7 +46,7 @@ pub(crate) fn put_table(out: &mut Vec<u8>, table: &[InFlight]) -> Result<(), All
 
 /// Appends the lines of a book's rows.
 pub(crate) fn put_rows(out: &mut Vec<u8>, book: &Book) -> Result<(), AllocError>
-    ensures { (routes : RouteMaps) → OnOk result (out.new.items ≡ out.old.items ++ lines_text (flat_map (row_lines (bytes_with routes) book.now.rows) book.now.rows)) }
+    ensures { TellsLines out.old out.new (λ ctx. flat_map (row_lines ctx book.now.rows) book.now.rows) result }
 {
     let rows = book.rows();
     for row in rows {

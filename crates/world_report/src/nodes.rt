@@ -1,15 +1,8 @@
 //! The lines of nodes, up or at rest.
 
-ghost use Rattle.std.specs.Prelude.{◌≡◌, ◌++◌, map, OnOk};
-ghost use Rattle.std.specs.List.{flat_map};
-ghost use Rattle.bin_routes.specs.Table.{RouteMaps};
-ghost use Rattle.claim_model.specs.Bytes.{bytes_with};
-ghost use Rattle.claim_model.specs.Counted.{counted};
-ghost use Rattle.pharmacy_journal.specs.Listing.{listed};
-ghost use Rattle.world_report.specs.Words.{lines_text};
-ghost use Rattle.world_report.specs.Rulings.{paid_line};
-ghost use Rattle.world_report.specs.Places.{entry_lines};
-ghost use Rattle.world_report.specs.Nodes.{journal_lines, pharmacy_lines, table_lines, switch_lines, book_lines, payer_lines, lines_from};
+ghost use Rattle.std.specs.Prelude.{OnOk};
+ghost use Rattle.world_report.specs.Adding.{AddsLines, TellsLines};
+ghost use Rattle.world_report.specs.Nodes.{journal_lines, pharmacy_lines, table_lines, switch_lines, book_lines, payer_lines, lines_from, told_lines};
 
 use crate::lists::{put_entries, put_payments, put_rows, put_table};
 use crate::put_head;
@@ -24,7 +17,7 @@ pub(crate) fn put_pharmacies(
     alloc: Global,
     nodes: &[PharmacyNode],
 ) -> Result<(), AllocError>
-    ensures { (routes : RouteMaps) → OnOk result (out.new.items ≡ out.old.items ++ lines_text (lines_from (pharmacy_lines (bytes_with routes)) 1 nodes.now)) }
+    ensures { TellsLines out.old out.new (λ ctx. lines_from (pharmacy_lines ctx) 1 nodes.now) result }
 {
     for (place, node) in nodes.iter().enumerate() {
         put_pharmacy(out, alloc, place as u64 + 1, node)?;
@@ -39,7 +32,7 @@ fn put_pharmacy(
     number: u64,
     node: &PharmacyNode,
 ) -> Result<(), AllocError>
-    ensures { (routes : RouteMaps) → OnOk result (out.new.items ≡ out.old.items ++ lines_text (pharmacy_lines (bytes_with routes) number node.now)) }
+    ensures { TellsLines out.old out.new (λ ctx. pharmacy_lines ctx number node.now) result }
 {
     let journal = node.journal(alloc)?;
     put_journal(out, number, node.is_up(), &journal)
@@ -52,7 +45,7 @@ fn put_journal(
     up: bool,
     journal: &JournalReading<'_>,
 ) -> Result<(), AllocError>
-    ensures { (routes : RouteMaps) → OnOk result (out.new.items ≡ out.old.items ++ lines_text (journal_lines (bytes_with routes) number up journal.now)) }
+    ensures { TellsLines out.old out.new (λ ctx. journal_lines ctx number up journal.now) result }
 {
     let count = journal.entries() as u64;
     put_head(out, b"pharmacy", number, up, b"entries", count)?;
@@ -61,7 +54,7 @@ fn put_journal(
 
 /// Appends the lines of all entries and those of all counted payments.
 fn put_told(out: &mut Vec<u8>, journal: &JournalReading<'_>) -> Result<(), AllocError>
-    ensures { (routes : RouteMaps) → OnOk result (out.new.items ≡ out.old.items ++ lines_text (flat_map entry_lines (listed journal.now) ++ map paid_line (counted (bytes_with routes) journal.now))) }
+    ensures { TellsLines out.old out.new (λ ctx. told_lines ctx journal.now) result }
 {
     let (entries, paid) = journal.told()?;
     put_entries(out, entries.as_slice())?;
@@ -74,7 +67,7 @@ pub(crate) fn put_switches(
     alloc: Global,
     nodes: &[SwitchNode],
 ) -> Result<(), AllocError>
-    ensures { OnOk result (out.new.items ≡ out.old.items ++ lines_text (lines_from switch_lines 1 nodes.now)) }
+    ensures { OnOk result (AddsLines out.old out.new (lines_from switch_lines 1 nodes.now)) }
 {
     for (place, node) in nodes.iter().enumerate() {
         put_switch(out, alloc, place as u64 + 1, node)?;
@@ -89,7 +82,7 @@ fn put_switch(
     number: u64,
     node: &SwitchNode,
 ) -> Result<(), AllocError>
-    ensures { OnOk result (out.new.items ≡ out.old.items ++ lines_text (switch_lines number node.now)) }
+    ensures { OnOk result (AddsLines out.old out.new (switch_lines number node.now)) }
 {
     let table = node.list(alloc)?;
     put_in_flights(out, number, node.is_up(), table.as_slice())
@@ -102,7 +95,7 @@ fn put_in_flights(
     up: bool,
     table: &[InFlight],
 ) -> Result<(), AllocError>
-    ensures { OnOk result (out.new.items ≡ out.old.items ++ lines_text (table_lines number up table.now)) }
+    ensures { OnOk result (AddsLines out.old out.new (table_lines number up table.now)) }
 {
     put_head(out, b"switch", number, up, b"entries", table.len() as u64)?;
     put_table(out, table)
@@ -114,7 +107,7 @@ pub(crate) fn put_payers(
     alloc: Global,
     nodes: &[PayerNode],
 ) -> Result<(), AllocError>
-    ensures { (routes : RouteMaps) → OnOk result (out.new.items ≡ out.old.items ++ lines_text (lines_from (payer_lines (bytes_with routes)) 1 nodes.now)) }
+    ensures { TellsLines out.old out.new (λ ctx. lines_from (payer_lines ctx) 1 nodes.now) result }
 {
     for (place, node) in nodes.iter().enumerate() {
         put_payer(out, alloc, place as u64 + 1, node)?;
@@ -129,7 +122,7 @@ fn put_payer(
     number: u64,
     node: &PayerNode,
 ) -> Result<(), AllocError>
-    ensures { (routes : RouteMaps) → OnOk result (out.new.items ≡ out.old.items ++ lines_text (payer_lines (bytes_with routes) number node.now)) }
+    ensures { TellsLines out.old out.new (λ ctx. payer_lines ctx number node.now) result }
 {
     let reading = node.book(alloc)?;
     put_book(out, number, node.is_up(), reading.book())
@@ -137,7 +130,7 @@ fn put_payer(
 
 /// Appends the lines of a book.
 fn put_book(out: &mut Vec<u8>, number: u64, up: bool, book: &Book) -> Result<(), AllocError>
-    ensures { (routes : RouteMaps) → OnOk result (out.new.items ≡ out.old.items ++ lines_text (book_lines (bytes_with routes) number up book.now.rows)) }
+    ensures { TellsLines out.old out.new (λ ctx. book_lines ctx number up book.now.rows) result }
 {
     let count = book.rows().len() as u64;
     put_head(out, b"payer", number, up, b"rows", count)?;

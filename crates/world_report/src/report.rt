@@ -1,9 +1,9 @@
 //! The whole report.
 
-ghost use Rattle.std.specs.Prelude.{◌≡◌, ◌++◌, map, OnOk};
+ghost use Rattle.std.specs.Prelude.{map, OnOk};
 ghost use Rattle.world_setup.specs.Seen.{event_seen};
 ghost use Rattle.world_core.specs.Parts.{context_of};
-ghost use Rattle.world_report.specs.Words.{lines_text};
+ghost use Rattle.world_report.specs.Adding.{AddsLines};
 ghost use Rattle.world_report.specs.Nodes.{world_lines};
 ghost use Rattle.world_report.specs.Events.{run_lines};
 
@@ -24,7 +24,8 @@ pub fn put_report(
     world: &mut World,
     events: Vec<Event>,
 ) -> Result<(), AllocError>
-    ensures { OnOk result (out.new.items ≡ out.old.items ++ lines_text (run_lines (context_of world.old) world.old.world (map event_seen events.items))) }
+    ensures { OnOk result (AddsLines out.old out.new
+        (run_lines (context_of world.old) world.old.world (map event_seen events.items))) }
 {
     put_events(out, world, events.as_slice())?;
     drop(events);
@@ -36,7 +37,7 @@ pub fn put_report(
 /// # Errors
 /// Where memory is refused.
 pub fn put_nodes(out: &mut Vec<u8>, alloc: Global, world: &World) -> Result<(), AllocError>
-    ensures { OnOk result (out.new.items ≡ out.old.items ++ lines_text (world_lines (context_of world.now) world.now.world)) }
+    ensures { OnOk result (AddsLines out.old out.new (world_lines (context_of world.now) world.now.world)) }
 {
     put_pharmacies(out, alloc, world.pharmacies())?;
     put_switches(out, alloc, world.switches())?;

@@ -1,8 +1,8 @@
 //! The lines of a switch's table and of a payer's book.
 
-ghost use Rattle.std.specs.Prelude.{◌≡◌, ◌≤◌, ◌∷◌, [], ◌++◌, drop, OnOk};
-ghost use Rattle.world_report.specs.Words.{behind_spaces, line_text};
-ghost use Rattle.world_report.specs.Places.{place_line, txn_name, flight_word, flight_line, standing_word, standing_words, row_words};
+ghost use Rattle.std.specs.Prelude.{◌≡◌, ◌≤◌, ◌++◌, drop, OnOk};
+ghost use Rattle.world_report.specs.Adding.{AddsLine, AddsWords};
+ghost use Rattle.world_report.specs.Places.{txn_name, flight_word, flight_line, standing_word, standing_words, row_words, told_at};
 
 use crate::backwards::{LINE, byte_before, digits_before};
 use crate::places::{Place, put_mark};
@@ -15,7 +15,7 @@ use switch_node::InFlight;
 
 /// Appends the line of a request in flight: its transaction, and `answered` or `open`.
 pub fn put_in_flight(out: &mut Vec<u8>, request: &InFlight) -> Result<(), AllocError>
-    ensures { OnOk result (out.new.items ≡ out.old.items ++ line_text (flight_line request.now.id request.now.answered)) }
+    ensures { OnOk result (AddsLine out.old out.new (flight_line request.now.id request.now.answered)) }
 {
     put_txn(out, request.id)?;
     put_word(out, flight_word(request.answered))?;
@@ -37,7 +37,7 @@ pub(crate) fn put_row_place(
     ruling: &Ruling,
     reversed: bool,
 ) -> Result<(), AllocError>
-    ensures { OnOk result (out.new.items ≡ out.old.items ++ line_text (place_line (txn_name id) place.now.count place.now.number place.now.code (row_words ruling.now reversed))) }
+    ensures { OnOk result (AddsLine out.old out.new (told_at (txn_name id) place.now (row_words ruling.now reversed))) }
 {
     put_txn(out, id)?;
     put_mark(out, place.count, place.number)?;
@@ -48,7 +48,7 @@ pub(crate) fn put_row_place(
 
 /// Appends a ruling and whether its payment stands.
 fn put_ruled(out: &mut Vec<u8>, ruling: &Ruling, reversed: bool) -> Result<(), AllocError>
-    ensures { OnOk result (out.new.items ≡ out.old.items ++ behind_spaces (row_words ruling.now reversed)) }
+    ensures { OnOk result (AddsWords out.old out.new (row_words ruling.now reversed)) }
 {
     put_ruling(out, ruling)?;
     put_standing(out, ruling, reversed)
@@ -57,7 +57,7 @@ fn put_ruled(out: &mut Vec<u8>, ruling: &Ruling, reversed: bool) -> Result<(), A
 /// Appends whether a payment stands; nothing behind another ruling.
 #[tactic(auto, using(crate::proofs::JoinedWords::no_words))]
 fn put_standing(out: &mut Vec<u8>, ruling: &Ruling, reversed: bool) -> Result<(), AllocError>
-    ensures { OnOk result (out.new.items ≡ out.old.items ++ behind_spaces (standing_words ruling.now reversed)) }
+    ensures { OnOk result (AddsWords out.old out.new (standing_words ruling.now reversed)) }
 {
     match ruling {
         Ruling::Paid { .. } => put_word(out, standing_word(reversed)),

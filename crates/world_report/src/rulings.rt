@@ -4,8 +4,8 @@ ghost use Rattle.std.specs.Prelude.{◌≡◌, ◌+◌, ◌≤◌, ◌∷◌, []
 ghost use Rattle.std.specs.List.{flat_map};
 ghost use Rattle.claim_profile.specs.Authorization.{authorization_text};
 ghost use Rattle.claim_profile.specs.Reject.{code_text};
-ghost use Rattle.claim_model.specs.Counted.{Counted};
-ghost use Rattle.world_report.specs.Words.{behind_spaces, line_text};
+ghost use Rattle.world_report.specs.Words.{behind_spaces};
+ghost use Rattle.world_report.specs.Adding.{AddsLine, AddsWords};
 ghost use Rattle.world_report.specs.Rulings.{amount_words, payment_words, ruling_words, codes_word, paid_line};
 
 use crate::words::{end_line, put_word};
@@ -21,7 +21,7 @@ const PAYMENT: usize = 61;
 /// Appends the words of a ruling: `P` or `D` with the authorization and the amounts of the payment, `A` with the
 /// authorization that was reversed, `R` with the reject codes.
 pub fn put_ruling(out: &mut Vec<u8>, ruling: &Ruling) -> Result<(), AllocError>
-    ensures { OnOk result (out.new.items ≡ out.old.items ++ behind_spaces (ruling_words ruling.now)) }
+    ensures { OnOk result (AddsWords out.old out.new (ruling_words ruling.now)) }
 {
     match *ruling {
         Ruling::Paid { auth, amounts, .. } => {
@@ -45,7 +45,7 @@ pub fn put_ruling(out: &mut Vec<u8>, ruling: &Ruling) -> Result<(), AllocError>
 
 /// Appends the line of a payment that a pharmacy counts: `paid`, the authorization and the amounts.
 pub fn put_paid(out: &mut Vec<u8>, payment: &CountedPayment) -> Result<(), AllocError>
-    ensures { OnOk result (out.new.items ≡ out.old.items ++ line_text (paid_line payment.now)) }
+    ensures { OnOk result (AddsLine out.old out.new (paid_line payment.now)) }
 {
     out.extend_from_slice(b"paid")?;
     put_payment(out, payment.auth(), payment.amounts())?;
@@ -54,7 +54,7 @@ pub fn put_paid(out: &mut Vec<u8>, payment: &CountedPayment) -> Result<(), Alloc
 
 /// Appends an authorization and the amounts that were paid under it.
 fn put_payment(out: &mut Vec<u8>, auth: Auth, amounts: Amounts) -> Result<(), AllocError>
-    ensures { OnOk result (out.new.items ≡ out.old.items ++ behind_spaces (payment_words auth amounts)) }
+    ensures { OnOk result (AddsWords out.old out.new (payment_words auth amounts)) }
 {
     let mut text = [0; PAYMENT];
     let start = write_payment(auth, amounts, &mut text);
@@ -113,7 +113,7 @@ fn write_number(number: u32, text: &mut [u8; PAYMENT], end: usize) -> usize
 
 /// Appends a word of reject codes with a comma between them.
 fn put_codes(out: &mut Vec<u8>, codes: &[Code]) -> Result<(), AllocError>
-    ensures { OnOk result (out.new.items ≡ out.old.items ++ behind_spaces (codes_word codes.now ∷ [])) }
+    ensures { OnOk result (AddsWords out.old out.new (codes_word codes.now ∷ [])) }
 {
     let [first, others @ ..] = codes else {
         return put_word(out, b"");

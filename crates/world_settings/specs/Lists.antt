@@ -1,7 +1,13 @@
 -- Arrays: the value of each item, in order.
 use Rattle.std.specs.Prelude.{ℕ, List, [], ◌∷◌, Option, Some, None}
+use Rattle.std.specs.Global.{Vec}
+use Rattle.std.specs.Option.{option_map}
 use Rattle.input_text.specs.Options.{◌>>=◌}
 use Rattle.toml.specs.Data.{Data, Items, no_items, item, Members, get_member, as_array}
+
+-- the items of a list that was read
+abbrev pub items_of : {A : Type 0} → Option (Vec A) → Option (List A)
+items_of {A} list = option_map (λ (l : Vec A). l.items) list
 
 -- an item before those of a list
 abbrev pub onto : {A : Type 0} → Option A → Option (List A) → Option (List A)

@@ -27,6 +27,11 @@ is_taken s =
 abbrev pub taken : PharmacySettings → Option PharmacySettings
 taken s = if is_taken s then Some s else None
 
+-- settings by their parts
+abbrev pub of_parts : List ℕ → List ℕ → List ℕ → ℕ → ℕ → ℕ → PharmacySettings
+of_parts qualifier provider nodes again tries cap =
+    record { qualifier = qualifier; provider = provider; nodes = nodes; again = again; tries = tries; cap = cap }
+
 -- the settings that the values of a table spell, under the document's `again` and `tries`
 unfoldable pub pharmacy_with : ℕ → ℕ → Members → Option PharmacySettings
 pharmacy_with again tries table = do
@@ -34,7 +39,7 @@ pharmacy_with again tries table = do
   provider ← identity 15 (codes "provider") table
   nodes ← list_at (number 65535) (codes "nodes") table
   cap ← number_at (codes "cap") 4294967295 table
-  taken (record { qualifier = qualifier; provider = provider; nodes = nodes; again = again; tries = tries; cap = cap })
+  taken (of_parts qualifier provider nodes again tries cap)
 
 abbrev pub pharmacy_of : ℕ → ℕ → Members → Option PharmacySettings
 pharmacy_of again tries table = only_with pharmacy_keys table (pharmacy_with again tries table)

@@ -1,9 +1,8 @@
 //! Arrays: the value of each item, in order.
 
 ghost use Rattle.std.specs.Prelude.{◌≡◌, IfOk};
-ghost use Rattle.std.specs.Option.{option_map};
 ghost use Rattle.toml.specs.View.{view, items_view, table_view};
-ghost use Rattle.world_settings.specs.Lists.{each, list_at};
+ghost use Rattle.world_settings.specs.Lists.{each, items_of, list_at};
 ghost use Rattle.world_settings.specs.Values.{number};
 
 use crate::values::{short, value_at};
@@ -42,7 +41,7 @@ pub(crate) fn list_at<T: Drop, R: Reader<T>>(
     key: &str,
     reader: &R,
 ) -> Result<Option<Vec<T>>, AllocError>
-    ensures { IfOk result (λ list. option_map (λ list. list.items) list ≡ list_at (R.spelled reader.now) key.now (table_view table.now)) }
+    ensures { IfOk result (λ list. items_of list ≡ list_at (R.spelled reader.now) key.now (table_view table.now)) }
 {
     let Some(value) = value_at(table, key) else {
         return Ok(None);
@@ -59,7 +58,7 @@ fn each<T: Drop, R: Reader<T>>(
     array: &[Value],
     reader: &R,
 ) -> Result<Option<Vec<T>>, AllocError>
-    ensures { IfOk result (λ list. option_map (λ list. list.items) list ≡ each (R.spelled reader.now) (items_view array.now)) }
+    ensures { IfOk result (λ list. items_of list ≡ each (R.spelled reader.now) (items_view array.now)) }
 {
     let mut list = Vec::new(alloc);
     for value in array {

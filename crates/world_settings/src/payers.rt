@@ -166,7 +166,8 @@ fn priced(mut plan: Plan, prices: &Table) -> Result<Option<Plan>, AllocError>
 
 /// Sets the price of one product. The answer says whether the value is a price and the plan took it.
 fn set_price(plan: &mut Plan, product: &str, value: &Value) -> Result<bool, AllocError>
-    ensures { IfOk result (λ is_set. cond is_set (Some plan.new) None ≡ with_price plan.old product.now (view value.now)) }
+    ensures { IfOk result (λ is_set. cond is_set (Some plan.new) None
+        ≡ with_price plan.old product.now (view value.now)) }
 {
     let Some(price) = word(value) else {
         return Ok(false);

@@ -2,7 +2,7 @@
 
 ghost use Rattle.std.specs.Prelude.{◌≡◌, codes, IfOk};
 ghost use Rattle.toml.specs.View.{table_view};
-ghost use Rattle.world_settings.specs.Pharmacies.{identity, pharmacy_in, pharmacy_of, pharmacy_with, taken};
+ghost use Rattle.world_settings.specs.Pharmacies.{identity, pharmacy_in, pharmacy_of, pharmacy_with, taken, of_parts};
 
 use crate::keys::has_only;
 use crate::lists::{Reader, Shorts, list_at};
@@ -103,7 +103,7 @@ fn taken(
     tries: u32,
     cap: u32,
 ) -> Option<PharmacySettings>
-    ensures { result ≡ taken (record { qualifier = qualifier; provider = provider; nodes = nodes.items; again = again; tries = tries; cap = cap }) }
+    ensures { result ≡ taken (of_parts qualifier provider nodes.items again tries cap) }
 {
     if nodes.len() > MOST_NODES {
         return None;

@@ -1,6 +1,7 @@
 //! The names of the columns of each table.
 
-ghost use Rattle.std.specs.Prelude.{◌≡◌, ◌++◌, OnOk};
+ghost use Rattle.std.specs.Prelude.{OnOk};
+ghost use Rattle.log_audit.specs.Adding.{Adds};
 ghost use Rattle.log_audit.specs.Rows.{head_text};
 ghost use Rattle.log_audit.specs.Tables.{table_names};
 ghost use Rattle.log_audit.specs.declared.tables.table.Table.TheVariants.{Payments, Entries, Rows, Packets};
@@ -10,7 +11,7 @@ use std::alloc::AllocError;
 
 /// Appends the names of the columns of payments.
 pub(crate) fn put_payment_names(out: &mut Vec<u8>) -> Result<(), AllocError>
-    ensures { OnOk result (out.new.items ≡ out.old.items ++ head_text (table_names Payments)) }
+    ensures { OnOk result (Adds out.old out.new (head_text (table_names Payments))) }
 {
     put_head(
         out,
@@ -40,7 +41,7 @@ pub(crate) fn put_payment_names(out: &mut Vec<u8>) -> Result<(), AllocError>
 
 /// Appends the names of the columns of entries.
 pub(crate) fn put_entry_names(out: &mut Vec<u8>) -> Result<(), AllocError>
-    ensures { OnOk result (out.new.items ≡ out.old.items ++ head_text (table_names Entries)) }
+    ensures { OnOk result (Adds out.old out.new (head_text (table_names Entries))) }
 {
     put_head(
         out,
@@ -58,7 +59,7 @@ pub(crate) fn put_entry_names(out: &mut Vec<u8>) -> Result<(), AllocError>
 
 /// Appends the names of the columns of rows.
 pub(crate) fn put_row_names(out: &mut Vec<u8>) -> Result<(), AllocError>
-    ensures { OnOk result (out.new.items ≡ out.old.items ++ head_text (table_names Rows)) }
+    ensures { OnOk result (Adds out.old out.new (head_text (table_names Rows))) }
 {
     put_head(
         out,
@@ -77,7 +78,7 @@ pub(crate) fn put_row_names(out: &mut Vec<u8>) -> Result<(), AllocError>
 
 /// Appends the names of the columns of packets.
 pub(crate) fn put_packet_names(out: &mut Vec<u8>) -> Result<(), AllocError>
-    ensures { OnOk result (out.new.items ≡ out.old.items ++ head_text (table_names Packets)) }
+    ensures { OnOk result (Adds out.old out.new (head_text (table_names Packets))) }
 {
     put_head(
         out,

@@ -1,13 +1,13 @@
 //! The authorizations of the payments that pharmacies count.
 
-ghost use Rattle.std.specs.Prelude.{◌≡◌, ◌||◌, IfOk, OnOk};
+ghost use Rattle.std.specs.Prelude.{◌≡◌, IfOk, OnOk};
 ghost use Rattle.bin_routes.specs.Table.{RouteMaps};
 ghost use Rattle.claim_model.specs.Words.{Auth as AuthSeen};
 ghost use Rattle.claim_model.specs.Bytes.{bytes_with};
 ghost use Rattle.claim_model.specs.Counted.{counted};
 ghost use Rattle.claim_model.specs.Payments.{same_auth};
 ghost use Rattle.pharmacy_journal.specs.Counting.{has_auth};
-ghost use Rattle.log_audit.specs.Tables.{names_auth, is_counted};
+ghost use Rattle.log_audit.specs.Tables.{names_auth, is_counted, Joins};
 
 use claim_profile::Auth;
 use node_state::{JournalReading, PharmacyNode};
@@ -20,7 +20,8 @@ pub(crate) fn counted_auths(
     alloc: Global,
     nodes: &[PharmacyNode],
 ) -> Result<BTreeSet<Auth>, AllocError>
-    ensures { (routes : RouteMaps) → IfOk result (λ auths. (a : AuthSeen) → has_auth auths.keys a ≡ is_counted (bytes_with routes) nodes.now a) }
+    ensures { (routes : RouteMaps) → IfOk result (λ auths. (a : AuthSeen)
+        → has_auth auths.keys a ≡ is_counted (bytes_with routes) nodes.now a) }
 {
     let mut auths = BTreeSet::new(alloc);
     for node in nodes {
@@ -32,7 +33,8 @@ pub(crate) fn counted_auths(
 
 /// Adds the authorizations that a journal counts.
 fn take_journal(auths: &mut BTreeSet<Auth>, journal: &JournalReading<'_>) -> Result<(), AllocError>
-    ensures { (routes : RouteMaps) → OnOk result ((a : AuthSeen) → has_auth auths.new.keys a ≡ (has_auth auths.old.keys a || names_auth (counted (bytes_with routes) journal.now) a)) }
+    ensures { (routes : RouteMaps) → OnOk result
+        (Joins auths.old.keys auths.new.keys (names_auth (counted (bytes_with routes) journal.now))) }
 {
     let paid = journal.paid()?;
     take_payments(auths, paid.as_slice())
@@ -40,7 +42,7 @@ fn take_journal(auths: &mut BTreeSet<Auth>, journal: &JournalReading<'_>) -> Res
 
 /// Adds the authorizations of payments.
 fn take_payments(auths: &mut BTreeSet<Auth>, paid: &[CountedPayment]) -> Result<(), AllocError>
-    ensures { OnOk result ((a : AuthSeen) → has_auth auths.new.keys a ≡ (has_auth auths.old.keys a || names_auth paid.now a)) }
+    ensures { OnOk result (Joins auths.old.keys auths.new.keys (names_auth paid.now)) }
 {
     for payment in paid {
         take_auth(auths, payment.auth())?;
@@ -50,7 +52,7 @@ fn take_payments(auths: &mut BTreeSet<Auth>, paid: &[CountedPayment]) -> Result<
 
 /// Adds an authorization.
 fn take_auth(auths: &mut BTreeSet<Auth>, auth: Auth) -> Result<(), AllocError>
-    ensures { OnOk result ((a : AuthSeen) → has_auth auths.new.keys a ≡ (has_auth auths.old.keys a || same_auth auth a)) }
+    ensures { OnOk result (Joins auths.old.keys auths.new.keys (same_auth auth)) }
 {
     auths.insert(auth)?;
     Ok(())

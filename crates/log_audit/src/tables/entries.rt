@@ -1,11 +1,8 @@
 //! The entries of a journal.
 
-ghost use Rattle.std.specs.Prelude.{◌≡◌, ◌≤◌, ◌++◌, length, OnOk};
-ghost use Rattle.bin_routes.specs.Table.{RouteMaps};
-ghost use Rattle.claim_model.specs.Bytes.{bytes_with};
-ghost use Rattle.claim_model.specs.Counted.{counted};
-ghost use Rattle.pharmacy_journal.specs.Listing.{listed};
-ghost use Rattle.log_audit.specs.Rows.{row_text, rows_text};
+ghost use Rattle.std.specs.Prelude.{◌≡◌, ◌≤◌, length, OnOk};
+ghost use Rattle.log_audit.specs.Tables.{journal_rows};
+ghost use Rattle.log_audit.specs.Adding.{AddsRow, AddsRows, TellsRows};
 ghost use Rattle.log_audit.specs.Entries.{names, count_named, cents_of, state_word, shown_seen, shown_row, entry_row, entry_rows};
 
 use crate::tables::fields::Field;
@@ -34,7 +31,7 @@ pub(crate) fn put_journal(
     style: Style,
     journal: &JournalReading<'_>,
 ) -> Result<(), AllocError>
-    ensures { (routes : RouteMaps) → OnOk result (out.new.items ≡ out.old.items ++ rows_text style (entry_rows journal.now.number (listed journal.now) (counted (bytes_with routes) journal.now))) }
+    ensures { TellsRows style out.old out.new (λ ctx. journal_rows ctx journal.now) result }
 {
     let (entries, paid) = journal.told()?;
     put_entries(
@@ -55,7 +52,7 @@ fn put_entries(
     entries: &[EntryView],
     paid: &[CountedPayment],
 ) -> Result<(), AllocError>
-    ensures { OnOk result (out.new.items ≡ out.old.items ++ rows_text style (entry_rows pharmacy entries.now paid.now)) }
+    ensures { OnOk result (AddsRows style out.old out.new (entry_rows pharmacy entries.now paid.now)) }
 {
     let mut left = paid;
     for entry in entries {
@@ -74,7 +71,7 @@ fn put_entry(
     entry: &EntryView,
     own: &[CountedPayment],
 ) -> Result<(), AllocError>
-    ensures { OnOk result (out.new.items ≡ out.old.items ++ row_text style (entry_row pharmacy entry.now own.now)) }
+    ensures { OnOk result (AddsRow style out.old out.new (entry_row pharmacy entry.now own.now)) }
 {
     let shown = EntryShown {
         pharmacy: u64::from(pharmacy),
@@ -91,7 +88,7 @@ fn put_entry(
 /// Appends the row of what is told of an entry.
 #[tactic(auto, unfolding(crate::specs::Entries::shown_row))]
 fn put_shown(out: &mut Vec<u8>, style: Style, shown: &EntryShown) -> Result<(), AllocError>
-    ensures { OnOk result (out.new.items ≡ out.old.items ++ row_text style (shown_row (shown_seen shown.now))) }
+    ensures { OnOk result (AddsRow style out.old out.new (shown_row (shown_seen shown.now))) }
 {
     let fields = [
         Field::number(b"pharmacy", shown.pharmacy),

@@ -1,11 +1,10 @@
 //! Rows, the line of names before them, and lists of them.
 
-ghost use Rattle.std.specs.Prelude.{◌≡◌, ◌∷◌, ◌++◌, ◌-◌, length, map, take, OnOk};
-ghost use Rattle.std.specs.List.{flat_map};
+ghost use Rattle.std.specs.Prelude.{◌≡◌, ◌-◌, length, map, take, OnOk};
+ghost use Rattle.log_audit.specs.Adding.{Adds, AddsRow};
 ghost use Rattle.log_audit.specs.Seen.{field_seen};
 ghost use Rattle.log_audit.specs.Quoting.{csv_text};
-ghost use Rattle.log_audit.specs.Values.{csv_value};
-ghost use Rattle.log_audit.specs.Rows.{separated, csv_member, json_member, csv_row, json_row, row_text, head_text, list_text};
+ghost use Rattle.log_audit.specs.Rows.{separated, csv_member, json_member, csv_row, json_row, head_text, list_text, behind_commas};
 
 use crate::tables::fields::Field;
 use crate::tables::quoting::{put_csv_text, put_json_text};
@@ -27,7 +26,7 @@ pub(crate) fn put_row(
     style: Style,
     fields: &[Field<'_>],
 ) -> Result<(), AllocError>
-    ensures { OnOk result (out.new.items ≡ out.old.items ++ row_text style (map field_seen fields.now)) }
+    ensures { OnOk result (AddsRow style out.old out.new (map field_seen fields.now)) }
 {
     match style {
         Style::Csv => put_csv_row(out, fields),
@@ -38,7 +37,7 @@ pub(crate) fn put_row(
 /// Appends the line of the names of columns that stands before the rows in CSV.
 #[tactic(auto, unfolding(crate::specs::Rows::head_text))]
 pub(crate) fn put_head(out: &mut Vec<u8>, names: &[&[u8]]) -> Result<(), AllocError>
-    ensures { OnOk result (out.new.items ≡ out.old.items ++ head_text (map (λ name. name.now) names.now)) }
+    ensures { OnOk result (Adds out.old out.new (head_text (map (λ name. name.now) names.now))) }
 {
     put_names(out, names)?;
     out.push(b'\n')?;
@@ -48,7 +47,7 @@ pub(crate) fn put_head(out: &mut Vec<u8>, names: &[&[u8]]) -> Result<(), AllocEr
 /// Appends rows that were written as JSON, as a list.
 #[tactic(auto, unfolding(crate::specs::Rows::list_text))]
 pub(crate) fn put_list(out: &mut Vec<u8>, rows: &[u8]) -> Result<(), AllocError>
-    ensures { OnOk result (out.new.items ≡ out.old.items ++ list_text rows.now) }
+    ensures { OnOk result (Adds out.old out.new (list_text rows.now)) }
 {
     out.push(b'[')?;
     out.extend_from_slice(without_last(rows))?;
@@ -64,7 +63,7 @@ fn without_last(bytes: &[u8]) -> &[u8]
 
 /// Appends the names of columns with commas between them.
 fn put_names(out: &mut Vec<u8>, names: &[&[u8]]) -> Result<(), AllocError>
-    ensures { OnOk result (out.new.items ≡ out.old.items ++ separated csv_text (map (λ name. name.now) names.now)) }
+    ensures { OnOk result (Adds out.old out.new (separated csv_text (map (λ name. name.now) names.now))) }
 {
     let [first, others @ ..] = names else {
         return Ok(());
@@ -75,7 +74,7 @@ fn put_names(out: &mut Vec<u8>, names: &[&[u8]]) -> Result<(), AllocError>
 
 /// Appends names with a comma before each.
 fn put_more_names(out: &mut Vec<u8>, names: &[&[u8]]) -> Result<(), AllocError>
-    ensures { OnOk result (out.new.items ≡ out.old.items ++ flat_map (λ name. 44 ∷ csv_text name) (map (λ name. name.now) names.now)) }
+    ensures { OnOk result (Adds out.old out.new (behind_commas csv_text (map (λ name. name.now) names.now))) }
 {
     for name in names {
         out.push(b',')?;
@@ -87,7 +86,7 @@ fn put_more_names(out: &mut Vec<u8>, names: &[&[u8]]) -> Result<(), AllocError>
 /// Appends a row as a line of CSV.
 #[tactic(auto, unfolding(crate::specs::Rows::csv_row))]
 fn put_csv_row(out: &mut Vec<u8>, fields: &[Field<'_>]) -> Result<(), AllocError>
-    ensures { OnOk result (out.new.items ≡ out.old.items ++ csv_row (map field_seen fields.now)) }
+    ensures { OnOk result (Adds out.old out.new (csv_row (map field_seen fields.now))) }
 {
     put_csv_fields(out, fields)?;
     out.push(b'\n')?;
@@ -96,7 +95,7 @@ fn put_csv_row(out: &mut Vec<u8>, fields: &[Field<'_>]) -> Result<(), AllocError
 
 /// Appends fields with commas between them.
 fn put_csv_fields(out: &mut Vec<u8>, fields: &[Field<'_>]) -> Result<(), AllocError>
-    ensures { OnOk result (out.new.items ≡ out.old.items ++ separated csv_member (map field_seen fields.now)) }
+    ensures { OnOk result (Adds out.old out.new (separated csv_member (map field_seen fields.now))) }
 {
     let [first, others @ ..] = fields else {
         return Ok(());
@@ -107,7 +106,7 @@ fn put_csv_fields(out: &mut Vec<u8>, fields: &[Field<'_>]) -> Result<(), AllocEr
 
 /// Appends fields with a comma before each.
 fn put_more_csv(out: &mut Vec<u8>, fields: &[Field<'_>]) -> Result<(), AllocError>
-    ensures { OnOk result (out.new.items ≡ out.old.items ++ flat_map (λ member. 44 ∷ csv_member member) (map field_seen fields.now)) }
+    ensures { OnOk result (Adds out.old out.new (behind_commas csv_member (map field_seen fields.now))) }
 {
     for field in fields {
         out.push(b',')?;
@@ -119,7 +118,7 @@ fn put_more_csv(out: &mut Vec<u8>, fields: &[Field<'_>]) -> Result<(), AllocErro
 /// Appends a row as an object of JSON.
 #[tactic(auto, unfolding(crate::specs::Rows::json_row))]
 fn put_json_row(out: &mut Vec<u8>, fields: &[Field<'_>]) -> Result<(), AllocError>
-    ensures { OnOk result (out.new.items ≡ out.old.items ++ json_row (map field_seen fields.now)) }
+    ensures { OnOk result (Adds out.old out.new (json_row (map field_seen fields.now))) }
 {
     out.extend_from_slice(b"\n{")?;
     put_json_fields(out, fields)?;
@@ -128,7 +127,7 @@ fn put_json_row(out: &mut Vec<u8>, fields: &[Field<'_>]) -> Result<(), AllocErro
 
 /// Appends members with commas between them.
 fn put_json_fields(out: &mut Vec<u8>, fields: &[Field<'_>]) -> Result<(), AllocError>
-    ensures { OnOk result (out.new.items ≡ out.old.items ++ separated json_member (map field_seen fields.now)) }
+    ensures { OnOk result (Adds out.old out.new (separated json_member (map field_seen fields.now))) }
 {
     let [first, others @ ..] = fields else {
         return Ok(());
@@ -139,7 +138,7 @@ fn put_json_fields(out: &mut Vec<u8>, fields: &[Field<'_>]) -> Result<(), AllocE
 
 /// Appends members with a comma before each.
 fn put_more_json(out: &mut Vec<u8>, fields: &[Field<'_>]) -> Result<(), AllocError>
-    ensures { OnOk result (out.new.items ≡ out.old.items ++ flat_map (λ member. 44 ∷ json_member member) (map field_seen fields.now)) }
+    ensures { OnOk result (Adds out.old out.new (behind_commas json_member (map field_seen fields.now))) }
 {
     for field in fields {
         out.push(b',')?;
@@ -151,7 +150,7 @@ fn put_more_json(out: &mut Vec<u8>, fields: &[Field<'_>]) -> Result<(), AllocErr
 /// Appends a field as a member of an object of JSON.
 #[tactic(auto, unfolding(crate::specs::Rows::json_member))]
 fn put_json_member(out: &mut Vec<u8>, field: &Field<'_>) -> Result<(), AllocError>
-    ensures { OnOk result (out.new.items ≡ out.old.items ++ json_member (field_seen field.now)) }
+    ensures { OnOk result (Adds out.old out.new (json_member (field_seen field.now))) }
 {
     put_json_text(out, field.name)?;
     out.push(b':')?;

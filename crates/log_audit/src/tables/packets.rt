@@ -1,10 +1,10 @@
 //! The packets of a run.
 
-ghost use Rattle.std.specs.Prelude.{◌≡◌, ◌++◌, map, slice_get, OnOk};
+ghost use Rattle.std.specs.Prelude.{◌≡◌, map, slice_get, OnOk};
 ghost use Rattle.bin_routes.specs.Table.{RouteMaps};
 ghost use Rattle.claim_model.specs.Bytes.{bytes_with, envelope_in};
 ghost use Rattle.world_setup.specs.Seen.{packet_seen};
-ghost use Rattle.log_audit.specs.Rows.{row_text, rows_text};
+ghost use Rattle.log_audit.specs.Adding.{AddsRow, TellsRow, TellsRows};
 ghost use Rattle.log_audit.specs.Packets.{packet_rows, sent_row, packet_row, loaded_row, carried_seen, load_of, kind_word};
 
 use crate::tables::fields::Field;
@@ -22,7 +22,8 @@ pub(crate) fn put_packets(
     packets: &[Packet],
     senders: &[u64],
 ) -> Result<(), AllocError>
-    ensures { (routes : RouteMaps) → OnOk result (out.new.items ≡ out.old.items ++ rows_text style (packet_rows (bytes_with routes) (map packet_seen packets.now) senders.now)) }
+    ensures { TellsRows style out.old out.new
+        (λ ctx. packet_rows ctx (map packet_seen packets.now) senders.now) result }
 {
     for (place, packet) in packets.iter().enumerate() {
         put_sent(
@@ -51,7 +52,7 @@ fn put_sent(
     sender: Option<u64>,
     packet: &Packet,
 ) -> Result<(), AllocError>
-    ensures { (routes : RouteMaps) → OnOk result (out.new.items ≡ out.old.items ++ rows_text style (sent_row (bytes_with routes) number (packet_seen packet.now) sender)) }
+    ensures { TellsRows style out.old out.new (λ ctx. sent_row ctx number (packet_seen packet.now) sender) result }
 {
     match sender {
         Some(event) => put_packet(out, style, number, event, packet),
@@ -67,7 +68,7 @@ fn put_packet(
     event: u64,
     packet: &Packet,
 ) -> Result<(), AllocError>
-    ensures { (routes : RouteMaps) → OnOk result (out.new.items ≡ out.old.items ++ row_text style (packet_row (bytes_with routes) number event (packet_seen packet.now))) }
+    ensures { TellsRow style out.old out.new (λ ctx. packet_row ctx number event (packet_seen packet.now)) result }
 {
     let carried = carried_in(packet.bytes.as_slice());
     put_loaded(out, style, number, event, packet, &carried)
@@ -83,7 +84,8 @@ fn put_loaded(
     packet: &Packet,
     carried: &Carried,
 ) -> Result<(), AllocError>
-    ensures { OnOk result (out.new.items ≡ out.old.items ++ row_text style (loaded_row number event (packet_seen packet.now) (carried_seen carried.now))) }
+    ensures { OnOk result (AddsRow style out.old out.new
+        (loaded_row number event (packet_seen packet.now) (carried_seen carried.now))) }
 {
     let fields = [
         Field::number(b"packet", number),

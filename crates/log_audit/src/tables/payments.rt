@@ -1,12 +1,8 @@
 //! The payments of a book.
 
-ghost use Rattle.std.specs.Prelude.{◌≡◌, ◌++◌, map, OnOk, is_some};
-ghost use Rattle.std.specs.List.{flat_map};
-ghost use Rattle.std.specs.Option.{option_map};
-ghost use Rattle.bin_routes.specs.Table.{RouteMaps};
-ghost use Rattle.claim_model.specs.Bytes.{bytes_with};
-ghost use Rattle.log_audit.specs.Rows.{row_text, rows_text};
+ghost use Rattle.std.specs.Prelude.{◌≡◌, OnOk, is_some};
 ghost use Rattle.pharmacy_journal.specs.Counting.{has_auth};
+ghost use Rattle.log_audit.specs.Adding.{AddsRow, AddsRows, TellsRows};
 ghost use Rattle.log_audit.specs.Payments.{state_word, reversing, shown_seen, texts_seen, fill_shown, cents_of, shown_row, payment_row, found_payment, ruling_payment, row_payments, book_payments};
 
 use crate::tables::fields::Field;
@@ -71,7 +67,7 @@ pub(crate) fn put_book_payments(
     book: &Book,
     counted: &BTreeSet<Auth>,
 ) -> Result<(), AllocError>
-    ensures { (routes : RouteMaps) → OnOk result (out.new.items ≡ out.old.items ++ rows_text style (book_payments (bytes_with routes) (has_auth counted.now.keys) book.now)) }
+    ensures { TellsRows style out.old out.new (λ ctx. book_payments ctx (has_auth counted.now.keys) book.now) result }
 {
     for row in book.rows() {
         put_row_payments(out, style, book, counted, row)?;
@@ -87,7 +83,8 @@ fn put_row_payments(
     counted: &BTreeSet<Auth>,
     row: &Row,
 ) -> Result<(), AllocError>
-    ensures { (routes : RouteMaps) → OnOk result (out.new.items ≡ out.old.items ++ rows_text style (row_payments (bytes_with routes) (has_auth counted.now.keys) book.now row.now)) }
+    ensures { TellsRows style out.old out.new
+        (λ ctx. row_payments ctx (has_auth counted.now.keys) book.now row.now) result }
 {
     let rulings = row.rulings();
     for (passed, ruling) in rulings.iter().enumerate() {
@@ -106,7 +103,8 @@ fn put_ruling_payment(
     transaction: u64,
     ruling: &Ruling,
 ) -> Result<(), AllocError>
-    ensures { (routes : RouteMaps) → OnOk result (out.new.items ≡ out.old.items ++ rows_text style (ruling_payment (bytes_with routes) (has_auth counted.now.keys) book.now row.now transaction ruling.now)) }
+    ensures { TellsRows style out.old out.new
+        (λ ctx. ruling_payment ctx (has_auth counted.now.keys) book.now row.now transaction ruling.now) result }
 {
     match *ruling {
         Ruling::Paid { auth, .. } => {
@@ -133,7 +131,7 @@ fn put_found(
     found: Option<PaymentView>,
     counted: bool,
 ) -> Result<(), AllocError>
-    ensures { OnOk result (out.new.items ≡ out.old.items ++ rows_text style (found_payment at.now counted found)) }
+    ensures { OnOk result (AddsRows style out.old out.new (found_payment at.now counted found)) }
 {
     match found {
         Some(payment) => put_payment(out, style, at, &payment, counted),
@@ -149,7 +147,7 @@ fn put_payment(
     payment: &PaymentView,
     counted: bool,
 ) -> Result<(), AllocError>
-    ensures { OnOk result (out.new.items ≡ out.old.items ++ row_text style (payment_row at.now counted payment.now)) }
+    ensures { OnOk result (AddsRow style out.old out.new (payment_row at.now counted payment.now)) }
 {
     let digits = at.auth.digits();
     let shown = Shown {
@@ -171,7 +169,7 @@ fn put_payment(
 /// Appends the row of what is told of a payment.
 #[tactic(auto, unfolding(crate::specs::Payments::shown_row))]
 fn put_shown(out: &mut Vec<u8>, style: Style, shown: &Shown<'_>) -> Result<(), AllocError>
-    ensures { OnOk result (out.new.items ≡ out.old.items ++ row_text style (shown_row (shown_seen shown.now))) }
+    ensures { OnOk result (AddsRow style out.old out.new (shown_row (shown_seen shown.now))) }
 {
     let fill = shown.fill;
     let cents = shown.cents;

@@ -1,8 +1,9 @@
 //! Bytes as they stand in a field of CSV, and in a text of JSON.
 
-ghost use Rattle.std.specs.Prelude.{◌≡◌, ◌∷◌, [], ◌++◌, OnOk};
+ghost use Rattle.std.specs.Prelude.{◌≡◌, ◌∷◌, [], OnOk};
 ghost use Rattle.std.specs.List.{flat_map, list_any};
 ghost use Rattle.input_text.specs.Printing.{printed};
+ghost use Rattle.log_audit.specs.Adding.{Adds};
 ghost use Rattle.log_audit.specs.Quoting.{is_special, csv_byte, quoted, csv_text, json_byte, json_letters, json_text};
 
 use input_text::put_printed;
@@ -12,7 +13,7 @@ use std::alloc::AllocError;
 /// stands twice.
 #[tactic(auto, unfolding(crate::specs::Quoting::csv_text))]
 pub(crate) fn put_csv_text(out: &mut Vec<u8>, bytes: &[u8]) -> Result<(), AllocError>
-    ensures { OnOk result (out.new.items ≡ out.old.items ++ csv_text bytes.now) }
+    ensures { OnOk result (Adds out.old out.new (csv_text bytes.now)) }
 {
     if has_special(bytes) {
         put_quoted(out, bytes)
@@ -31,7 +32,7 @@ fn has_special(bytes: &[u8]) -> bool
 /// Appends bytes between quotation marks of CSV.
 #[tactic(auto, unfolding(crate::specs::Quoting::quoted))]
 fn put_quoted(out: &mut Vec<u8>, bytes: &[u8]) -> Result<(), AllocError>
-    ensures { OnOk result (out.new.items ≡ out.old.items ++ quoted bytes.now) }
+    ensures { OnOk result (Adds out.old out.new (quoted bytes.now)) }
 {
     out.push(b'"')?;
     put_doubled(out, bytes)?;
@@ -41,7 +42,7 @@ fn put_quoted(out: &mut Vec<u8>, bytes: &[u8]) -> Result<(), AllocError>
 
 /// Appends bytes as they are printed, a quotation mark twice.
 fn put_doubled(out: &mut Vec<u8>, bytes: &[u8]) -> Result<(), AllocError>
-    ensures { OnOk result (out.new.items ≡ out.old.items ++ flat_map csv_byte bytes.now) }
+    ensures { OnOk result (Adds out.old out.new (flat_map csv_byte bytes.now)) }
 {
     for byte in bytes {
         put_csv_byte(out, *byte)?;
@@ -52,7 +53,7 @@ fn put_doubled(out: &mut Vec<u8>, bytes: &[u8]) -> Result<(), AllocError>
 /// Appends a byte as it is printed, a quotation mark twice.
 #[tactic(auto, unfolding(crate::specs::Quoting::csv_byte))]
 fn put_csv_byte(out: &mut Vec<u8>, byte: u8) -> Result<(), AllocError>
-    ensures { OnOk result (out.new.items ≡ out.old.items ++ csv_byte byte) }
+    ensures { OnOk result (Adds out.old out.new (csv_byte byte)) }
 {
     match byte {
         b'"' => out.extend_from_slice(b"\"\""),
@@ -64,7 +65,7 @@ fn put_csv_byte(out: &mut Vec<u8>, byte: u8) -> Result<(), AllocError>
 /// mark and each backslash of what is printed.
 #[tactic(auto, unfolding(crate::specs::Quoting::json_text))]
 pub(crate) fn put_json_text(out: &mut Vec<u8>, bytes: &[u8]) -> Result<(), AllocError>
-    ensures { OnOk result (out.new.items ≡ out.old.items ++ json_text bytes.now) }
+    ensures { OnOk result (Adds out.old out.new (json_text bytes.now)) }
 {
     out.push(b'"')?;
     put_json_letters(out, bytes)?;
@@ -74,7 +75,7 @@ pub(crate) fn put_json_text(out: &mut Vec<u8>, bytes: &[u8]) -> Result<(), Alloc
 
 /// Appends what stands between the quotation marks of a text of JSON.
 pub(crate) fn put_json_letters(out: &mut Vec<u8>, bytes: &[u8]) -> Result<(), AllocError>
-    ensures { OnOk result (out.new.items ≡ out.old.items ++ json_letters bytes.now) }
+    ensures { OnOk result (Adds out.old out.new (json_letters bytes.now)) }
 {
     for byte in bytes {
         put_json_byte(out, *byte)?;
@@ -85,7 +86,7 @@ pub(crate) fn put_json_letters(out: &mut Vec<u8>, bytes: &[u8]) -> Result<(), Al
 /// Appends a byte as it is printed, with a backslash before a quotation mark and before a backslash.
 #[tactic(auto, unfolding(crate::specs::Quoting::json_byte))]
 fn put_json_byte(out: &mut Vec<u8>, byte: u8) -> Result<(), AllocError>
-    ensures { OnOk result (out.new.items ≡ out.old.items ++ json_byte byte) }
+    ensures { OnOk result (Adds out.old out.new (json_byte byte)) }
 {
     match byte {
         b'"' => out.extend_from_slice(b"\\\""),
@@ -97,7 +98,7 @@ fn put_json_byte(out: &mut Vec<u8>, byte: u8) -> Result<(), AllocError>
 
 /// Appends a byte as it is printed, behind a backslash.
 fn put_marked(out: &mut Vec<u8>, byte: u8) -> Result<(), AllocError>
-    ensures { OnOk result (out.new.items ≡ out.old.items ++ 92 ∷ printed (byte ∷ [])) }
+    ensures { OnOk result (Adds out.old out.new (92 ∷ printed (byte ∷ []))) }
 {
     out.push(b'\\')?;
     put_printed(out, &[byte])

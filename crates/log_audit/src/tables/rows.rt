@@ -3,8 +3,8 @@
 ghost use Rattle.std.specs.Prelude.{◌≡◌, ◌∷◌, [], ◌++◌, codes, OnOk, IfOk};
 ghost use Rattle.std.specs.List.{flat_map};
 ghost use Rattle.claim_profile.specs.Reject.{code_text};
-ghost use Rattle.log_audit.specs.Rows.{row_text, rows_text};
-ghost use Rattle.log_audit.specs.Rulings.{codes_text, at_seen, answered_row, ruling_row, row_rulings, book_rulings};
+ghost use Rattle.log_audit.specs.Adding.{AddsRow, AddsRows};
+ghost use Rattle.log_audit.specs.Rulings.{codes_text, at_seen, answered_row, ruling_row, row_rulings, book_rulings, ruled_at};
 
 use crate::tables::fields::Field;
 use crate::tables::kinds::kind_of;
@@ -30,7 +30,7 @@ pub(crate) fn put_book_rulings(
     style: Style,
     book: &Book,
 ) -> Result<(), AllocError>
-    ensures { OnOk result (out.new.items ≡ out.old.items ++ rows_text style (book_rulings book.now)) }
+    ensures { OnOk result (AddsRows style out.old out.new (book_rulings book.now)) }
 {
     for row in book.rows() {
         put_row_rulings(out, style, book, row)?;
@@ -45,7 +45,7 @@ fn put_row_rulings(
     book: &Book,
     row: &Row,
 ) -> Result<(), AllocError>
-    ensures { OnOk result (out.new.items ≡ out.old.items ++ rows_text style (row_rulings book.now row.now)) }
+    ensures { OnOk result (AddsRows style out.old out.new (row_rulings book.now row.now)) }
 {
     let (payer, id) = (book.payer().get(), row.id());
     let kind = kind_of(row);
@@ -63,7 +63,7 @@ fn put_row_rulings(
 
 /// Which transaction of which request it is.
 fn ruled_at(payer: u16, id: TxnId, kind: &'static [u8], transaction: u64) -> RuledAt
-    ensures { at_seen result ≡ record { payer = payer; pharmacy = id.pharmacy; number = id.number; kind = kind.now; transaction = transaction } }
+    ensures { at_seen result ≡ ruled_at payer id kind.now transaction }
 {
     RuledAt {
         payer: u64::from(payer),
@@ -81,7 +81,7 @@ fn put_ruling(
     at: &RuledAt,
     ruling: &Ruling,
 ) -> Result<(), AllocError>
-    ensures { OnOk result (out.new.items ≡ out.old.items ++ row_text style (ruling_row (at_seen at.now) ruling.now)) }
+    ensures { OnOk result (AddsRow style out.old out.new (ruling_row (at_seen at.now) ruling.now)) }
 {
     match *ruling {
         Ruling::Paid { auth, .. } => put_answered(out, style, at, b"paid", &auth.digits(), b""),
@@ -102,7 +102,8 @@ fn put_rejected(
     at: &RuledAt,
     rejects: &[Code],
 ) -> Result<(), AllocError>
-    ensures { OnOk result (out.new.items ≡ out.old.items ++ row_text style (answered_row (at_seen at.now) (codes "rejected") [] (codes_text rejects.now))) }
+    ensures { OnOk result (AddsRow style out.old out.new
+        (answered_row (at_seen at.now) (codes "rejected") [] (codes_text rejects.now))) }
 {
     let told = codes_text(*out.allocator(), rejects)?;
     put_answered(out, style, at, b"rejected", b"", told.as_slice())
@@ -118,7 +119,8 @@ fn put_answered(
     authorization: &[u8],
     rejects: &[u8],
 ) -> Result<(), AllocError>
-    ensures { OnOk result (out.new.items ≡ out.old.items ++ row_text style (answered_row (at_seen at.now) ruling.now authorization.now rejects.now)) }
+    ensures { OnOk result (AddsRow style out.old out.new
+        (answered_row (at_seen at.now) ruling.now authorization.now rejects.now)) }
 {
     let fields = [
         Field::number(b"payer", at.payer),

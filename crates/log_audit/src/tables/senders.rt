@@ -1,9 +1,11 @@
 //! Which event sent a packet.
 
-ghost use Rattle.std.specs.Prelude.{◌≡◌, ◌-◌, ◌++◌, map, replicate, IfOk, OnOk};
-ghost use Rattle.claim_model.specs.World.{step, world_after, run};
+ghost use Rattle.std.specs.Prelude.{◌≡◌, ◌-◌, map, replicate, IfOk, OnOk};
+ghost use Rattle.claim_model.specs.World.{world_after, run};
 ghost use Rattle.world_setup.specs.Seen.{event_seen};
 ghost use Rattle.world_core.specs.Parts.{context_of};
+ghost use Rattle.world_core.specs.Stepping.{outcome_in};
+ghost use Rattle.log_audit.specs.Adding.{Adds};
 ghost use Rattle.log_audit.specs.Senders.{sent_by, senders_from};
 
 use std::alloc::{AllocError, Global};
@@ -18,8 +20,10 @@ pub(crate) fn run_noting(
     world: &mut World,
     events: &[Event],
 ) -> Result<Vec<u64>, AllocError>
-    ensures senders { IfOk result (λ senders. senders.items ≡ senders_from (context_of world.old) world.old.world 1 (map event_seen events.now)) }
-    ensures made { OnOk result (world.new.world ≡ run (context_of world.old) world.old.world (map event_seen events.now)) }
+    ensures senders { IfOk result (λ senders. senders.items
+        ≡ senders_from (context_of world.old) world.old.world 1 (map event_seen events.now)) }
+    ensures made { OnOk result (world.new.world
+        ≡ run (context_of world.old) world.old.world (map event_seen events.now)) }
     ensures routes { world.new.routes ≡ world.old.routes }
 {
     let mut senders = Vec::new(alloc);
@@ -36,8 +40,8 @@ fn make(
     number: u64,
     event: &Event,
 ) -> Result<(), AllocError>
-    ensures senders { OnOk result (senders.new.items ≡ senders.old.items ++ sent_by number world.old.world world.new.world) }
-    ensures made { OnOk result (world.new.world ≡ world_after world.old.world (step (context_of world.old) world.old.world (event_seen event.now))) }
+    ensures senders { OnOk result (Adds senders.old senders.new (sent_by number world.old.world world.new.world)) }
+    ensures made { OnOk result (world.new.world ≡ world_after world.old.world (outcome_in world.old event.now)) }
     ensures routes { world.new.routes ≡ world.old.routes }
 {
     match world.step(event) {
@@ -49,7 +53,7 @@ fn make(
 
 /// Notes the number of an event for each of these packets.
 fn note(senders: &mut Vec<u64>, number: u64, sent: Range<u64>) -> Result<(), AllocError>
-    ensures { OnOk result (senders.new.items ≡ senders.old.items ++ replicate (sent.end - sent.start) number) }
+    ensures { OnOk result (Adds senders.old senders.new (replicate (sent.end - sent.start) number)) }
 {
     for _ in sent.start..sent.end {
         senders.push(number)?;

@@ -1,11 +1,10 @@
 //! The tables of what a run left.
 
-ghost use Rattle.std.specs.Prelude.{◌≡◌, ◌++◌, OnOk};
+ghost use Rattle.std.specs.Prelude.{◌≡◌, OnOk};
 ghost use Rattle.std.specs.List.{flat_map};
-ghost use Rattle.bin_routes.specs.Table.{RouteMaps};
-ghost use Rattle.claim_model.specs.Bytes.{bytes_with};
 ghost use Rattle.world_core.specs.Parts.{context_of};
-ghost use Rattle.log_audit.specs.Rows.{rows_text, head_text};
+ghost use Rattle.log_audit.specs.Adding.{Adds, AddsRows, TellsRows};
+ghost use Rattle.log_audit.specs.Rows.{head_text};
 ghost use Rattle.pharmacy_journal.specs.Counting.{has_auth};
 ghost use Rattle.log_audit.specs.Tables.{node_payments, node_entries, node_rulings, world_payments, table_rows, table_names, table_csv, table_json, table_name, table_member, table_members};
 
@@ -58,7 +57,7 @@ pub(crate) fn put_csv(
     senders: &[u64],
     table: Table,
 ) -> Result<(), AllocError>
-    ensures { OnOk result (out.new.items ≡ out.old.items ++ table_csv (context_of world.now) world.now.world senders.now table) }
+    ensures { OnOk result (Adds out.old out.new (table_csv (context_of world.now) world.now.world senders.now table)) }
 {
     put_names(out, table)?;
     put_table(alloc, out, Style::Csv, world, senders, table)
@@ -71,7 +70,7 @@ pub(crate) fn put_json(
     world: &World,
     senders: &[u64],
 ) -> Result<(), AllocError>
-    ensures { OnOk result (out.new.items ≡ out.old.items ++ table_members (context_of world.now) world.now.world senders.now) }
+    ensures { OnOk result (Adds out.old out.new (table_members (context_of world.now) world.now.world senders.now)) }
 {
     put_member(alloc, out, world, senders, Table::Payments)?;
     put_member(alloc, out, world, senders, Table::Entries)?;
@@ -87,7 +86,8 @@ fn put_member(
     senders: &[u64],
     table: Table,
 ) -> Result<(), AllocError>
-    ensures { OnOk result (out.new.items ≡ out.old.items ++ table_member (context_of world.now) world.now.world senders.now table) }
+    ensures { OnOk result (Adds out.old out.new
+        (table_member (context_of world.now) world.now.world senders.now table)) }
 {
     out.extend_from_slice(b",\n\"")?;
     out.extend_from_slice(table.name())?;
@@ -103,7 +103,7 @@ fn put_rows_list(
     senders: &[u64],
     table: Table,
 ) -> Result<(), AllocError>
-    ensures { OnOk result (out.new.items ≡ out.old.items ++ table_json (context_of world.now) world.now.world senders.now table) }
+    ensures { OnOk result (Adds out.old out.new (table_json (context_of world.now) world.now.world senders.now table)) }
 {
     let mut rows = Vec::new(alloc);
     put_table(alloc, &mut rows, Style::Json, world, senders, table)?;
@@ -112,7 +112,7 @@ fn put_rows_list(
 
 /// Appends the names of a table's columns.
 fn put_names(out: &mut Vec<u8>, table: Table) -> Result<(), AllocError>
-    ensures { OnOk result (out.new.items ≡ out.old.items ++ head_text (table_names table)) }
+    ensures { OnOk result (Adds out.old out.new (head_text (table_names table))) }
 {
     match table {
         Table::Payments => put_payment_names(out),
@@ -131,7 +131,8 @@ fn put_table(
     senders: &[u64],
     table: Table,
 ) -> Result<(), AllocError>
-    ensures { OnOk result (out.new.items ≡ out.old.items ++ rows_text style (table_rows (context_of world.now) world.now.world senders.now table)) }
+    ensures { OnOk result (AddsRows style out.old out.new
+        (table_rows (context_of world.now) world.now.world senders.now table)) }
 {
     match table {
         Table::Payments => put_payments(alloc, out, style, world),
@@ -148,7 +149,7 @@ fn put_payments(
     style: Style,
     world: &World,
 ) -> Result<(), AllocError>
-    ensures { OnOk result (out.new.items ≡ out.old.items ++ rows_text style (world_payments (context_of world.now) world.now.world)) }
+    ensures { OnOk result (AddsRows style out.old out.new (world_payments (context_of world.now) world.now.world)) }
 {
     let counted = counted_auths(alloc, world.pharmacies())?;
     put_paid(alloc, out, style, world.payers(), &counted)
@@ -162,7 +163,8 @@ fn put_paid(
     nodes: &[PayerNode],
     counted: &BTreeSet<Auth>,
 ) -> Result<(), AllocError>
-    ensures { (routes : RouteMaps) → OnOk result (out.new.items ≡ out.old.items ++ rows_text style (flat_map (node_payments (bytes_with routes) (has_auth counted.now.keys)) nodes.now)) }
+    ensures { TellsRows style out.old out.new
+        (λ ctx. flat_map (node_payments ctx (has_auth counted.now.keys)) nodes.now) result }
 {
     for node in nodes {
         let reading = node.book(alloc)?;
@@ -178,7 +180,7 @@ fn put_entries(
     style: Style,
     nodes: &[PharmacyNode],
 ) -> Result<(), AllocError>
-    ensures { (routes : RouteMaps) → OnOk result (out.new.items ≡ out.old.items ++ rows_text style (flat_map (node_entries (bytes_with routes)) nodes.now)) }
+    ensures { TellsRows style out.old out.new (λ ctx. flat_map (node_entries ctx) nodes.now) result }
 {
     for node in nodes {
         let journal = node.journal(alloc)?;
@@ -194,7 +196,7 @@ fn put_rows(
     style: Style,
     nodes: &[PayerNode],
 ) -> Result<(), AllocError>
-    ensures { OnOk result (out.new.items ≡ out.old.items ++ rows_text style (flat_map node_rulings nodes.now)) }
+    ensures { OnOk result (AddsRows style out.old out.new (flat_map node_rulings nodes.now)) }
 {
     for node in nodes {
         let reading = node.book(alloc)?;

@@ -2,6 +2,7 @@
 
 ghost use Rattle.std.specs.Prelude.{◌≡◌, ◌++◌, decimal, OnOk};
 ghost use Rattle.input_text.specs.Printing.{printed};
+ghost use Rattle.log_audit.specs.Adding.{Adds};
 ghost use Rattle.log_audit.specs.Seen.{cell_seen};
 ghost use Rattle.log_audit.specs.Values.{flag_text, csv_value, json_value, json_named};
 
@@ -12,7 +13,7 @@ use std::alloc::AllocError;
 
 /// Appends a value as a field of CSV.
 pub(crate) fn put_csv_value(out: &mut Vec<u8>, cell: Cell<'_>) -> Result<(), AllocError>
-    ensures { OnOk result (out.new.items ≡ out.old.items ++ csv_value (cell_seen cell.entry)) }
+    ensures { OnOk result (Adds out.old out.new (csv_value (cell_seen cell.entry))) }
 {
     match cell {
         Cell::Number(number) => put_decimal(out, number),
@@ -26,7 +27,7 @@ pub(crate) fn put_csv_value(out: &mut Vec<u8>, cell: Cell<'_>) -> Result<(), All
 
 /// Appends a value as JSON.
 pub(crate) fn put_json_value(out: &mut Vec<u8>, cell: Cell<'_>) -> Result<(), AllocError>
-    ensures { OnOk result (out.new.items ≡ out.old.items ++ json_value (cell_seen cell.entry)) }
+    ensures { OnOk result (Adds out.old out.new (json_value (cell_seen cell.entry))) }
 {
     match cell {
         Cell::Number(number) => put_decimal(out, number),
@@ -40,7 +41,7 @@ pub(crate) fn put_json_value(out: &mut Vec<u8>, cell: Cell<'_>) -> Result<(), Al
 
 /// Appends letters, and a number behind them.
 fn put_named(out: &mut Vec<u8>, letters: &[u8], number: u64) -> Result<(), AllocError>
-    ensures { OnOk result (out.new.items ≡ out.old.items ++ (printed letters.now ++ decimal number)) }
+    ensures { OnOk result (Adds out.old out.new (printed letters.now ++ decimal number)) }
 {
     put_printed(out, letters)?;
     put_decimal(out, number)
@@ -49,7 +50,7 @@ fn put_named(out: &mut Vec<u8>, letters: &[u8], number: u64) -> Result<(), Alloc
 /// The same as a text of JSON.
 #[tactic(auto, unfolding(crate::specs::Values::json_named))]
 fn put_json_named(out: &mut Vec<u8>, letters: &[u8], number: u64) -> Result<(), AllocError>
-    ensures { OnOk result (out.new.items ≡ out.old.items ++ json_named letters.now number) }
+    ensures { OnOk result (Adds out.old out.new (json_named letters.now number)) }
 {
     out.push(b'"')?;
     put_json_letters(out, letters)?;

@@ -1,6 +1,6 @@
 //! What speaks against the tills.
 
-ghost use Rattle.std.specs.Prelude.{◌≡◌, length, None, IfOk, MatchOption};
+ghost use Rattle.std.specs.Prelude.{◌≡◌, length, None, IfOk};
 ghost use Rattle.bin_routes.specs.Fault.{first_fault};
 ghost use Rattle.claim_model.specs.Settings.{settings_fault};
 ghost use Rattle.world_setup.specs.Seen.{settings_seen};
@@ -8,7 +8,7 @@ ghost use Rattle.run_merge.specs.LogSeen.{logs_seen};
 ghost use Rattle.node_logged.specs.LedgerSeen.{tills_seen};
 ghost use Rattle.node_logged.specs.Replayed.{ledgers_of};
 ghost use Rattle.node_logged.specs.Objections.{first_objection};
-ghost use Rattle.node_logged.specs.Causes.{AreRight, Stands};
+ghost use Rattle.node_logged.specs.Causes.{ObjectionTo};
 
 use crate::judging::counting::lacking;
 use crate::judging::hearing::have_answers;
@@ -39,7 +39,7 @@ pub(crate) fn objection_to(
 ) -> Result<Option<Objection>, AllocError>
     requires world { settings_fault (settings_seen settings.now) ≡ None }
     requires rows { first_fault (length settings.now.payers.items) settings.now.routes.items ≡ None }
-    ensures { IfOk result (λ o. MatchOption o (AreRight (tills_seen tills.now) (ledgers_of settings.now (logs_seen logs.now))) (Stands (tills_seen tills.now) (ledgers_of settings.now (logs_seen logs.now)))) }
+    ensures { IfOk result (λ o. ObjectionTo (tills_seen tills.now) (ledgers_of settings.now (logs_seen logs.now)) o) }
 {
     first_objection(alloc, settings, logs, tills)
 }
@@ -53,7 +53,8 @@ fn first_objection(
 ) -> Result<Option<Objection>, AllocError>
     requires world { settings_fault (settings_seen settings.now) ≡ None }
     requires rows { first_fault (length settings.now.payers.items) settings.now.routes.items ≡ None }
-    ensures { IfOk result (λ o. o ≡ first_objection (tills_seen tills.now) (ledgers_of settings.now (logs_seen logs.now))) }
+    ensures { IfOk result (λ o.
+        o ≡ first_objection (tills_seen tills.now) (ledgers_of settings.now (logs_seen logs.now))) }
 {
     let ledgers = ledgers(alloc, settings, logs)?;
     if let Some(pharmacy) = lacking(&ledgers, tills) {

@@ -52,7 +52,8 @@ fn are_all_marked(marks: &[bool]) -> bool
 /// Marks the entries that these receipts are of.
 fn mark_all(marks: &mut [bool], ledger: &Ledger, receipts: &[Receipt])
     requires { length marks.old ≡ length ledger.now.entries }
-    ensures { (left all : List ReceiptSeen) → Marks ledger.now.entries (receipts.now ++ left) all marks.old → Marks ledger.now.entries left all marks.new }
+    ensures { (left all : List ReceiptSeen)
+        → Marks ledger.now.entries (receipts.now ++ left) all marks.old → Marks ledger.now.entries left all marks.new }
 {
     for receipt in receipts {
         mark(marks, ledger, receipt);
@@ -62,7 +63,8 @@ fn mark_all(marks: &mut [bool], ledger: &Ledger, receipts: &[Receipt])
 /// Marks the entry that a receipt is of, if it is of one.
 fn mark(marks: &mut [bool], ledger: &Ledger, receipt: &Receipt)
     requires { length marks.old ≡ length ledger.now.entries }
-    ensures { (left all : List ReceiptSeen) → Marks ledger.now.entries (receipt.now ∷ left) all marks.old → Marks ledger.now.entries left all marks.new }
+    ensures { (left all : List ReceiptSeen)
+        → Marks ledger.now.entries (receipt.now ∷ left) all marks.old → Marks ledger.now.entries left all marks.new }
 {
     if let Some(place) = ledger.place_of(receipt) {
         marks[place] = true;

@@ -1,17 +1,14 @@
 //! The ledgers of all pharmacies, after the calls of their logs.
 
 ghost use Rattle.std.specs.Prelude.{◌≡◌, ◌+◌, ◌<◌, [], length, None, Some, IsSome, IfOk, IfSome, MatchOption};
-ghost use Rattle.std.specs.Option.{option_map};
 ghost use Rattle.bin_routes.specs.Fault.{first_fault};
-ghost use Rattle.claim_model.specs.Numbered.{numbered};
 ghost use Rattle.claim_model.specs.Settings.{settings_fault, opening};
 ghost use Rattle.claim_model.specs.Nodes.{node_at};
-ghost use Rattle.claim_model.specs.Logs.{replay};
 ghost use Rattle.world_setup.specs.Seen.{node_seen, settings_seen};
 ghost use Rattle.run_merge.specs.Naming.{calls_of};
 ghost use Rattle.run_merge.specs.LogSeen.{logs_seen};
-ghost use Rattle.node_logged.specs.Setting.{context_of};
-ghost use Rattle.node_logged.specs.Replayed.{ledger_after, ledgers_of};
+ghost use Rattle.run_merge.specs.Merged.{replayed};
+ghost use Rattle.node_logged.specs.Replayed.{ledger_at, ledgers_of};
 
 use crate::judging::ledger::Ledger;
 use node_state::NodeState;
@@ -46,7 +43,7 @@ fn ledger_of(
     requires world { settings_fault (settings_seen settings.now) ≡ None }
     requires rows { first_fault (length settings.now.payers.items) settings.now.routes.items ≡ None }
     requires there { place < length settings.now.pharmacies.items }
-    ensures { IfOk result (λ ledger. option_map (ledger_after (context_of settings.now) (logs_seen logs.now) (place + 1)) (numbered (opening (settings_seen settings.now)).pharmacies (place + 1)) ≡ Some ledger) }
+    ensures { IfOk result (λ ledger. ledger_at settings.now (logs_seen logs.now) (place + 1) ≡ Some ledger) }
 {
     let number = place as u16 + 1;
     let node = node_after(alloc, settings, logs, Node::Pharmacy(number))?;
@@ -66,7 +63,8 @@ fn node_after(
     requires world { settings_fault (settings_seen settings.now) ≡ None }
     requires rows { first_fault (length settings.now.payers.items) settings.now.routes.items ≡ None }
     requires there { IsSome (node_at (opening (settings_seen settings.now)) (node_seen node)) }
-    ensures { IfOk result (λ after. option_map (λ s. replay (context_of settings.now) s (calls_of (logs_seen logs.now) (node_seen node))) (node_at (opening (settings_seen settings.now)) (node_seen node)) ≡ Some after) }
+    ensures { IfOk result (λ after.
+        replayed settings.now (node_seen node) (calls_of (logs_seen logs.now) (node_seen node)) ≡ Some after) }
 {
     match log_of(logs, node) {
         Some(log) => replay_log(alloc, settings, log),
@@ -76,7 +74,8 @@ fn node_after(
 
 /// The first log of a node.
 fn log_of(logs: &[NodeLog], node: Node) -> Option<&NodeLog>
-    ensures calls { MatchOption result (calls_of (logs_seen logs.now) (node_seen node) ≡ []) (λ log. calls_of (logs_seen logs.now) (node_seen node) ≡ log.now.calls.items) }
+    ensures calls { MatchOption result (calls_of (logs_seen logs.now) (node_seen node) ≡ [])
+        (λ log. calls_of (logs_seen logs.now) (node_seen node) ≡ log.now.calls.items) }
     ensures names { IfSome result (λ log. node_seen log.now.node ≡ node_seen node) }
 {
     for log in logs {

@@ -1,18 +1,15 @@
 //! The verdict on logs and tills.
 
 ghost use Rattle.std.specs.Prelude.{◌≡◌, List, length, map, None, IfOk, IfErr, OnOk};
-ghost use Rattle.std.specs.List.{AllByRecursion};
 ghost use Rattle.bin_routes.specs.Fault.{first_fault};
-ghost use Rattle.bin_routes.specs.Table.{routes_of};
-ghost use Rattle.claim_model.specs.Settings.{settings_fault, opening};
-ghost use Rattle.claim_model.specs.World.{run};
+ghost use Rattle.claim_model.specs.Settings.{settings_fault};
 ghost use Rattle.world_setup.specs.Seen.{event_seen, settings_seen};
 ghost use Rattle.run_merge.specs.LogSeen.{logs_seen};
 ghost use Rattle.run_merge.specs.Merged.{IsMerged};
 ghost use Rattle.node_logged.specs.LedgerSeen.{tills_seen};
-ghost use Rattle.node_logged.specs.Setting.{context_of};
+ghost use Rattle.node_logged.specs.Setting.{opening_world, world_after_run};
 ghost use Rattle.node_logged.specs.Replayed.{AreOfWorld, ledgers_of};
-ghost use Rattle.node_logged.specs.Judged.{AreReceipts, AreHeard};
+ghost use Rattle.node_logged.specs.Judged.{AllReceipts, AllHeard};
 ghost use Rattle.world_setup.specs.declared.settings.WorldSettings.{WorldSettings as Settings};
 ghost use Rattle.node_logged.specs.Tills.{Till as TillSeen};
 ghost use Rattle.node_logged.specs.Causes.{Stands, IsCause, IsUnmerged};
@@ -55,12 +52,13 @@ pub fn judge(
     // The logs are those that were handed in, and the events are a legal interleaving of them.
     ensures logs { IfOk result (λ f. f.logs.items ≡ logs.items) }
     ensures events { IfOk result (λ f. IsMerged settings.now (logs_seen logs.items) (map event_seen f.events.items)) }
-    ensures world { IfOk result (λ f. f.world ≡ record { routes = routes_of settings.now.routes.items; world = run (context_of settings.now) (opening (settings_seen settings.now)) (map event_seen f.events.items) }) }
+    ensures world { IfOk result (λ f. f.world ≡ world_after_run settings.now (map event_seen f.events.items)) }
     // The journals by which the tills are judged are those of this world.
     ensures ledgers { IfOk result (λ f. AreOfWorld (ledgers_of settings.now (logs_seen logs.items)) f.world.world) }
     // For each pharmacy the receipts are the numbers and requests of its journal, and what was heard is the journal's.
-    ensures receipts { OnOk result (AllByRecursion (AreReceipts (tills_seen tills.now)) (ledgers_of settings.now (logs_seen logs.items))) }
-    ensures heard { OnOk result (AllByRecursion (AreHeard (tills_seen tills.now)) (ledgers_of settings.now (logs_seen logs.items))) }
+    ensures receipts { OnOk result
+        (AllReceipts (tills_seen tills.now) (ledgers_of settings.now (logs_seen logs.items))) }
+    ensures heard { OnOk result (AllHeard (tills_seen tills.now) (ledgers_of settings.now (logs_seen logs.items))) }
     ensures refused { IfErr result (λ fault. IsCause settings.now logs.items (tills_seen tills.now) fault) }
 {
     match objection_to(alloc, settings, &logs, tills)? {
@@ -71,7 +69,8 @@ pub fn judge(
 
 /// The refusal for what speaks against the tills, with the logs.
 fn refusal(objection: Objection, logs: Vec<NodeLog>) -> FinishFault
-    ensures { (s : Settings) (tills : List TillSeen) → Stands tills (ledgers_of s (logs_seen logs.items)) objection → IsCause s logs.items tills result }
+    ensures { (s : Settings) (tills : List TillSeen)
+        → Stands tills (ledgers_of s (logs_seen logs.items)) objection → IsCause s logs.items tills result }
 {
     match objection {
         Objection::TillMissing(pharmacy) => FinishFault::TillMissing(pharmacy, logs),
@@ -90,7 +89,7 @@ fn run_of(
     requires rows { first_fault (length settings.now.payers.items) settings.now.routes.items ≡ None }
     ensures logs { IfOk result (λ f. f.logs.items ≡ logs.items) }
     ensures events { IfOk result (λ f. IsMerged settings.now (logs_seen logs.items) (map event_seen f.events.items)) }
-    ensures world { IfOk result (λ f. f.world ≡ record { routes = routes_of settings.now.routes.items; world = run (context_of settings.now) (opening (settings_seen settings.now)) (map event_seen f.events.items) }) }
+    ensures world { IfOk result (λ f. f.world ≡ world_after_run settings.now (map event_seen f.events.items)) }
     ensures refused { IfErr result (λ fault. IsUnmerged settings.now logs.items fault) }
 {
     match merge(alloc, settings, &logs) {
@@ -115,7 +114,7 @@ fn world_after(
 ) -> Result<World, AllocError>
     requires world { settings_fault (settings_seen settings.now) ≡ None }
     requires rows { first_fault (length settings.now.payers.items) settings.now.routes.items ≡ None }
-    ensures { IfOk result (λ w. w ≡ record { routes = routes_of settings.now.routes.items; world = run (context_of settings.now) (opening (settings_seen settings.now)) (map event_seen events.now) }) }
+    ensures { IfOk result (λ w. w ≡ world_after_run settings.now (map event_seen events.now)) }
 {
     let mut world = opening_world(alloc, settings)?;
     match world.run(events) {
@@ -128,7 +127,7 @@ fn world_after(
 fn opening_world(alloc: Global, settings: &WorldSettings) -> Result<World, AllocError>
     requires world { settings_fault (settings_seen settings.now) ≡ None }
     requires rows { first_fault (length settings.now.payers.items) settings.now.routes.items ≡ None }
-    ensures { IfOk result (λ w. w ≡ record { routes = routes_of settings.now.routes.items; world = opening (settings_seen settings.now) }) }
+    ensures { IfOk result (λ w. w ≡ opening_world settings.now) }
 {
     match World::new(alloc, settings.copy()?) {
         Ok(world) => Ok(world),

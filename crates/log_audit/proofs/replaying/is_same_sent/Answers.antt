@@ -1,6 +1,6 @@
 use Rattle.std.proofs.Common.{arith}
 use Rattle.world_setup.specs.Seen.{sent_seen}
-use Rattle.log_audit.proofs.Breaking.{same_at}
+use Rattle.run_merge.proofs.Sents.{same_at}
 use Rattle.log_audit.proofs.replaying.is_same_sent.Goals as goal
 
 pub returns-then-not-is_same : goal.returns-then-not-is_same

@@ -1,7 +1,8 @@
 use Rattle.std.proofs.Common.{◌∙◌, map}
 use Rattle.world_core.specs.Parts.{context_of}
 use Rattle.run_picture.specs.Seen.{mark_seen}
-use Rattle.run_picture.proofs.Making.{events_go_on, events_are_told, run_goes_on, run_is_done}
+use Rattle.world_core.proofs.Runs.{run_goes_on, run_is_done}
+use Rattle.run_picture.proofs.Making.{events_go_on, events_are_told}
 use Rattle.run_picture.proofs.marking.mark_run.Goals as goal
 
 pub loop-place-preserved : goal.loop-place-preserved

@@ -1,6 +1,7 @@
 use Rattle.std.proofs.Common.{◌∙◌}
 use Rattle.world_core.specs.Parts.{context_of}
-use Rattle.world_report.proofs.Making.{events_go_on, events_are_told, run_goes_on, run_is_done}
+use Rattle.world_core.proofs.Runs.{run_goes_on, run_is_done}
+use Rattle.world_report.proofs.Making.{events_go_on, events_are_told}
 use Rattle.world_report.proofs.events.put_events.Goals as goal
 
 pub loop-place-preserved : goal.loop-place-preserved

@@ -1,6 +1,7 @@
 use Rattle.std.proofs.Common.{◌∙◌}
 use Rattle.world_core.specs.Parts.{context_of}
-use Rattle.log_audit.proofs.Running.{run_goes_on, run_is_done, senders_go_on, senders_are_told}
+use Rattle.world_core.proofs.Runs.{run_goes_on, run_is_done}
+use Rattle.log_audit.proofs.Running.{senders_go_on, senders_are_told}
 use Rattle.log_audit.proofs.tables.senders.run_noting.Goals as goal
 
 pub loop-place-preserved : goal.loop-place-preserved

@@ -3,7 +3,7 @@ use Rattle.log_audit.specs.Rows.{rows_text, head_text}
 use Rattle.log_audit.specs.declared.tables.layout.Style.TheVariants.{Csv}
 use Rattle.world_core.specs.Parts.{context_of}
 use Rattle.log_audit.specs.Tables.{table_names, table_rows, table_csv}
-use Rattle.log_audit.proofs.Joining.{texts_join}
+use Rattle.input_text.proofs.Joining.{lists_join}
 use Rattle.log_audit.proofs.tables.table.put_csv.Goals as goal
 
 pub returns : goal.returns
@@ -11,5 +11,5 @@ unfolding table_csv
 returns c =
     let w = c.args.world.now in
     on_ok_weaker c.put_table.result
-    (λ last. texts_join c.args.out.now.items c.put_names.new.out.items c.put_table.new.out.items (head_text (table_names c.args.table)) (rows_text Csv (table_rows (context_of w) w.world c.args.senders.now c.args.table)) c.in_ok-put_names.ensures last)
+    (λ last. lists_join c.args.out.now.items c.put_names.new.out.items c.put_table.new.out.items (head_text (table_names c.args.table)) (rows_text Csv (table_rows (context_of w) w.world c.args.senders.now c.args.table)) c.in_ok-put_names.ensures last)
     c.put_table.ensures

@@ -3,7 +3,7 @@ use Rattle.std.proofs.lemmas.Result.{on_ok_weaker}
 use Rattle.world_core.specs.Parts.{context_of}
 use Rattle.log_audit.specs.Tables.{table_member, table_members}
 use Rattle.log_audit.specs.declared.tables.table.Table.TheVariants.{Payments, Entries, Rows, Packets}
-use Rattle.log_audit.proofs.Joining.{texts_join}
+use Rattle.input_text.proofs.Joining.{lists_join}
 use Rattle.log_audit.proofs.tables.table.put_json.Goals as goal
 
 pub returns : goal.returns
@@ -13,7 +13,7 @@ returns c =
     let text = table_member (context_of w) w.world c.args.senders.now in
     let end = c.put_member-4.new.out.items in
     on_ok_weaker c.put_member-4.result
-    (λ last. texts_join c.args.out.now.items c.put_member.new.out.items end (text Payments) (text Entries ++ (text Rows ++ text Packets)) c.in_ok-put_member.ensures
-    (texts_join c.put_member.new.out.items c.put_member-2.new.out.items end (text Entries) (text Rows ++ text Packets) c.in_ok-put_member-2.ensures
-    (texts_join c.put_member-2.new.out.items c.put_member-3.new.out.items end (text Rows) (text Packets) c.in_ok-put_member-3.ensures last)))
+    (λ last. lists_join c.args.out.now.items c.put_member.new.out.items end (text Payments) (text Entries ++ (text Rows ++ text Packets)) c.in_ok-put_member.ensures
+    (lists_join c.put_member.new.out.items c.put_member-2.new.out.items end (text Entries) (text Rows ++ text Packets) c.in_ok-put_member-2.ensures
+    (lists_join c.put_member-2.new.out.items c.put_member-3.new.out.items end (text Rows) (text Packets) c.in_ok-put_member-3.ensures last)))
     c.put_member-4.ensures

@@ -3,7 +3,7 @@ use Rattle.std.proofs.Common.{◌++◌}
 use Rattle.std.proofs.lemmas.Result.{on_ok_weaker}
 use Rattle.world_core.specs.Parts.{context_of}
 use Rattle.log_audit.specs.Tables.{table_json, table_name, table_member}
-use Rattle.log_audit.proofs.Joining.{texts_join}
+use Rattle.input_text.proofs.Joining.{lists_join}
 use Rattle.log_audit.proofs.tables.table.put_member.Goals as goal
 
 pub returns : goal.returns
@@ -13,7 +13,7 @@ returns c =
     let json = table_json (context_of w) w.world c.args.senders.now c.args.table in
     let name = rw c.name.ensures at c.in_ok-extend_from_slice-2.ensures.items in
     on_ok_weaker c.put_rows_list.result
-    (λ last. texts_join c.args.out.now.items c.extend_from_slice.new.self.items c.put_rows_list.new.out.items (codes ",\n\"") (table_name c.args.table ++ (codes "\":" ++ json)) c.in_ok-extend_from_slice.ensures.items
-    (texts_join c.extend_from_slice.new.self.items c.extend_from_slice-2.new.self.items c.put_rows_list.new.out.items (table_name c.args.table) (codes "\":" ++ json) name
-    (texts_join c.extend_from_slice-2.new.self.items c.extend_from_slice-3.new.self.items c.put_rows_list.new.out.items (codes "\":") json c.in_ok-extend_from_slice-3.ensures.items last)))
+    (λ last. lists_join c.args.out.now.items c.extend_from_slice.new.self.items c.put_rows_list.new.out.items (codes ",\n\"") (table_name c.args.table ++ (codes "\":" ++ json)) c.in_ok-extend_from_slice.ensures.items
+    (lists_join c.extend_from_slice.new.self.items c.extend_from_slice-2.new.self.items c.put_rows_list.new.out.items (table_name c.args.table) (codes "\":" ++ json) name
+    (lists_join c.extend_from_slice-2.new.self.items c.extend_from_slice-3.new.self.items c.put_rows_list.new.out.items (codes "\":") json c.in_ok-extend_from_slice-3.ensures.items last)))
     c.put_rows_list.ensures
