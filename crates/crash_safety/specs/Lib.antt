@@ -1,0 +1,4 @@
+-- In the order in which one explains them.
+pub mod Network
+pub mod Runs
+pub mod Kept
