@@ -19,7 +19,7 @@ use Rattle.crash_safety.proofs.Sound.{IsSound, begins_soundly}
 use Rattle.crash_safety.proofs.Moving.{goes_on}
 use Rattle.crash_safety.proofs.Finishing.{files_run}
 
-after_append : (ctx : Context) (s : WorldSettings) (n : Network) (moves more : List Move) → after ctx s n (moves ++ more) ≡ after ctx s (after ctx s n moves) more
+pub after_append : (ctx : Context) (s : WorldSettings) (n : Network) (moves more : List Move) → after ctx s n (moves ++ more) ≡ after ctx s (after ctx s n moves) more
 after_append ctx s n [] more = refl
 after_append ctx s n (move ∷ moves) more = after_append ctx s (moved ctx s n move) moves more
 

@@ -6,3 +6,5 @@ pub mod Finishing
 pub mod Courses
 pub mod Worlds
 pub mod Promises
+pub mod Appending
+pub mod Candidates

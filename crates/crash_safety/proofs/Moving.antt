@@ -47,10 +47,10 @@ module _ (ctx : Context) (s : WorldSettings) (n : Network) (events : List Event)
 
 -- a call
 
-some_is : (ctx : Context) (s : WorldSettings) (node : Node) (log : List Logged) (m : AnyNode) → replayed ctx s node log ≡ Some m → (before : AnyNode) × (node_at (opening s) node ≡ Some before) × (replay ctx before log ≡ m)
+pub some_is : (ctx : Context) (s : WorldSettings) (node : Node) (log : List Logged) (m : AnyNode) → replayed ctx s node log ≡ Some m → (before : AnyNode) × (node_at (opening s) node ≡ Some before) × (replay ctx before log ≡ m)
 some_is ctx s node log m e = map_some (λ (before : AnyNode). replay ctx before log) (node_at (opening s) node) m e
 
-none_some : {A : Type 0} (a : A) → ◌≡◌ {A = Option A} None (Some a) → ⊥
+pub none_some : {A : Type 0} (a : A) → ◌≡◌ {A = Option A} None (Some a) → ⊥
 none_some a e = cc
 
 called_well : (ctx : Context) (s : WorldSettings) (packets : List Packet) (node : Node) (p : Process) (m next : AnyNode) (l : Logged) → IsWell ctx s packets node p → Comes packets node l.call → p.memory ≡ Some m → node_step ctx m l.call ≡ Done next l.sent

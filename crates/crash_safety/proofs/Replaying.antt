@@ -22,3 +22,8 @@ makes_more ctx before after (k ∷ log) l m e = (m.0, makes_more ctx (node_after
 pub makes_left : (ctx : Context) (before : AnyNode) (log more : List Logged) → Makes ctx before (log ++ more) → Makes ctx before log
 makes_left ctx before [] more m = tt
 makes_left ctx before (l ∷ log) more m = (m.0, makes_left ctx (node_after before (node_step ctx before l.call)) log more m.1)
+
+-- the last call of a log that a node makes
+pub makes_last : (ctx : Context) (before : AnyNode) (log : List Logged) (l : Logged) → Makes ctx before (log ++ l ∷ []) → node_step ctx (replay ctx before log) l.call ≡ Done (node_after (replay ctx before log) (node_step ctx (replay ctx before log) l.call)) l.sent
+makes_last ctx before [] l m = m.0
+makes_last ctx before (k ∷ log) l m = makes_last ctx (node_after before (node_step ctx before k.call)) log l m.1

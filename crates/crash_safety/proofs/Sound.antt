@@ -55,7 +55,7 @@ well_with_more ctx s packets more node p w = record { memory = w.memory; makes =
 
 -- the beginning
 
-nothing_numbered : {A : Type 0} (k : ℕ) (a : A) → numbered [] k ≡ Some a → ⊥
+pub nothing_numbered : {A : Type 0} (k : ℕ) (a : A) → numbered [] k ≡ Some a → ⊥
 nothing_numbered zero a e = cc
 nothing_numbered (suc k) a e = cc
 

@@ -2,3 +2,4 @@
 pub mod Network
 pub mod Runs
 pub mod Kept
+pub mod Fenced

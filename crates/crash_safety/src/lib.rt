@@ -6,10 +6,12 @@
 #![tactic(auto)]
 
 mod answers;
+mod fences;
 mod payments;
 mod runs;
 
 pub use answers::{decisions_stay, one_answer, words_stay_true};
+pub use fences::{candidates_are_replays, fences_make_one_process};
 pub use payments::{
     counted_payments_stand, one_standing_payment, reversed_by_owner, standing_payments_are_counted,
 };
