@@ -15,6 +15,9 @@ pub(crate) enum Finding {
     /// A line has more than sixteen mebibytes.
     #[error("a line is longer than 16 MiB")]
     LongLine,
+    /// More turns than can be counted.
+    #[error("too many turns")]
+    TooManyTurns,
     /// The settings, the node or its log are refused.
     #[error("{0}")]
     Service(ServiceFault),

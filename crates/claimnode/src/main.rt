@@ -4,24 +4,16 @@
 
 mod file;
 mod finding;
-mod lines;
 mod words;
 
-use crate::file::LogFile;
+use crate::file::open_log;
 use crate::finding::Finding;
-use crate::lines::Lines;
 use crate::words::{Words, words_of};
 use command_line::{End, given_words, read_file};
+use node_process::{Host, Unserved, serve_all};
 use node_service::Service;
 use payer_book::HashKeys;
-use std::io::{Read, Write};
 use std::process::ExitCode;
-
-/// The most bytes that are read at once. All lines that wait in them are served, and synced once.
-const CHUNK: usize = 65_536;
-
-/// Why the program ends before its input does. Where memory was refused, what was not said is in no log.
-type Unserved = End<Finding>;
 
 fn main(rt: HostRuntime) -> ExitCode {
     match run(&rt) {
@@ -31,7 +23,7 @@ fn main(rt: HostRuntime) -> ExitCode {
 }
 
 /// Serves the node that the command line names, from its log.
-fn run(rt: &HostRuntime) -> Result<(), Unserved> {
+fn run(rt: &HostRuntime) -> Result<(), End<Finding>> {
     let alloc = rt.alloc();
     let given = given_words(rt)?;
     let words = words_of(alloc, given.as_slice())?;
@@ -40,7 +32,7 @@ fn run(rt: &HostRuntime) -> Result<(), Unserved> {
 }
 
 /// Refuses settings that have no such node, before a file is made for its log.
-fn check_settings(rt: &HostRuntime, words: &Words<'_>, text: &[u8]) -> Result<(), Unserved> {
+fn check_settings(rt: &HostRuntime, words: &Words<'_>, text: &[u8]) -> Result<(), End<Finding>> {
     match Service::open(rt.alloc(), &HashKeys::fixed(), text, words.node, b"") {
         Ok(_) => Ok(()),
         Err(fault) => Err(End::Own(Finding::Service(fault))),
@@ -48,22 +40,17 @@ fn check_settings(rt: &HostRuntime, words: &Words<'_>, text: &[u8]) -> Result<()
 }
 
 /// Serves a node under settings from its log.
-fn run_node(rt: &HostRuntime, words: &Words<'_>, text: &[u8]) -> Result<(), Unserved> {
+fn run_node(rt: &HostRuntime, words: &Words<'_>, text: &[u8]) -> Result<(), End<Finding>> {
     check_settings(rt, words, text)?;
-    let mut log = LogFile::open(rt, words.log)?;
-    let bytes = log.read(rt.alloc())?;
-    match Service::open(
-        rt.alloc(),
-        &hash_keys(rt),
-        text,
-        words.node,
-        bytes.as_slice(),
-    ) {
-        Ok((mut service, kept)) => {
-            let is_torn = kept < bytes.len();
-            run_service(rt, words, &mut service, &mut log, is_torn.then_some(kept))
-        }
-        Err(fault) => Err(End::Own(Finding::Service(fault))),
+    let log = open_log(rt, words.log)?;
+    let mut host = Host::new(log, rt.stdin(), rt.stdout());
+    match serve_all(rt.alloc(), &hash_keys(rt), text, words.node, &mut host) {
+        Ok(()) => Ok(()),
+        Err(Unserved::OutOfMemory) => Err(End::OutOfMemory),
+        Err(Unserved::Refused(fault)) => Err(End::Own(Finding::Service(fault))),
+        Err(Unserved::LongLine) => Err(End::Own(Finding::LongLine)),
+        Err(Unserved::TooManyTurns) => Err(End::Own(Finding::TooManyTurns)),
+        Err(Unserved::Io(error)) => Err(End::Io(error)),
     }
 }
 
@@ -74,66 +61,4 @@ fn hash_keys(rt: &HostRuntime) -> HashKeys {
         Ok(keys) => keys,
         Err(_) => HashKeys::fixed(),
     }
-}
-
-/// Serves a node that was opened. The file is cut behind so many bytes where a record was cut off there, and a log that is
-/// new gets its head.
-fn run_service(
-    rt: &HostRuntime,
-    words: &Words<'_>,
-    service: &mut Service,
-    log: &mut LogFile,
-    whole: Option<usize>,
-) -> Result<(), Unserved> {
-    if let Some(size) = whole {
-        log.cut(size as u64)?;
-    }
-    if !service.records().is_empty() {
-        log.append(service.records())?;
-        log.sync_folder(rt, words.log)?;
-        service.clear();
-    }
-    serve(rt, service, log)
-}
-
-/// Serves lines until standard input ends.
-fn serve(rt: &HostRuntime, service: &mut Service, log: &mut LogFile) -> Result<(), Unserved> {
-    let mut writer = rt.stdout();
-    write_ready(rt, &mut writer, service.calls())?;
-    let mut reader = rt.stdin();
-    let mut lines = Lines::new(rt.alloc());
-    let mut chunk = Vec::from_elem(rt.alloc(), 0u8, CHUNK)?;
-    for _ in 0..u64::MAX {
-        let count = reader.read(chunk.as_mut_slice())?;
-        if count == 0 {
-            break;
-        }
-        lines.add(&chunk[..count])?;
-        lines.serve(rt.alloc(), service)?;
-        write_served(&mut writer, service, log)?;
-    }
-    Ok(())
-}
-
-/// Says that lines are served, and how many calls the log has.
-fn write_ready<W: Write>(rt: &HostRuntime, writer: &mut W, calls: u64) -> Result<(), Unserved> {
-    let ready = format!(in rt.alloc(); "ready {calls}\n")?;
-    writer.write_all(ready.as_bytes())?;
-    writer.flush()?;
-    Ok(())
-}
-
-/// Appends the records of what was served and syncs them, and only then writes what came of it.
-fn write_served<W: Write>(
-    writer: &mut W,
-    service: &mut Service,
-    log: &mut LogFile,
-) -> Result<(), Unserved> {
-    if !service.records().is_empty() {
-        log.append(service.records())?;
-    }
-    writer.write_all(service.written())?;
-    writer.flush()?;
-    service.clear();
-    Ok(())
 }

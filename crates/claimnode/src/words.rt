@@ -1,6 +1,5 @@
 //! The words of the command line.
 
-use crate::Unserved;
 use crate::finding::Finding;
 use clap::{Arg, ArgAction, Command};
 use command_line::{End, VERSION};
@@ -20,7 +19,7 @@ pub(crate) struct Words<'a> {
 }
 
 /// What the command line names; its first word is the program's own name.
-pub(crate) fn words_of<'a>(alloc: Global, given: &'a [String]) -> Result<Words<'a>, Unserved> {
+pub(crate) fn words_of<'a>(alloc: Global, given: &'a [String]) -> Result<Words<'a>, End<Finding>> {
     let command = Command::new(alloc, "claimnode")
         .version(VERSION)
         .about(

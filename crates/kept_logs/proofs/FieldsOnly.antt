@@ -74,7 +74,7 @@ node_at_taken bytes node rest are h =
 
 -- ---- calls
 
-mapped : {A B : Type 0} (f : A → B) (o : Option A) (y : B) → option_map f o ≡ Some y → (x : A) × (o ≡ Some x) × (f x ≡ y)
+pub mapped : {A B : Type 0} (f : A → B) (o : Option A) (y : B) → option_map f o ≡ Some y → (x : A) × (o ≡ Some x) × (f x ≡ y)
 mapped f None y h = cc
 mapped f (Some x) y h = (x, refl, same_Some (f x) y h)
 
@@ -150,7 +150,7 @@ sent_pieces : (s : Sent) → node_text s.to ++ text_of s.bytes ≡ sent_text s
 unfolding sent_text
 sent_pieces s = refl
 
-sent_at_taken : (bytes : List ℕ) (sent : Sent) (rest : List ℕ) → AreBytes bytes → sent_at bytes ≡ Some (sent, rest) → IsTaken bytes (sent_text sent) rest
+pub sent_at_taken : (bytes : List ℕ) (sent : Sent) (rest : List ℕ) → AreBytes bytes → sent_at bytes ≡ Some (sent, rest) → IsTaken bytes (sent_text sent) rest
 unfolding sent_at
 sent_at_taken bytes sent rest are h =
     let to = option_then (node_at bytes) (λ (n : Node × List ℕ). text_at n.1 >>= λ (t : List ℕ × List ℕ). Some (record { to = n.0; bytes = t.0 }, t.1)) (sent, rest) h in

@@ -1,13 +1,14 @@
 -- A record that was put is taken, and one that is cut off is told so.
-use Rattle.std.proofs.Common.{◌≡◌, ℕ, zero, suc, ◌+◌, ◌-◌, ◌<◌, ◌≤◌, ◌^◌, true, List, [], ◌∷◌, ◌++◌, length, take, nat_lt, None, inl, inr, refl, ap, ◌∙◌, arith, append_assoc, length-append}
-use Rattle.std.proofs.lemmas.Bool.{cases_lt}
+use Rattle.std.proofs.Common.{◌≡◌, ℕ, zero, suc, ◌+◌, ◌-◌, ◌<◌, ◌≤◌, ◌^◌, true, cond, List, [], ◌∷◌, ◌++◌, length, take, nat_lt, Some, None, inl, inr, refl, ap, ◌∙◌, arith, append_assoc, length-append}
+use Rattle.std.specs.Prelude.{nat_le}
+use Rattle.std.proofs.lemmas.Bool.{cases_lt, and_parts}
 use Rattle.std.proofs.lemmas.Bool.Decides.{nat_tests}
 use Rattle.std.proofs.lemmas.List.{take_at, drop_at, take-append-le}
 use Rattle.std.specs.Int.{w64, to_be_bytes}
 use Rattle.sha2.specs.Sha256.{sha256, digest_bytes}
 use Rattle.kept_records.specs.Fields.{u64_at}
 use Rattle.kept_records.proofs.FieldsBack.{u64_at-put}
-use Rattle.kept_logs.specs.Frames.{largest, check_of, frame_text, met, Framed, CutOff, behind_length, sized_frame, body_at, frame_at}
+use Rattle.kept_logs.specs.Frames.{largest, most_body, is_size, no_record, check_of, frame_text, met, Framed, CutOff, behind_length, sized_frame, body_at, frame_at}
 use Rattle.kept_logs.proofs.Meeting.{met-append, met-short}
 use Rattle.kept_logs.proofs.FieldsBack.{not_less}
 
@@ -52,13 +53,25 @@ pub frame_length : (number : ℕ) (body : List ℕ) → length (frame_text numbe
 unfolding frame_text
 frame_length number body = omega (arith, length-append body (check_of number body), check_length number body)
 
-pub frame_at-put : (number : ℕ) (body after : List ℕ) → length body < 2 ^ 64 → frame_at number (frame_text number body ++ after) ≡ Framed body after
+-- a length that a body may have is a number of eight bytes
+size_fits : (size : ℕ) → is_size size ≡ true → size < 2 ^ 64
+size_fits size e = let most = fits (and_parts (nat_lt 0 size) (nat_le size most_body) e).1 in omega (arith, most)
+  where
+    fits : nat_le size most_body ≡ true → size ≤ most_body
+    fits t = grind (arith, nat_tests)
+
+sized : (number : ℕ) (body rest : List ℕ) → is_size (length body) ≡ true → sized_frame number (Some (length body, rest)) ≡ behind_length number (length body) (met (to_be_bytes w64 (largest - length body)) rest)
+sized number body rest e = ap (λ b. cond b (behind_length number (length body) (met (to_be_bytes w64 (largest - length body)) rest)) (no_record (length body) rest)) e
+
+pub frame_at-put : (number : ℕ) (body after : List ℕ) → is_size (length body) ≡ true → frame_at number (frame_text number body ++ after) ≡ Framed body after
 unfolding frame_at
-frame_at-put number body after short =
+frame_at-put number body after fits =
+    let short = size_fits (length body) fits in
     let rest : List ℕ = body ++ (check_of number body ++ after) in
     let mark : List ℕ = to_be_bytes w64 (largest - length body) in
     ap (frame_at number) (frame_text-append number body after)
     ∙ ap (sized_frame number) (u64_at-put (length body) (mark ++ rest) short)
+    ∙ sized number body (mark ++ rest) fits
     ∙ ap (behind_length number (length body)) (met-append mark rest)
     ∙ body_at-put number body after
 
@@ -94,11 +107,11 @@ behind_length-cut number body n h = elim (cases_lt n 8) [
     rest : List ℕ
     rest = body ++ check_of number body
 
-pub frame_at-cut : (number : ℕ) (body : List ℕ) (n : ℕ) → length body < 2 ^ 64 → n < length (frame_text number body) → frame_at number (take n (frame_text number body)) ≡ CutOff
+pub frame_at-cut : (number : ℕ) (body : List ℕ) (n : ℕ) → is_size (length body) ≡ true → n < length (frame_text number body) → frame_at number (take n (frame_text number body)) ≡ CutOff
 unfolding frame_at frame_text
-frame_at-cut number body n short h = elim (cases_lt n 8) [
+frame_at-cut number body n fits h = elim (cases_lt n 8) [
   | inl within ↦ ap (sized_frame number) (short_u64 (take n (front ++ rest)) (omega (arith, taken_at_most n (front ++ rest), within)))
-  | inr behind ↦ ap (frame_at number) (take_over front rest n behind) ∙ ap (sized_frame number) (u64_at-put (length body) (take (n - 8) rest) short) ∙ behind_length-cut number body (n - 8) (omega (arith, h, frame_length number body, behind))
+  | inr behind ↦ ap (frame_at number) (take_over front rest n behind) ∙ ap (sized_frame number) (u64_at-put (length body) (take (n - 8) rest) (size_fits (length body) fits)) ∙ sized number body (take (n - 8) rest) fits ∙ behind_length-cut number body (n - 8) (omega (arith, h, frame_length number body, behind))
 ]
   where
     front : List ℕ

@@ -5,5 +5,6 @@ pub mod CallsBack
 pub mod LogsBack
 pub mod Loops
 pub mod FieldsOnly
+pub mod FitsOnly
 pub mod LogsOnly
 pub mod Torn

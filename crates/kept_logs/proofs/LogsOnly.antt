@@ -1,5 +1,5 @@
 -- What is read as a log is its text, and what stands behind it is how a record begins.
-use Rattle.std.proofs.Common.{◌≡◌, ℕ, zero, suc, ◌+◌, ◌-◌, ◌<◌, ◌≤◌, Bool, true, false, cond, List, [], ◌∷◌, ◌++◌, length, take, drop, nat_lt, Option, Some, None, Result, Ok, Err, refl, ap, ◌∙◌, sym, subst, arith, append_assoc, append-nil, length-append, codes}
+use Rattle.std.proofs.Common.{◌≡◌, ℕ, zero, suc, ◌+◌, ◌-◌, ◌<◌, ◌≤◌, ◌==◌, ◌&&◌, Bool, true, false, cond, List, [], ◌∷◌, ◌++◌, length, take, drop, nat_lt, Option, Some, None, Result, Ok, Err, refl, ap, ◌∙◌, sym, subst, arith, append_assoc, append-nil, length-append, codes}
 use Rattle.std.proofs.lemmas.Bool.Decides.{nat_tests}
 use Rattle.std.proofs.lemmas.List.{take_at, take-append-drop, length-take-le}
 use Rattle.std.specs.Int.{w64, to_be_bytes}
@@ -12,9 +12,12 @@ use Rattle.kept_logs.specs.declared.fault.LogFault.TheVariants as fault
 use Rattle.kept_logs.specs.Faults.{◌>>=◌, some_or}
 use Rattle.kept_logs.specs.Fields.{bytes_at, node_text, node_at}
 use Rattle.kept_logs.specs.Records.{logged_text, logged_in}
-use Rattle.kept_logs.specs.Frames.{largest, check_of, frame_text, Met, Whole, Torn, Differs, met, Frame, Framed, CutOff, Damaged, checked, behind_length, sized_frame, body_at, frame_at}
+use Rattle.kept_logs.specs.Frames.{largest, is_size, is_zeros, no_record, check_of, frame_text, Met, Whole, Torn, Differs, met, Frame, Framed, CutOff, Damaged, checked, behind_length, sized_frame, body_at, frame_at}
 use Rattle.kept_logs.specs.Logs.{owner_text, head_text, calls_text, log_text, expected, head_in, read_record, framed_record, record_in, behind, and_more, calls_in, Reading, log_in}
+use Rattle.std.specs.List.{AllByRecursion}
+use Rattle.kept_logs.specs.Fits.{FitsNode, FitsLogged}
 use Rattle.kept_logs.specs.Cuts.{IsLogOf}
+use Rattle.kept_logs.proofs.FitsOnly.{node_fits, logged_fits}
 use Rattle.kept_logs.proofs.Meeting.{met-whole}
 use Rattle.kept_logs.proofs.FieldsOnly.{both_taken, bytes_at_taken, node_at_taken, logged_in_taken}
 use Rattle.kept_logs.proofs.LogsBack.{node_length}
@@ -35,6 +38,7 @@ whole_taken wanted bytes rest are h =
 pub record IsFramed (number : ℕ) (bytes body after : List ℕ) : Type 0 where
   pub taken : IsTaken bytes (frame_text number body) after
   pub body_bytes : AreBytes body
+  pub size : is_size (length body) ≡ true
 
 framed_is : (a x b y : List ℕ) → Framed a b ≡ Framed x y → (a ≡ x) × (b ≡ y)
 framed_is a x b y h = (ap body_of h, ap after_of h)
@@ -78,10 +82,10 @@ pub frame_at_taken : (number : ℕ) (bytes body after : List ℕ) → AreBytes b
 unfolding frame_at frame_text
 frame_at_taken number bytes body after are h = by_count (u64_at bytes) refl h
   where
-    by_met : (size : ℕ) (rest : List ℕ) → IsTaken bytes (to_be_bytes w64 size) rest → (m : Met) → met (to_be_bytes w64 (largest - size)) rest ≡ m → behind_length number size m ≡ Framed body after → IsFramed number bytes body after
-    by_met size rest first Torn e h = cc
-    by_met size rest first Differs e h = cc
-    by_met size rest first (Whole tail) e h =
+    by_met : (size : ℕ) (rest : List ℕ) → IsTaken bytes (to_be_bytes w64 size) rest → (m : Met) → met (to_be_bytes w64 (largest - size)) rest ≡ m → behind_length number size m ≡ Framed body after → is_size size ≡ true → IsFramed number bytes body after
+    by_met size rest first Torn e h fits = cc
+    by_met size rest first Differs e h fits = cc
+    by_met size rest first (Whole tail) e h fits =
         let second = whole_taken (to_be_bytes w64 (largest - size)) rest tail first.rest_bytes e in
         let third = body_taken number size tail body after second.rest_bytes h in
         let inner = both_taken rest (to_be_bytes w64 (largest - size)) tail (body ++ check_of number body) after second third.0 in
@@ -89,32 +93,44 @@ frame_at_taken number bytes body after are h = by_count (u64_at bytes) refl h
         record {
           taken = subst (λ n. IsTaken bytes (to_be_bytes w64 n ++ (to_be_bytes w64 (largest - n) ++ (body ++ check_of number body))) after) (sym third.1) all;
           body_bytes = third.2;
+          size = ap is_size third.1 ∙ fits;
         }
+
+    by_blank : (b : Bool) → cond b CutOff Damaged ≡ Framed body after → IsFramed number bytes body after
+    by_blank true h = cc
+    by_blank false h = cc
+
+    by_size : (size : ℕ) (rest : List ℕ) → IsTaken bytes (to_be_bytes w64 size) rest → (b : Bool) → is_size size ≡ b → cond b (behind_length number size (met (to_be_bytes w64 (largest - size)) rest)) (no_record size rest) ≡ Framed body after → IsFramed number bytes body after
+    by_size size rest first true fits h = by_met size rest first (met (to_be_bytes w64 (largest - size)) rest) refl h fits
+    by_size size rest first false fits h = by_blank ((size == 0) && is_zeros rest) h
 
     by_count : (o : Option (ℕ × List ℕ)) → u64_at bytes ≡ o → sized_frame number o ≡ Framed body after → IsFramed number bytes body after
     by_count None e h = cc
-    by_count (Some (size, rest)) e h = by_met size rest (u64_at_taken bytes size rest are e).0 (met (to_be_bytes w64 (largest - size)) rest) refl h
+    by_count (Some (size, rest)) e h = by_size size rest (u64_at_taken bytes size rest are e).0 (is_size size) refl h
 
 -- ---- records
 
 abbrev Step : Type 0
 Step = Result (Option (Logged × List ℕ)) LogFault
 
-record_taken : (number place : ℕ) (bytes : List ℕ) (r : Logged) (after : List ℕ) → AreBytes bytes → record_in number place bytes ≡ Ok (Some (r, after)) → IsTaken bytes (frame_text number (logged_text r)) after
+abbrev IsRecord : ℕ → List ℕ → Logged → List ℕ → Type 0
+IsRecord number bytes r after = IsTaken bytes (frame_text number (logged_text r)) after × FitsLogged r
+
+record_taken : (number place : ℕ) (bytes : List ℕ) (r : Logged) (after : List ℕ) → AreBytes bytes → record_in number place bytes ≡ Ok (Some (r, after)) → IsRecord number bytes r after
 unfolding record_in
 record_taken number place bytes r after are h = by_frame (frame_at number bytes) refl h
   where
     same : (a x : Logged) (b y : List ℕ) → ◌≡◌ {A = Step} (Ok (Some (a, b))) (Ok (Some (x, y))) → (a ≡ x) × (b ≡ y)
     same a x b y h = let e : ◌≡◌ {A = Logged × List ℕ} (a, b) (x, y) = cc in (ap (λ p. p.0) e, ap (λ p. p.1) e)
 
-    by_logged : (body rest : List ℕ) → IsFramed number bytes body rest → (o : Option Logged) → logged_in body ≡ o → read_record place rest o ≡ Ok (Some (r, after)) → IsTaken bytes (frame_text number (logged_text r)) after
+    by_logged : (body rest : List ℕ) → IsFramed number bytes body rest → (o : Option Logged) → logged_in body ≡ o → read_record place rest o ≡ Ok (Some (r, after)) → IsRecord number bytes r after
     by_logged body rest framed None e h = cc
     by_logged body rest framed (Some one) e h =
         let parts = same one r rest after h in
         let text : body ≡ logged_text r = logged_in_taken body one framed.body_bytes e ∙ ap logged_text parts.0 in
-        subst (λ t. IsTaken bytes (frame_text number (logged_text r)) t) parts.1 (subst (λ b. IsTaken bytes (frame_text number b) rest) text framed.taken)
+        (subst (λ t. IsTaken bytes (frame_text number (logged_text r)) t) parts.1 (subst (λ b. IsTaken bytes (frame_text number b) rest) text framed.taken), subst FitsLogged parts.0 (logged_fits body one framed.body_bytes framed.size e))
 
-    by_frame : (f : Frame) → frame_at number bytes ≡ f → framed_record place f ≡ Ok (Some (r, after)) → IsTaken bytes (frame_text number (logged_text r)) after
+    by_frame : (f : Frame) → frame_at number bytes ≡ f → framed_record place f ≡ Ok (Some (r, after)) → IsRecord number bytes r after
     by_frame CutOff e h = cc
     by_frame Damaged e h = cc
     by_frame (Framed body rest) e h = by_logged body rest (frame_at_taken number bytes body rest are e) (logged_in body) refl h
@@ -142,21 +158,23 @@ nothing_cut number (x ∷ xs) h = absurd (omega arith)
 pub record AreCalls (number : ℕ) (bytes : List ℕ) (calls : List Logged) (rest : List ℕ) : Type 0 where
   pub text : bytes ≡ calls_text number calls ++ rest
   pub cut : frame_at (number + length calls) rest ≡ CutOff
+  pub fits : AllByRecursion FitsLogged calls
 
 no_more : (number : ℕ) (bytes : List ℕ) (calls : List Logged) (rest : List ℕ) → frame_at number bytes ≡ CutOff → ([] ≡ calls) → (bytes ≡ rest) → AreCalls number bytes calls rest
 unfolding calls_text
 no_more number bytes calls rest cut none same =
     let e : number ≡ number + 0 = omega arith in
-    let found : AreCalls number bytes [] bytes = record { text = refl; cut = ap (λ n. frame_at n bytes) (sym e) ∙ cut } in
+    let found : AreCalls number bytes [] bytes = record { text = refl; cut = ap (λ n. frame_at n bytes) (sym e) ∙ cut; fits = tt } in
     subst (λ r. AreCalls number bytes calls r) same (subst (λ cs. AreCalls number bytes cs bytes) none found)
 
-one_more : (number : ℕ) (bytes after : List ℕ) (r : Logged) (calls : List Logged) (rest : List ℕ) → IsTaken bytes (frame_text number (logged_text r)) after → AreCalls (number + 1) after calls rest → AreCalls number bytes (r ∷ calls) rest
+one_more : (number : ℕ) (bytes after : List ℕ) (r : Logged) (calls : List Logged) (rest : List ℕ) → IsRecord number bytes r after → AreCalls (number + 1) after calls rest → AreCalls number bytes (r ∷ calls) rest
 unfolding calls_text
 one_more number bytes after r calls rest first others =
     let e : number + 1 + length calls ≡ number + suc (length calls) = omega arith in
     record {
-      text = first.all ∙ ap (λ t. frame_text number (logged_text r) ++ t) others.text ∙ sym (append_assoc (frame_text number (logged_text r)) (calls_text (number + 1) calls) rest);
+      text = first.0.all ∙ ap (λ t. frame_text number (logged_text r) ++ t) others.text ∙ sym (append_assoc (frame_text number (logged_text r)) (calls_text (number + 1) calls) rest);
       cut = ap (λ n. frame_at n rest) (sym e) ∙ others.cut;
+      fits = (first.1, others.fits);
     }
 
 abbrev Reads : Type 0
@@ -178,7 +196,7 @@ calls_in_taken total number (suc most) bytes calls rest are room h =
     more : List ℕ → Reads
     more after = calls_in total (number + 1) most after
 
-    by_rest : (after : List ℕ) (r : Logged) → IsTaken bytes (frame_text number (logged_text r)) after → ((cs : List Logged) → more after ≡ Ok (cs, rest) → AreCalls (number + 1) after cs rest)
+    by_rest : (after : List ℕ) (r : Logged) → IsRecord number bytes r after → ((cs : List Logged) → more after ≡ Ok (cs, rest) → AreCalls (number + 1) after cs rest)
         → (reading : Reads) → more after ≡ reading → behind (r ∷ []) reading ≡ Ok (calls, rest) → AreCalls number bytes calls rest
     by_rest after r first inner (Err why) e h = cc
     by_rest after r first inner (Ok (cs, left)) e h =
@@ -191,9 +209,9 @@ calls_in_taken total number (suc most) bytes calls rest are room h =
     by_step (Err why) e inner h = cc
     by_step (Ok None) e inner h = let same = same_reads [] calls bytes rest h in no_more number bytes calls rest (record_cut number (total - length bytes) bytes e) same.0 same.1
     by_step (Ok (Some (r, after))) e inner h =
-        let first : IsTaken bytes (frame_text number (logged_text r)) after = record_taken number (total - length bytes) bytes r after are e in
-        let fewer : length after ≤ most = omega (arith, room, ap length first.all, length-append (frame_text number (logged_text r)) after, frame_some number (logged_text r)) in
-        by_rest after r first (λ cs e. inner after cs first.rest_bytes fewer e) (more after) refl h
+        let first : IsRecord number bytes r after = record_taken number (total - length bytes) bytes r after are e in
+        let fewer : length after ≤ most = omega (arith, room, ap length first.0.all, length-append (frame_text number (logged_text r)) after, frame_some number (logged_text r)) in
+        by_rest after r first (λ cs e. inner after cs first.0.rest_bytes fewer e) (more after) refl h
 
 -- ---- the head
 
@@ -254,7 +272,7 @@ same_head a x b y h = let e : ◌≡◌ {A = Node × List ℕ} (a, b) (x, y) = c
 front_are : (front rest : List ℕ) → AreBytes (front ++ rest) → AreBytes front
 front_are front rest are = subst AreBytes (take_at front rest (length front) refl) (take_bytes (length front) (front ++ rest) are (omega (arith, length-append front rest)))
 
-pub head_in_taken : (digest bytes : List ℕ) (node : Node) (rest : List ℕ) → length digest ≡ 32 → AreBytes bytes → head_in digest bytes ≡ Ok (node, rest) → IsTaken bytes (head_text digest node) rest
+pub head_in_taken : (digest bytes : List ℕ) (node : Node) (rest : List ℕ) → length digest ≡ 32 → AreBytes bytes → head_in digest bytes ≡ Ok (node, rest) → IsTaken bytes (head_text digest node) rest × FitsNode node
 unfolding head_in
 head_in_taken digest bytes node rest d are h =
     let end : Node × List ℕ = (node, rest) in
@@ -274,17 +292,17 @@ head_in_taken digest bytes node rest d are h =
     let parts = same_head found.0.0 node sum.0 rest own.2 in
     let text : bytes ≡ head_text digest found.0.0 ++ sum.0 = head_text_is digest bytes named.0 known.0 owner.0.0 owner.0.1 sum.0 found.0.0 first.all second.all third.0.all fourth.all (owner_is digest owner.0.0 found.0.0 found.0.1 own.0 d third.1 fifth.all sixth) in
     let made : IsTaken bytes (head_text digest found.0.0) sum.0 = record { all = text; rest_bytes = fourth.rest_bytes } in
-    subst (λ r. IsTaken bytes (head_text digest node) r) parts.1 (subst (λ (n : Node). IsTaken bytes (head_text digest n) sum.0) parts.0 made)
+    (subst (λ r. IsTaken bytes (head_text digest node) r) parts.1 (subst (λ (n : Node). IsTaken bytes (head_text digest n) sum.0) parts.0 made), subst FitsNode parts.0 (node_fits owner.0.0 found.0.0 found.0.1 owner_bytes (some_of fault.NoNode (node_at owner.0.0) found.0 found.1)))
 
 -- ---- the log
 
 same_ok : (a b : Reading) → ◌≡◌ {A = Result Reading LogFault} (Ok a) (Ok b) → a ≡ b
 same_ok a b h = cc
 
-log_is : (digest bytes : List ℕ) (node : Node) (text : List ℕ) (calls : List Logged) (rest : List ℕ) → bytes ≡ head_text digest node ++ text → AreCalls 1 text calls rest
+log_is : (digest bytes : List ℕ) (node : Node) (text : List ℕ) (calls : List Logged) (rest : List ℕ) → bytes ≡ head_text digest node ++ text → FitsNode node → AreCalls 1 text calls rest
     → IsLogOf digest bytes (record { log = record { node = node; calls = calls }; whole = length bytes - length rest })
 unfolding log_text
-log_is digest bytes node text calls rest front found =
+log_is digest bytes node text calls rest front small found =
     let log : List ℕ = head_text digest node ++ calls_text 1 calls in
     let all : bytes ≡ log ++ rest = front ∙ ap (λ t. head_text digest node ++ t) found.text ∙ sym (append_assoc (head_text digest node) (calls_text 1 calls) rest) in
     let e : 1 + length calls ≡ suc (length calls) = omega arith in
@@ -293,6 +311,7 @@ log_is digest bytes node text calls rest front found =
       is = all;
       whole = omega (arith, ap length all, length-append log rest);
       cut = ap (λ n. frame_at n rest) (sym e) ∙ found.cut;
+      fits = record { node = small; calls = found.fits };
     }
 
 pub log_in_taken : (digest bytes : List ℕ) (read : Reading) → length digest ≡ 32 → AreBytes bytes → log_in digest bytes ≡ Ok read → IsLogOf digest bytes read
@@ -300,8 +319,8 @@ unfolding log_in
 log_in_taken digest bytes read d are h =
     let head = result_then (head_in digest bytes) (λ (n : Node × List ℕ). calls_in (length bytes) 1 (length n.1) n.1 >>= λ (c : List Logged × List ℕ). Ok (record { log = record { node = n.0; calls = c.0 }; whole = length bytes - length c.1 })) read h in
     let calls = result_then (calls_in (length bytes) 1 (length head.0.1) head.0.1) (λ (c : List Logged × List ℕ). Ok (record { log = record { node = head.0.0; calls = c.0 }; whole = length bytes - length c.1 })) read head.2 in
-    let front : IsTaken bytes (head_text digest head.0.0) head.0.1 = head_in_taken digest bytes head.0.0 head.0.1 d are head.1 in
-    let found : AreCalls 1 head.0.1 calls.0.0 calls.0.1 = calls_in_taken (length bytes) 1 (length head.0.1) head.0.1 calls.0.0 calls.0.1 front.rest_bytes (omega arith) calls.1 in
+    let front = head_in_taken digest bytes head.0.0 head.0.1 d are head.1 in
+    let found : AreCalls 1 head.0.1 calls.0.0 calls.0.1 = calls_in_taken (length bytes) 1 (length head.0.1) head.0.1 calls.0.0 calls.0.1 front.0.rest_bytes (omega arith) calls.1 in
     let made : Reading = record { log = record { node = head.0.0; calls = calls.0.0 }; whole = length bytes - length calls.0.1 } in
     let is : made ≡ read = same_ok made read calls.2 in
-    subst (λ (r : Reading). IsLogOf digest bytes r) is (log_is digest bytes head.0.0 head.0.1 calls.0.0 calls.0.1 front.all found)
+    subst (λ (r : Reading). IsLogOf digest bytes r) is (log_is digest bytes head.0.0 head.0.1 calls.0.0 calls.0.1 front.0.all front.1 found)

@@ -1,12 +1,13 @@
 -- What is cut off is how a record begins.
-use Rattle.std.proofs.Common.{◌≡◌, ℕ, zero, suc, ◌-◌, ◌<◌, ◌≤◌, Bool, true, false, cond, List, [], ◌∷◌, ◌++◌, length, take, drop, replicate, slice_index, nat_lt, Option, Some, None, refl, ap, ◌∙◌, sym, arith, append_assoc, length-append}
+use Rattle.std.proofs.Common.{◌≡◌, ℕ, zero, suc, ◌-◌, ◌<◌, ◌≤◌, ◌==◌, ◌&&◌, Bool, true, false, cond, List, [], ◌∷◌, ◌++◌, length, take, drop, replicate, slice_index, nat_lt, Option, Some, None, refl, ap, ◌∙◌, sym, ◌⊎◌, inl, inr, arith, append_assoc, length-append}
+use Rattle.std.proofs.lemmas.Bool.{and_parts}
 use Rattle.std.proofs.lemmas.Bool.Decides.{nat_tests}
 use Rattle.std.proofs.lemmas.List.{take-append-drop, length-take-le, length-replicate}
 use Rattle.std.proofs.lemmas.Nat.{be_bytes_8}
 use Rattle.std.specs.Int.{w64, to_be_bytes, from_be_bytes}
 use Rattle.kept_records.specs.Fields.{u64_at}
 use Rattle.kept_records.proofs.FieldsOnly.{AreBytes, u64_at_taken}
-use Rattle.kept_logs.specs.Frames.{largest, check_of, frame_text, Met, Whole, Torn, Differs, met, CutOff, checked, behind_length, sized_frame, body_at, frame_at}
+use Rattle.kept_logs.specs.Frames.{largest, is_size, is_zeros, no_record, check_of, frame_text, Met, Whole, Torn, Differs, met, CutOff, Damaged, checked, behind_length, sized_frame, body_at, frame_at}
 use Rattle.kept_logs.specs.Cuts.{Begins}
 use Rattle.kept_logs.proofs.Meeting.{IsTorn, met-torn, met-whole}
 
@@ -120,7 +121,20 @@ no_u64 bytes h = by_test (nat_lt (length bytes) 8) refl h
     by_test true t h = less (length bytes) t
     by_test false t h = cc
 
-pub cut_begins : (number : ℕ) (bytes : List ℕ) → AreBytes bytes → frame_at number bytes ≡ CutOff → Begins number bytes
+-- zeros behind a length of zero
+blank : (size : ℕ) (bytes rest : List ℕ) → bytes ≡ to_be_bytes w64 size ++ rest → no_record size rest ≡ CutOff → is_zeros bytes ≡ true
+blank size bytes rest first h = by_test ((size == 0) && is_zeros rest) refl h
+  where
+    zero_is : (n : ℕ) → (n == 0) ≡ true → n ≡ 0
+    zero_is n t = grind (arith, nat_tests)
+
+    by_test : (b : Bool) → ((size == 0) && is_zeros rest) ≡ b → cond b CutOff Damaged ≡ CutOff → is_zeros bytes ≡ true
+    by_test true e h =
+        let parts = and_parts (size == 0) (is_zeros rest) e in
+        ap is_zeros (first ∙ ap (λ n. to_be_bytes w64 n ++ rest) (zero_is size parts.0)) ∙ parts.1
+    by_test false e h = absurd cc
+
+pub cut_begins : (number : ℕ) (bytes : List ℕ) → AreBytes bytes → frame_at number bytes ≡ CutOff → Begins number bytes ⊎ (is_zeros bytes ≡ true)
 unfolding frame_at
 cut_begins number bytes are h = by_count (u64_at bytes) refl h
   where
@@ -129,6 +143,10 @@ cut_begins number bytes are h = by_count (u64_at bytes) refl h
     by_met size rest first Torn e h = second_short number size bytes rest first (met-torn (to_be_bytes w64 (largest - size)) rest e)
     by_met size rest first Differs e h = cc
 
-    by_count : (o : Option (ℕ × List ℕ)) → u64_at bytes ≡ o → sized_frame number o ≡ CutOff → Begins number bytes
-    by_count None e h = too_short number bytes are (no_u64 bytes e)
-    by_count (Some (size, rest)) e h = by_met size rest (u64_at_taken bytes size rest are e).0.all (met (to_be_bytes w64 (largest - size)) rest) refl h
+    by_size : (size : ℕ) (rest : List ℕ) → bytes ≡ to_be_bytes w64 size ++ rest → (b : Bool) → cond b (behind_length number size (met (to_be_bytes w64 (largest - size)) rest)) (no_record size rest) ≡ CutOff → Begins number bytes ⊎ (is_zeros bytes ≡ true)
+    by_size size rest first true h = inl (by_met size rest first (met (to_be_bytes w64 (largest - size)) rest) refl h)
+    by_size size rest first false h = inr (blank size bytes rest first h)
+
+    by_count : (o : Option (ℕ × List ℕ)) → u64_at bytes ≡ o → sized_frame number o ≡ CutOff → Begins number bytes ⊎ (is_zeros bytes ≡ true)
+    by_count None e h = inl (too_short number bytes are (no_u64 bytes e))
+    by_count (Some (size, rest)) e h = by_size size rest (u64_at_taken bytes size rest are e).0.all (is_size size) h

@@ -4,6 +4,7 @@ use Rattle.claim_model.specs.Logs.{Logged, NodeLog}
 use Rattle.kept_logs.specs.Records.{logged_text}
 use Rattle.kept_logs.specs.Frames.{frame_text, CutOff, frame_at}
 use Rattle.kept_logs.specs.Logs.{log_text, Reading, log_in}
+use Rattle.kept_logs.specs.Fits.{FitsLog}
 
 -- how many of these calls, numbered from here on, have records that stand whole in the first so many bytes of their text
 abbrev pub whole_within : ℕ → ℕ → List Logged → ℕ
@@ -43,9 +44,11 @@ pub record Begins (number : ℕ) (bytes : List ℕ) : Type 0 where
 abbrev pub EachIsByte : List ℕ → Type 0
 EachIsByte bytes = (i : ℕ) → slice_index bytes i < 256
 
--- the bytes that a log was read from: its text, and behind it nothing, or the beginning of a record that is cut off
+-- the bytes that a log was read from: its text, and behind it nothing, or the beginning of a record that is cut off, or zeros
 pub record IsLogOf (digest : List ℕ) (bytes : List ℕ) (read : Reading) : Type 0 where
   pub torn : List ℕ
   pub is : bytes ≡ log_text digest read.log ++ torn
   pub whole : read.whole ≡ length (log_text digest read.log)
   pub cut : frame_at (suc (length read.log.calls)) torn ≡ CutOff
+  -- its numbers are numbers of a machine, so its text, and that with more records behind, reads back
+  pub fits : FitsLog read.log

@@ -1,9 +1,10 @@
 -- Logs whose numbers are numbers of a machine.
-use Rattle.std.specs.Prelude.{⊤, ℕ, ◌<◌, ◌^◌, length, Some, None}
+use Rattle.std.specs.Prelude.{◌≡◌, ⊤, ℕ, ◌<◌, ◌^◌, true, length, Some, None}
 use Rattle.std.specs.List.{AllByRecursion}
 use Rattle.claim_model.specs.Node.{Node, Pharmacy, Switch, Payer, Sent, Call, Submit, Tick, Take, Stop, Start, Reprice}
 use Rattle.claim_model.specs.Logs.{Logged, NodeLog}
 use Rattle.kept_logs.specs.Records.{logged_text}
+use Rattle.kept_logs.specs.Frames.{is_size}
 
 abbrev pub number_of : Node → ℕ
 number_of (Pharmacy number) = number
@@ -34,9 +35,9 @@ pub record FitsLogged (r : Logged) : Type 0 where
   pub call : FitsCall r.call
   pub count : length r.sent < 2 ^ 64
   pub sent : AllByRecursion FitsSent r.sent
-  pub body : length (logged_text r) < 2 ^ 64
+  pub body : is_size (length (logged_text r)) ≡ true
 
--- a log's numbers: each node's has two bytes, each price four, each length eight
+-- a log's numbers: each node's has two bytes, each price four, each length eight, and no body of a record has more than it may
 pub record FitsLog (log : NodeLog) : Type 0 where
   pub node : FitsNode log.node
   pub calls : AllByRecursion FitsLogged log.calls

@@ -1,5 +1,6 @@
 -- Records in a file. Each is framed so that one that is cut off is told from one that is damaged, and one that stands in another one's place from its own.
-use Rattle.std.specs.Prelude.{ℕ, ◌-◌, ◌==◌, cond, List, [], ◌∷◌, ◌++◌, length, take, drop, nat_lt, Option, Some, None, if◌then◌else◌}
+use Rattle.std.specs.Prelude.{ℕ, ◌-◌, ◌==◌, ◌&&◌, Bool, cond, List, [], ◌∷◌, ◌++◌, length, take, drop, nat_lt, nat_le, Option, Some, None, if◌then◌else◌}
+use Rattle.std.specs.List.{list_all}
 use Rattle.std.specs.Int.{w64, to_be_bytes}
 use Rattle.sha2.specs.Sha256.{sha256}
 use Rattle.kept_records.specs.Fields.{u64_at}
@@ -7,6 +8,18 @@ use Rattle.kept_records.specs.Fields.{u64_at}
 -- the largest number of eight bytes
 abbrev pub largest : ℕ
 largest = 18446744073709551615
+
+-- the most bytes that the body of a record has
+abbrev pub most_body : ℕ
+most_body = 4294967295
+
+-- whether a body may have so many bytes: at least one
+abbrev pub is_size : ℕ → Bool
+is_size size = nat_lt 0 size && nat_le size most_body
+
+-- zeros alone, which no record begins with: some file systems leave them where what was appended is lost
+abbrev pub is_zeros : List ℕ → Bool
+is_zeros bytes = list_all (λ byte. byte == 0) bytes
 
 -- the eight bytes that vouch for a body under a number: the first of its digest
 unfoldable pub check_of : ℕ → List ℕ → List ℕ
@@ -49,9 +62,13 @@ behind_length number size (Whole rest) = body_at number size rest
 behind_length number size Torn = CutOff
 behind_length number size Differs = Damaged
 
+-- behind a length that no body has: zeros to the end are lost bytes, all else is no record
+abbrev pub no_record : ℕ → List ℕ → Frame
+no_record size rest = if (size == 0) && is_zeros rest then CutOff else Damaged
+
 abbrev pub sized_frame : ℕ → Option (ℕ × List ℕ) → Frame
 sized_frame number None = CutOff
-sized_frame number (Some (size, rest)) = behind_length number size (met (to_be_bytes w64 (largest - size)) rest)
+sized_frame number (Some (size, rest)) = if is_size size then behind_length number size (met (to_be_bytes w64 (largest - size)) rest) else no_record size rest
 
 -- the record of this number at the front of bytes
 unfoldable pub frame_at : ℕ → List ℕ → Frame

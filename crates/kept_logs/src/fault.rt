@@ -5,9 +5,9 @@ ghost use Rattle.std.specs.Prelude.{◌≡◌};
 use std::alloc::{AllocError, AllocFailed};
 use thiserror::Error;
 
-/// Why bytes are not read as a log. The causes of a head are judged in the order of this list, and then the first faulty
-/// record decides. A place is that of the record's first byte, from 0 in the bytes handed in. Want of memory may stand in
-/// place of any answer.
+/// Why bytes are not read as a log. A head is judged from its front, so `XX` is `NotALog` and `P` is `Short`; then its check
+/// sum, its kind of node and its digest, in this order; then the first faulty record decides. A place is that of the
+/// record's first byte, from 0 in the bytes handed in. Want of memory may stand in place of any answer.
 #[derive(Clone, Copy, Debug, PartialEq, Eq, Error)]
 pub enum LogFault {
     /// There is no memory for what the bytes keep.
@@ -31,7 +31,7 @@ pub enum LogFault {
     /// The digest is not that of the settings asked for.
     #[error("the log is of other settings")]
     OtherSettings,
-    /// The record at this place is not the next one as it was written.
+    /// The record at this place is not the next one as it was written, or has a length that no record has.
     #[error("the record at byte {0} is damaged")]
     Damaged(usize),
     /// The record at this place is whole and undamaged, and no call of a node.

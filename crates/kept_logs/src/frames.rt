@@ -1,7 +1,7 @@
 //! Records in a file.
 
-ghost use Rattle.std.specs.Prelude.{◌≡◌, ◌<◌, ◌^◌, length, IfOk};
-ghost use Rattle.kept_logs.specs.Frames.{frame_text, frame_at, body_at};
+ghost use Rattle.std.specs.Prelude.{◌≡◌, true, length, IfOk};
+ghost use Rattle.kept_logs.specs.Frames.{frame_text, frame_at, body_at, is_size, is_zeros, no_record};
 ghost use Rattle.kept_logs.specs.MetSeen.{frame_seen};
 
 use crate::digest::check_of;
@@ -12,6 +12,9 @@ use std::alloc::{AllocError, Global};
 
 /// What a record takes beside its body, in bytes: its length twice, and what vouches for it.
 const AROUND: usize = 24;
+
+/// The most bytes that the body of a record has (own): the sum of all packets of the largest journal has fewer.
+const MOST_BODY: u64 = 4_294_967_295;
 
 /// What stands at the front of bytes.
 #[derive(Clone, Copy)]
@@ -24,13 +27,41 @@ pub(crate) enum Frame<'a> {
     Damaged,
 }
 
+/// Whether a body may have so many bytes: at least one.
+fn is_size(size: u64) -> bool
+    ensures { result ≡ is_size size }
+{
+    0 < size && size <= MOST_BODY
+}
+
+/// Whether bytes are zeros alone.
+fn is_zeros(bytes: &[u8]) -> bool
+    ensures { result ≡ is_zeros bytes.now }
+{
+    bytes.iter().all(is_zero)
+}
+
+/// Whether a byte is zero.
+fn is_zero(byte: &u8) -> bool
+    ensures { result ≡ (byte.now == 0) }
+{
+    *byte == 0
+}
+
 /// The record of this number with this body.
+///
+/// # Errors
+/// Memory was refused, or the body has more bytes than a record may: the process has to end then, as where there is no
+/// memory.
 #[tactic(auto, unfolding(crate::specs::Frames::frame_text))]
 pub(crate) fn frame_of(alloc: Global, number: u64, body: &[u8]) -> Result<Vec<u8>, AllocError>
     ensures text { IfOk result (λ frame. frame.items ≡ frame_text number body.now) }
-    ensures fits { length body.now < 2 ^ 64 }
+    ensures fits { IfOk result (λ _. is_size (length body.now) ≡ true) }
 {
     let size = body.len() as u64;
+    if !is_size(size) {
+        return Err(AllocError);
+    }
     let mut frame = Vec::with_capacity(alloc, body.len().saturating_add(AROUND))?;
     put_u64(&mut frame, size)?;
     put_u64(&mut frame, u64::MAX - size)?;
@@ -47,11 +78,25 @@ pub(crate) fn take_frame(number: u64, bytes: &[u8]) -> Frame<'_>
     let Some((size, rest)) = take_u64(bytes) else {
         return Frame::CutOff;
     };
+    if !is_size(size) {
+        return no_record(size, rest);
+    }
     let complement = u64::MAX - size;
     match meet(&complement.to_be_bytes(), rest) {
         Met::Whole(rest) => take_body(number, size, rest),
         Met::Torn => Frame::CutOff,
         Met::Differs => Frame::Damaged,
+    }
+}
+
+/// What stands behind a length that no body has: where all is zero up to the end, bytes that a crash has lost.
+fn no_record(size: u64, rest: &[u8]) -> Frame<'_>
+    ensures { frame_seen result ≡ no_record size rest.now }
+{
+    if size == 0 && is_zeros(rest) {
+        Frame::CutOff
+    } else {
+        Frame::Damaged
     }
 }
 

@@ -1,11 +1,11 @@
 //! What holds of every log and its text, as facts that a caller cites by a call.
 
-ghost use Rattle.std.specs.Prelude.{◌≡◌, ℕ, ◌+◌, ◌<◌, ◌≤◌, ◌++◌, List, length, take, Ok, Err};
+ghost use Rattle.std.specs.Prelude.{◌≡◌, ◌⊎◌, ℕ, ◌+◌, ◌<◌, ◌≤◌, ◌++◌, true, List, length, take, Ok, Err};
 ghost use Rattle.claim_model.specs.Logs.{Logged, NodeLog};
 ghost use Rattle.run_merge.specs.LogSeen.{with_call};
 ghost use Rattle.kept_logs.specs.declared.fault.LogFault.TheVariants.{Short};
 ghost use Rattle.kept_logs.specs.Records.{logged_text};
-ghost use Rattle.kept_logs.specs.Frames.{frame_text, frame_at, CutOff};
+ghost use Rattle.kept_logs.specs.Frames.{frame_text, frame_at, is_zeros, CutOff};
 ghost use Rattle.kept_logs.specs.Logs.{log_text, Reading, log_in, ReadsAs};
 ghost use Rattle.kept_logs.specs.Fits.{FitsLog};
 ghost use Rattle.kept_logs.specs.Cuts.{EachIsByte, ReadsBack, Begins, IsLogOf};
@@ -27,10 +27,11 @@ pub fn log_takes_one_more()
         → log_text digest (with_call log r) ≡ log_text digest log ++ frame_text (length log.calls + 1) (logged_text r) }
 {}
 
-/// Bytes that are read as a log are its text, and behind it nothing or the beginning of a record that is cut off.
+/// Bytes that are read as a log are its text, and behind it nothing, or the beginning of a record that is cut off, or zeros,
+/// as some file systems leave them in the place of bytes that a crash has lost.
 pub fn log_is_its_text()
     ensures text { (digest bytes : List ℕ) (read : Reading)
         → length digest ≡ 32 → EachIsByte bytes → log_in digest bytes ≡ Ok read → IsLogOf digest bytes read }
     ensures cut { (number : ℕ) (bytes : List ℕ)
-        → EachIsByte bytes → frame_at number bytes ≡ CutOff → Begins number bytes }
+        → EachIsByte bytes → frame_at number bytes ≡ CutOff → Begins number bytes ⊎ (is_zeros bytes ≡ true) }
 {}

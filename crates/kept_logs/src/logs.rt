@@ -1,6 +1,6 @@
 //! Logs as they are written and read.
 
-ghost use Rattle.std.specs.Prelude.{◌≡◌, ◌≢◌, ◌++◌, Ok, Err, IfOk, IfErr, OnOk};
+ghost use Rattle.std.specs.Prelude.{◌≡◌, ◌≢◌, ◌≤◌, ◌++◌, length, Ok, Err, IfOk, IfErr, OnOk};
 ghost use Rattle.std.specs.List.{AllByRecursion};
 ghost use Rattle.std.specs.Option.{option_map};
 ghost use Rattle.world_setup.specs.Seen.{node_seen};
@@ -9,7 +9,7 @@ ghost use Rattle.kept_logs.specs.declared.fault.LogFault.TheVariants.{OutOfMemor
 ghost use Rattle.kept_logs.specs.Records.{logged_text, logged_in};
 ghost use Rattle.kept_logs.specs.Frames.{frame_text};
 ghost use Rattle.kept_logs.specs.Logs.{calls_text, log_text, read_record, record_in, records_in, log_in, ReadsAs};
-ghost use Rattle.kept_logs.specs.Cuts.{IsLogOf};
+ghost use Rattle.kept_logs.specs.Cuts.{IsLogOf, first_calls};
 ghost use Rattle.kept_logs.specs.LogSeen.{entry_seen, reading_seen, CallsAre};
 ghost use Rattle.kept_logs.specs.Fits.{FitsLogged, FitsLog};
 
@@ -70,6 +70,25 @@ fn put_records(alloc: Global, text: &mut Vec<u8>, records: &[Record]) -> Result<
         text.extend_from_slice(&bytes)?;
     }
     Ok(())
+}
+
+/// The place behind the first so many calls of a log in its text, from 0: that of the next one's record.
+///
+/// # Errors
+/// Memory was refused.
+pub fn place_of(
+    alloc: Global,
+    settings: &SettingsDigest,
+    log: &NodeLog,
+    count: usize,
+) -> Result<usize, AllocError>
+    requires { count ≤ length (log_seen log.now).calls }
+    ensures { IfOk result (λ place. place ≡ length (log_text settings.now (first_calls count (log_seen log.now)))) }
+{
+    let mut text = Vec::new(alloc);
+    put_head(alloc, &mut text, settings, log.node())?;
+    put_records(alloc, &mut text, &log.records()[..count])?;
+    Ok(text.len())
 }
 
 /// What a host appends to a log's text for the call that is the next one, of this number from 1.

@@ -1,12 +1,12 @@
 //! Accepted calls in a log, each with what it sent.
 
-ghost use Rattle.std.specs.Prelude.{◌≡◌, ◌++◌, map, OnOk, IfOk};
+ghost use Rattle.std.specs.Prelude.{◌≡◌, ◌<◌, ◌^◌, ◌++◌, map, length, OnOk, IfOk};
 ghost use Rattle.std.specs.List.{AllByRecursion};
 ghost use Rattle.std.specs.Option.{option_map};
 ghost use Rattle.world_setup.specs.Seen.{sent_seen};
 ghost use Rattle.kept_logs.specs.Records.{sent_text, sent_at, sents_text, sents_in, logged_text, logged_in};
 ghost use Rattle.kept_logs.specs.LogSeen.{entry_seen};
-ghost use Rattle.kept_logs.specs.Fits.{FitsSent, FitsLogged};
+ghost use Rattle.kept_logs.specs.Fits.{FitsCall, FitsSent};
 
 use crate::calls::{put_call, take_call};
 use crate::fields::{take_node, take_text, take_u64};
@@ -23,7 +23,9 @@ const ROOM: usize = 1024;
 #[tactic(auto, unfolding(crate::specs::Records::logged_text))]
 pub(crate) fn body_of(alloc: Global, one: &Record) -> Result<Vec<u8>, AllocError>
     ensures text { IfOk result (λ body. body.items ≡ logged_text one.now) }
-    ensures fits { IfOk result (λ _. FitsLogged one.now) }
+    ensures call { IfOk result (λ _. FitsCall one.now.call) }
+    ensures count { IfOk result (λ _. length one.now.sent < 2 ^ 64) }
+    ensures sent { IfOk result (λ _. AllByRecursion FitsSent one.now.sent) }
 {
     let mut body = Vec::with_capacity(alloc, ROOM)?;
     put_call(&mut body, one.call())?;

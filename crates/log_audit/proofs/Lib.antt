@@ -5,6 +5,5 @@ pub mod Entering
 pub mod Authorizations
 pub mod Naming
 pub mod Leaving
-pub mod Breaking
 pub mod Listing
 pub mod LogReading

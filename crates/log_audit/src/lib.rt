@@ -12,7 +12,6 @@ mod names;
 mod object;
 mod packets;
 mod reading;
-mod replaying;
 mod report;
 mod tables;
 mod waiting;

@@ -5,9 +5,8 @@ ghost use Rattle.claim_model.specs.Settings.{settings_fault};
 ghost use Rattle.world_setup.specs.Seen.{settings_seen};
 
 use crate::names::{end, put, put_call, put_count, put_node};
-use crate::replaying::{Misfit, first_misfit};
 use bin_routes::Routes;
-use run_merge::NodeLog;
+use run_merge::{Misfit, NodeLog, first_misfit};
 use std::alloc::{AllocError, Global};
 use world_setup::{Sent, WorldSettings};
 

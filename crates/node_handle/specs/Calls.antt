@@ -5,20 +5,42 @@ use Rattle.world_setup.specs.Seen.{node_seen}
 use Rattle.world_setup.specs.declared.node.Node.{Node}
 use Rattle.node_service.specs.Names.{node_in}
 use Rattle.node_service.specs.Serving.{Serving, after_line, cleared}
+use Rattle.node_service.specs.declared.fault.ServiceFault.{ServiceFault}
 use Rattle.node_service.specs.Opened.{IsOpened}
+use Rattle.node_service.specs.Refused.{IsRefused}
 use Rattle.node_handle.specs.declared.refusal.Refusal.{Refusal}
-use Rattle.node_handle.specs.declared.refusal.Refusal.TheVariants.{OutOfMemory, Closed, ShortBuffer, Damaged, BadRecord}
+use Rattle.node_handle.specs.declared.refusal.Refusal.TheVariants.{OutOfMemory, Closed, Open, ShortBuffer, Name}
+use Rattle.node_handle.specs.Refusals.{refusal_of, place_in}
 
 -- what a call says: that it was made, or why not
 abbrev pub Said : Type 0
 Said = Result (Unit {0}) Refusal
 
--- opened, the node is that of the settings, the name and the log, and so many bytes of the log stay; refused, the handle is as it was, and of the
--- rest only the place of a faulty record is told
+-- a node is refused for a true cause, and the place of the record that it is about is told
+pub record HasCause (settings name log : List ℕ) (why : Refusal) (before kept : ℕ) : Type 0 where
+  pub node : Node
+  pub named : node_in name ≡ Some node
+  pub fault : ServiceFault
+  pub refused : IsRefused settings (node_seen node) log fault
+  pub is : why ≡ refusal_of fault
+  pub place : kept ≡ place_in fault before
+
+-- want of memory, a name of no node, or the first cause that stands
+abbrev pub RefusesNode : List ℕ → List ℕ → List ℕ → Refusal → ℕ → ℕ → Type 0
+RefusesNode settings name log why before kept =
+    ((why ≡ OutOfMemory) × (kept ≡ before)) ⊎ (((why ≡ Name) × ((node_in name ≡ None) × (kept ≡ before))) ⊎ HasCause settings name log why before kept)
+
+-- the handle has a node already, or the node is refused
+abbrev pub RefusesOpening : Option Serving → List ℕ → List ℕ → List ℕ → Refusal → ℕ → ℕ → Type 0
+RefusesOpening old settings name log why before kept =
+    ((why ≡ Open) × (IsSome old × (kept ≡ before))) ⊎ RefusesNode settings name log why before kept
+
+-- opened, the node is that of the settings, the name and the log, and so many bytes of the log stay; refused, the handle is as it was, and why and
+-- where is told
 abbrev pub Opens : Option Serving → List ℕ → List ℕ → List ℕ → Said → ℕ → ℕ → Option Serving → Type 0
 Opens old settings name log (Ok made) before kept new =
     (s : Serving) × (node : Node) × ((old ≡ None) × ((new ≡ Some s) × ((node_in name ≡ Some node) × IsOpened settings (node_seen node) log kept s)))
-Opens old settings name log (Err why) before kept new = (new ≡ old) × ((kept ≡ before) ⊎ ((why ≡ Damaged) ⊎ (why ≡ BadRecord)))
+Opens old settings name log (Err why) before kept new = (new ≡ old) × RefusesOpening old settings name log why before kept
 
 -- a line that was served made of the node what a line makes of it. Where memory was refused there is no node any more: it may have made the call
 -- and have no record of it

@@ -1,5 +1,6 @@
 pub mod Erased
 pub mod Numbers
+pub mod Refusals
 pub mod Calls
 pub mod Texts
 pub mod Typed

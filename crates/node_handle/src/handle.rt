@@ -1,13 +1,14 @@
 //! The handle of a node.
 
-ghost use Rattle.std.specs.Prelude.{◌≡◌, ◌⊎◌, IfOk, IfErr, IsSome, is_some};
+ghost use Rattle.std.specs.Prelude.{◌≡◌, IfOk, IfErr, IsSome, is_some};
 ghost use Rattle.std.specs.declared.option.Option.TheVariants.{None, Some};
 ghost use Rattle.world_setup.specs.Seen.{node_seen};
 ghost use Rattle.node_service.specs.Names.{node_in};
 ghost use Rattle.node_service.specs.Opened.{IsOpened};
 ghost use Rattle.world_setup.specs.declared.node.Node.{Node};
-ghost use Rattle.node_handle.specs.declared.refusal.Refusal.TheVariants.{Damaged, BadRecord};
-ghost use Rattle.node_handle.specs.Calls.{Opens, Serves, Clears, Counts, CopiesRecords, CopiesWritten};
+ghost use Rattle.node_handle.specs.declared.refusal.Refusal.TheVariants.{OutOfMemory};
+ghost use Rattle.node_handle.specs.Refusals.{refusal_of, place_in};
+ghost use Rattle.node_handle.specs.Calls.{Opens, RefusesNode, Serves, Clears, Counts, CopiesRecords, CopiesWritten};
 
 use crate::loose::Loose;
 use crate::part::Part;
@@ -198,7 +199,7 @@ fn opened(
 ) -> Result<Box<Service>, Refusal>
     ensures opened { IfOk result (λ o. (node : Node)
         × ((node_in name.now ≡ Some node) × IsOpened settings.now (node_seen node) log.now kept.new o.value)) }
-    ensures refused { IfErr result (λ why. (kept.new ≡ kept.old) ⊎ ((why ≡ Damaged) ⊎ (why ≡ BadRecord))) }
+    ensures refused { IfErr result (λ why. RefusesNode settings.now name.now log.now why kept.old kept.new) }
 {
     let Some(node) = node_in(name) else {
         return Err(Refusal::Name);
@@ -217,7 +218,7 @@ fn boxed(
     kept: &mut usize,
 ) -> Result<Box<Service>, Refusal>
     ensures boxed { IfOk result (λ o. (o.value ≡ service) × (kept.new ≡ stay)) }
-    ensures refused { IfErr result (λ _. kept.new ≡ kept.old) }
+    ensures refused { IfErr result (λ why. (why ≡ OutOfMemory) × (kept.new ≡ kept.old)) }
 {
     match Box::new(alloc, service) {
         Ok(node) => {
@@ -230,7 +231,8 @@ fn boxed(
 
 /// The refusal of a fault, with the place of the record that it is about.
 fn told(fault: ServiceFault, kept: &mut usize) -> Refusal
-    ensures { (kept.new ≡ kept.old) ⊎ ((result ≡ Damaged) ⊎ (result ≡ BadRecord)) }
+    ensures refusal { result ≡ refusal_of fault }
+    ensures place { kept.new ≡ place_in fault kept.old }
 {
     match fault {
         ServiceFault::Log(LogFault::Damaged(place)) => {
@@ -238,6 +240,10 @@ fn told(fault: ServiceFault, kept: &mut usize) -> Refusal
             Refusal::Damaged
         }
         ServiceFault::Log(LogFault::BadRecord(place)) => {
+            *kept = place;
+            Refusal::BadRecord
+        }
+        ServiceFault::NotMade(place) => {
             *kept = place;
             Refusal::BadRecord
         }

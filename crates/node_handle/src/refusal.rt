@@ -3,6 +3,7 @@
 ghost use Rattle.std.specs.Prelude.{◌≡◌, ◌≢◌};
 ghost use Rattle.node_handle.specs.declared.refusal.Refusal.TheVariants.{NoRun};
 ghost use Rattle.node_handle.specs.Numbers.{number_of};
+ghost use Rattle.node_handle.specs.Refusals.{refusal_of, refusal_of_log};
 
 use kept_logs::LogFault;
 use node_service::ServiceFault;
@@ -38,7 +39,7 @@ pub enum Refusal {
     OtherSettings,
     /// A record of the log is damaged.
     Damaged,
-    /// A record of the log is no call of the node.
+    /// A record of the log is no call, or one that the node does not make so.
     BadRecord,
     /// The text spells no bytes.
     BadText,
@@ -79,19 +80,23 @@ pub fn number_of(said: Result<(), Refusal>) -> u32
 }
 
 /// The refusal of a node that is not opened.
-pub(crate) fn refusal_of(fault: ServiceFault) -> Refusal {
+pub(crate) fn refusal_of(fault: ServiceFault) -> Refusal
+    ensures { result ≡ refusal_of fault }
+{
     match fault {
         ServiceFault::OutOfMemory => Refusal::OutOfMemory,
         ServiceFault::Settings => Refusal::Settings,
         ServiceFault::NoSuchNode => Refusal::NoSuchNode,
         ServiceFault::OtherNode => Refusal::OtherNode,
         ServiceFault::Log(fault) => refusal_of_log(fault),
+        ServiceFault::NotMade(_) => Refusal::BadRecord,
     }
 }
 
 /// The refusal of a log.
 pub(crate) fn refusal_of_log(fault: LogFault) -> Refusal
-    ensures { result ≢ NoRun }
+    ensures is { result ≡ refusal_of_log fault }
+    ensures judged { result ≢ NoRun }
 {
     match fault {
         LogFault::OutOfMemory => Refusal::OutOfMemory,

@@ -3,3 +3,5 @@ pub mod Asking
 pub mod Answering
 pub mod Serving
 pub mod Opened
+pub mod Lines
+pub mod Refused

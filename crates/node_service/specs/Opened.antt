@@ -1,14 +1,32 @@
 -- The node that is served, from the bytes of its log.
-use Rattle.std.specs.Prelude.{◌≡◌, ◌⊎◌, ℕ, zero, List, [], length, Some, Ok, Err}
+use Rattle.std.specs.Prelude.{◌≡◌, ◌⊎◌, ℕ, zero, List, [], ◌++◌, take, length, Some, None, Ok, Err}
 use Rattle.sha2.specs.Sha256.{sha256}
 use Rattle.claim_model.specs.Node.{Node}
-use Rattle.claim_model.specs.Logs.{NodeLog}
+use Rattle.claim_model.specs.Nodes.{AnyNode}
+use Rattle.claim_model.specs.Logs.{Logged, NodeLog, Makes}
+use Rattle.world_setup.specs.Taken.{world_fault}
 use Rattle.world_setup.specs.declared.settings.WorldSettings.{WorldSettings}
 use Rattle.world_settings.specs.Document.{document_seen, settings_in}
 use Rattle.kept_logs.specs.declared.fault.LogFault.TheVariants.{Short}
 use Rattle.kept_logs.specs.Logs.{log_text, log_in}
+use Rattle.kept_logs.specs.Fits.{FitsLog}
 use Rattle.run_merge.specs.Merged.{replayed}
+use Rattle.node_logged.specs.Setting.{context_of, opened}
 use Rattle.node_service.specs.Serving.{Serving}
+
+-- a text spells these settings, and a world takes them
+pub record Spells (text : List ℕ) (settings : WorldSettings) : Type 0 where
+  pub spelled : settings_in text ≡ Some (document_seen settings)
+  pub taken : world_fault settings ≡ None
+
+-- the node of that name makes these calls from its opening, and sends with each every byte that the log has as sent
+abbrev pub MakesAll : WorldSettings → Node → List Logged → Type 0
+MakesAll settings node calls = (before : AnyNode) → opened settings node ≡ Some before → Makes (context_of settings) before calls
+
+-- a log is made by its node, which is then in this state
+pub record IsMadeBy (settings : WorldSettings) (log : NodeLog) (state : AnyNode) : Type 0 where
+  pub makes : MakesAll settings log.node log.calls
+  pub leads : replayed settings log.node log.calls ≡ Some state
 
 -- a node's log with no call
 abbrev pub empty_log : Node → NodeLog
@@ -21,14 +39,17 @@ IsBegun digest node bytes log kept records =
     ((log_in digest bytes ≡ Ok (record { log = log; whole = kept })) × (records ≡ []))
     ⊎ ((log_in digest bytes ≡ Err Short) × ((log ≡ empty_log node) × ((kept ≡ zero) × (records ≡ log_text digest (empty_log node)))))
 
--- the node that is served is the replay of the log that the bytes are, from the opening of the settings that the text spells
-pub record IsOpened (text : List ℕ) (node : Node) (bytes : List ℕ) (kept : ℕ) (s : Serving) : Type 0 where
-  pub spelled : settings_in text ≡ Some (document_seen s.settings)
+-- the node that is served makes the log that the bytes are, from the opening of the settings that the text spells, and is its replay
+pub record IsOpened (settings : List ℕ) (node : Node) (bytes : List ℕ) (kept : ℕ) (s : Serving) : Type 0 where
+  pub spells : Spells settings s.settings
   pub named : s.node ≡ node
   pub log : NodeLog
   pub own : log.node ≡ node
-  pub begun : IsBegun (sha256 text) node bytes log kept s.records
+  pub begun : IsBegun (sha256 settings) node bytes log kept s.records
+  pub text : take kept bytes ++ s.records ≡ log_text (sha256 settings) log
+  pub fits : FitsLog log
   pub calls : s.calls ≡ length log.calls
+  pub makes : MakesAll s.settings node log.calls
   pub state : replayed s.settings node log.calls ≡ Some s.state
   pub silent : s.out ≡ []
 
@@ -37,7 +58,7 @@ pub record IsServed (settings : WorldSettings) (log : NodeLog) (kept : ℕ) (rec
   pub own : s.settings ≡ settings
   pub named : s.node ≡ log.node
   pub calls : s.calls ≡ length log.calls
-  pub state : replayed settings log.node log.calls ≡ Some s.state
+  pub made : IsMadeBy settings log s.state
   pub append : s.records ≡ records
   pub silent : s.out ≡ []
   pub stays : stay ≡ kept

@@ -3,10 +3,9 @@
 use kept_logs::LogFault;
 use std::alloc::AllocError;
 use thiserror::Error;
-use world_settings::SettingsFault;
-use world_setup::WorldFault;
 
-/// Why a node is not served. Want of memory may stand in place of any answer.
+/// Why a node is not served: the first cause in the order of this list, where a log's own faults come before `OtherNode`. Want
+/// of memory may stand in place of any answer.
 #[derive(Clone, Copy, Debug, PartialEq, Eq, Error)]
 pub enum ServiceFault {
     /// Memory was refused.
@@ -18,43 +17,24 @@ pub enum ServiceFault {
     /// The settings have no such node.
     #[error("the settings have no such node")]
     NoSuchNode,
-    /// The log is another node's.
-    #[error("the log is another node's")]
-    OtherNode,
     /// The bytes are no log of these settings.
     #[error("{0}")]
     Log(LogFault),
+    /// The log is another node's.
+    #[error("the log is another node's")]
+    OtherNode,
+    /// The node does not make the call of the record at this place, from 0, as the log has it: it refuses the call, or sends
+    /// other bytes. The rules have changed since, or the log was.
+    #[error("the record at byte {0} is no call that the node makes")]
+    NotMade(usize),
 }
 
 impl From<AllocError> for ServiceFault {
+    ghost use Rattle.node_service.specs.declared.fault.ServiceFault.TheVariants.{OutOfMemory};
+
+    ghost from_gives = { λ _ e. e ≡ OutOfMemory };
+
     fn from(_refused: AllocError) -> ServiceFault {
         ServiceFault::OutOfMemory
-    }
-}
-
-impl From<SettingsFault> for ServiceFault {
-    fn from(fault: SettingsFault) -> ServiceFault {
-        match fault {
-            SettingsFault::OutOfMemory => ServiceFault::OutOfMemory,
-            SettingsFault::Settings => ServiceFault::Settings,
-        }
-    }
-}
-
-impl From<WorldFault> for ServiceFault {
-    fn from(fault: WorldFault) -> ServiceFault {
-        match fault {
-            WorldFault::OutOfMemory => ServiceFault::OutOfMemory,
-            _ => ServiceFault::Settings,
-        }
-    }
-}
-
-impl From<LogFault> for ServiceFault {
-    fn from(fault: LogFault) -> ServiceFault {
-        match fault {
-            LogFault::OutOfMemory => ServiceFault::OutOfMemory,
-            other => ServiceFault::Log(other),
-        }
     }
 }

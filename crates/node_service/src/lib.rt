@@ -8,11 +8,13 @@
 mod answering;
 mod asking;
 mod fault;
+mod laws;
 mod names;
 mod opening;
 mod service;
 mod telling;
 
 pub use fault::ServiceFault;
+pub use laws::{crashed_files_restart, lines_add, restarts_are_the_same, served_logs_grow};
 pub use names::node_in;
 pub use service::Service;

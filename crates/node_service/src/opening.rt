@@ -1,6 +1,6 @@
 //! From the bytes of a log to the node that is served.
 
-ghost use Rattle.std.specs.Prelude.{◌≡◌, [], Some, IfOk, IsSome};
+ghost use Rattle.std.specs.Prelude.{◌≡◌, [], ◌++◌, take, Some, IfOk, IfErr, IsSome};
 ghost use Rattle.sha2.specs.Sha256.{sha256};
 ghost use Rattle.world_setup.specs.Seen.{node_seen};
 ghost use Rattle.world_settings.specs.Document.{document_seen, settings_in};
@@ -8,17 +8,21 @@ ghost use Rattle.run_merge.specs.LogSeen.{log_seen};
 ghost use Rattle.node_logged.specs.Setting.{opened};
 ghost use Rattle.kept_logs.specs.Logs.{log_text};
 ghost use Rattle.kept_logs.specs.LogSeen.{reading_seen};
-ghost use Rattle.node_service.specs.Opened.{IsBegun, IsOpened, IsServed, empty_log};
+ghost use Rattle.kept_logs.specs.Fits.{FitsLog};
+ghost use Rattle.node_service.specs.declared.fault.ServiceFault.TheVariants.{OutOfMemory};
+ghost use Rattle.node_service.specs.Opened.{IsBegun, IsMadeBy, IsOpened, IsServed, Spells, empty_log};
+ghost use Rattle.node_service.specs.Refused.{IsAnothers, IsNotMade, IsRefused, NoLog, NoSettings};
 
 use crate::fault::ServiceFault;
 use crate::service::Service;
-use kept_logs::{LogFault, ReadLog, SettingsDigest, read_log, write_log};
+use kept_logs::{LogFault, ReadLog, SettingsDigest, place_of, read_log, write_log};
 use node_logged::Shared;
+use node_state::NodeState;
 use payer_book::HashKeys;
-use run_merge::{NodeLog, replay_log};
+use run_merge::{NodeLog, make_log};
 use std::alloc::{AllocError, Global};
-use world_settings::read_settings;
-use world_setup::{Node, WorldSettings};
+use world_settings::{SettingsFault, read_settings};
+use world_setup::{Node, WorldFault, WorldSettings};
 
 /// A log that was read or begun: what it has, how many bytes of the file stay, and what is to be appended.
 #[derive(Drop)]
@@ -30,12 +34,14 @@ struct Begun {
 
 impl Service {
     /// The node of this name under the settings that a text spells, from the bytes of its log; and how many of these bytes
-    /// stay. What stands behind them is a record that was cut off, and goes. Where there is no log yet, or no whole head of
-    /// one, the head is to be appended. The maps of a payer's book hash with these keys, on which no answer hangs.
+    /// stay. What stands behind them is a record that was cut off, or zeros, and goes. Where there is no log yet, or no whole
+    /// head of one, the head is to be appended. The node has made each call of the log anew, and sent every byte that the log
+    /// has as sent. The maps of a payer's book hash with these keys, on which no answer hangs.
     ///
     /// # Errors
-    /// `Settings` where the text spells none, or those that open no world; `NoSuchNode`; the fault of the log;
-    /// `OtherNode`. `OutOfMemory` may stand in place of any answer.
+    /// The first that stands: `Settings` where the text spells none, or those that open no world; `NoSuchNode`; `Log`;
+    /// `OtherNode`; `NotMade` with the place of the first record that the node does not make. `OutOfMemory` may stand in
+    /// place of any answer.
     pub fn open(
         alloc: Global,
         keys: &HashKeys,
@@ -43,25 +49,40 @@ impl Service {
         node: Node,
         bytes: &[u8],
     ) -> Result<(Service, usize), ServiceFault>
-        ensures { IfOk result (λ opened. IsOpened text.now (node_seen node) bytes.now opened.1 opened.0) }
+        ensures opened { IfOk result (λ opened. IsOpened text.now (node_seen node) bytes.now opened.1 opened.0) }
+        ensures refused { IfErr result (λ why. IsRefused text.now (node_seen node) bytes.now why) }
     {
-        let settings = settings_of(alloc, keys, text)?;
-        let shared = Shared::new(alloc, settings)?;
+        let shared = shared_of(alloc, keys, text)?;
         if !shared.has(node) {
             return Err(ServiceFault::NoSuchNode);
         }
         let begun = begin(alloc, text, node, bytes)?;
-        serve_from(alloc, shared, begun)
+        serve_from(alloc, text, shared, begun)
+    }
+}
+
+/// The settings that a text spells, with these keys, where a world takes them.
+fn shared_of(alloc: Global, keys: &HashKeys, text: &[u8]) -> Result<Shared, ServiceFault>
+    ensures spelled { IfOk result (λ shared. Spells text.now shared) }
+    ensures refused { IfErr result (λ why. NoSettings text.now why) }
+{
+    let settings = settings_of(alloc, keys, text)?;
+    match Shared::new(alloc, settings) {
+        Ok(shared) => Ok(shared),
+        Err(WorldFault::OutOfMemory) => Err(ServiceFault::OutOfMemory),
+        Err(_) => Err(ServiceFault::Settings),
     }
 }
 
 /// The settings that a text spells, with these keys.
 fn settings_of(alloc: Global, keys: &HashKeys, text: &[u8]) -> Result<WorldSettings, ServiceFault>
     ensures read { IfOk result (λ settings. settings_in text.now ≡ Some (document_seen settings)) }
+    ensures refused { IfErr result (λ why. NoSettings text.now why) }
 {
     match read_settings(alloc, text) {
         Ok(settings) => Ok(settings.with_keys(keys)),
-        Err(fault) => Err(ServiceFault::from(fault)),
+        Err(SettingsFault::OutOfMemory) => Err(ServiceFault::OutOfMemory),
+        Err(SettingsFault::Settings) => Err(ServiceFault::Settings),
     }
 }
 
@@ -70,12 +91,17 @@ fn begin(alloc: Global, text: &[u8], node: Node, bytes: &[u8]) -> Result<Begun, 
     ensures own { IfOk result (λ begun. (log_seen begun.log).node ≡ node_seen node) }
     ensures begun { IfOk result (λ begun.
         IsBegun (sha256 text.now) (node_seen node) bytes.now (log_seen begun.log) begun.kept begun.records.items) }
+    ensures text { IfOk result (λ begun.
+        take begun.kept bytes.now ++ begun.records.items ≡ log_text (sha256 text.now) (log_seen begun.log)) }
+    ensures fits { IfOk result (λ begun. FitsLog (log_seen begun.log)) }
+    ensures refused { IfErr result (λ why. NoLog (sha256 text.now) (node_seen node) bytes.now why) }
 {
     let digest = SettingsDigest::of(text);
     match read_log(alloc, &digest, bytes) {
         Ok(read) => own(alloc, node, read),
         Err(LogFault::Short) => new(alloc, &digest, node),
-        Err(fault) => Err(ServiceFault::from(fault)),
+        Err(LogFault::OutOfMemory) => Err(ServiceFault::OutOfMemory),
+        Err(fault) => Err(ServiceFault::Log(fault)),
     }
 }
 
@@ -84,6 +110,7 @@ fn own(alloc: Global, node: Node, read: ReadLog) -> Result<Begun, ServiceFault>
     ensures own { IfOk result (λ begun. (log_seen begun.log).node ≡ node_seen node) }
     ensures read { IfOk result (λ begun. (log_seen begun.log ≡ (reading_seen read).log)
         × ((begun.kept ≡ (reading_seen read).whole) × (begun.records.items ≡ []))) }
+    ensures refused { IfErr result (λ why. IsAnothers (reading_seen read).log (node_seen node) why) }
 {
     let ReadLog { log, whole } = read;
     if !log.is_of(node) {
@@ -101,6 +128,8 @@ fn new(alloc: Global, digest: &SettingsDigest, node: Node) -> Result<Begun, Serv
     ensures log { IfOk result (λ begun. log_seen begun.log ≡ empty_log (node_seen node)) }
     ensures new { IfOk result (λ begun. (begun.kept ≡ 0)
         × (begun.records.items ≡ log_text digest.now (empty_log (node_seen node)))) }
+    ensures fits { IfOk result (λ begun. FitsLog (log_seen begun.log)) }
+    ensures memory { IfErr result (λ why. why ≡ OutOfMemory) }
 {
     let log = NodeLog::new(alloc, node);
     let records = write_log(alloc, digest, &log)?;
@@ -111,13 +140,19 @@ fn new(alloc: Global, digest: &SettingsDigest, node: Node) -> Result<Begun, Serv
     })
 }
 
-/// The node that is the replay of a log.
-fn serve_from(alloc: Global, shared: Shared, begun: Begun) -> Result<(Service, usize), ServiceFault>
+/// The node that makes a log.
+fn serve_from(
+    alloc: Global,
+    text: &[u8],
+    shared: Shared,
+    begun: Begun,
+) -> Result<(Service, usize), ServiceFault>
     requires { IsSome (opened shared (log_seen begun.log).node) }
-    ensures { IfOk result (λ s. IsServed shared (log_seen begun.log) begun.kept begun.records.items s.1 s.0) }
+    ensures served { IfOk result (λ s. IsServed shared (log_seen begun.log) begun.kept begun.records.items s.1 s.0) }
+    ensures refused { IfErr result (λ why. IsNotMade (sha256 text.now) shared (log_seen begun.log) why) }
 {
     let Begun { log, kept, records } = begun;
-    let state = replay_log(alloc, shared.settings(), &log)?;
+    let state = state_of(alloc, text, &shared, &log)?;
     let service = Service {
         shared,
         name: log.node(),
@@ -127,4 +162,25 @@ fn serve_from(alloc: Global, shared: Shared, begun: Begun) -> Result<(Service, u
         out: Vec::new(alloc),
     };
     Ok((service, kept))
+}
+
+/// The node that makes a log.
+fn state_of(
+    alloc: Global,
+    text: &[u8],
+    shared: &Shared,
+    log: &NodeLog,
+) -> Result<NodeState, ServiceFault>
+    requires { IsSome (opened shared.now (log_seen log.now).node) }
+    ensures made { IfOk result (λ state. IsMadeBy shared.now (log_seen log.now) state) }
+    ensures refused { IfErr result (λ why. IsNotMade (sha256 text.now) shared.now (log_seen log.now) why) }
+{
+    match make_log(alloc, shared.settings(), log)? {
+        Ok(state) => Ok(state),
+        Err(first) => {
+            let digest = SettingsDigest::of(text);
+            let place = place_of(alloc, &digest, log, first.place)?;
+            Err(ServiceFault::NotMade(place))
+        }
+    }
 }

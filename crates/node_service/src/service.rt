@@ -1,9 +1,14 @@
 //! A node that is served.
 
 ghost use Rattle.std.specs.Prelude.{◌≡◌, codes, OnOk};
+ghost use Rattle.std.specs.List.{AllByRecursion};
 ghost use Rattle.claim_model.specs.Node.{Done};
+ghost use Rattle.claim_model.specs.Nodes.{node_step};
 ghost use Rattle.world_setup.specs.Seen.{call_seen, node_seen};
 ghost use Rattle.node_service.specs.Answering.{refused_line};
+ghost use Rattle.node_logged.specs.Setting.{context_of};
+ghost use Rattle.kept_logs.specs.Fits.{FitsLogged};
+ghost use Rattle.node_service.specs.Lines.{line_calls, logged_of};
 ghost use Rattle.node_service.specs.Serving.{after_call, after_line, answering, cleared, making, saying};
 
 use crate::answering::put_refused;
@@ -55,7 +60,8 @@ impl Service {
     /// does not have the call, and nothing that it sent was written.
     #[tactic(auto, unfolding(crate::specs::Serving::after_line))]
     pub fn serve(&mut self, alloc: Global, line: &[u8]) -> Result<(), AllocError>
-        ensures { OnOk result (self.new ≡ after_line self.old line.now) }
+        ensures served { OnOk result (self.new ≡ after_line self.old line.now) }
+        ensures fits { OnOk result (AllByRecursion FitsLogged (line_calls self.old line.now)) }
     {
         match asked_of(alloc, line)? {
             Some(Asked::Call(call)) => self.make(alloc, call),
@@ -81,7 +87,9 @@ impl Service {
     /// Makes a call, and records it where it was made.
     #[tactic(auto, unfolding(crate::specs::Serving::after_call))]
     fn make(&mut self, alloc: Global, call: Call) -> Result<(), AllocError>
-        ensures { OnOk result (self.new ≡ making self.old (call_seen call)) }
+        ensures made { OnOk result (self.new ≡ making self.old (call_seen call)) }
+        ensures fits { OnOk result (AllByRecursion FitsLogged (logged_of (call_seen call)
+            (node_step (context_of self.old.settings) self.old.state (call_seen call)))) }
     {
         match self.state.step(alloc, self.shared.routes(), &call) {
             Ok(sent) => self.record(alloc, &Record::new(call, sent)),
@@ -93,7 +101,8 @@ impl Service {
     /// Records a call that was made.
     #[tactic(auto, unfolding(crate::specs::Serving::after_call))]
     fn record(&mut self, alloc: Global, one: &Record) -> Result<(), AllocError>
-        ensures { OnOk result (self.new ≡ after_call self.old one.now.call (Done self.old.state one.now.sent)) }
+        ensures made { OnOk result (self.new ≡ after_call self.old one.now.call (Done self.old.state one.now.sent)) }
+        ensures fits { OnOk result (FitsLogged one.now) }
     {
         let Some(number) = self.calls.checked_add(1) else {
             return Err(AllocError);

@@ -10,3 +10,4 @@ pub mod Places
 pub mod Numbering
 pub mod Placing
 pub mod Merging
+pub mod Breaking

@@ -9,3 +9,4 @@ pub mod PacketNumbers
 pub mod Orders
 pub mod Found
 pub mod Merged
+pub mod Misfits

@@ -6,6 +6,8 @@ mod fits;
 mod history;
 mod line;
 mod log;
+mod making;
+mod misfit;
 mod order;
 mod posted;
 mod record;
@@ -17,6 +19,8 @@ mod woken;
 
 pub use history::{MergeFault, is_there, merge};
 pub use log::NodeLog;
+pub use making::make_log;
+pub use misfit::{FirstMisfit, Misfit, first_misfit};
 pub use record::Record;
 pub use replay::replay_log;
 pub use same::is_same_node;

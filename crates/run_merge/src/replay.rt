@@ -40,7 +40,7 @@ pub fn replay_log(
 }
 
 /// The table of the rows, which have no fault.
-fn routes_for(alloc: Global, settings: &WorldSettings) -> Result<Routes, AllocError>
+pub(crate) fn routes_for(alloc: Global, settings: &WorldSettings) -> Result<Routes, AllocError>
     requires world { settings_fault (settings_seen settings.now) ≡ None }
     requires rows { first_fault (length settings.now.payers.items) settings.now.routes.items ≡ None }
     ensures { IfOk result (λ routes. routes ≡ routes_of settings.now.routes.items) }

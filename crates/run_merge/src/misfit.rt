@@ -1,21 +1,25 @@
-//! One log, replayed by itself.
+//! The first call of a log that its node does not make as the log has it.
 
-ghost use Rattle.std.specs.Prelude.{◌≡◌, ◌↔◌, None, IfOk, IsTrue, MatchOption};
+ghost use Rattle.std.specs.Prelude.{◌≡◌, None, IfOk, MatchOption};
 ghost use Rattle.claim_model.specs.Bytes.{bytes_with};
 ghost use Rattle.claim_model.specs.Settings.{opening, settings_fault};
 ghost use Rattle.claim_model.specs.Nodes.{node_at};
-ghost use Rattle.world_setup.specs.Seen.{node_seen, sent_seen, settings_seen};
-ghost use Rattle.log_audit.specs.Misfits.{Does, DoesNot, IsFirst, IsFirstOf, SentAlike};
+ghost use Rattle.claim_model.specs.Logs.{replay};
+ghost use Rattle.world_setup.specs.Seen.{node_seen, settings_seen};
+ghost use Rattle.run_merge.specs.Misfits.{Does, DoesNot, IsFirst, IsFirstOf, SentAlike};
 
+use crate::history::is_there;
+use crate::log::NodeLog;
+use crate::record::Record;
+use crate::same::is_same_sent;
 use bin_routes::Routes;
 use node_state::NodeState;
-use run_merge::{NodeLog, Record, is_there};
 use std::alloc::{AllocError, Global};
 use world_setup::{Sent, StepFault, WorldSettings};
 
 /// What is wrong with the call of a record.
-#[derive(Clone, Copy)]
-pub(crate) enum Misfit {
+#[derive(Clone, Copy, Debug, PartialEq, Eq)]
+pub enum Misfit {
     /// The node refuses it by this name.
     Refused(&'static str),
     /// The node sends so many packets, and the log has another count.
@@ -27,16 +31,19 @@ pub(crate) enum Misfit {
 }
 
 /// The first call of a log that its node does not make as the log has it.
-#[derive(Clone, Copy)]
-pub(crate) struct FirstMisfit {
+#[derive(Clone, Copy, Debug, PartialEq, Eq)]
+pub struct FirstMisfit {
     /// The place of its record, from 0.
-    pub(crate) place: usize,
+    pub place: usize,
     /// What is wrong with it.
-    pub(crate) misfit: Misfit,
+    pub misfit: Misfit,
 }
 
 /// The first call that a log's node does not make as the log has it. A log of a node that is not there has none.
-pub(crate) fn first_misfit(
+///
+/// # Errors
+/// Memory was refused.
+pub fn first_misfit(
     alloc: Global,
     settings: &WorldSettings,
     routes: &Routes,
@@ -53,14 +60,15 @@ pub(crate) fn first_misfit(
     misfit_among(alloc, routes, &mut node, log.records())
 }
 
-/// The first of these calls that a node does not make as its record has it.
-fn misfit_among(
+/// The first of these calls that a node does not make as its record has it; where there is none, all were made.
+pub(crate) fn misfit_among(
     alloc: Global,
     routes: &Routes,
     node: &mut NodeState,
     records: &[Record],
 ) -> Result<Option<FirstMisfit>, AllocError>
-    ensures { IfOk result (λ found. IsFirst (bytes_with routes.now) node.old records.now found) }
+    ensures first { IfOk result (λ found. IsFirst (bytes_with routes.now) node.old records.now found) }
+    ensures ends { IfOk result (λ found. found ≡ None → node.new ≡ replay (bytes_with routes.now) node.old records.now) }
 {
     for (place, one) in records.iter().enumerate() {
         if let Some(misfit) = misfit_of(alloc, routes, node, one)? {
@@ -96,28 +104,6 @@ fn misfit_in(made: &[Sent], kept: &[Sent]) -> Option<Misfit>
     } else {
         Some(difference(made, kept))
     }
-}
-
-/// Whether the same was sent: to the same nodes in the same order, with the same bytes.
-fn is_same_sent(a: &[Sent], b: &[Sent]) -> bool
-    ensures { IsTrue result ↔ SentAlike a.now b.now }
-{
-    if a.len() != b.len() {
-        return false;
-    }
-    for (place, one) in a.iter().enumerate() {
-        if !is_same(one, &b[place]) {
-            return false;
-        }
-    }
-    true
-}
-
-/// Whether one packet is another: the same addressee and the same bytes.
-fn is_same(a: &Sent, b: &Sent) -> bool
-    ensures { IsTrue result ↔ (sent_seen a.now ≡ sent_seen b.now) }
-{
-    a.to == b.to && a.bytes == b.bytes
 }
 
 /// Where what a node sends differs from what the log has.

@@ -1,13 +1,17 @@
 -- The first call of a log that its node does not make.
-use Rattle.std.specs.Prelude.{◌≡◌, ℕ, zero, suc, List, [], ◌∷◌, map, Option, Some, None}
+use Rattle.std.specs.Prelude.{◌≡◌, ℕ, zero, suc, List, [], ◌∷◌, map, Option, Some, None, Result, Ok, Err}
+use Rattle.bin_routes.specs.Table.{routes_of}
 use Rattle.claim_model.specs.Context.{Context}
-use Rattle.claim_model.specs.Node.{Done}
-use Rattle.claim_model.specs.Nodes.{AnyNode, node_step}
-use Rattle.claim_model.specs.Logs.{Logged}
+use Rattle.claim_model.specs.Bytes.{bytes_with}
+use Rattle.claim_model.specs.Settings.{opening}
+use Rattle.claim_model.specs.Node.{Node, Done}
+use Rattle.claim_model.specs.Nodes.{AnyNode, node_step, node_at}
+use Rattle.claim_model.specs.Logs.{Logged, replay, Makes}
 use Rattle.world_setup.specs.declared.call.Sent.{Sent}
-use Rattle.world_setup.specs.Seen.{sent_seen}
+use Rattle.world_setup.specs.Seen.{sent_seen, settings_seen}
+use Rattle.world_setup.specs.declared.settings.WorldSettings.{WorldSettings}
 use Rattle.run_merge.specs.Order.{FitsBy, Fits}
-use Rattle.log_audit.specs.declared.replaying.FirstMisfit.{FirstMisfit}
+use Rattle.run_merge.specs.declared.misfit.FirstMisfit.{FirstMisfit}
 
 -- the same was sent: to the same nodes in the same order, with the same bytes
 abbrev pub SentAlike : List Sent → List Sent → Type 0
@@ -36,3 +40,14 @@ IsFirst ctx s calls (Some first) = BreaksAt ctx s calls first.place
 abbrev pub IsFirstOf : Context → Option AnyNode → List Logged → Option FirstMisfit → Type 0
 IsFirstOf ctx None calls found = found ≡ None
 IsFirstOf ctx (Some s) calls found = IsFirst ctx s calls found
+
+-- from this state a node makes all calls and is then this one; or it breaks at the first that it does not make
+abbrev pub IsMadeFrom : Context → AnyNode → List Logged → Result AnyNode FirstMisfit → Type 0
+IsMadeFrom ctx before calls (Ok node) = Makes ctx before calls × (node ≡ replay ctx before calls)
+IsMadeFrom ctx before calls (Err first) = BreaksAt ctx before calls first.place
+
+-- the same of the node of a name, from its opening state
+pub record IsMade (s : WorldSettings) (node : Node) (calls : List Logged) (result : Result AnyNode FirstMisfit) : Type 0 where
+  pub before : AnyNode
+  pub opens : node_at (opening (settings_seen s)) node ≡ Some before
+  pub made : IsMadeFrom (bytes_with (routes_of s.routes.items)) before calls result

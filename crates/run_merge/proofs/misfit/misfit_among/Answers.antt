@@ -1,10 +1,10 @@
 use Rattle.std.proofs.Common.{◌+◌, drop, subst}
 use Rattle.claim_model.specs.Bytes.{bytes_with}
-use Rattle.log_audit.proofs.Breaking.{Leads, leads_step, breaks_here, drop_at, does_it}
-use Rattle.log_audit.proofs.replaying.misfit_among.Goals as goal
+use Rattle.run_merge.proofs.Breaking.{Leads, leads_step, breaks_here, drop_at, does_it}
+use Rattle.run_merge.proofs.misfit.misfit_among.Goals as goal
 
-pub returns-in-Some : goal.returns-in-Some
-returns-in-Some c =
+pub returns-in-Some-clause-first : goal.returns-in-Some-clause-first
+returns-in-Some-clause-first c =
     let ctx = bytes_with c.args.routes.now in
     let records = c.args.records.now in
     breaks_here ctx c.loop-place.node c.args.node.now c.index-records-place.result (drop (c.loop-place.place + 1) records) records c.loop-place.place

@@ -1,7 +1,7 @@
 use Rattle.std.proofs.Common.{drop}
 use Rattle.claim_model.specs.Bytes.{bytes_with}
-use Rattle.log_audit.proofs.Breaking.{Leads}
-use Rattle.log_audit.proofs.replaying.misfit_among.Given as goal
+use Rattle.run_merge.proofs.Breaking.{Leads}
+use Rattle.run_merge.proofs.misfit.misfit_among.Given as goal
 
 -- what the calls that are left come to, all come to
 abbrev pub invariant-loop-place : goal.invariant-loop-place

@@ -1,0 +1,50 @@
+-- Which refusal of a handle a fault is, and the place that is told with it.
+use Rattle.std.specs.Prelude.{ℕ}
+use Rattle.kept_logs.specs.declared.fault.LogFault.{LogFault}
+use Rattle.kept_logs.specs.declared.fault.LogFault.TheVariants as log_fault
+use Rattle.node_service.specs.declared.fault.ServiceFault.{ServiceFault}
+use Rattle.node_service.specs.declared.fault.ServiceFault.TheVariants as service
+use Rattle.node_handle.specs.declared.refusal.Refusal.{Refusal}
+use Rattle.node_handle.specs.declared.refusal.Refusal.TheVariants as refusal
+
+-- the refusal of a log
+abbrev pub refusal_of_log : LogFault → Refusal
+refusal_of_log log_fault.OutOfMemory = refusal.OutOfMemory
+refusal_of_log log_fault.Short = refusal.NotALog
+refusal_of_log log_fault.NotALog = refusal.NotALog
+refusal_of_log log_fault.Version = refusal.LogVersion
+refusal_of_log log_fault.DamagedHead = refusal.DamagedHead
+refusal_of_log log_fault.NoNode = refusal.NoKind
+refusal_of_log log_fault.OtherSettings = refusal.OtherSettings
+refusal_of_log (log_fault.Damaged place) = refusal.Damaged
+refusal_of_log (log_fault.BadRecord place) = refusal.BadRecord
+
+-- the refusal of a node that is not opened
+abbrev pub refusal_of : ServiceFault → Refusal
+refusal_of service.OutOfMemory = refusal.OutOfMemory
+refusal_of service.Settings = refusal.Settings
+refusal_of service.NoSuchNode = refusal.NoSuchNode
+refusal_of (service.Log fault) = refusal_of_log fault
+refusal_of service.OtherNode = refusal.OtherNode
+refusal_of (service.NotMade place) = refusal.BadRecord
+
+-- the place of the record that a log's fault is about, or what was there before
+abbrev pub place_in_log : LogFault → ℕ → ℕ
+place_in_log log_fault.OutOfMemory before = before
+place_in_log log_fault.Short before = before
+place_in_log log_fault.NotALog before = before
+place_in_log log_fault.Version before = before
+place_in_log log_fault.DamagedHead before = before
+place_in_log log_fault.NoNode before = before
+place_in_log log_fault.OtherSettings before = before
+place_in_log (log_fault.Damaged place) before = place
+place_in_log (log_fault.BadRecord place) before = place
+
+-- the same of a node that is not opened
+abbrev pub place_in : ServiceFault → ℕ → ℕ
+place_in service.OutOfMemory before = before
+place_in service.Settings before = before
+place_in service.NoSuchNode before = before
+place_in (service.Log fault) before = place_in_log fault before
+place_in service.OtherNode before = before
+place_in (service.NotMade place) before = place

@@ -1,0 +1,4 @@
+-- In the order in which one explains them.
+pub mod Splitting
+pub mod Asking
+pub mod Moments

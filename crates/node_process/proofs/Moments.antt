@@ -1,0 +1,213 @@
+-- Each act of a process, from a moment that is safe to the next.
+use Rattle.std.proofs.Common.{◌≡◌, ℕ, ◌≤◌, Bool, true, false, not, ◌&&◌, ◌||◌, cond, List, [], ◌∷◌, ◌++◌, take, length, Result, Ok, Err, OnOk, is_ok, refl, sym, ap, ◌∙◌, subst, ◌⊎◌, inl, inr, append_assoc, append-nil}
+use Rattle.std.proofs.lemmas.List.{take_all}
+use Rattle.claim_model.specs.Node.{Node}
+use Rattle.node_service.specs.Serving.{Serving, cleared}
+use Rattle.node_service.specs.Lines.{joined, after_lines}
+use Rattle.node_service.specs.Opened.{IsOpened}
+use Rattle.node_process.specs.Acts.{Act, Found, Cut, Append, Sync, Say, Hear, found, file, has_failed, kept, said, heard, heard_last}
+use Rattle.node_process.specs.Heard.{whole_lines, begun_line}
+use Rattle.node_process.specs.Safe.{IsStartOf, ready_line, asked, log_of, words_of, IsCovered, IsInOrder, IsLogOfInput, IsWholeFile, IsSafe, AtEachMoment, IsUnopened, IsRun, IsDone, IsRunDone, IsOn, IsServed, IsLogged, IsOpening, Reads, Trims, Heads, Begins, Serves, Logs}
+use Rattle.node_process.proofs.Asking.{asked_more}
+
+-- ---- beginnings
+
+all_of : (bytes : List ℕ) → IsStartOf bytes bytes
+all_of bytes = record { rest = []; is = append-nil bytes }
+
+start_is : (front bytes other : List ℕ) → bytes ≡ other → IsStartOf front bytes → IsStartOf front other
+start_is front bytes other e s = subst (IsStartOf front) e s
+
+start_with : (front bytes more : List ℕ) → IsStartOf front bytes → IsStartOf front (bytes ++ more)
+start_with front bytes more s = record { rest = s.rest ++ more; is = sym (append_assoc front s.rest more) ∙ ap (λ (x : List ℕ). x ++ more) s.is }
+
+same_start : (front bytes : List ℕ) → front ≡ bytes → IsStartOf front bytes
+same_start front bytes e = subst (IsStartOf front) e (all_of front)
+
+-- ---- moments
+
+module _ (start : Serving) (base : List ℕ) where
+  pub now : (t : List Act) → AtEachMoment start base t → IsSafe start base t
+  now [] a = a
+  now (act ∷ before) a = a.0
+
+  throughout : (later : List Act) (t earlier : List Act) → AtEachMoment start base t → t ≡ later ++ earlier → IsSafe start base earlier
+  throughout [] t earlier a e = subst (IsSafe start base) e (now t a)
+  throughout (l ∷ later) [] earlier a e = absurd (let wrong : [] ≡ l ∷ (later ++ earlier) = e in cc)
+  throughout (l ∷ later) (act ∷ before) earlier a e = throughout later before earlier a.1 (let same : act ∷ before ≡ l ∷ (later ++ earlier) = e in cc)
+
+  -- what was covered stays covered where no word was said and nothing was lost
+  cover_on : (t u : List Act) → said u ≡ said t → IsStartOf (heard t) (heard u) → IsStartOf (kept t) (kept u) → (said t ≡ []) ⊎ IsCovered start base t → (said u ≡ []) ⊎ IsCovered start base u
+  cover_on t u words more keeps (inl silent) = inl (words ∙ silent)
+  cover_on t u words more keeps (inr c) = inr (record {
+    input = c.input;
+    came = record { rest = c.came.rest ++ more.rest; is = sym (append_assoc c.input c.came.rest more.rest) ∙ (ap (λ (x : List ℕ). x ++ more.rest) c.came.is ∙ more.is) };
+    sent = subst (λ (x : List ℕ). IsStartOf x (words_of start c.input)) (sym words) c.sent;
+    logged = record { rest = c.logged.rest ++ keeps.rest; is = sym (append_assoc (log_of start base c.input) c.logged.rest keeps.rest) ∙ (ap (λ (x : List ℕ). x ++ keeps.rest) c.logged.is ∙ keeps.is) };
+  })
+
+  log_of_all : (t : List Act) → file t ≡ log_of start base (heard t) → IsWholeFile start base t
+  log_of_all t e = inr (inr (record { input = heard t; came = all_of (heard t); is = e }))
+
+  -- ---- a turn
+
+  pub append_each : (t : List Act) (s : Serving) (done : Bool) → IsServed start base t s → AtEachMoment start base (Append s.records done ∷ t)
+  append_each t s done v =
+      (record {
+        order = (v.on.well, v.on.synced);
+        covered = cover_on t (Append s.records done ∷ t) refl (all_of (heard t)) (all_of (kept t)) (now t v.on.each).covered;
+        whole = log_of_all (Append s.records done ∷ t) v.log;
+      }, v.on.each)
+
+  sync_kept : (t : List Act) (done : Bool) → has_failed t ≡ false → IsStartOf (kept t) (file t) → IsStartOf (kept t) (kept (Sync done ∷ t))
+  sync_kept t true well s = subst (λ b. IsStartOf (kept t) (cond (true && not b) (file t) (kept t))) (sym well) s
+  sync_kept t false well s = all_of (kept t)
+
+  pub sync_each : (t : List Act) (s : Serving) (done : Bool) → IsServed start base t s → AtEachMoment start base (Sync done ∷ Append s.records true ∷ t)
+  sync_each t s done v =
+      let u = Append s.records true ∷ t in
+      let before = append_each t s true v in
+      (record {
+        order = v.on.well;
+        covered = cover_on u (Sync done ∷ u) refl (all_of (heard t)) (sync_kept u done v.on.well (start_with (kept t) (file t) s.records (same_start (kept t) (file t) v.on.synced))) before.0.covered;
+        whole = log_of_all (Sync done ∷ u) v.log;
+      }, before)
+
+  pub synced_logged : (t : List Act) (s : Serving) → IsServed start base t s → IsLogged start base (Sync true ∷ Append s.records true ∷ t) s
+  synced_logged t s v =
+      record {
+        on = record {
+          each = sync_each t s true v;
+          well = v.on.well;
+          synced = ap (λ b. cond (true && not b) (file t ++ s.records) (kept t)) v.on.well;
+          same = v.on.same;
+          words = v.on.words;
+        };
+        log = v.log;
+      }
+
+  pub no_records : (t : List Act) (s : Serving) → s.records ≡ [] → IsServed start base t s → IsLogged start base t s
+  no_records t s none v = record { on = v.on; log = sym (append-nil (file t)) ∙ (ap (λ (x : List ℕ). file t ++ x) (sym none) ∙ v.log) }
+
+  pub say_each : (t : List Act) (s : Serving) (done : Bool) → IsLogged start base t s → AtEachMoment start base (Say s.out done ∷ t)
+  say_each t s done v =
+      (record {
+        order = v.on.well;
+        covered = inr (record {
+          input = heard t;
+          came = all_of (heard t);
+          sent = same_start (said t ++ s.out) (words_of start (heard t)) v.on.words;
+          logged = same_start (log_of start base (heard t)) (kept t) (sym v.log ∙ sym v.on.synced);
+        });
+        whole = log_of_all (Say s.out done ∷ t) v.log;
+      }, v.on.each)
+
+  pub said_served : (t : List Act) (s : Serving) → IsLogged start base t s → IsServed start base (Say s.out true ∷ t) (cleared s)
+  said_served t s v =
+      record {
+        on = record {
+          each = say_each t s true v;
+          well = v.on.well;
+          synced = v.on.synced;
+          same = v.on.same;
+          words = append-nil (said t ++ s.out) ∙ v.on.words;
+        };
+        log = append-nil (file t) ∙ v.log;
+      }
+
+  whole_on : (t : List Act) (bytes : List ℕ) → IsWholeFile start base t → IsWholeFile start base (Hear bytes ∷ t)
+  whole_on t bytes (inl e) = inl e
+  whole_on t bytes (inr (inl e)) = inr (inl e)
+  whole_on t bytes (inr (inr l)) = inr (inr (record { input = l.input; came = start_with l.input (heard t) bytes l.came; is = l.is }))
+
+  pub hear_each : (t : List Act) (s : Serving) (bytes : List ℕ) → IsServed start base t s → AtEachMoment start base (Hear bytes ∷ t)
+  hear_each t s bytes v =
+      (record {
+        order = v.on.well;
+        covered = cover_on t (Hear bytes ∷ t) refl (record { rest = bytes; is = refl }) (all_of (kept t)) (now t v.on.each).covered;
+        whole = whole_on t bytes (now t v.on.each).whole;
+      }, v.on.each)
+
+  pub heard_served : (t : List Act) (s : Serving) (bytes : List ℕ) → IsServed start base t s → IsServed start base (Hear bytes ∷ t) (after_lines s (whole_lines (begun_line (heard t) ++ bytes)))
+  heard_served t s bytes v =
+      let f = asked_more start (heard t) bytes s v.on.same in
+      let u = f.added in
+      let a = asked start (heard t) in
+      subst (IsServed start base (Hear bytes ∷ t)) (sym f.own)
+      (record {
+        on = record {
+          each = hear_each t s bytes v;
+          well = v.on.well;
+          synced = v.on.synced;
+          same = ap cleared (sym f.all);
+          words =
+              sym (append_assoc (said t) s.out u.out)
+              ∙ (ap (λ (x : List ℕ). x ++ u.out) v.on.words
+              ∙ (append_assoc (ready_line start.calls) a.out u.out ∙ ap (λ (x : Serving). ready_line start.calls ++ x.out) (sym f.all)));
+        };
+        log =
+            sym (append_assoc (file t) s.records u.records)
+            ∙ (ap (λ (x : List ℕ). x ++ u.records) v.log
+            ∙ (append_assoc base a.records u.records ∙ ap (λ (x : Serving). base ++ x.records) (sym f.all)));
+      })
+
+  -- ---- the opening
+
+  pub found_each : (bytes : List ℕ) → AtEachMoment start base (Found bytes ∷ [])
+  found_each bytes = (record { order = refl; covered = inl refl; whole = inl refl }, record { order = tt; covered = inl refl; whole = inl refl })
+
+  -- the file of an opening, which is the log of no input
+  log_of_none : (t : List Act) (text : List ℕ) → IsOpening start base t text → text ≡ base ++ start.records → IsWholeFile start base t
+  log_of_none t text o e = inr (inr (record { input = []; came = record { rest = heard t; is = refl }; is = o.is ∙ e }))
+
+  pub head_each : (t : List Act) (done : Bool) → IsOpening start base t base → kept t ≡ file t → AtEachMoment start base (Append start.records done ∷ t)
+  head_each t done o synced =
+      (record {
+        order = (o.well, synced);
+        covered = inl o.silent;
+        whole = inr (inr (record { input = []; came = record { rest = heard t; is = refl }; is = ap (λ (x : List ℕ). x ++ start.records) o.is }));
+      }, o.each)
+
+  pub settle_each : (t : List Act) (done : Bool) → IsOpening start base t (base ++ start.records) → AtEachMoment start base (Sync done ∷ t)
+  settle_each t done o =
+      (record { order = o.well; covered = inl o.silent; whole = inr (inr (record { input = []; came = record { rest = heard t; is = refl }; is = o.is })) }, o.each)
+
+  pub greet_each : (t : List Act) (done : Bool) → IsOpening start base t (base ++ start.records) → kept t ≡ file t → AtEachMoment start base (Say (ready_line start.calls) done ∷ t)
+  greet_each t done o synced =
+      (record {
+        order = o.well;
+        covered = inr (record {
+          input = [];
+          came = record { rest = heard t; is = refl };
+          sent = record { rest = start.out; is = ap (λ (x : List ℕ). (x ++ ready_line start.calls) ++ start.out) o.silent };
+          logged = same_start (log_of start base []) (kept t) (sym (synced ∙ o.is));
+        });
+        whole = inr (inr (record { input = []; came = record { rest = heard t; is = refl }; is = o.is }));
+      }, o.each)
+
+  pub greet_serves : (t : List Act) → start.out ≡ [] → IsOpening start base t (base ++ start.records) → kept t ≡ file t → IsServed start base (Say (ready_line start.calls) true ∷ t) (cleared start)
+  greet_serves t silent o synced =
+      record {
+        on = record {
+          each = greet_each t true o synced;
+          well = o.well;
+          synced = synced;
+          same = ap (λ (x : List ℕ). cleared (asked start x)) (sym o.deaf);
+          words =
+              append-nil (said t ++ ready_line start.calls)
+              ∙ (ap (λ (x : List ℕ). x ++ ready_line start.calls) o.silent
+              ∙ (sym (append-nil (ready_line start.calls))
+              ∙ (ap (λ (x : List ℕ). ready_line start.calls ++ x) (sym silent) ∙ ap (λ (x : List ℕ). words_of start x) (sym o.deaf))));
+        };
+        log = append-nil (file t) ∙ (o.is ∙ ap (λ (x : List ℕ). log_of start base x) (sym o.deaf));
+      }
+
+-- a run of the node of the log that was found
+pub runs : (text : List ℕ) (node : Node) (t : List Act) (start : Serving) (whole : ℕ) → IsOpened text node (found t) whole start → AtEachMoment start (take whole (found t)) t → IsRun text node t
+runs text node t start whole opened each =
+    record { start = start; whole = whole; opened = opened; safe = λ later earlier e. throughout start (take whole (found t)) later t earlier each e }
+
+-- what holds where a call was done
+pub when_done : {T E : Type 0} (r : Result T E) (P : Bool → Type 0) → P true → OnOk r (P (is_ok r))
+when_done (Ok x) P p = p
+when_done (Err e) P p = tt

@@ -1,0 +1,5 @@
+-- In the order in which one explains them.
+pub mod Acts
+pub mod Noting
+pub mod Heard
+pub mod Safe

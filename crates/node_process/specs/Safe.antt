@@ -1,0 +1,160 @@
+-- What is safe at each moment of a process: what was said is on the disk.
+use Rattle.std.specs.Prelude.{◌≡◌, ◌⊎◌, ◌≤◌, ⊤, ℕ, length, Bool, false, List, [], ◌∷◌, ◌++◌, codes, decimal, take}
+use Rattle.claim_model.specs.Node.{Node}
+use Rattle.node_service.specs.Serving.{Serving, cleared}
+use Rattle.node_service.specs.Lines.{after_lines}
+use Rattle.node_service.specs.Opened.{IsOpened}
+use Rattle.node_process.specs.Acts.{Act, Found, Cut, Append, Sync, Say, Hear, found, file, has_failed, kept, said, heard, heard_last}
+use Rattle.node_process.specs.Heard.{whole_lines}
+
+-- bytes begin these
+pub record IsStartOf (front bytes : List ℕ) : Type 0 where
+  pub rest : List ℕ
+  pub is : front ++ rest ≡ bytes
+
+-- what the program says first: how many calls the log has
+abbrev pub ready_line : ℕ → List ℕ
+ready_line calls = codes "ready " ++ (decimal calls ++ codes "\n")
+
+-- the node behind the whole lines of an input
+abbrev pub asked : Serving → List ℕ → Serving
+asked start input = after_lines start (whole_lines input)
+
+-- the log behind them: what stays of the file, and the records
+abbrev pub log_of : Serving → List ℕ → List ℕ → List ℕ
+log_of start base input = base ++ (asked start input).records
+
+-- the words behind them
+abbrev pub words_of : Serving → List ℕ → List ℕ
+words_of start input = ready_line start.calls ++ (asked start input).out
+
+-- what was said begins what some beginning of the input sends, and every record of that beginning is on the disk
+pub record IsCovered (start : Serving) (base : List ℕ) (acts : List Act) : Type 0 where
+  pub input : List ℕ
+  pub came : IsStartOf input (heard acts)
+  pub sent : IsStartOf (said acts) (words_of start input)
+  pub logged : IsStartOf (log_of start base input) (kept acts)
+
+-- nothing is done behind a failure, and an append stands on what is synced
+abbrev pub IsInOrder : List Act → Type 0
+IsInOrder [] = ⊤
+IsInOrder (Found bytes ∷ before) = has_failed before ≡ false
+IsInOrder (Cut size done ∷ before) = has_failed before ≡ false
+IsInOrder (Append bytes done ∷ before) = (has_failed before ≡ false) × (kept before ≡ file before)
+IsInOrder (Sync done ∷ before) = has_failed before ≡ false
+IsInOrder (Say bytes done ∷ before) = has_failed before ≡ false
+IsInOrder (Hear bytes ∷ before) = has_failed before ≡ false
+
+-- the log of a beginning of the input
+pub record IsLogOfInput (start : Serving) (base : List ℕ) (acts : List Act) : Type 0 where
+  pub input : List ℕ
+  pub came : IsStartOf input (heard acts)
+  pub is : file acts ≡ log_of start base input
+
+-- the file is as it was found, or cut to what stays of it, or the log of a beginning of the input
+abbrev pub IsWholeFile : Serving → List ℕ → List Act → Type 0
+IsWholeFile start base acts = (file acts ≡ found acts) ⊎ ((file acts ≡ base) ⊎ IsLogOfInput start base acts)
+
+-- a moment is safe: the order is kept, nothing was said or what was said is on the disk, and the file is whole
+pub record IsSafe (start : Serving) (base : List ℕ) (acts : List Act) : Type 0 where
+  pub order : IsInOrder acts
+  pub covered : (said acts ≡ []) ⊎ IsCovered start base acts
+  pub whole : IsWholeFile start base acts
+
+-- each moment so far was safe
+abbrev pub AtEachMoment : Serving → List ℕ → List Act → Type 0
+AtEachMoment start base [] = IsSafe start base []
+AtEachMoment start base (act ∷ before) = IsSafe start base (act ∷ before) × AtEachMoment start base before
+
+-- nothing was done but to read the log
+abbrev pub IsUnopened : List Act → Type 0
+IsUnopened acts = (acts ≡ []) ⊎ ((bytes : List ℕ) × (acts ≡ Found bytes ∷ []))
+
+-- the node of the log that was found was served, and stopped at any moment it was safe
+pub record IsRun (text : List ℕ) (node : Node) (acts : List Act) : Type 0 where
+  pub start : Serving
+  pub whole : ℕ
+  pub opened : IsOpened text node (found acts) whole start
+  pub safe : (later earlier : List Act) → acts ≡ later ++ earlier → IsSafe start (take whole (found acts)) earlier
+
+-- all whole lines that came are on the disk, and their words were said
+pub record IsDone (start : Serving) (base : List ℕ) (acts : List Act) : Type 0 where
+  pub well : has_failed acts ≡ false
+  pub logged : kept acts ≡ log_of start base (heard acts)
+  pub words : said acts ≡ words_of start (heard acts)
+
+-- the same of the node of the log that was found
+pub record IsRunDone (text : List ℕ) (node : Node) (acts : List Act) : Type 0 where
+  pub start : Serving
+  pub whole : ℕ
+  pub opened : IsOpened text node (found acts) whole start
+  pub done : IsDone start (take whole (found acts)) acts
+  -- the input has ended
+  pub ended : heard_last acts ≡ []
+
+-- ---- on the way
+
+-- what is common to all moments between two acts
+pub record IsOn (start : Serving) (base : List ℕ) (acts : List Act) (s : Serving) : Type 0 where
+  pub each : AtEachMoment start base acts
+  pub well : has_failed acts ≡ false
+  pub synced : kept acts ≡ file acts
+  pub same : cleared s ≡ cleared (asked start (heard acts))
+  pub words : said acts ++ s.out ≡ words_of start (heard acts)
+
+-- all that came was served; its records are still to be appended
+pub record IsServed (start : Serving) (base : List ℕ) (acts : List Act) (s : Serving) : Type 0 where
+  pub on : IsOn start base acts s
+  pub log : file acts ++ s.records ≡ log_of start base (heard acts)
+
+-- all that came was served, and its records are on the disk; its words are still to be said
+pub record IsLogged (start : Serving) (base : List ℕ) (acts : List Act) (s : Serving) : Type 0 where
+  pub on : IsOn start base acts s
+  pub log : file acts ≡ log_of start base (heard acts)
+
+-- a log that is opened, before a word is said: its file is this text
+pub record IsOpening (start : Serving) (base : List ℕ) (acts : List Act) (text : List ℕ) : Type 0 where
+  pub each : AtEachMoment start base acts
+  pub well : has_failed acts ≡ false
+  pub silent : said acts ≡ []
+  pub deaf : heard acts ≡ []
+  pub is : file acts ≡ text
+
+-- the log was read, and opens this node; so many of its bytes stay
+pub record Reads (text : List ℕ) (node : Node) (acts : List Act) (whole size : ℕ) (s : Serving) : Type 0 where
+  pub bytes : List ℕ
+  pub is : acts ≡ Found bytes ∷ []
+  pub count : size ≡ length bytes
+  pub within : whole ≤ length bytes
+  pub opened : IsOpened text node bytes whole s
+
+-- what is behind its whole records is cut off
+pub record Trims (text : List ℕ) (node : Node) (acts : List Act) (whole : ℕ) (s : Serving) : Type 0 where
+  pub opened : IsOpened text node (found acts) whole s
+  pub opening : IsOpening s (take whole (found acts)) acts (take whole (found acts))
+  pub unsynced : kept acts ≡ []
+
+-- the head of a new log stands in the file
+pub record Heads (text : List ℕ) (node : Node) (acts : List Act) (whole : ℕ) (s : Serving) : Type 0 where
+  pub opened : IsOpened text node (found acts) whole s
+  pub opening : IsOpening s (take whole (found acts)) acts (take whole (found acts) ++ s.records)
+
+-- the log is on the disk
+pub record Begins (text : List ℕ) (node : Node) (acts : List Act) (whole : ℕ) (s : Serving) : Type 0 where
+  pub opened : IsOpened text node (found acts) whole s
+  pub opening : IsOpening s (take whole (found acts)) acts (take whole (found acts) ++ s.records)
+  pub synced : kept acts ≡ file acts
+
+-- all that came was served, by the node of the log that was found
+pub record Serves (text : List ℕ) (node : Node) (acts : List Act) (s : Serving) : Type 0 where
+  pub start : Serving
+  pub whole : ℕ
+  pub opened : IsOpened text node (found acts) whole start
+  pub served : IsServed start (take whole (found acts)) acts s
+
+-- the same, and its records are on the disk
+pub record Logs (text : List ℕ) (node : Node) (acts : List Act) (s : Serving) : Type 0 where
+  pub start : Serving
+  pub whole : ℕ
+  pub opened : IsOpened text node (found acts) whole start
+  pub logged : IsLogged start (take whole (found acts)) acts s

@@ -1,0 +1,96 @@
+//! The system over a real file. Each method makes its call, and then notes it with its answer.
+
+ghost use Rattle.std.specs.Prelude.{◌≡◌, ◌≤◌, []};
+ghost use Rattle.std.specs.Prelude.{length, IfOk};
+
+use crate::machine::Machine;
+use crate::noted::Noted;
+use std::alloc::Global;
+use std::fs::File;
+use std::io;
+use std::io::{Read, Write};
+
+/// Kinds of acts, as they are noted.
+const FOUND: u64 = 0;
+const CUT: u64 = 1;
+const APPENDED: u64 = 2;
+const SYNCED: u64 = 3;
+const SAID: u64 = 4;
+const HEARD: u64 = 5;
+
+/// A file that is read from its beginning and appended to, an input and an output.
+#[derive(Drop)]
+pub struct Host<I: Read + Drop, O: Write + Drop> {
+    file: File,
+    input: I,
+    output: O,
+    noted: Noted,
+}
+
+impl<I: Read + Drop, O: Write + Drop> Host<I, O> {
+    /// Over a file that was opened to read and to append.
+    pub fn new(file: File, input: I, output: O) -> Host<I, O>
+        ensures { result.noted.acts ≡ [] }
+    {
+        Host {
+            file,
+            input,
+            output,
+            noted: Noted::new(),
+        }
+    }
+}
+
+impl<I: Read + Drop, O: Write + Drop> Machine for Host<I, O> {
+    ghost acts = { λ host. host.noted.acts };
+
+    fn read(&mut self, alloc: Global) -> io::Result<Vec<u8>> {
+        let mut bytes = Vec::new(alloc);
+        self.file.read_to_end(&mut bytes)?;
+        self.noted.note(&[FOUND, 1, 0], bytes.as_slice());
+        Ok(bytes)
+    }
+
+    fn cut(&mut self, size: usize) -> io::Result<()> {
+        let answer = self.file.set_len(size as u64);
+        self.noted.note(&[CUT, u64::from(answer.is_ok()), size as u64], &[]);
+        answer
+    }
+
+    fn append(&mut self, bytes: &[u8]) -> io::Result<()> {
+        let answer = self.file.write_all(bytes);
+        self.noted.note(&[APPENDED, u64::from(answer.is_ok()), 0], bytes);
+        answer
+    }
+
+    fn sync(&mut self) -> io::Result<()> {
+        let answer = self.file.sync_all();
+        self.noted.note(&[SYNCED, u64::from(answer.is_ok()), 0], &[]);
+        answer
+    }
+
+    fn say(&mut self, bytes: &[u8]) -> io::Result<()> {
+        let answer = written(&mut self.output, bytes);
+        self.noted.note(&[SAID, u64::from(answer.is_ok()), 0], bytes);
+        answer
+    }
+
+    fn hear(&mut self, buffer: &mut [u8]) -> io::Result<usize> {
+        let count = heard(&mut self.input, buffer)?;
+        self.noted.note(&[HEARD, 1, 0], &buffer[..count]);
+        Ok(count)
+    }
+}
+
+/// Writes all bytes, and has them leave.
+fn written<O: Write>(output: &mut O, bytes: &[u8]) -> io::Result<()> {
+    output.write_all(bytes)?;
+    output.flush()
+}
+
+/// Reads some bytes.
+fn heard<I: Read>(input: &mut I, buffer: &mut [u8]) -> io::Result<usize>
+    ensures { IfOk result (λ count. count ≤ length buffer.old) }
+{
+    input.read(buffer)
+}

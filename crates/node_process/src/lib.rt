@@ -1,0 +1,21 @@
+//! The process of one node, over whatever system it runs on: it reads its log, and then serves lines in turns. What a turn
+//! records is appended and synced before anything of it is said.
+//!
+//! The order is proved of every run, at each moment and at each failure, of the calls that the process asks of the system
+//! (`Machine`). `Host` is the system over a real file.
+#![tactic(auto)]
+
+mod host;
+mod machine;
+mod memory;
+mod noted;
+mod opening;
+mod pending;
+mod serving;
+mod unserved;
+
+pub use host::Host;
+pub use machine::Machine;
+pub use memory::Memory;
+pub use serving::serve_all;
+pub use unserved::Unserved;

@@ -1,0 +1,43 @@
+//! What the process of a node asks of the system.
+
+ghost use Rattle.std.specs.Prelude.{◌≡◌, ◌≤◌, ◌∷◌, length, take, is_ok, IfOk, OnErr};
+ghost use Rattle.node_process.specs.Acts.{Found, Cut, Append, Sync, Say, Hear};
+
+use std::alloc::Global;
+use std::io;
+
+/// The system: the file of a log, an input and an output. Whatever a call answers, it is noted as an act.
+pub trait Machine {
+    ghost use Rattle.std.specs.Prelude.{List};
+    ghost use Rattle.node_process.specs.Acts.{Act};
+
+    /// What was asked of it so far, the newest first.
+    ghost acts: { Self → List Act };
+
+    /// All bytes of the file.
+    fn read(&mut self, alloc: Global) -> io::Result<Vec<u8>>
+        ensures found { IfOk result (λ bytes. acts self.new ≡ Found bytes.items ∷ acts self.old) }
+        ensures failed { OnErr result (acts self.new ≡ acts self.old) };
+
+    /// Cuts the file off behind so many bytes.
+    fn cut(&mut self, size: usize) -> io::Result<()>
+        ensures { acts self.new ≡ Cut size (is_ok result) ∷ acts self.old };
+
+    /// Appends bytes to the file.
+    fn append(&mut self, bytes: &[u8]) -> io::Result<()>
+        ensures { acts self.new ≡ Append bytes.now (is_ok result) ∷ acts self.old };
+
+    /// Has the file on disk as it is.
+    fn sync(&mut self) -> io::Result<()>
+        ensures { acts self.new ≡ Sync (is_ok result) ∷ acts self.old };
+
+    /// Writes bytes to the output.
+    fn say(&mut self, bytes: &[u8]) -> io::Result<()>
+        ensures { acts self.new ≡ Say bytes.now (is_ok result) ∷ acts self.old };
+
+    /// Reads some bytes of the input; none where it has ended.
+    fn hear(&mut self, buffer: &mut [u8]) -> io::Result<usize>
+        ensures bound { IfOk result (λ count. count ≤ length buffer.old) }
+        ensures heard { IfOk result (λ count. acts self.new ≡ Hear (take count buffer.new) ∷ acts self.old) }
+        ensures failed { OnErr result (acts self.new ≡ acts self.old) };
+}

@@ -1,0 +1,150 @@
+//! From the file of a log to a node that is served.
+
+ghost use Rattle.std.specs.Prelude.{◌≡◌, ◌⊎◌, [], IfOk, OnOk};
+ghost use Rattle.world_setup.specs.Seen.{node_seen};
+ghost use Rattle.node_service.specs.Serving.{cleared};
+ghost use Rattle.node_process.specs.Acts.{heard};
+ghost use Rattle.node_process.specs.Safe.{IsRun, IsUnopened, Serves, Begins, Heads, Reads, Trims, ready_line};
+
+use crate::machine::Machine;
+use crate::unserved::Unserved;
+use input_text::put_decimal;
+use node_service::Service;
+use payer_book::HashKeys;
+use std::alloc::{AllocError, Global};
+use std::io;
+use world_setup::Node;
+
+/// Whose process it is: the text of the settings, and the node.
+#[derive(Clone, Copy)]
+pub(crate) struct Owner<'a> {
+    pub(crate) settings: &'a [u8],
+    pub(crate) node: Node,
+}
+
+/// Reads the log, opens its node, and has on disk what stays of the log before a word is said: then how many calls it has.
+pub(crate) fn open<M: Machine>(
+    alloc: Global,
+    keys: &HashKeys,
+    owner: &Owner<'_>,
+    machine: &mut M,
+) -> Result<Service, Unserved>
+    requires { M.acts machine.old ≡ [] }
+    ensures each { IsUnopened (M.acts machine.new) ⊎ IsRun owner.now.settings.now (node_seen owner.now.node) (M.acts machine.new) }
+    ensures served { IfOk result (λ s. Serves owner.now.settings.now (node_seen owner.now.node) (M.acts machine.new) s) }
+    ensures deaf { OnOk result (heard (M.acts machine.new) ≡ []) }
+{
+    let bytes = machine.read(alloc)?;
+    match Service::open(alloc, keys, owner.settings, owner.node, bytes.as_slice()) {
+        Ok((service, whole)) => begin(alloc, owner, machine, service, whole, bytes.len()),
+        Err(why) => Err(Unserved::Refused(why)),
+    }
+}
+
+/// Has on disk what stays of a log of so many bytes, and says how many calls it has.
+fn begin<M: Machine>(
+    alloc: Global,
+    owner: &Owner<'_>,
+    machine: &mut M,
+    service: Service,
+    whole: usize,
+    size: usize,
+) -> Result<Service, Unserved>
+    requires { Reads owner.now.settings.now (node_seen owner.now.node) (M.acts machine.old) whole size service }
+    ensures each { IsRun owner.now.settings.now (node_seen owner.now.node) (M.acts machine.new) }
+    ensures served { IfOk result (λ s. Serves owner.now.settings.now (node_seen owner.now.node) (M.acts machine.new) s) }
+    ensures deaf { OnOk result (heard (M.acts machine.new) ≡ []) }
+{
+    let ready = ready_of(alloc, service.calls())?;
+    trim(owner, machine, &service, whole, size)?;
+    append_head(owner, machine, &service, whole)?;
+    settle(owner, machine, &service, whole)?;
+    greet(owner, machine, &service, whole, ready.as_slice())?;
+    Ok(ready_to_serve(service))
+}
+
+/// Cuts off what stands behind the whole records of a log of so many bytes.
+fn trim<M: Machine>(
+    owner: &Owner<'_>,
+    machine: &mut M,
+    service: &Service,
+    whole: usize,
+    size: usize,
+) -> io::Result<()>
+    requires { Reads owner.now.settings.now (node_seen owner.now.node) (M.acts machine.old) whole size service.now }
+    ensures each { IsRun owner.now.settings.now (node_seen owner.now.node) (M.acts machine.new) }
+    ensures trimmed { OnOk result (Trims owner.now.settings.now (node_seen owner.now.node) (M.acts machine.new) whole service.now) }
+{
+    if whole == size {
+        return Ok(());
+    }
+    machine.cut(whole)
+}
+
+/// Appends the head of a log that is new.
+fn append_head<M: Machine>(
+    owner: &Owner<'_>,
+    machine: &mut M,
+    service: &Service,
+    whole: usize,
+) -> io::Result<()>
+    requires { Trims owner.now.settings.now (node_seen owner.now.node) (M.acts machine.old) whole service.now }
+    ensures each { IsRun owner.now.settings.now (node_seen owner.now.node) (M.acts machine.new) }
+    ensures headed { OnOk result (Heads owner.now.settings.now (node_seen owner.now.node) (M.acts machine.new) whole service.now) }
+{
+    if service.records().is_empty() {
+        return Ok(());
+    }
+    machine.append(service.records())
+}
+
+/// Has the log on disk: what an earlier process left may be in the system's memory alone.
+fn settle<M: Machine>(
+    owner: &Owner<'_>,
+    machine: &mut M,
+    service: &Service,
+    whole: usize,
+) -> io::Result<()>
+    requires { Heads owner.now.settings.now (node_seen owner.now.node) (M.acts machine.old) whole service.now }
+    ensures each { IsRun owner.now.settings.now (node_seen owner.now.node) (M.acts machine.new) }
+    ensures begun { OnOk result (Begins owner.now.settings.now (node_seen owner.now.node) (M.acts machine.new) whole service.now) }
+{
+    machine.sync()
+}
+
+/// Says that lines are served, and how many calls the log has.
+fn greet<M: Machine>(
+    owner: &Owner<'_>,
+    machine: &mut M,
+    service: &Service,
+    whole: usize,
+    ready: &[u8],
+) -> io::Result<()>
+    requires begun { Begins owner.now.settings.now (node_seen owner.now.node) (M.acts machine.old) whole service.now }
+    requires ready { ready.now ≡ ready_line service.now.calls }
+    ensures each { IsRun owner.now.settings.now (node_seen owner.now.node) (M.acts machine.new) }
+    ensures served { OnOk result (Serves owner.now.settings.now (node_seen owner.now.node) (M.acts machine.new) (cleared service.now)) }
+    ensures deaf { OnOk result (heard (M.acts machine.new) ≡ []) }
+{
+    machine.say(ready)
+}
+
+/// A node whose head is on disk.
+fn ready_to_serve(service: Service) -> Service
+    ensures { result ≡ cleared service }
+{
+    let mut service = service;
+    service.clear();
+    service
+}
+
+/// The line that says how many calls a log has.
+fn ready_of(alloc: Global, calls: u64) -> Result<Vec<u8>, AllocError>
+    ensures { IfOk result (λ line. line.items ≡ ready_line calls) }
+{
+    let mut line = Vec::new(alloc);
+    line.extend_from_slice(b"ready ")?;
+    put_decimal(&mut line, calls)?;
+    line.extend_from_slice(b"\n")?;
+    Ok(line)
+}

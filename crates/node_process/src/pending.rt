@@ -1,0 +1,81 @@
+//! Lines as they come whole.
+
+ghost use Rattle.std.specs.Prelude.{◌≡◌, ◌≤◌, ◌++◌, [], length, OnOk};
+ghost use Rattle.std.specs.Str.Lines.{strip_carriage_return};
+ghost use Rattle.node_service.specs.Serving.{after_line};
+ghost use Rattle.node_service.specs.Lines.{after_lines};
+ghost use Rattle.node_process.specs.Heard.{NoNewline, begun_line, whole_lines};
+
+use crate::unserved::Unserved;
+use memchr::memchr;
+use node_service::Service;
+use std::alloc::{AllocError, Global};
+
+/// The most bytes of a line (own).
+const MOST_BYTES: usize = 16_777_216;
+
+/// Serves the lines that have come whole with these bytes, and keeps what has begun of the next one.
+///
+/// # Errors
+/// Memory was refused, or what has begun is longer than a line may be.
+pub(crate) fn serve_heard(
+    alloc: Global,
+    service: &mut Service,
+    pending: &mut Vec<u8>,
+    bytes: &[u8],
+) -> Result<(), Unserved>
+    requires { NoNewline pending.old.items }
+    ensures served { OnOk result (service.new ≡ after_lines service.old (whole_lines (pending.old.items ++ bytes.now))) }
+    ensures kept { OnOk result (pending.new.items ≡ begun_line (pending.old.items ++ bytes.now)) }
+    ensures begun { OnOk result (NoNewline pending.new.items) }
+{
+    let mut rest = bytes;
+    for _ in 0..bytes.len() {
+        match memchr(b'\n', rest) {
+            Some(end) => {
+                serve_line(alloc, service, pending, &rest[..end])?;
+                rest = &rest[end + 1..];
+            }
+            None => return keep_begun(pending, rest),
+        }
+    }
+    keep_begun(pending, rest)
+}
+
+/// Keeps what has begun of a line.
+fn keep_begun(pending: &mut Vec<u8>, bytes: &[u8]) -> Result<(), Unserved>
+    ensures { OnOk result (pending.new.items ≡ pending.old.items ++ bytes.now) }
+{
+    pending.extend_from_slice(bytes)?;
+    if pending.len() > MOST_BYTES {
+        return Err(Unserved::LongLine);
+    }
+    Ok(())
+}
+
+/// Serves the line that had begun, with its end.
+fn serve_line(
+    alloc: Global,
+    service: &mut Service,
+    pending: &mut Vec<u8>,
+    end: &[u8],
+) -> Result<(), AllocError>
+    ensures served { OnOk result (service.new
+        ≡ after_line service.old (strip_carriage_return (pending.old.items ++ end.now))) }
+    ensures none { OnOk result (pending.new.items ≡ []) }
+{
+    pending.extend_from_slice(end)?;
+    service.serve(alloc, without_carriage_return(pending.as_slice()))?;
+    pending.clear();
+    Ok(())
+}
+
+/// A line without the one carriage return at its end, if it has one.
+fn without_carriage_return(line: &[u8]) -> &[u8]
+    ensures { result.now ≡ strip_carriage_return line.now }
+{
+    match line {
+        [front @ .., b'\r'] => front,
+        _ => line,
+    }
+}

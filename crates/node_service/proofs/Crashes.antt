@@ -1,0 +1,93 @@
+-- What a crash leaves of a file.
+use Rattle.std.proofs.Common.{◌≡◌, ℕ, zero, suc, ◌+◌, ◌-◌, ◌<◌, ◌≤◌, List, [], ◌∷◌, ◌++◌, length, take, drop, Option, Some, None, Result, Ok, Err, refl, sym, ap, ◌∙◌, subst, ◌⊎◌, inl, inr, arith, append_assoc, length-append}
+use Rattle.std.specs.Prelude.{option_map}
+use Rattle.std.proofs.lemmas.Bool.{cases_lt}
+use Rattle.std.proofs.Math.Seq.{take-append-add}
+use Rattle.std.proofs.lemmas.List.{take-append-le, take-append-drop}
+use Rattle.sha2.specs.Sha256.{sha256}
+use Rattle.claim_model.specs.Node.{Node}
+use Rattle.claim_model.specs.Nodes.{AnyNode}
+use Rattle.claim_model.specs.Logs.{Logged, NodeLog}
+use Rattle.crash_safety.specs.Network.{Process, file, crashed, restarted}
+use Rattle.world_setup.specs.Seen.{settings_seen}
+use Rattle.world_setup.specs.declared.settings.WorldSettings.{WorldSettings}
+use Rattle.run_merge.specs.Merged.{replayed}
+use Rattle.node_logged.specs.Setting.{context_of}
+use Rattle.kept_logs.specs.declared.fault.LogFault.{LogFault}
+use Rattle.kept_logs.specs.declared.fault.LogFault.TheVariants.{Short}
+use Rattle.kept_logs.specs.Records.{logged_text}
+use Rattle.kept_logs.specs.Frames.{frame_text}
+use Rattle.kept_logs.specs.Logs.{Reading, calls_text, log_text, log_in}
+use Rattle.kept_logs.specs.Fits.{FitsLog}
+use Rattle.kept_logs.specs.Cuts.{first_calls, calls_within, log_within}
+use Rattle.kept_logs.proofs.LogsBack.{log_length, reads_back}
+use Rattle.node_service.specs.Serving.{Serving}
+use Rattle.node_service.specs.Opened.{IsBegun, IsOpened}
+use Rattle.node_service.specs.Lines.{IsRestart}
+use Rattle.node_service.proofs.Lines.{digest_length}
+
+-- the first calls of a log have no more bytes than those with more calls
+longer_text : (number : ℕ) (calls more : List Logged) → length (calls_text number calls) ≤ length (calls_text number (calls ++ more))
+unfolding calls_text
+longer_text number [] more = omega arith
+longer_text number (r ∷ calls) more =
+    let inner = longer_text (number + 1) calls more in
+    omega (arith, inner, length-append (frame_text number (logged_text r)) (calls_text (number + 1) calls), length-append (frame_text number (logged_text r)) (calls_text (number + 1) (calls ++ more)))
+
+-- a cut behind the synced calls leaves them all
+all_synced : (digest : List ℕ) (node : Node) (p : Process) (n : ℕ) → length digest ≡ 32 → FitsLog (record { node = node; calls = file p }) → length (log_text digest (record { node = node; calls = p.synced })) ≤ n
+    → length p.synced ≤ calls_within n (record { node = node; calls = file p })
+all_synced digest node p n d fits long =
+    let log : NodeLog = record { node = node; calls = file p } in
+    let synced : NodeLog = record { node = node; calls = p.synced } in
+    let k = calls_within n log in
+    elim (cases_lt k (length p.synced)) [
+      | inl less ↦
+          let back = reads_back digest log n d fits (omega (arith, log_length digest synced d, long)) in
+          let within : k < length (file p) = omega (arith, less, length-append p.synced p.unsynced) in
+          let more = back.most within in
+          let first : take (suc k) (file p) ≡ take (suc k) p.synced = take-append-le (suc k) p.synced p.unsynced (omega (arith, less)) in
+          let shorter : length (calls_text 1 (take (suc k) p.synced)) ≤ length (calls_text 1 p.synced) =
+          subst (λ (calls : List Logged). length (calls_text 1 (take (suc k) p.synced)) ≤ length (calls_text 1 calls)) (take-append-drop (suc k) p.synced) (longer_text 1 (take (suc k) p.synced) (drop (suc k) p.synced)) in
+          let all : length (log_text digest (first_calls (suc k) log)) ≡ 46 + length (calls_text 1 (take (suc k) p.synced)) =
+          log_length digest (first_calls (suc k) log) d ∙ ap (λ (calls : List Logged). 46 + length (calls_text 1 calls)) first in
+          absurd (omega (arith, more, all, shorter, log_length digest synced d, long))
+      | inr enough ↦ enough
+    ]
+
+same_reading : (a b : Reading) → ◌≡◌ {A = Result Reading LogFault} (Ok a) (Ok b) → a ≡ b
+same_reading a b h = cc
+
+not_short : (a : Reading) → ◌≡◌ {A = Result Reading LogFault} (Ok a) (Err Short) → ⊥
+not_short a h = cc
+
+restarted_as : (digest : List ℕ) (node : Node) (p : Process) (image : List ℕ) (left whole kept : ℕ) (settings : WorldSettings) (state : AnyNode) (records : List ℕ) (log : NodeLog)
+    → log_in digest image ≡ Ok (record { log = record { node = node; calls = file (crashed p left) }; whole = whole }) → IsBegun digest node image log kept records → replayed settings node log.calls ≡ Some state
+    → (restarted (context_of settings) (settings_seen settings) node (crashed p left)).memory ≡ Some state
+restarted_as digest node p image left whole kept settings state records log reads (inr none) is = absurd (not_short (record { log = record { node = node; calls = file (crashed p left) }; whole = whole }) (sym reads ∙ none.0))
+restarted_as digest node p image left whole kept settings state records log reads (inl read) is =
+    let r = same_reading (record { log = log; whole = kept }) (record { log = record { node = node; calls = file (crashed p left) }; whole = whole }) (sym read.0 ∙ reads) in
+    ap (λ (x : Reading). replayed settings node x.log.calls) (sym r) ∙ is
+
+pub crashed_restarts : (settings : List ℕ) (node : Node) (p : Process) (n : ℕ) → FitsLog (record { node = node; calls = file p }) → length (log_text (sha256 settings) (record { node = node; calls = p.synced })) ≤ n
+    → IsRestart settings node p (take n (log_text (sha256 settings) (record { node = node; calls = file p })))
+crashed_restarts settings node p n fits long =
+    let digest = sha256 settings in
+    let d = digest_length settings in
+    let log : NodeLog = record { node = node; calls = file p } in
+    let synced : NodeLog = record { node = node; calls = p.synced } in
+    let k = calls_within n log in
+    let left = k - length p.synced in
+    let back = reads_back digest log n d fits (omega (arith, log_length digest synced d, long)) in
+    let enough = all_synced digest node p n d fits long in
+    let count : k ≡ length p.synced + left = omega (arith, enough) in
+    let calls : take k (file p) ≡ file (crashed p left) = ap (λ m. take m (file p)) count ∙ take-append-add p.synced p.unsynced left in
+    let whole = length (log_text digest (log_within n log)) in
+    let reads : log_in digest (take n (log_text digest log)) ≡ Ok (record { log = record { node = node; calls = file (crashed p left) }; whole = whole }) =
+    back.read ∙ ap (λ (cs : List Logged). let r : Reading = record { log = record { node = node; calls = cs }; whole = whole } in Ok r) calls in
+    record {
+      left = left;
+      whole = whole;
+      reads = reads;
+      restarts = λ s kept o. restarted_as digest node p (take n (log_text digest log)) left whole kept s.settings s.state s.records o.log reads o.begun o.state;
+    }

@@ -1,0 +1,112 @@
+-- Why a node is not served: each cause is true, and those before it in the order do not stand.
+use Rattle.std.specs.Prelude.{◌≡◌, ◌≢◌, ◌⊎◌, ⊤, ℕ, Bool, true, false, List, length, Option, Some, None, Ok, Err}
+use Rattle.sha2.specs.Sha256.{sha256}
+use Rattle.claim_model.specs.Node.{Node}
+use Rattle.claim_model.specs.Nodes.{AnyNode, same_node}
+use Rattle.claim_model.specs.Logs.{NodeLog}
+use Rattle.world_setup.specs.Seen.{settings_seen}
+use Rattle.world_setup.specs.Taken.{world_fault}
+use Rattle.world_setup.specs.declared.settings.WorldSettings.{WorldSettings}
+use Rattle.world_setup.specs.declared.world_fault.WorldFault.{WorldFault}
+use Rattle.world_settings.specs.Document.{document_seen, settings_in}
+use Rattle.run_merge.specs.Naming.{is_there}
+use Rattle.run_merge.specs.Misfits.{BreaksAt}
+use Rattle.node_logged.specs.Setting.{context_of, opened}
+use Rattle.kept_logs.specs.declared.fault.LogFault.{LogFault}
+use Rattle.kept_logs.specs.declared.fault.LogFault.TheVariants as log_fault
+use Rattle.kept_logs.specs.Logs.{Reading, log_text, log_in}
+use Rattle.kept_logs.specs.Cuts.{first_calls}
+use Rattle.node_service.specs.declared.fault.ServiceFault.{ServiceFault}
+use Rattle.node_service.specs.declared.fault.ServiceFault.TheVariants.{OutOfMemory, Settings, NoSuchNode, Log, OtherNode, NotMade}
+use Rattle.node_service.specs.Opened.{Spells, IsBegun}
+
+-- a text spells settings that no world takes
+pub record SpellsNoWorld (text : List ℕ) : Type 0 where
+  pub settings : WorldSettings
+  pub spelled : settings_in text ≡ Some (document_seen settings)
+  pub why : WorldFault
+  pub refused : world_fault settings ≡ Some why
+
+-- the settings are refused: the text spells none, or some that no world takes
+abbrev pub NoSettings : List ℕ → ServiceFault → Type 0
+NoSettings text OutOfMemory = ⊤
+NoSettings text Settings = (settings_in text ≡ None) ⊎ SpellsNoWorld text
+NoSettings text NoSuchNode = ⊥
+NoSettings text (Log fault) = ⊥
+NoSettings text OtherNode = ⊥
+NoSettings text (NotMade place) = ⊥
+
+-- a log is another node's
+abbrev pub IsAnothers : NodeLog → Node → ServiceFault → Type 0
+IsAnothers log node OutOfMemory = ⊥
+IsAnothers log node Settings = ⊥
+IsAnothers log node NoSuchNode = ⊥
+IsAnothers log node (Log fault) = ⊥
+IsAnothers log node OtherNode = same_node log.node node ≡ false
+IsAnothers log node (NotMade place) = ⊥
+
+-- bytes are the log of another node
+pub record ReadsAnothers (digest : List ℕ) (node : Node) (bytes : List ℕ) : Type 0 where
+  pub read : Reading
+  pub reads : log_in digest bytes ≡ Ok read
+  pub other : same_node read.log.node node ≡ false
+
+-- the log is refused: bytes are none, by the first fault that there is, or another node's
+abbrev pub NoLog : List ℕ → Node → List ℕ → ServiceFault → Type 0
+NoLog digest node bytes OutOfMemory = ⊤
+NoLog digest node bytes Settings = ⊥
+NoLog digest node bytes NoSuchNode = ⊥
+NoLog digest node bytes (Log fault) = (fault ≢ log_fault.Short) × (log_in digest bytes ≡ Err fault)
+NoLog digest node bytes OtherNode = ReadsAnothers digest node bytes
+NoLog digest node bytes (NotMade place) = ⊥
+
+-- the first call of a log that its node does not make has its record at this place
+pub record BreaksAtPlace (digest : List ℕ) (settings : WorldSettings) (log : NodeLog) (place : ℕ) : Type 0 where
+  pub before : AnyNode
+  pub opens : opened settings log.node ≡ Some before
+  pub count : ℕ
+  pub breaks : BreaksAt (context_of settings) before log.calls count
+  pub is : place ≡ length (log_text digest (first_calls count log))
+
+-- the node does not make its log
+abbrev pub IsNotMade : List ℕ → WorldSettings → NodeLog → ServiceFault → Type 0
+IsNotMade digest settings log OutOfMemory = ⊤
+IsNotMade digest settings log Settings = ⊥
+IsNotMade digest settings log NoSuchNode = ⊥
+IsNotMade digest settings log (Log fault) = ⊥
+IsNotMade digest settings log OtherNode = ⊥
+IsNotMade digest settings log (NotMade place) = BreaksAtPlace digest settings log place
+
+-- the settings are taken, and have no such node
+pub record HasNoNode (text : List ℕ) (node : Node) : Type 0 where
+  pub settings : WorldSettings
+  pub spells : Spells text settings
+  pub absent : is_there (settings_seen settings) node ≡ false
+
+-- the settings are taken and have the node, and its log is refused
+pub record HasNoLog (text : List ℕ) (node : Node) (bytes : List ℕ) (why : ServiceFault) : Type 0 where
+  pub settings : WorldSettings
+  pub spells : Spells text settings
+  pub there : is_there (settings_seen settings) node ≡ true
+  pub refused : NoLog (sha256 text) node bytes why
+
+-- the settings are taken and have the node, its log is read, and the node does not make it
+pub record DoesNotMake (text : List ℕ) (node : Node) (bytes : List ℕ) (place : ℕ) : Type 0 where
+  pub settings : WorldSettings
+  pub spells : Spells text settings
+  pub there : is_there (settings_seen settings) node ≡ true
+  pub log : NodeLog
+  pub own : log.node ≡ node
+  pub kept : ℕ
+  pub records : List ℕ
+  pub begun : IsBegun (sha256 text) node bytes log kept records
+  pub breaks : BreaksAtPlace (sha256 text) settings log place
+
+-- a node is refused for this cause, and for none before it
+abbrev pub IsRefused : List ℕ → Node → List ℕ → ServiceFault → Type 0
+IsRefused text node bytes OutOfMemory = ⊤
+IsRefused text node bytes Settings = (settings_in text ≡ None) ⊎ SpellsNoWorld text
+IsRefused text node bytes NoSuchNode = HasNoNode text node
+IsRefused text node bytes (Log fault) = HasNoLog text node bytes (Log fault)
+IsRefused text node bytes OtherNode = HasNoLog text node bytes OtherNode
+IsRefused text node bytes (NotMade place) = DoesNotMake text node bytes place
