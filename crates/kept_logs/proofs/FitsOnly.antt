@@ -1,5 +1,5 @@
 -- What was taken has numbers of a machine.
-use Rattle.std.proofs.Common.{◌≡◌, ℕ, zero, suc, ◌+◌, ◌<◌, ◌≤◌, ◌^◌, true, List, [], ◌∷◌, ◌++◌, length, Option, Some, None, option_map, refl, ap, ◌∙◌, sym, subst, arith}
+use Rattle.std.proofs.Common.{◌≡◌, ℕ, zero, suc, ◌<◌, ◌^◌, true, List, [], ◌∷◌, length, Option, Some, None, ap, ◌∙◌, sym, subst}
 use Rattle.std.proofs.lemmas.Option.{some_pair_parts, same_Some}
 use Rattle.std.specs.List.{AllByRecursion}
 use Rattle.claim_model.specs.Node.{Node, Pharmacy, Switch, Payer, Sent, Call, Submit, Tick, Take, Stop, Start, Reprice}
@@ -10,7 +10,7 @@ use Rattle.kept_records.proofs.Chains.{option_then}
 use Rattle.kept_records.proofs.FieldsOnly.{AreBytes, IsTaken, u8_at_taken, u16_at_taken, u32_at_taken, u64_at_taken}
 use Rattle.kept_logs.specs.Fields.{bytes_at, text_at, node_of, node_at, node_text, text_of}
 use Rattle.kept_logs.specs.Calls.{call_of, call_at, submit_at, take_at, unplan_at, plan_at}
-use Rattle.kept_logs.specs.Records.{sent_at, sents_in, logged_text, logged_in, sent_text}
+use Rattle.kept_logs.specs.Records.{sent_at, sents_in, logged_in, sent_text}
 use Rattle.kept_logs.specs.Frames.{is_size}
 use Rattle.kept_logs.specs.Fits.{FitsNode, FitsCall, FitsSent, FitsLogged}
 use Rattle.kept_logs.proofs.FieldsOnly.{bytes_at_taken, text_at_taken, node_at_taken, mapped, call_at_taken, sent_at_taken, logged_in_taken}

@@ -1,6 +1,6 @@
 //! Records in a file.
 
-ghost use Rattle.std.specs.Prelude.{◌≡◌, true, length, IfOk};
+ghost use Rattle.std.specs.Prelude.{◌≡◌, ◌==◌, true, length, IfOk};
 ghost use Rattle.kept_logs.specs.Frames.{frame_text, frame_at, body_at, is_size, is_zeros, no_record};
 ghost use Rattle.kept_logs.specs.MetSeen.{frame_seen};
 

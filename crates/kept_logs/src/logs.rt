@@ -88,7 +88,7 @@ pub fn place_of(
     let mut text = Vec::new(alloc);
     put_head(alloc, &mut text, settings, log.node())?;
     put_records(alloc, &mut text, &log.records()[..count])?;
-    Ok(text.len())
+    Ok(text.as_slice().len())
 }
 
 /// What a host appends to a log's text for the call that is the next one, of this number from 1.
