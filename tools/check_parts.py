@@ -40,6 +40,8 @@ class Part:
 
 
 SCRIPTS = (
+    Part('callers-payer', ('trials/run', 'callers', '--unproved', 'payer_book')),
+    Part('callers-pharmacy', ('trials/run', 'callers', '--unproved', 'pharmacy_journal')),
     Part('cases', ('cases/run',), PRODUCTS),
     Part('refuse-memory', ('tests/refuse-memory', '--every', REFUSALS), ('claimswitch', 'systems')),
     Part('library', ('tests/library',), ('library', 'claimnode')),
@@ -61,7 +63,6 @@ SCRIPTS = (
 )
 # What the gate runs that is no part, and why.
 LEFT_OUT = {
-    'trials/run callers': 'the compiler refuses them over proved libraries',
     'tools/carrier': 'it installs packages',
     'tools/static-library': 'the library is compiled without proof',
 }
