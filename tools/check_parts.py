@@ -15,7 +15,7 @@ from check_programs import TOP, programs  # noqa: E402
 
 PRODUCTS = ('claimswitch', 'claimpicture', 'claimdecode', 'claimnode', 'claimaudit', 'claimdump')
 # Each refusal of memory that is not one of so many is left to the gate.
-REFUSALS = '25'
+REFUSALS = '5'
 
 
 @dataclass(frozen=True)
