@@ -59,6 +59,7 @@ SCRIPTS = (
     Part('clauses', ('tests/clauses',)),
     Part('promises', ('tools/promises', 'check')),
     Part('wrong-bodies', ('tools/wrong-bodies', 'check')),
+    Part('planted', ('trials/plant', '--check')),
     Part('gate', ('tools/check_parts.py',)),
 )
 # What the gate runs that is no part, and why.
