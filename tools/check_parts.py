@@ -1,0 +1,119 @@
+#!/usr/bin/env python3
+"""The parts of ./check: what each runs, and which programs it needs.
+
+A part is the stored run of a program (its files stdin, args, status, stdout and data/, as `rt ci` reads them), or a script.
+As a program it says whether each script that .ci/run runs is a part, and ends with status 1 where one is not."""
+
+from __future__ import annotations
+
+import re
+import sys
+from dataclasses import dataclass
+
+sys.dont_write_bytecode = True
+from check_programs import TOP, programs  # noqa: E402
+
+PRODUCTS = ('claimswitch', 'claimpicture', 'claimdecode', 'claimnode', 'claimaudit', 'claimdump')
+# Each refusal of memory that is not one of so many is left to the gate.
+REFUSALS = '5'
+
+
+@dataclass(frozen=True)
+class Part:
+    """One thing to try."""
+    name: str
+    # The command, from the top; none: the stored run of the program of that name.
+    words: tuple[str, ...] = ()
+    # The programs without which it says nothing.
+    needs: tuple[str, ...] = ()
+    # Whether it hangs on the time that a busy machine gives: then it runs beside no other such part, and once more where it failed.
+    timed: bool = False
+
+    @property
+    def is_stored(self) -> bool:
+        """Whether it is the stored run of a program."""
+        return not self.words
+
+    def told(self) -> str:
+        """What it runs, for people."""
+        return ' '.join(self.words) if self.words else f'the stored run of {self.name}'
+
+
+SCRIPTS = (
+    Part('callers-payer', ('trials/run', 'callers', '--unproved', 'payer_book')),
+    Part('callers-pharmacy', ('trials/run', 'callers', '--unproved', 'pharmacy_journal')),
+    Part('cases', ('cases/run',), PRODUCTS),
+    Part('refuse-memory', ('tests/refuse-memory', '--every', REFUSALS), ('claimswitch', 'systems')),
+    Part('library', ('tests/library',), ('library', 'claimnode')),
+    Part('audit', ('tests/audit',), ('claimdump', 'claimaudit', 'claimswitch')),
+    Part('package', ('tests/package',), PRODUCTS),
+    Part('documents', ('tests/documents',), PRODUCTS),
+    Part('examples', ('tests/examples',), ('claimswitch', 'claimpicture')),
+    Part('decode', ('tests/decode',), ('claimdecode',)),
+    Part('hosts', ('tests/hosts',), ('claimnode', 'claimaudit'), timed=True),
+    Part('hosts-c', ('tests/hosts', 'c'), ('library', 'claimnode', 'claimaudit'), timed=True),
+    Part('torture', ('hosts/torture', '6', '1'), ('claimnode', 'claimaudit', 'claimswitch'), timed=True),
+    Part('torture-jetstream', ('hosts/torture', '6', '2', '--jetstream'), ('claimnode', 'claimaudit', 'claimswitch'), timed=True),
+    Part('torture-unsynced', ('hosts/torture', '4', '1', '--unsynced', '3'), ('claimnode', 'claimaudit', 'claimswitch'), timed=True),
+    Part('uncalled', ('tests/uncalled',)),
+    Part('clauses', ('tests/clauses',)),
+    Part('promises', ('tools/promises', 'check')),
+    Part('wrong-bodies', ('tools/wrong-bodies', 'check')),
+    Part('planted', ('trials/plant', '--check')),
+    Part('gate', ('tools/check_parts.py',)),
+)
+# What the gate runs that is no part, and why.
+LEFT_OUT = {
+    'tools/carrier': 'it installs packages',
+    'tools/static-library': 'the library is compiled without proof',
+}
+
+
+def parts() -> list[Part]:
+    """All parts, those that take longest first: programs that are tests, scripts, and the stored runs of the others."""
+    there = programs()
+    stored = [Part(name, (), (name,)) for name in there if name != 'library']
+    found = []
+    for script in SCRIPTS:
+        if (TOP / script.words[0]).exists():
+            needs = tuple(it for it in script.needs if it in there)
+            found.append(Part(script.name, script.words, needs, script.timed))
+    return [it for it in stored if it.name not in PRODUCTS] + found + [it for it in stored if it.name in PRODUCTS]
+
+
+def chosen(words: list[str]) -> list[Part]:
+    """The parts of these names, programs or scripts; all where none is named. A word that names none is told as a fault."""
+    found = parts()
+    if not words:
+        return found
+    for word in words:
+        if not any(names(part, word) for part in found):
+            raise ValueError(f'there is no part {word}; --list tells which there are')
+    return [part for part in found if any(names(part, word) for word in words)]
+
+
+def names(part: Part, word: str) -> bool:
+    """Whether a word is a part's name, or its script."""
+    return word == part.name or bool(part.words) and word.removeprefix('./') in (part.words[0], ' '.join(part.words))
+
+
+def not_covered() -> list[str]:
+    """The scripts that the gate runs and that are no parts here."""
+    gate = (TOP / '.ci' / 'run').read_text(encoding='utf-8')
+    code = '\n'.join(line for line in gate.splitlines() if not line.lstrip().startswith('#'))
+    run = re.findall(r'(?<![\w/.])((?:tests|tools|hosts|trials|cases)/[\w-]+(?: (?:check|callers|c)\b)?)', code)
+    known = {' '.join(part.words) for part in SCRIPTS} | set(LEFT_OUT)
+    return [it for it in dict.fromkeys(run) if not any(one == it or one.startswith(f'{it} ') for one in known)]
+
+
+def check_gate() -> int:
+    """Says whether each script that .ci/run runs is a part."""
+    lacking = not_covered()
+    for script in lacking:
+        print(f'{script} is run by .ci/run, and is no part of ./check: tools/check_parts.py')
+    print(f'scripts of the gate that are no part: {len(lacking)}')
+    return 1 if lacking else 0
+
+
+if __name__ == '__main__':
+    sys.exit(check_gate())
