@@ -2,3 +2,4 @@
 pub mod Splitting
 pub mod Asking
 pub mod Moments
+pub mod Hearing

@@ -1,5 +1,5 @@
 -- Each act of a process, from a moment that is safe to the next.
-use Rattle.std.proofs.Common.{◌≡◌, ℕ, ◌≤◌, Bool, true, false, not, ◌&&◌, ◌||◌, cond, List, [], ◌∷◌, ◌++◌, take, length, Result, Ok, Err, OnOk, is_ok, refl, sym, ap, ◌∙◌, subst, ◌⊎◌, inl, inr, append_assoc, append-nil}
+use Rattle.std.proofs.Common.{◌≡◌, ℕ, zero, suc, ◌≤◌, Bool, true, false, not, ◌&&◌, ◌||◌, cond, List, [], ◌∷◌, ◌++◌, take, length, Result, Ok, Err, OnOk, is_ok, refl, sym, ap, ◌∙◌, subst, ◌⊎◌, inl, inr, append_assoc, append-nil}
 use Rattle.std.proofs.lemmas.List.{take_all}
 use Rattle.claim_model.specs.Node.{Node}
 use Rattle.node_service.specs.Serving.{Serving, cleared}
@@ -8,6 +8,7 @@ use Rattle.node_service.specs.Opened.{IsOpened}
 use Rattle.node_process.specs.Acts.{Act, Found, Cut, Append, Sync, Say, Hear, found, file, has_failed, kept, said, heard, heard_last}
 use Rattle.node_process.specs.Heard.{whole_lines, begun_line}
 use Rattle.node_process.specs.Safe.{IsStartOf, ready_line, asked, log_of, words_of, IsCovered, IsInOrder, IsLogOfInput, IsWholeFile, IsSafe, AtEachMoment, IsUnopened, IsRun, IsDone, IsRunDone, IsOn, IsServed, IsLogged, IsOpening, Reads, Trims, Heads, Begins, Serves, Logs}
+use Rattle.node_service.proofs.Lines.{new_or_whole}
 use Rattle.node_process.proofs.Asking.{asked_more}
 
 -- ---- beginnings
@@ -52,12 +53,14 @@ module _ (start : Serving) (base : List ℕ) where
   -- ---- a turn
 
   pub append_each : (t : List Act) (s : Serving) (done : Bool) → IsServed start base t s → AtEachMoment start base (Append s.records done ∷ t)
-  append_each t s done v =
-      (record {
-        order = (v.on.well, v.on.synced);
-        covered = cover_on t (Append s.records done ∷ t) refl (all_of (heard t)) (all_of (kept t)) (now t v.on.each).covered;
-        whole = log_of_all (Append s.records done ∷ t) v.log;
-      }, v.on.each)
+  append_each t s done v = (
+    record {
+      order = (v.on.well, v.on.synced);
+      covered = cover_on t (Append s.records done ∷ t) refl (all_of (heard t)) (all_of (kept t)) (now t v.on.each).covered;
+      whole = log_of_all (Append s.records done ∷ t) v.log;
+    },
+    v.on.each,
+  )
 
   sync_kept : (t : List Act) (done : Bool) → has_failed t ≡ false → IsStartOf (kept t) (file t) → IsStartOf (kept t) (kept (Sync done ∷ t))
   sync_kept t true well s = subst (λ b. IsStartOf (kept t) (cond (true && not b) (file t) (kept t))) (sym well) s
@@ -66,12 +69,14 @@ module _ (start : Serving) (base : List ℕ) where
   pub sync_each : (t : List Act) (s : Serving) (done : Bool) → IsServed start base t s → AtEachMoment start base (Sync done ∷ Append s.records true ∷ t)
   sync_each t s done v =
       let u = Append s.records true ∷ t in
-      let before = append_each t s true v in
-      (record {
-        order = v.on.well;
-        covered = cover_on u (Sync done ∷ u) refl (all_of (heard t)) (sync_kept u done v.on.well (start_with (kept t) (file t) s.records (same_start (kept t) (file t) v.on.synced))) before.0.covered;
-        whole = log_of_all (Sync done ∷ u) v.log;
-      }, before)
+      let before = append_each t s true v in (
+        record {
+          order = v.on.well;
+          covered = cover_on u (Sync done ∷ u) refl (all_of (heard t)) (sync_kept u done v.on.well (start_with (kept t) (file t) s.records (same_start (kept t) (file t) v.on.synced))) before.0.covered;
+          whole = log_of_all (Sync done ∷ u) v.log;
+        },
+        before,
+      )
 
   pub synced_logged : (t : List Act) (s : Serving) → IsServed start base t s → IsLogged start base (Sync true ∷ Append s.records true ∷ t) s
   synced_logged t s v =
@@ -90,17 +95,19 @@ module _ (start : Serving) (base : List ℕ) where
   no_records t s none v = record { on = v.on; log = sym (append-nil (file t)) ∙ (ap (λ (x : List ℕ). file t ++ x) (sym none) ∙ v.log) }
 
   pub say_each : (t : List Act) (s : Serving) (done : Bool) → IsLogged start base t s → AtEachMoment start base (Say s.out done ∷ t)
-  say_each t s done v =
-      (record {
-        order = v.on.well;
-        covered = inr (record {
-          input = heard t;
-          came = all_of (heard t);
-          sent = same_start (said t ++ s.out) (words_of start (heard t)) v.on.words;
-          logged = same_start (log_of start base (heard t)) (kept t) (sym v.log ∙ sym v.on.synced);
-        });
-        whole = log_of_all (Say s.out done ∷ t) v.log;
-      }, v.on.each)
+  say_each t s done v = (
+    record {
+      order = v.on.well;
+      covered = inr (record {
+        input = heard t;
+        came = all_of (heard t);
+        sent = same_start (said t ++ s.out) (words_of start (heard t)) v.on.words;
+        logged = same_start (log_of start base (heard t)) (kept t) (sym v.log ∙ sym v.on.synced);
+      });
+      whole = log_of_all (Say s.out done ∷ t) v.log;
+    },
+    v.on.each,
+  )
 
   pub said_served : (t : List Act) (s : Serving) → IsLogged start base t s → IsServed start base (Say s.out true ∷ t) (cleared s)
   said_served t s v =
@@ -121,12 +128,14 @@ module _ (start : Serving) (base : List ℕ) where
   whole_on t bytes (inr (inr l)) = inr (inr (record { input = l.input; came = start_with l.input (heard t) bytes l.came; is = l.is }))
 
   pub hear_each : (t : List Act) (s : Serving) (bytes : List ℕ) → IsServed start base t s → AtEachMoment start base (Hear bytes ∷ t)
-  hear_each t s bytes v =
-      (record {
-        order = v.on.well;
-        covered = cover_on t (Hear bytes ∷ t) refl (record { rest = bytes; is = refl }) (all_of (kept t)) (now t v.on.each).covered;
-        whole = whole_on t bytes (now t v.on.each).whole;
-      }, v.on.each)
+  hear_each t s bytes v = (
+    record {
+      order = v.on.well;
+      covered = cover_on t (Hear bytes ∷ t) refl (record { rest = bytes; is = refl }) (all_of (kept t)) (now t v.on.each).covered;
+      whole = whole_on t bytes (now t v.on.each).whole;
+    },
+    v.on.each,
+  )
 
   pub heard_served : (t : List Act) (s : Serving) (bytes : List ℕ) → IsServed start base t s → IsServed start base (Hear bytes ∷ t) (after_lines s (whole_lines (begun_line (heard t) ++ bytes)))
   heard_served t s bytes v =
@@ -161,29 +170,33 @@ module _ (start : Serving) (base : List ℕ) where
   log_of_none t text o e = inr (inr (record { input = []; came = record { rest = heard t; is = refl }; is = o.is ∙ e }))
 
   pub head_each : (t : List Act) (done : Bool) → IsOpening start base t base → kept t ≡ file t → AtEachMoment start base (Append start.records done ∷ t)
-  head_each t done o synced =
-      (record {
-        order = (o.well, synced);
-        covered = inl o.silent;
-        whole = inr (inr (record { input = []; came = record { rest = heard t; is = refl }; is = ap (λ (x : List ℕ). x ++ start.records) o.is }));
-      }, o.each)
+  head_each t done o synced = (
+    record {
+      order = (o.well, synced);
+      covered = inl o.silent;
+      whole = inr (inr (record { input = []; came = record { rest = heard t; is = refl }; is = ap (λ (x : List ℕ). x ++ start.records) o.is }));
+    },
+    o.each,
+  )
 
   pub settle_each : (t : List Act) (done : Bool) → IsOpening start base t (base ++ start.records) → AtEachMoment start base (Sync done ∷ t)
   settle_each t done o =
       (record { order = o.well; covered = inl o.silent; whole = inr (inr (record { input = []; came = record { rest = heard t; is = refl }; is = o.is })) }, o.each)
 
   pub greet_each : (t : List Act) (done : Bool) → IsOpening start base t (base ++ start.records) → kept t ≡ file t → AtEachMoment start base (Say (ready_line start.calls) done ∷ t)
-  greet_each t done o synced =
-      (record {
-        order = o.well;
-        covered = inr (record {
-          input = [];
-          came = record { rest = heard t; is = refl };
-          sent = record { rest = start.out; is = ap (λ (x : List ℕ). (x ++ ready_line start.calls) ++ start.out) o.silent };
-          logged = same_start (log_of start base []) (kept t) (sym (synced ∙ o.is));
-        });
-        whole = inr (inr (record { input = []; came = record { rest = heard t; is = refl }; is = o.is }));
-      }, o.each)
+  greet_each t done o synced = (
+    record {
+      order = o.well;
+      covered = inr (record {
+        input = [];
+        came = record { rest = heard t; is = refl };
+        sent = record { rest = start.out; is = ap (λ (x : List ℕ). (x ++ ready_line start.calls) ++ start.out) o.silent };
+        logged = same_start (log_of start base []) (kept t) (sym (synced ∙ o.is));
+      });
+      whole = inr (inr (record { input = []; came = record { rest = heard t; is = refl }; is = o.is }));
+    },
+    o.each,
+  )
 
   pub greet_serves : (t : List Act) → start.out ≡ [] → IsOpening start base t (base ++ start.records) → kept t ≡ file t → IsServed start base (Say (ready_line start.calls) true ∷ t) (cleared start)
   greet_serves t silent o synced =
@@ -211,3 +224,141 @@ runs text node t start whole opened each =
 pub when_done : {T E : Type 0} (r : Result T E) (P : Bool → Type 0) → P true → OnOk r (P (is_ok r))
 when_done (Ok x) P p = p
 when_done (Err e) P p = tt
+
+-- ---- in the words of the clauses
+
+pub reads_runs : (text : List ℕ) (node : Node) (t : List Act) (whole size : ℕ) (s : Serving) → Reads text node t whole size s → IsRun text node t
+reads_runs text node t whole size s r = subst (IsRun text node) (sym r.is) (runs text node (Found r.bytes ∷ []) s whole r.opened (found_each s (take whole r.bytes) r.bytes))
+
+cut_each : (s : Serving) (whole : ℕ) (bytes : List ℕ) (done : Bool) → AtEachMoment s (take whole bytes) (Cut whole done ∷ Found bytes ∷ [])
+cut_each s whole bytes done = (record { order = refl; covered = inl refl; whole = inr (inl refl) }, found_each s (take whole bytes) bytes)
+
+pub cut_runs : (text : List ℕ) (node : Node) (t : List Act) (whole size : ℕ) (s : Serving) (done : Bool) → Reads text node t whole size s → IsRun text node (Cut whole done ∷ t)
+cut_runs text node t whole size s done r =
+    subst (λ (acts : List Act). IsRun text node (Cut whole done ∷ acts)) (sym r.is) (runs text node (Cut whole done ∷ Found r.bytes ∷ []) s whole r.opened (cut_each s whole r.bytes done))
+
+take_none : (whole : ℕ) → take whole [] ≡ []
+take_none zero = refl
+take_none (suc whole) = refl
+
+pub cut_trims : (text : List ℕ) (node : Node) (t : List Act) (whole size : ℕ) (s : Serving) → Reads text node t whole size s → Trims text node (Cut whole true ∷ t) whole s
+cut_trims text node t whole size s r =
+    subst (λ (acts : List Act). Trims text node (Cut whole true ∷ acts) whole s) (sym r.is)
+    (record { opened = r.opened; opening = record { each = cut_each s whole r.bytes true; well = refl; silent = refl; deaf = refl; is = refl }; unsynced = take_none whole })
+
+pub whole_trims : (text : List ℕ) (node : Node) (t : List Act) (whole size : ℕ) (s : Serving) → Reads text node t whole size s → whole ≡ size → Trims text node t whole s
+whole_trims text node t whole size s r same =
+    let all : take whole r.bytes ≡ r.bytes = ap (λ (n : ℕ). take n r.bytes) (same ∙ r.count) ∙ take_whole r.bytes in
+    subst (λ (acts : List Act). Trims text node acts whole s) (sym r.is)
+    (record { opened = r.opened; opening = record { each = found_each s (take whole r.bytes) r.bytes; well = refl; silent = refl; deaf = refl; is = sym all }; unsynced = refl })
+  where
+    take_whole : (bytes : List ℕ) → take (length bytes) bytes ≡ bytes
+    take_whole [] = refl
+    take_whole (b ∷ bytes) = ap (λ (x : List ℕ). b ∷ x) (take_whole bytes)
+
+pub trims_runs : (text : List ℕ) (node : Node) (t : List Act) (whole : ℕ) (s : Serving) → Trims text node t whole s → IsRun text node t
+trims_runs text node t whole s h = runs text node t s whole h.opened h.opening.each
+
+-- a head is appended to an empty file alone
+empty_base : (text : List ℕ) (node : Node) (t : List Act) (whole : ℕ) (s : Serving) → Trims text node t whole s → (s.records ≡ [] → ⊥) → kept t ≡ file t
+empty_base text node t whole s h some =
+    elim (new_or_whole text node (found t) whole s h.opened) [
+      | inl none ↦ absurd (some none)
+      | inr zero_kept ↦ h.unsynced ∙ sym (h.opening.is ∙ ap (λ (n : ℕ). take n (found t)) zero_kept)
+    ]
+
+pub head_runs : (text : List ℕ) (node : Node) (t : List Act) (whole : ℕ) (s : Serving) (done : Bool) → Trims text node t whole s → (s.records ≡ [] → ⊥) → IsRun text node (Append s.records done ∷ t)
+head_runs text node t whole s done h some = runs text node (Append s.records done ∷ t) s whole h.opened (head_each s (take whole (found t)) t done h.opening (empty_base text node t whole s h some))
+
+pub head_heads : (text : List ℕ) (node : Node) (t : List Act) (whole : ℕ) (s : Serving) → Trims text node t whole s → (s.records ≡ [] → ⊥) → Heads text node (Append s.records true ∷ t) whole s
+head_heads text node t whole s h some =
+    record {
+      opened = h.opened;
+      opening = record {
+        each = head_each s (take whole (found t)) t true h.opening (empty_base text node t whole s h some);
+        well = h.opening.well;
+        silent = h.opening.silent;
+        deaf = h.opening.deaf;
+        is = ap (λ (x : List ℕ). x ++ s.records) h.opening.is;
+      };
+    }
+
+pub no_head : (text : List ℕ) (node : Node) (t : List Act) (whole : ℕ) (s : Serving) → Trims text node t whole s → s.records ≡ [] → Heads text node t whole s
+no_head text node t whole s h none =
+    record {
+      opened = h.opened;
+      opening = record {
+        each = h.opening.each;
+        well = h.opening.well;
+        silent = h.opening.silent;
+        deaf = h.opening.deaf;
+        is = h.opening.is ∙ (sym (append-nil (take whole (found t))) ∙ ap (λ (x : List ℕ). take whole (found t) ++ x) (sym none));
+      };
+    }
+
+pub settle_runs : (text : List ℕ) (node : Node) (t : List Act) (whole : ℕ) (s : Serving) (done : Bool) → Heads text node t whole s → IsRun text node (Sync done ∷ t)
+settle_runs text node t whole s done h = runs text node (Sync done ∷ t) s whole h.opened (settle_each s (take whole (found t)) t done h.opening)
+
+pub settle_begins : (text : List ℕ) (node : Node) (t : List Act) (whole : ℕ) (s : Serving) → Heads text node t whole s → Begins text node (Sync true ∷ t) whole s
+settle_begins text node t whole s h =
+    record {
+      opened = h.opened;
+      opening = record { each = settle_each s (take whole (found t)) t true h.opening; well = h.opening.well; silent = h.opening.silent; deaf = h.opening.deaf; is = h.opening.is };
+      synced = ap (λ b. cond (true && not b) (file t) (kept t)) h.opening.well;
+    }
+
+pub greet_runs : (text : List ℕ) (node : Node) (t : List Act) (whole : ℕ) (s : Serving) (done : Bool) → Begins text node t whole s → IsRun text node (Say (ready_line s.calls) done ∷ t)
+greet_runs text node t whole s done b = runs text node (Say (ready_line s.calls) done ∷ t) s whole b.opened (greet_each s (take whole (found t)) t done b.opening b.synced)
+
+pub greet_all : (text : List ℕ) (node : Node) (t : List Act) (whole : ℕ) (s : Serving) → Begins text node t whole s → Serves text node (Say (ready_line s.calls) true ∷ t) (cleared s)
+greet_all text node t whole s b =
+    record { start = s; whole = whole; opened = b.opened; served = greet_serves s (take whole (found t)) t b.opened.silent b.opening b.synced }
+
+pub serves_runs : (text : List ℕ) (node : Node) (t : List Act) (s : Serving) → Serves text node t s → IsRun text node t
+serves_runs text node t s v = runs text node t v.start v.whole v.opened v.served.on.each
+
+pub append_runs : (text : List ℕ) (node : Node) (t : List Act) (s : Serving) (done : Bool) → Serves text node t s → IsRun text node (Append s.records done ∷ t)
+append_runs text node t s done v = runs text node (Append s.records done ∷ t) v.start v.whole v.opened (append_each v.start (take v.whole (found t)) t s done v.served)
+
+pub sync_runs : (text : List ℕ) (node : Node) (t : List Act) (s : Serving) (done : Bool) → Serves text node t s → IsRun text node (Sync done ∷ Append s.records true ∷ t)
+sync_runs text node t s done v = runs text node (Sync done ∷ Append s.records true ∷ t) v.start v.whole v.opened (sync_each v.start (take v.whole (found t)) t s done v.served)
+
+pub sync_logs : (text : List ℕ) (node : Node) (t : List Act) (s : Serving) → Serves text node t s → Logs text node (Sync true ∷ Append s.records true ∷ t) s
+sync_logs text node t s v = record { start = v.start; whole = v.whole; opened = v.opened; logged = synced_logged v.start (take v.whole (found t)) t s v.served }
+
+pub nothing_logs : (text : List ℕ) (node : Node) (t : List Act) (s : Serving) → Serves text node t s → s.records ≡ [] → Logs text node t s
+nothing_logs text node t s v none = record { start = v.start; whole = v.whole; opened = v.opened; logged = no_records v.start (take v.whole (found t)) t s none v.served }
+
+pub say_runs : (text : List ℕ) (node : Node) (t : List Act) (s : Serving) (done : Bool) → Logs text node t s → IsRun text node (Say s.out done ∷ t)
+say_runs text node t s done v = runs text node (Say s.out done ∷ t) v.start v.whole v.opened (say_each v.start (take v.whole (found t)) t s done v.logged)
+
+pub say_serves : (text : List ℕ) (node : Node) (t : List Act) (s : Serving) → Logs text node t s → Serves text node (Say s.out true ∷ t) (cleared s)
+say_serves text node t s v = record { start = v.start; whole = v.whole; opened = v.opened; served = said_served v.start (take v.whole (found t)) t s v.logged }
+
+pub hear_runs : (text : List ℕ) (node : Node) (t : List Act) (s : Serving) (bytes : List ℕ) → Serves text node t s → IsRun text node (Hear bytes ∷ t)
+hear_runs text node t s bytes v = runs text node (Hear bytes ∷ t) v.start v.whole v.opened (hear_each v.start (take v.whole (found t)) t s bytes v.served)
+
+pub hear_serves : (text : List ℕ) (node : Node) (t : List Act) (s : Serving) (bytes : List ℕ) → Serves text node t s → Serves text node (Hear bytes ∷ t) (after_lines s (whole_lines (begun_line (heard t) ++ bytes)))
+hear_serves text node t s bytes v = record { start = v.start; whole = v.whole; opened = v.opened; served = heard_served v.start (take v.whole (found t)) t s bytes v.served }
+
+-- the input has ended, and nothing is left to be said
+pub ends_done : (text : List ℕ) (node : Node) (t : List Act) (s : Serving) → Serves text node t s → s.records ≡ [] → s.out ≡ [] → IsRunDone text node (Hear [] ∷ t)
+ends_done text node t s v no_records no_words =
+    let base = take v.whole (found t) in
+    let same : heard t ++ [] ≡ heard t = append-nil (heard t) in
+    record {
+      start = v.start;
+      whole = v.whole;
+      opened = v.opened;
+      done = record {
+        well = v.served.on.well;
+        logged =
+            v.served.on.synced
+            ∙ (sym (append-nil (file t))
+            ∙ (ap (λ (x : List ℕ). file t ++ x) (sym no_records) ∙ (v.served.log ∙ ap (λ (x : List ℕ). log_of v.start base x) (sym same))));
+        words =
+            sym (append-nil (said t))
+            ∙ (ap (λ (x : List ℕ). said t ++ x) (sym no_words) ∙ (v.served.on.words ∙ ap (λ (x : List ℕ). words_of v.start x) (sym same)));
+      };
+      ended = refl;
+    }

@@ -1,5 +1,5 @@
 -- What is safe at each moment of a process: what was said is on the disk.
-use Rattle.std.specs.Prelude.{◌≡◌, ◌⊎◌, ◌≤◌, ⊤, ℕ, length, Bool, false, List, [], ◌∷◌, ◌++◌, codes, decimal, take}
+use Rattle.std.specs.Prelude.{◌≡◌, ◌⊎◌, ⊤, ℕ, length, Bool, false, List, [], ◌∷◌, ◌++◌, codes, decimal, take}
 use Rattle.claim_model.specs.Node.{Node}
 use Rattle.node_service.specs.Serving.{Serving, cleared}
 use Rattle.node_service.specs.Lines.{after_lines}
@@ -125,7 +125,6 @@ pub record Reads (text : List ℕ) (node : Node) (acts : List Act) (whole size :
   pub bytes : List ℕ
   pub is : acts ≡ Found bytes ∷ []
   pub count : size ≡ length bytes
-  pub within : whole ≤ length bytes
   pub opened : IsOpened text node bytes whole s
 
 -- what is behind its whole records is cut off

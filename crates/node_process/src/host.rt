@@ -12,10 +12,15 @@ use std::io::{Read, Write};
 
 /// Kinds of acts, as they are noted.
 const FOUND: u64 = 0;
+
 const CUT: u64 = 1;
+
 const APPENDED: u64 = 2;
+
 const SYNCED: u64 = 3;
+
 const SAID: u64 = 4;
+
 const HEARD: u64 = 5;
 
 /// A file that is read from its beginning and appended to, an input and an output.
@@ -53,25 +58,29 @@ impl<I: Read + Drop, O: Write + Drop> Machine for Host<I, O> {
 
     fn cut(&mut self, size: usize) -> io::Result<()> {
         let answer = self.file.set_len(size as u64);
-        self.noted.note(&[CUT, u64::from(answer.is_ok()), size as u64], &[]);
+        self.noted
+            .note(&[CUT, u64::from(answer.is_ok()), size as u64], &[]);
         answer
     }
 
     fn append(&mut self, bytes: &[u8]) -> io::Result<()> {
         let answer = self.file.write_all(bytes);
-        self.noted.note(&[APPENDED, u64::from(answer.is_ok()), 0], bytes);
+        self.noted
+            .note(&[APPENDED, u64::from(answer.is_ok()), 0], bytes);
         answer
     }
 
     fn sync(&mut self) -> io::Result<()> {
         let answer = self.file.sync_all();
-        self.noted.note(&[SYNCED, u64::from(answer.is_ok()), 0], &[]);
+        self.noted
+            .note(&[SYNCED, u64::from(answer.is_ok()), 0], &[]);
         answer
     }
 
     fn say(&mut self, bytes: &[u8]) -> io::Result<()> {
         let answer = written(&mut self.output, bytes);
-        self.noted.note(&[SAID, u64::from(answer.is_ok()), 0], bytes);
+        self.noted
+            .note(&[SAID, u64::from(answer.is_ok()), 0], bytes);
         answer
     }
 

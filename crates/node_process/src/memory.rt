@@ -9,10 +9,15 @@ use std::io;
 
 /// Kinds of acts, as they are noted.
 const FOUND: u64 = 0;
+
 const CUT: u64 = 1;
+
 const APPENDED: u64 = 2;
+
 const SYNCED: u64 = 3;
+
 const SAID: u64 = 4;
+
 const HEARD: u64 = 5;
 
 /// A file, an input and an output in memory. The call of one number, counted from 0, fails: an append and a word are then
@@ -63,7 +68,9 @@ impl Memory {
     }
 
     /// Whether the next call is the one that fails.
-    fn fails(&mut self) -> bool {
+    fn fails(&mut self) -> bool
+        ensures { self.new.noted ≡ self.old.noted }
+    {
         let fails = self.left == 0;
         self.left = self.left.wrapping_sub(1);
         fails
@@ -113,14 +120,16 @@ impl Machine for Memory {
             self.file.truncate(size);
             Ok(())
         };
-        self.noted.note(&[CUT, u64::from(answer.is_ok()), size as u64], &[]);
+        self.noted
+            .note(&[CUT, u64::from(answer.is_ok()), size as u64], &[]);
         answer
     }
 
     fn append(&mut self, bytes: &[u8]) -> io::Result<()> {
         let fails = self.fails();
         let answer = added(&mut self.file, bytes, fails);
-        self.noted.note(&[APPENDED, u64::from(answer.is_ok()), 0], bytes);
+        self.noted
+            .note(&[APPENDED, u64::from(answer.is_ok()), 0], bytes);
         answer
     }
 
@@ -131,14 +140,16 @@ impl Machine for Memory {
         } else {
             copied(&mut self.disk, self.file.as_slice())
         };
-        self.noted.note(&[SYNCED, u64::from(answer.is_ok()), 0], &[]);
+        self.noted
+            .note(&[SYNCED, u64::from(answer.is_ok()), 0], &[]);
         answer
     }
 
     fn say(&mut self, bytes: &[u8]) -> io::Result<()> {
         let fails = self.fails();
         let answer = added(&mut self.output, bytes, fails);
-        self.noted.note(&[SAID, u64::from(answer.is_ok()), 0], bytes);
+        self.noted
+            .note(&[SAID, u64::from(answer.is_ok()), 0], bytes);
         answer
     }
 

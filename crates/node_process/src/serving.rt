@@ -69,11 +69,7 @@ fn serve<M: Machine>(
 }
 
 /// Appends the records of a turn and syncs them, where there are any.
-fn keep_records<M: Machine>(
-    owner: &Owner<'_>,
-    machine: &mut M,
-    service: &Service,
-) -> io::Result<()>
+fn keep_records<M: Machine>(owner: &Owner<'_>, machine: &mut M, service: &Service) -> io::Result<()>
     requires { Serves owner.now.settings.now (node_seen owner.now.node) (M.acts machine.old) service.now }
     ensures each { IsRun owner.now.settings.now (node_seen owner.now.node) (M.acts machine.new) }
     ensures heard { heard (M.acts machine.new) ≡ heard (M.acts machine.old) }

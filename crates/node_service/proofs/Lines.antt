@@ -71,15 +71,17 @@ adds_all s (line ∷ lines) =
 -- ---- the log
 
 pub is_opened_serving : (settings : List ℕ) (node : Node) (bytes : List ℕ) (kept : ℕ) (s : Serving) → IsOpened settings node bytes kept s → (log : NodeLog) × IsServing (sha256 settings) (take kept bytes) log s
-is_opened_serving settings node bytes kept s o =
-    (o.log, record {
-      named = o.named ∙ sym o.own;
-      calls = o.calls;
-      makes = subst (λ (n : Node). MakesAll s.settings n o.log.calls) (sym o.own) o.makes;
-      state = ap (λ (n : Node). replayed s.settings n o.log.calls) o.own ∙ o.state;
-      text = o.text;
-      fits = o.fits;
-    })
+is_opened_serving settings node bytes kept s o = (
+  o.log,
+  record {
+    named = o.named ∙ sym o.own;
+    calls = o.calls;
+    makes = subst (λ (n : Node). MakesAll s.settings n o.log.calls) (sym o.own) o.makes;
+    state = ap (λ (n : Node). replayed s.settings n o.log.calls) o.own ∙ o.state;
+    text = o.text;
+    fits = o.fits;
+  },
+)
 
 one_call : (digest file : List ℕ) (log : NodeLog) (s : Serving) (call : Call) (next : AnyNode) (sent : List Sent) → IsServing digest file log s → node_step (context_of s.settings) s.state call ≡ Done next sent
     → FitsLogged (record { call = call; sent = sent }) → IsServing digest file (with_calls log (record { call = call; sent = sent } ∷ [])) (after_call s call (Done next sent))
@@ -175,11 +177,17 @@ opens_again settings file log s t kept i same o =
         let r = same_reading (record { log = o.log; whole = kept }) (record { log = log; whole = length (file ++ s.records) }) (sym read.0 ∙ whole) in
         let logs : o.log ≡ log = ap (λ (x : Reading). x.log) r in
         let state : ◌≡◌ {A = Option AnyNode} (Some t.state) (Some s.state) =
-        sym o.state ∙ (ap (λ (x : NodeLog). replayed t.settings log.node x.calls) logs ∙ (ap (of_document log.node log.calls) same ∙ i.state)) in
-        (ap (λ (x : Reading). x.whole) r, record {
-          node = o.named ∙ sym i.named;
-          state = same_some t.state s.state state;
-          calls = o.calls ∙ (ap (λ (x : NodeLog). length x.calls) logs ∙ sym i.calls);
-          records = read.1;
-          silent = o.silent;
-        })
+        sym o.state ∙ (ap (λ (x : NodeLog). replayed t.settings log.node x.calls) logs ∙ (ap (of_document log.node log.calls) same ∙ i.state)) in (
+          ap (λ (x : Reading). x.whole) r,
+          record {
+            node = o.named ∙ sym i.named;
+            state = same_some t.state s.state state;
+            calls = o.calls ∙ (ap (λ (x : NodeLog). length x.calls) logs ∙ sym i.calls);
+            records = read.1;
+            silent = o.silent;
+          },
+        )
+
+-- a log that is new has its head to append, and nothing of the file stays
+pub new_or_whole : (settings : List ℕ) (node : Node) (bytes : List ℕ) (kept : ℕ) (s : Serving) → IsOpened settings node bytes kept s → (s.records ≡ []) ⊎ (kept ≡ 0)
+new_or_whole settings node bytes kept s o = elim o.begun [ inl read ↦ inl read.1 | inr none ↦ inr none.1.1.0 ]

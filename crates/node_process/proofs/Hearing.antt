@@ -1,0 +1,45 @@
+-- Bytes that are taken line by line.
+use Rattle.std.proofs.Common.{◌≡◌, ℕ, zero, suc, ◌+◌, ◌<◌, ◌≤◌, Bool, false, List, [], ◌∷◌, ◌++◌, take, drop, length, Option, Some, None, refl, sym, ap, ◌∙◌, subst, arith}
+use Rattle.std.proofs.lemmas.List.{length-drop}
+use Rattle.std.specs.Prelude.{position}
+use Rattle.std.specs.Str.Lines.{strip_carriage_return}
+use Rattle.claim_model.proofs.Lists.{all_append}
+use Rattle.node_service.specs.Serving.{Serving, after_line}
+use Rattle.node_service.specs.Lines.{after_lines}
+use Rattle.node_process.specs.Heard.{is_newline, whole_lines, begun_line, NoNewline}
+use Rattle.node_process.proofs.Splitting.{whole_one, begun_one, whole_none, begun_all, none_ends}
+
+-- lines that were served, what has begun of the next, and the bytes that are left are all that came
+pub record IsTaken (before : Serving) (text : List ℕ) (s : Serving) (pending rest : List ℕ) : Type 0 where
+  pub none : NoNewline pending
+  pub lines : after_lines before (whole_lines text) ≡ after_lines s (whole_lines (pending ++ rest))
+  pub begun : begun_line text ≡ begun_line (pending ++ rest)
+
+pub taken_first : (before : Serving) (pending bytes : List ℕ) → NoNewline pending → IsTaken before (pending ++ bytes) before pending bytes
+taken_first before pending bytes none = record { none = none; lines = refl; begun = refl }
+
+pub taken_line : (before : Serving) (text : List ℕ) (s next : Serving) (pending empty rest left : List ℕ) (end : ℕ) → IsTaken before text s pending rest → position is_newline rest ≡ Some end → next ≡ after_line s (strip_carriage_return (pending ++ take end rest)) → empty ≡ []
+    → left ≡ drop (end + 1) rest → IsTaken before text next empty left
+taken_line before text s next pending empty rest left end t found serves none behind =
+    let gone : empty ++ left ≡ drop (end + 1) rest = ap (λ (x : List ℕ). x ++ left) none ∙ behind in
+    record {
+      none = subst NoNewline (sym none) tt;
+      lines =
+          t.lines
+          ∙ (ap (after_lines s) (whole_one pending rest end t.none found)
+          ∙ (ap (λ (x : Serving). after_lines x (whole_lines (drop (end + 1) rest))) (sym serves) ∙ ap (λ (x : List ℕ). after_lines next (whole_lines x)) (sym gone)));
+      begun = t.begun ∙ (begun_one pending rest end t.none found ∙ ap begun_line (sym gone));
+    }
+
+-- where no line ends any more
+pub taken_all : (before : Serving) (text : List ℕ) (s : Serving) (pending rest : List ℕ) → IsTaken before text s pending rest → NoNewline rest → (s ≡ after_lines before (whole_lines text)) × ((pending ++ rest ≡ begun_line text) × NoNewline (pending ++ rest))
+taken_all before text s pending rest t none =
+    let all : NoNewline (pending ++ rest) = all_append (λ (byte : ℕ). is_newline byte ≡ false) pending rest t.none none in
+    (sym (t.lines ∙ ap (after_lines s) (whole_none (pending ++ rest) all)), (sym (t.begun ∙ begun_all (pending ++ rest) all), all))
+
+pub nothing_ends : (rest : List ℕ) → length rest ≤ 0 → NoNewline rest
+nothing_ends [] h = tt
+nothing_ends (b ∷ rest) h = absurd (omega arith)
+
+pub shorter : (rest : List ℕ) (end count total : ℕ) → count + length rest ≤ total → end < length rest → (count + 1) + length (drop (end + 1) rest) ≤ total
+shorter rest end count total h less = let d = length-drop (end + 1) rest in omega (arith, h, less, d)
