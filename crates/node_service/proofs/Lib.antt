@@ -1,3 +1,4 @@
 pub mod Loops
 pub mod Lines
 pub mod Crashes
+pub mod Refusals

@@ -8,6 +8,7 @@ use Rattle.world_setup.specs.Seen.{settings_seen}
 use Rattle.world_setup.specs.Taken.{world_fault}
 use Rattle.world_setup.specs.declared.settings.WorldSettings.{WorldSettings}
 use Rattle.world_setup.specs.declared.world_fault.WorldFault.{WorldFault}
+use Rattle.world_setup.specs.declared.world_fault.WorldFault.TheVariants as world_fault
 use Rattle.world_settings.specs.Document.{document_seen, settings_in}
 use Rattle.run_merge.specs.Naming.{is_there}
 use Rattle.run_merge.specs.Misfits.{BreaksAt}
@@ -26,6 +27,14 @@ pub record SpellsNoWorld (text : List ℕ) : Type 0 where
   pub spelled : settings_in text ≡ Some (document_seen settings)
   pub why : WorldFault
   pub refused : world_fault settings ≡ Some why
+
+-- what is said of settings that no world takes
+abbrev pub Tells : WorldFault → ServiceFault → Type 0
+Tells world_fault.OutOfMemory e = e ≡ OutOfMemory
+Tells world_fault.TooMany e = e ≡ Settings
+Tells world_fault.NoNode e = e ≡ Settings
+Tells world_fault.SameProvider e = e ≡ Settings
+Tells (world_fault.BadRoute why) e = e ≡ Settings
 
 -- the settings are refused: the text spells none, or some that no world takes
 abbrev pub NoSettings : List ℕ → ServiceFault → Type 0

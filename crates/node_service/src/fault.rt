@@ -3,6 +3,7 @@
 use kept_logs::LogFault;
 use std::alloc::AllocError;
 use thiserror::Error;
+use world_setup::WorldFault;
 
 /// Why a node is not served: the first cause in the order of this list, where a log's own faults come before `OtherNode`. Want
 /// of memory may stand in place of any answer.
@@ -30,11 +31,27 @@ pub enum ServiceFault {
 }
 
 impl From<AllocError> for ServiceFault {
+    ghost use Rattle.std.specs.Prelude.{◌≡◌};
     ghost use Rattle.node_service.specs.declared.fault.ServiceFault.TheVariants.{OutOfMemory};
 
     ghost from_gives = { λ _ e. e ≡ OutOfMemory };
 
     fn from(_refused: AllocError) -> ServiceFault {
         ServiceFault::OutOfMemory
+    }
+}
+
+impl From<WorldFault> for ServiceFault {
+    ghost use Rattle.node_service.specs.Refused.{Tells};
+
+    ghost from_gives = { λ fault e. Tells fault e };
+
+    fn from(fault: WorldFault) -> ServiceFault {
+        match fault {
+            WorldFault::OutOfMemory => ServiceFault::OutOfMemory,
+            WorldFault::TooMany | WorldFault::NoNode | WorldFault::SameProvider | WorldFault::BadRoute(_) => {
+                ServiceFault::Settings
+            }
+        }
     }
 }

@@ -22,7 +22,7 @@ use payer_book::HashKeys;
 use run_merge::{NodeLog, make_log};
 use std::alloc::{AllocError, Global};
 use world_settings::{SettingsFault, read_settings};
-use world_setup::{Node, WorldFault, WorldSettings};
+use world_setup::{Node, WorldSettings};
 
 /// A log that was read or begun: what it has, how many bytes of the file stay, and what is to be appended.
 #[derive(Drop)]
@@ -69,8 +69,7 @@ fn shared_of(alloc: Global, keys: &HashKeys, text: &[u8]) -> Result<Shared, Serv
     let settings = settings_of(alloc, keys, text)?;
     match Shared::new(alloc, settings) {
         Ok(shared) => Ok(shared),
-        Err(WorldFault::OutOfMemory) => Err(ServiceFault::OutOfMemory),
-        Err(_) => Err(ServiceFault::Settings),
+        Err(fault) => Err(ServiceFault::from(fault)),
     }
 }
 

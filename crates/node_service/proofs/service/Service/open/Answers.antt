@@ -1,24 +1,55 @@
-use Rattle.std.proofs.Common.{◌∙◌}
-use Rattle.std.proofs.lemmas.Result.{IfOk-weaker}
+use Rattle.std.proofs.Common.{◌∙◌, refl, sym, ap}
+use Rattle.std.proofs.lemmas.Result.{IfOk-weaker, IfErr-weaker, err_from_is_err_and}
+use Rattle.sha2.specs.Sha256.{sha256}
 use Rattle.world_setup.specs.Seen.{node_seen}
 use Rattle.run_merge.specs.LogSeen.{log_seen}
 use Rattle.node_service.specs.Opened.{IsOpened, IsServed}
+use Rattle.node_service.specs.Refused.{IsNotMade, IsRefused}
+use Rattle.node_service.proofs.Refusals.{log_refused, making_refused}
 use Rattle.node_service.proofs.service.Service.open.Goals as goal
 
-pub returns : goal.returns
-returns c =
+pub returns-clause-opened : goal.returns-clause-opened
+returns-clause-opened c =
     let b = c.in_ok-begun.begun in
     let facts = c.in_ok-begun.ensures in
     IfOk-weaker c.serve_from.result
-    (λ opened. IsServed c.in_ok-shared.shared (log_seen b.log) b.kept b.records.items opened.1 opened.0)
+    (λ s. IsServed c.in_ok-shared.shared (log_seen b.log) b.kept b.records.items s.1 s.0)
     (λ opened. IsOpened c.args.text.now (node_seen c.args.node) c.args.bytes.now opened.1 opened.0)
     (λ opened served. record {
-      spelled = rw (served.own, c.in_ok-shared.ensures.kept) c.in_ok-settings.ensures.read;
+      spells = rw served.own c.in_ok-shared.ensures.spelled;
       named = served.named ∙ facts.own;
       log = log_seen b.log;
       own = facts.own;
       begun = rw (served.stays, served.append) facts.begun;
+      text = rw (served.stays, served.append) facts.text;
+      fits = facts.fits;
       calls = served.calls;
-      state = rw (served.own, ← facts.own) served.state;
+      makes = rw (served.own, ← facts.own) served.made.makes;
+      state = rw (served.own, ← facts.own) served.made.leads;
       silent = served.silent;
-    }) c.serve_from.ensures
+    }) c.serve_from.ensures.served
+
+pub returns-clause-refused : goal.returns-clause-refused
+returns-clause-refused c =
+    let b = c.in_ok-begun.begun in
+    let facts = c.in_ok-begun.ensures in
+    let text = c.args.text.now in
+    let node = node_seen c.args.node in
+    IfErr-weaker c.serve_from.result
+    (λ why. IsNotMade (sha256 text) c.in_ok-shared.shared (log_seen b.log) why)
+    (λ why. IsRefused text node c.args.bytes.now why)
+    (λ why not_made. making_refused text node c.args.bytes.now c.in_ok-shared.shared (log_seen b.log) b.kept b.records.items why c.in_ok-shared.ensures.spelled
+      (sym c.has.ensures.value ∙ c.if-not-has.false) facts.own facts.begun not_made) c.serve_from.ensures.refused
+
+pub returns-then-not-has-clause-refused : goal.returns-then-not-has-clause-refused
+returns-then-not-has-clause-refused c = record {
+  settings = c.in_ok-shared.shared;
+  spells = c.in_ok-shared.ensures.spelled;
+  absent = sym c.has.ensures.value ∙ c.if-not-has.true;
+}
+
+pub returns-in_err-begun-clause-refused : goal.returns-in_err-begun-clause-refused
+returns-in_err-begun-clause-refused c =
+    let p = err_from_is_err_and c.from_residual-in_err-begun.result c.from_residual-in_err-begun.ensures.1 in
+    rw (p.1, p.2) (log_refused c.args.text.now (node_seen c.args.node) c.args.bytes.now c.in_ok-shared.shared c.in_err-begun.field-0.0 c.in_ok-shared.ensures.spelled
+      (sym c.has.ensures.value ∙ c.if-not-has.false) c.in_err-begun.ensures.refused)
