@@ -1,6 +1,6 @@
 -- Bytes that are taken line by line.
-use Rattle.std.proofs.Common.{◌≡◌, ℕ, zero, suc, ◌+◌, ◌<◌, ◌≤◌, Bool, false, List, [], ◌∷◌, ◌++◌, take, drop, length, Option, Some, None, refl, sym, ap, ◌∙◌, subst, arith}
-use Rattle.std.proofs.lemmas.List.{length-drop}
+use Rattle.std.proofs.Common.{◌≡◌, ℕ, zero, suc, ◌+◌, ◌<◌, ◌≤◌, Bool, false, List, [], ◌∷◌, ◌++◌, take, drop, length, length-drop, Option, Some, None, refl, sym, ap, ◌∙◌, subst, arith}
+use Rattle.std.proofs.lemmas.List.Quantifiers.{position-Some}
 use Rattle.std.specs.Prelude.{position}
 use Rattle.std.specs.Str.Lines.{strip_carriage_return}
 use Rattle.claim_model.proofs.Lists.{all_append}
@@ -43,3 +43,6 @@ nothing_ends (b ∷ rest) h = absurd (omega arith)
 
 pub shorter : (rest : List ℕ) (end count total : ℕ) → count + length rest ≤ total → end < length rest → (count + 1) + length (drop (end + 1) rest) ≤ total
 shorter rest end count total h less = let d = length-drop (end + 1) rest in omega (arith, h, less, d)
+
+pub place_within : (rest : List ℕ) (end : ℕ) → position is_newline rest ≡ Some end → end < length rest
+place_within rest end found = (position-Some is_newline rest end 0 found).0

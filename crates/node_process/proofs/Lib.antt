@@ -3,3 +3,4 @@ pub mod Splitting
 pub mod Asking
 pub mod Moments
 pub mod Hearing
+pub mod Turning

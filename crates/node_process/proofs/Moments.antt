@@ -1,5 +1,5 @@
 -- Each act of a process, from a moment that is safe to the next.
-use Rattle.std.proofs.Common.{◌≡◌, ℕ, zero, suc, ◌≤◌, Bool, true, false, not, ◌&&◌, ◌||◌, cond, List, [], ◌∷◌, ◌++◌, take, length, Result, Ok, Err, OnOk, is_ok, refl, sym, ap, ◌∙◌, subst, ◌⊎◌, inl, inr, append_assoc, append-nil}
+use Rattle.std.proofs.Common.{◌≡◌, ℕ, zero, suc, ◌≤◌, Bool, true, false, not, ◌&&◌, ◌||◌, cond, List, [], ◌∷◌, ◌++◌, take, length, Result, Ok, Err, OnOk, is_ok, ◌==◌, refl, sym, ap, ◌∙◌, subst, ◌⊎◌, inl, inr, append_assoc, append-nil}
 use Rattle.std.proofs.lemmas.List.{take_all}
 use Rattle.claim_model.specs.Node.{Node}
 use Rattle.node_service.specs.Serving.{Serving, cleared}
@@ -237,7 +237,7 @@ pub cut_runs : (text : List ℕ) (node : Node) (t : List Act) (whole size : ℕ)
 cut_runs text node t whole size s done r =
     subst (λ (acts : List Act). IsRun text node (Cut whole done ∷ acts)) (sym r.is) (runs text node (Cut whole done ∷ Found r.bytes ∷ []) s whole r.opened (cut_each s whole r.bytes done))
 
-take_none : (whole : ℕ) → take whole [] ≡ []
+take_none : (whole : ℕ) → take {A = ℕ} whole [] ≡ []
 take_none zero = refl
 take_none (suc whole) = refl
 
@@ -362,3 +362,7 @@ ends_done text node t s v no_records no_words =
       };
       ended = refl;
     }
+
+-- a list that is not empty
+pub not_empty : (xs ys : List ℕ) (t : Bool) → xs ≡ ys → t ≡ (length xs == 0) → t ≡ false → ys ≡ [] → ⊥
+not_empty xs ys t same tests some none = absurd (let all : (length xs == 0) ≡ true = ap (λ (x : List ℕ). length x == 0) (same ∙ none) in cc)

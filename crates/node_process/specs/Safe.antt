@@ -5,7 +5,7 @@ use Rattle.node_service.specs.Serving.{Serving, cleared}
 use Rattle.node_service.specs.Lines.{after_lines}
 use Rattle.node_service.specs.Opened.{IsOpened}
 use Rattle.node_process.specs.Acts.{Act, Found, Cut, Append, Sync, Say, Hear, found, file, has_failed, kept, said, heard, heard_last}
-use Rattle.node_process.specs.Heard.{whole_lines}
+use Rattle.node_process.specs.Heard.{whole_lines, begun_line, NoNewline}
 
 -- bytes begin these
 pub record IsStartOf (front bytes : List ℕ) : Type 0 where
@@ -157,3 +157,11 @@ pub record Logs (text : List ℕ) (node : Node) (acts : List Act) (s : Serving) 
   pub whole : ℕ
   pub opened : IsOpened text node (found acts) whole start
   pub logged : IsLogged start (take whole (found acts)) acts s
+
+-- all that came was served and said, but what has begun of a line
+pub record IsTurn (text : List ℕ) (node : Node) (acts : List Act) (s : Serving) (pending : List ℕ) : Type 0 where
+  pub serves : Serves text node acts s
+  pub begun : pending ≡ begun_line (heard acts)
+  pub none : NoNewline pending
+  pub no_records : s.records ≡ []
+  pub no_words : s.out ≡ []

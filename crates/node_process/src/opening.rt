@@ -33,6 +33,7 @@ pub(crate) fn open<M: Machine>(
     ensures each { IsUnopened (M.acts machine.new) ⊎ IsRun owner.now.settings.now (node_seen owner.now.node) (M.acts machine.new) }
     ensures served { IfOk result (λ s. Serves owner.now.settings.now (node_seen owner.now.node) (M.acts machine.new) s) }
     ensures deaf { OnOk result (heard (M.acts machine.new) ≡ []) }
+    ensures quiet { IfOk result (λ s. (s.records ≡ []) × (s.out ≡ [])) }
 {
     let bytes = machine.read(alloc)?;
     match Service::open(alloc, keys, owner.settings, owner.node, bytes.as_slice()) {
@@ -54,6 +55,7 @@ fn begin<M: Machine>(
     ensures each { IsRun owner.now.settings.now (node_seen owner.now.node) (M.acts machine.new) }
     ensures served { IfOk result (λ s. Serves owner.now.settings.now (node_seen owner.now.node) (M.acts machine.new) s) }
     ensures deaf { OnOk result (heard (M.acts machine.new) ≡ []) }
+    ensures quiet { IfOk result (λ s. (s.records ≡ []) × (s.out ≡ [])) }
 {
     let ready = ready_of(alloc, service.calls())?;
     trim(owner, machine, &service, whole, size)?;

@@ -52,6 +52,7 @@ fn serve<M: Machine>(
 ) -> Result<(), Unserved>
     requires served { Serves owner.now.settings.now (node_seen owner.now.node) (M.acts machine.old) service.old }
     requires deaf { heard (M.acts machine.old) ≡ [] }
+    requires quiet { (service.old.records ≡ []) × (service.old.out ≡ []) }
     ensures each { IsRun owner.now.settings.now (node_seen owner.now.node) (M.acts machine.new) }
     ensures done { OnOk result (IsRunDone owner.now.settings.now (node_seen owner.now.node) (M.acts machine.new)) }
 {
@@ -88,6 +89,7 @@ fn say<M: Machine>(owner: &Owner<'_>, machine: &mut M, service: &mut Service) ->
     ensures each { IsRun owner.now.settings.now (node_seen owner.now.node) (M.acts machine.new) }
     ensures heard { heard (M.acts machine.new) ≡ heard (M.acts machine.old) }
     ensures served { OnOk result (Serves owner.now.settings.now (node_seen owner.now.node) (M.acts machine.new) service.new) }
+    ensures quiet { OnOk result ((service.new.records ≡ []) × (service.new.out ≡ [])) }
 {
     machine.say(service.written())?;
     service.clear();

@@ -49,9 +49,10 @@ impl From<WorldFault> for ServiceFault {
     fn from(fault: WorldFault) -> ServiceFault {
         match fault {
             WorldFault::OutOfMemory => ServiceFault::OutOfMemory,
-            WorldFault::TooMany | WorldFault::NoNode | WorldFault::SameProvider | WorldFault::BadRoute(_) => {
-                ServiceFault::Settings
-            }
+            WorldFault::TooMany
+            | WorldFault::NoNode
+            | WorldFault::SameProvider
+            | WorldFault::BadRoute(_) => { ServiceFault::Settings }
         }
     }
 }

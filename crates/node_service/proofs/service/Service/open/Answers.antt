@@ -39,7 +39,7 @@ returns-clause-refused c =
     (λ why. IsNotMade (sha256 text) c.in_ok-shared.shared (log_seen b.log) why)
     (λ why. IsRefused text node c.args.bytes.now why)
     (λ why not_made. making_refused text node c.args.bytes.now c.in_ok-shared.shared (log_seen b.log) b.kept b.records.items why c.in_ok-shared.ensures.spelled
-      (sym c.has.ensures.value ∙ c.if-not-has.false) facts.own facts.begun not_made) c.serve_from.ensures.refused
+    (sym c.has.ensures.value ∙ c.if-not-has.false) facts.own facts.begun not_made) c.serve_from.ensures.refused
 
 pub returns-then-not-has-clause-refused : goal.returns-then-not-has-clause-refused
 returns-then-not-has-clause-refused c = record {
@@ -52,4 +52,4 @@ pub returns-in_err-begun-clause-refused : goal.returns-in_err-begun-clause-refus
 returns-in_err-begun-clause-refused c =
     let p = err_from_is_err_and c.from_residual-in_err-begun.result c.from_residual-in_err-begun.ensures.1 in
     rw (p.1, p.2) (log_refused c.args.text.now (node_seen c.args.node) c.args.bytes.now c.in_ok-shared.shared c.in_err-begun.field-0.0 c.in_ok-shared.ensures.spelled
-      (sym c.has.ensures.value ∙ c.if-not-has.false) c.in_err-begun.ensures.refused)
+    (sym c.has.ensures.value ∙ c.if-not-has.false) c.in_err-begun.ensures.refused)
