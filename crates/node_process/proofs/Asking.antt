@@ -1,10 +1,10 @@
 -- The node behind an input that comes in pieces.
-use Rattle.std.proofs.Common.{◌≡◌, ℕ, List, [], ◌∷◌, ◌++◌, refl, sym, ap, ◌∙◌, append_assoc}
+use Rattle.std.proofs.Common.{◌≡◌, ℕ, List, [], ◌∷◌, ◌++◌, refl, sym, ap, ◌∙◌}
 use Rattle.node_service.specs.Serving.{Serving, after_line, cleared}
 use Rattle.node_service.specs.Lines.{joined, after_lines}
 use Rattle.node_service.proofs.Lines.{adds_all}
 use Rattle.node_process.specs.Heard.{whole_lines, begun_line}
-use Rattle.node_process.specs.Safe.{asked, log_of, words_of, ready_line}
+use Rattle.node_process.specs.Safe.{asked}
 use Rattle.node_process.proofs.Splitting.{whole_append}
 
 lines_append : (s : Serving) (lines more : List (List ℕ)) → after_lines s (lines ++ more) ≡ after_lines (after_lines s lines) more

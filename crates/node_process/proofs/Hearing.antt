@@ -1,5 +1,5 @@
 -- Bytes that are taken line by line.
-use Rattle.std.proofs.Common.{◌≡◌, ℕ, zero, suc, ◌+◌, ◌<◌, ◌≤◌, Bool, false, List, [], ◌∷◌, ◌++◌, take, drop, length, length-drop, Option, Some, None, refl, sym, ap, ◌∙◌, subst, arith}
+use Rattle.std.proofs.Common.{◌≡◌, ℕ, ◌+◌, ◌<◌, ◌≤◌, false, List, [], ◌∷◌, ◌++◌, take, drop, length, length-drop, Some, Result, Ok, Err, OnOk, refl, sym, ap, ◌∙◌, subst, arith}
 use Rattle.std.proofs.lemmas.List.Quantifiers.{position-Some}
 use Rattle.std.specs.Prelude.{position}
 use Rattle.std.specs.Str.Lines.{strip_carriage_return}
@@ -7,7 +7,7 @@ use Rattle.claim_model.proofs.Lists.{all_append}
 use Rattle.node_service.specs.Serving.{Serving, after_line}
 use Rattle.node_service.specs.Lines.{after_lines}
 use Rattle.node_process.specs.Heard.{is_newline, whole_lines, begun_line, NoNewline}
-use Rattle.node_process.proofs.Splitting.{whole_one, begun_one, whole_none, begun_all, none_ends}
+use Rattle.node_process.proofs.Splitting.{whole_one, begun_one, whole_none, begun_all}
 
 -- lines that were served, what has begun of the next, and the bytes that are left are all that came
 pub record IsTaken (before : Serving) (text : List ℕ) (s : Serving) (pending rest : List ℕ) : Type 0 where
@@ -46,3 +46,14 @@ shorter rest end count total h less = let d = length-drop (end + 1) rest in omeg
 
 pub place_within : (rest : List ℕ) (end : ℕ) → position is_newline rest ≡ Some end → end < length rest
 place_within rest end found = (position-Some is_newline rest end 0 found).0
+
+pub on_ok : {T E P Q : Type 0} (r : Result T E) → (P → Q) → OnOk r P → OnOk r Q
+on_ok (Ok x) f p = f p
+on_ok (Err e) f p = tt
+
+pub whatever : {T E P : Type 0} (r : Result T E) → P → OnOk r P
+whatever (Ok x) p = p
+whatever (Err e) p = tt
+
+pub none_left : (rest : List ℕ) (count total : ℕ) → count + length rest ≤ total → total ≤ count → length rest ≤ 0
+none_left rest count total h over = omega (arith, h, over)

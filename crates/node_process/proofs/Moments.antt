@@ -1,13 +1,12 @@
 -- Each act of a process, from a moment that is safe to the next.
-use Rattle.std.proofs.Common.{◌≡◌, ℕ, zero, suc, ◌≤◌, Bool, true, false, not, ◌&&◌, ◌||◌, cond, List, [], ◌∷◌, ◌++◌, take, length, Result, Ok, Err, OnOk, is_ok, ◌==◌, refl, sym, ap, ◌∙◌, subst, ◌⊎◌, inl, inr, append_assoc, append-nil}
-use Rattle.std.proofs.lemmas.List.{take_all}
+use Rattle.std.proofs.Common.{◌≡◌, ℕ, zero, suc, Bool, true, false, not, ◌&&◌, cond, List, [], ◌∷◌, ◌++◌, take, length, Result, Ok, Err, OnOk, is_ok, ◌==◌, refl, sym, ap, ◌∙◌, subst, ◌⊎◌, inl, inr, append_assoc, append-nil}
 use Rattle.claim_model.specs.Node.{Node}
 use Rattle.node_service.specs.Serving.{Serving, cleared}
-use Rattle.node_service.specs.Lines.{joined, after_lines}
+use Rattle.node_service.specs.Lines.{after_lines}
 use Rattle.node_service.specs.Opened.{IsOpened}
-use Rattle.node_process.specs.Acts.{Act, Found, Cut, Append, Sync, Say, Hear, found, file, has_failed, kept, said, heard, heard_last}
+use Rattle.node_process.specs.Acts.{Act, Found, Cut, Append, Sync, Say, Hear, found, file, has_failed, kept, said, heard}
 use Rattle.node_process.specs.Heard.{whole_lines, begun_line}
-use Rattle.node_process.specs.Safe.{IsStartOf, ready_line, asked, log_of, words_of, IsCovered, IsInOrder, IsLogOfInput, IsWholeFile, IsSafe, AtEachMoment, IsUnopened, IsRun, IsDone, IsRunDone, IsOn, IsServed, IsLogged, IsOpening, Reads, Trims, Heads, Begins, Serves, Logs}
+use Rattle.node_process.specs.Safe.{IsStartOf, ready_line, asked, log_of, words_of, IsCovered, IsWholeFile, IsSafe, AtEachMoment, IsRun, IsRunDone, IsServed, IsLogged, IsOpening, Reads, Trims, Heads, Begins, Serves, Logs}
 use Rattle.node_service.proofs.Lines.{new_or_whole}
 use Rattle.node_process.proofs.Asking.{asked_more}
 

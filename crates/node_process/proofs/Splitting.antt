@@ -1,10 +1,11 @@
 -- Lines of bytes that come in pieces.
-use Rattle.std.proofs.Common.{◌≡◌, ℕ, zero, suc, ◌+◌, ◌<◌, ◌≤◌, length, Bool, true, false, not, cond, List, [], ◌∷◌, ◌++◌, take, drop, Option, Some, None, option_map, refl, sym, ap, ◌∙◌, subst, arith, append-nil, append_assoc}
-use Rattle.std.specs.Prelude.{position, nat_lt}
-use Rattle.std.specs.List.{AllByRecursion, slice_split, onto_first, position_or_len}
+use Rattle.std.proofs.Common.{◌≡◌, ℕ, zero, suc, ◌+◌, ◌<◌, ◌≤◌, length, Bool, true, false, not, cond, List, [], ◌∷◌, ◌++◌, take, drop, Option, Some, None, refl, sym, ap, ◌∙◌, subst, arith}
+use Rattle.std.specs.Prelude.{position, nat_lt, slice_index}
+use Rattle.std.specs.List.{slice_split, onto_first, position_or_len}
 use Rattle.std.proofs.lemmas.Bool.Decides.{nat_tests}
+use Rattle.std.proofs.lemmas.List.Sums.{position_or_len_is}
+use Rattle.memchr.specs.Find.{IsFirstByte, is_byte}
 use Rattle.std.specs.Str.Lines.{strip_carriage_return}
-use Rattle.claim_model.proofs.Lists.{all_append}
 use Rattle.node_process.specs.Heard.{is_newline, full_lines, last_part, whole_lines, begun_line, NoNewline}
 
 -- parts of two pieces, glued where they meet
@@ -194,3 +195,25 @@ whole_none bytes n = ap full_lines (split_none bytes n)
 
 pub begun_all : (bytes : List ℕ) → NoNewline bytes → begun_line bytes ≡ bytes
 begun_all bytes n = ap last_part (split_none bytes n)
+
+-- ---- where a search finds a newline
+
+placed : (n len : ℕ) → n < len → cond {A = Option ℕ} (nat_lt n len) (Some n) None ≡ Some n
+placed n len lt = grind (arith, nat_tests)
+
+nowhere : (n len : ℕ) → len ≤ n → cond {A = Option ℕ} (nat_lt n len) (Some n) None ≡ None
+nowhere n len le = grind (arith, nat_tests)
+
+is_not : (x : ℕ) (t : Bool) → is_newline x ≡ t → (is_newline x ≡ true → ⊥) → is_newline x ≡ false
+is_not x true e never = absurd (never e)
+is_not x false e never = e
+
+pub found_first : (bytes : List ℕ) (found : Option ℕ) → IsFirstByte (is_byte 10) bytes found → found ≡ position is_newline bytes
+found_first bytes (Some k) (between, is) =
+    let before = λ (j : ℕ) (lt : j < k). is_not (slice_index bytes j) (is_newline (slice_index bytes j)) refl (λ e. between.before j (omega arith) lt e) in
+    let at : position_or_len is_newline bytes ≡ k = position_or_len_is is_newline bytes k 0 (omega (arith, between.high)) before (λ lt. is) in
+    sym (ap (λ n. cond (nat_lt n (length bytes)) (Some n) None) at ∙ placed k (length bytes) between.high)
+found_first bytes None never =
+    let before = λ (j : ℕ) (lt : j < length bytes). is_not (slice_index bytes j) (is_newline (slice_index bytes j)) refl (λ e. never j (omega arith) lt e) in
+    let at : position_or_len is_newline bytes ≡ length bytes = position_or_len_is is_newline bytes (length bytes) 0 (omega arith) before (λ lt. absurd (omega (arith, lt))) in
+    sym (ap (λ n. cond (nat_lt n (length bytes)) (Some n) None) at ∙ nowhere (length bytes) (length bytes) (omega arith))

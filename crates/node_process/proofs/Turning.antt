@@ -1,5 +1,5 @@
 -- From one turn to the next.
-use Rattle.std.proofs.Common.{◌≡◌, ℕ, List, [], ◌∷◌, ◌++◌, refl, sym, ap, ◌∙◌, subst}
+use Rattle.std.proofs.Common.{◌≡◌, ℕ, List, [], ◌∷◌, ◌++◌, sym, ap, ◌∙◌, subst}
 use Rattle.claim_model.specs.Node.{Node}
 use Rattle.node_service.specs.Serving.{Serving}
 use Rattle.node_service.specs.Lines.{after_lines}

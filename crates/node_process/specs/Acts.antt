@@ -1,5 +1,5 @@
 -- What the process of a node asked of the system, the newest first, and what it comes to.
-use Rattle.std.specs.Prelude.{◌≡◌, ℕ, Bool, true, false, not, ◌&&◌, ◌||◌, cond, List, [], ◌∷◌, ◌++◌, take}
+use Rattle.std.specs.Prelude.{ℕ, Bool, false, not, ◌&&◌, ◌||◌, cond, List, [], ◌∷◌, ◌++◌, take}
 
 -- one call of the system, and whether it was done. A call that failed may have been done in part: what was appended or said counts as done whole
 -- where that is the worse

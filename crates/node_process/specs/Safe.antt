@@ -1,5 +1,5 @@
 -- What is safe at each moment of a process: what was said is on the disk.
-use Rattle.std.specs.Prelude.{◌≡◌, ◌⊎◌, ⊤, ℕ, length, Bool, false, List, [], ◌∷◌, ◌++◌, codes, decimal, take}
+use Rattle.std.specs.Prelude.{◌≡◌, ◌⊎◌, ⊤, ℕ, length, false, List, [], ◌∷◌, ◌++◌, codes, decimal, take}
 use Rattle.claim_model.specs.Node.{Node}
 use Rattle.node_service.specs.Serving.{Serving, cleared}
 use Rattle.node_service.specs.Lines.{after_lines}

@@ -1,10 +1,10 @@
 //! Lines as they come whole.
 
-ghost use Rattle.std.specs.Prelude.{◌≡◌, ◌≤◌, ◌++◌, [], length, OnOk};
+ghost use Rattle.std.specs.Prelude.{◌≡◌, ◌<◌, ◌+◌, ◌++◌, [], length, drop, position, IfSome, OnOk};
 ghost use Rattle.std.specs.Str.Lines.{strip_carriage_return};
 ghost use Rattle.node_service.specs.Serving.{after_line};
 ghost use Rattle.node_service.specs.Lines.{after_lines};
-ghost use Rattle.node_process.specs.Heard.{NoNewline, begun_line, whole_lines};
+ghost use Rattle.node_process.specs.Heard.{NoNewline, begun_line, is_newline, whole_lines};
 
 use crate::unserved::Unserved;
 use memchr::memchr;
@@ -31,15 +31,31 @@ pub(crate) fn serve_heard(
 {
     let mut rest = bytes;
     for _ in 0..bytes.len() {
-        match memchr(b'\n', rest) {
+        match newline_in(rest) {
             Some(end) => {
                 serve_line(alloc, service, pending, &rest[..end])?;
-                rest = &rest[end + 1..];
+                rest = behind(rest, end);
             }
             None => return keep_begun(pending, rest),
         }
     }
     keep_begun(pending, rest)
+}
+
+/// The place of the first newline.
+fn newline_in(bytes: &[u8]) -> Option<usize>
+    ensures first { result ≡ position is_newline bytes.now }
+    ensures bound { IfSome result (λ place. place < length bytes.now) }
+{
+    memchr(b'\n', bytes)
+}
+
+/// The bytes behind the one at this place.
+fn behind(bytes: &[u8], end: usize) -> &[u8]
+    requires { end < length bytes.now }
+    ensures { result.now ≡ drop (end + 1) bytes.now }
+{
+    &bytes[end + 1..]
 }
 
 /// Keeps what has begun of a line.

@@ -1,6 +1,5 @@
 -- What a crash leaves of a file.
-use Rattle.std.proofs.Common.{◌≡◌, ℕ, zero, suc, ◌+◌, ◌-◌, ◌<◌, ◌≤◌, List, [], ◌∷◌, ◌++◌, length, take, drop, Option, Some, None, Result, Ok, Err, refl, sym, ap, ◌∙◌, subst, ◌⊎◌, inl, inr, arith, append_assoc, length-append}
-use Rattle.std.specs.Prelude.{option_map}
+use Rattle.std.proofs.Common.{◌≡◌, ℕ, suc, ◌+◌, ◌-◌, ◌<◌, ◌≤◌, List, [], ◌∷◌, ◌++◌, length, take, drop, Some, Result, Ok, Err, sym, ap, ◌∙◌, subst, inl, inr, arith, length-append}
 use Rattle.std.proofs.lemmas.Bool.{cases_lt}
 use Rattle.std.proofs.Math.Seq.{take-append-add}
 use Rattle.std.proofs.lemmas.List.{take-append-le, take-append-drop}
@@ -21,8 +20,7 @@ use Rattle.kept_logs.specs.Logs.{Reading, calls_text, log_text, log_in}
 use Rattle.kept_logs.specs.Fits.{FitsLog}
 use Rattle.kept_logs.specs.Cuts.{first_calls, calls_within, log_within}
 use Rattle.kept_logs.proofs.LogsBack.{log_length, reads_back}
-use Rattle.node_service.specs.Serving.{Serving}
-use Rattle.node_service.specs.Opened.{IsBegun, IsOpened}
+use Rattle.node_service.specs.Opened.{IsBegun}
 use Rattle.node_service.specs.Lines.{IsRestart}
 use Rattle.node_service.proofs.Lines.{digest_length}
 

@@ -1,21 +1,19 @@
 -- What lines add, and the logs that they leave.
-use Rattle.std.proofs.Common.{◌≡◌, ℕ, ◌+◌, ◌≤◌, List, [], ◌∷◌, ◌++◌, length, take, Option, Some, None, Result, Ok, Err, refl, sym, ap, ◌∙◌, subst, ◌⊎◌, inl, inr, arith, append_assoc, append-nil, length-append}
+use Rattle.std.proofs.Common.{◌≡◌, ℕ, ◌+◌, List, [], ◌∷◌, ◌++◌, length, take, Option, Some, None, Result, Ok, Err, refl, sym, ap, ◌∙◌, subst, ◌⊎◌, inl, inr, arith, append_assoc, append-nil, length-append}
 use Rattle.std.specs.Prelude.{option_map, codes}
 use Rattle.std.specs.List.{AllByRecursion}
 use Rattle.sha2.specs.Sha256.{sha256, digest_bytes}
 use Rattle.bin_routes.specs.Table.{routes_of}
-use Rattle.claim_model.specs.Context.{Context}
 use Rattle.claim_model.specs.Bytes.{bytes_with}
 use Rattle.claim_model.specs.Settings.{opening}
 use Rattle.claim_model.specs.Node.{Node, Call, Sent, Outcome, Done, Refused}
 use Rattle.claim_model.specs.Nodes.{AnyNode, node_step, node_at}
-use Rattle.claim_model.specs.Logs.{Logged, NodeLog, node_after, replay, Makes}
+use Rattle.claim_model.specs.Logs.{Logged, NodeLog, node_after, replay}
 use Rattle.claim_model.proofs.Lists.{all_append}
 use Rattle.claim_model.proofs.Options.{map_some, same_some}
 use Rattle.crash_safety.proofs.Replaying.{replay_more, makes_more}
 use Rattle.world_setup.specs.Names.{refusal_name}
 use Rattle.world_setup.specs.Seen.{call_seen}
-use Rattle.world_setup.specs.declared.settings.WorldSettings.{WorldSettings}
 use Rattle.world_settings.specs.Document.{Document, document_seen}
 use Rattle.run_merge.specs.Merged.{replayed}
 use Rattle.node_logged.specs.Setting.{context_of, opened}
@@ -24,12 +22,12 @@ use Rattle.kept_logs.specs.declared.fault.LogFault.TheVariants.{Short}
 use Rattle.kept_logs.specs.Records.{logged_text}
 use Rattle.kept_logs.specs.Frames.{frame_text}
 use Rattle.kept_logs.specs.Logs.{Reading, log_text, log_in}
-use Rattle.kept_logs.specs.Fits.{FitsLogged, FitsLog}
+use Rattle.kept_logs.specs.Fits.{FitsLogged}
 use Rattle.kept_logs.proofs.LogsBack.{one_more, reads_whole}
 use Rattle.node_service.specs.Asking.{Asked, Calls, AnswerTo, asked_of}
 use Rattle.node_service.specs.Answering.{refused_line}
 use Rattle.node_service.specs.Serving.{Serving, saying, after_call, answer_of, cleared, after_asked, after_line}
-use Rattle.node_service.specs.Opened.{IsBegun, IsOpened, MakesAll, empty_log}
+use Rattle.node_service.specs.Opened.{IsBegun, IsOpened, MakesAll}
 use Rattle.node_service.specs.Lines.{joined, after_lines, logged_of, logged_asked, line_calls, lines_calls, with_calls, IsServing, IsSame}
 
 -- ---- what a line adds

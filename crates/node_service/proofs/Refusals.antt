@@ -1,10 +1,10 @@
 -- A node is refused for what one step on the way to it says.
-use Rattle.std.proofs.Common.{rules, ◌≡◌, ◌≢◌, ◌⊎◌, inl, inr, ℕ, zero, suc, ◌≤◌, length, [], ◌∷◌, Result, Err, Bool, true, false, List, Some, None, Ok, refl, sym, ap, subst, ◌∙◌}
+use Rattle.std.proofs.Common.{rules, ◌≡◌, ◌⊎◌, inl, inr, ℕ, zero, suc, ◌≤◌, length, [], ◌∷◌, Result, Err, true, List, Some, Ok, subst}
 use Rattle.std.proofs.Math.Nat.{suc-le-suc_iff}
 use Rattle.sha2.specs.Sha256.{sha256}
 use Rattle.claim_model.specs.Context.{Context}
 use Rattle.claim_model.specs.Node.{Node, Outcome, Done, Refused, Sent}
-use Rattle.claim_model.specs.Nodes.{AnyNode, same_node, node_step}
+use Rattle.claim_model.specs.Nodes.{AnyNode, node_step}
 use Rattle.claim_model.specs.Logs.{Logged, NodeLog}
 use Rattle.world_setup.specs.Seen.{settings_seen}
 use Rattle.world_setup.specs.Taken.{world_fault}
@@ -14,7 +14,7 @@ use Rattle.world_setup.specs.declared.world_fault.WorldFault.TheVariants as faul
 use Rattle.world_settings.specs.Document.{document_seen, settings_in}
 use Rattle.run_merge.specs.Naming.{is_there}
 use Rattle.run_merge.specs.Order.{FitsBy}
-use Rattle.run_merge.specs.Misfits.{BreaksAt, IsMadeFrom, IsMade}
+use Rattle.run_merge.specs.Misfits.{BreaksAt, IsMade}
 use Rattle.run_merge.specs.declared.misfit.FirstMisfit.{FirstMisfit}
 use Rattle.kept_logs.specs.Logs.{Reading, log_in}
 use Rattle.node_service.specs.declared.fault.ServiceFault.{ServiceFault}

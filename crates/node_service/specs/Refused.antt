@@ -1,5 +1,5 @@
 -- Why a node is not served: each cause is true, and those before it in the order do not stand.
-use Rattle.std.specs.Prelude.{◌≡◌, ◌≢◌, ◌⊎◌, ⊤, ℕ, Bool, true, false, List, length, Option, Some, None, Ok, Err}
+use Rattle.std.specs.Prelude.{◌≡◌, ◌≢◌, ◌⊎◌, ⊤, ℕ, true, false, List, length, Some, None, Ok, Err}
 use Rattle.sha2.specs.Sha256.{sha256}
 use Rattle.claim_model.specs.Node.{Node}
 use Rattle.claim_model.specs.Nodes.{AnyNode, same_node}
@@ -13,7 +13,6 @@ use Rattle.world_settings.specs.Document.{document_seen, settings_in}
 use Rattle.run_merge.specs.Naming.{is_there}
 use Rattle.run_merge.specs.Misfits.{BreaksAt}
 use Rattle.node_logged.specs.Setting.{context_of, opened}
-use Rattle.kept_logs.specs.declared.fault.LogFault.{LogFault}
 use Rattle.kept_logs.specs.declared.fault.LogFault.TheVariants as log_fault
 use Rattle.kept_logs.specs.Logs.{Reading, log_text, log_in}
 use Rattle.kept_logs.specs.Cuts.{first_calls}

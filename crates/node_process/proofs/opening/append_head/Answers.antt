@@ -1,4 +1,4 @@
-use Rattle.std.proofs.Common.{◌≡◌, true, false, is_ok, ◌∷◌, ◌∙◌, refl, sym, ap, subst}
+use Rattle.std.proofs.Common.{is_ok}
 use Rattle.world_setup.specs.Seen.{node_seen}
 use Rattle.node_process.proofs.Moments.{trims_runs, head_runs, not_empty}
 use Rattle.node_process.proofs.opening.append_head.Goals as goal

@@ -1,4 +1,3 @@
-use Rattle.std.proofs.Common.{◌≡◌, true, false, is_ok, ◌∷◌, ◌∙◌, refl, sym, ap, subst}
 use Rattle.world_setup.specs.Seen.{node_seen}
 use Rattle.node_process.proofs.Moments.{reads_runs}
 use Rattle.node_process.proofs.opening.begin.Goals as goal

@@ -1,4 +1,4 @@
-use Rattle.std.proofs.Common.{◌≡◌, true, false, is_ok, ◌∷◌, ◌∙◌, refl, sym, ap, subst}
+use Rattle.std.proofs.Common.{is_ok}
 use Rattle.world_setup.specs.Seen.{node_seen}
 use Rattle.node_process.proofs.Moments.{greet_runs}
 use Rattle.node_process.proofs.opening.greet.Goals as goal

@@ -1,4 +1,4 @@
-use Rattle.std.proofs.Common.{◌≡◌, true, false, is_ok, ◌∷◌, ◌∙◌, refl, sym, ap, subst}
+use Rattle.std.proofs.Common.{is_ok}
 use Rattle.world_setup.specs.Seen.{node_seen}
 use Rattle.node_process.proofs.Moments.{reads_runs, cut_runs}
 use Rattle.node_process.proofs.opening.trim.Goals as goal

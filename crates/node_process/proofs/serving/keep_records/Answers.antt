@@ -1,4 +1,4 @@
-use Rattle.std.proofs.Common.{◌≡◌, true, false, is_ok, ◌∷◌, ◌∙◌, refl, sym, ap, subst}
+use Rattle.std.proofs.Common.{true, is_ok, ◌∷◌}
 use Rattle.world_setup.specs.Seen.{node_seen}
 use Rattle.node_process.specs.Acts.{Append, Sync}
 use Rattle.node_process.specs.Safe.{Logs}

@@ -1,4 +1,4 @@
-use Rattle.std.proofs.Common.{◌≡◌, true, false, is_ok, ◌∷◌, ◌∙◌, refl, sym, ap, subst}
+use Rattle.std.proofs.Common.{is_ok}
 use Rattle.world_setup.specs.Seen.{node_seen}
 use Rattle.node_process.proofs.Moments.{say_runs, say_serves}
 use Rattle.node_process.proofs.serving.say.Goals as goal

@@ -1,5 +1,4 @@
-use Rattle.std.proofs.Common.{◌∙◌, refl, sym, ap}
-use Rattle.std.proofs.lemmas.Result.{IfOk-weaker, IfErr-weaker}
+use Rattle.std.proofs.lemmas.Result.{IfErr-weaker}
 use Rattle.sha2.specs.Sha256.{sha256}
 use Rattle.world_setup.specs.Seen.{node_seen}
 use Rattle.kept_logs.specs.LogSeen.{reading_seen}

@@ -1,5 +1,3 @@
-use Rattle.std.proofs.Common.{◌∙◌, refl, sym, ap}
-use Rattle.std.proofs.lemmas.Result.{IfOk-weaker, IfErr-weaker}
 use Rattle.node_service.proofs.opening.shared_of.Goals as goal
 use Rattle.node_service.proofs.Refusals.{no_world}
 

@@ -1,4 +1,3 @@
-use Rattle.std.proofs.Common.{◌∙◌, refl, sym, ap}
 use Rattle.run_merge.specs.LogSeen.{log_seen}
 use Rattle.node_service.proofs.Refusals.{made_not}
 use Rattle.node_service.proofs.opening.state_of.Goals as goal
