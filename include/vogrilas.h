@@ -77,7 +77,7 @@ enum {
     VOGRILAS_NO_KIND = 12,        /* the log is of no kind of node */
     VOGRILAS_OTHER_SETTINGS = 13, /* the log is of other settings */
     VOGRILAS_DAMAGED = 14,        /* a record of the log is damaged; its place is told */
-    VOGRILAS_BAD_RECORD = 15,     /* a record of the log is no call of the node; its place is told */
+    VOGRILAS_BAD_RECORD = 15,     /* a record of the log is no call that the node makes; its place is told */
     VOGRILAS_BAD_TEXT = 16,       /* a text spells no bytes; the place is told */
     VOGRILAS_UNANSWERED = 17,     /* the entry is open: it has no answer yet */
     VOGRILAS_NOT_FOUND = 18,      /* there is no such entry, slot or row */
@@ -132,9 +132,9 @@ uint32_t vogrilas_version(void);
 ** with them, so that nobody can choose prescription numbers that make it slow. No answer hangs on them. Of fewer bytes, or
 ** none, the hashes are the same in every process.
 **
-** VOGRILAS_OK: the node is the one that wrote the log. *kept is how many bytes of the log stay: behind them stands a record
-** that a crash has cut off, so cut the file there. vogrilas_records() has the head of a log that begins; append it before
-** anything else. Nothing is to be written.
+** VOGRILAS_OK: the node made each call of the log anew, and sent every byte that the log has. *kept is how many bytes of the
+** log stay: behind them stand zeros, or a record that a crash has cut off, so cut the file there. vogrilas_records() has the
+** head of a log that begins; append it before anything else. Nothing is to be written.
 **
 ** Any other code: the handle is as it was. *kept is the place of the faulty record at VOGRILAS_DAMAGED and
 ** VOGRILAS_BAD_RECORD, and unchanged at the others. A damaged log is never cut: set it aside, and look at it.
