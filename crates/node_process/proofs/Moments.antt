@@ -1,5 +1,6 @@
 -- Each act of a process, from a moment that is safe to the next.
-use Rattle.std.proofs.Common.{◌≡◌, ℕ, zero, suc, Bool, true, false, not, ◌&&◌, cond, List, [], ◌∷◌, ◌++◌, take, length, Result, Ok, Err, OnOk, is_ok, ◌==◌, refl, sym, ap, ◌∙◌, subst, ◌⊎◌, inl, inr, append_assoc, append-nil}
+use Rattle.std.proofs.Common.{◌≡◌, ℕ, zero, suc, Bool, true, false, not, ◌&&◌, cond, List, [], ◌∷◌, ◌++◌, take, length, Result, Ok, Err, OnOk, is_ok, ◌==◌, refl, sym, ap, ◌∙◌, subst, ◌⊎◌, inl, inr, append_assoc, append-nil, arith}
+use Rattle.std.proofs.lemmas.Bool.Decides.{nat_tests}
 use Rattle.claim_model.specs.Node.{Node}
 use Rattle.node_service.specs.Serving.{Serving, cleared}
 use Rattle.node_service.specs.Lines.{after_lines}
@@ -365,3 +366,11 @@ ends_done text node t s v no_records no_words =
 -- a list that is not empty
 pub not_empty : (xs ys : List ℕ) (t : Bool) → xs ≡ ys → t ≡ (length xs == 0) → t ≡ false → ys ≡ [] → ⊥
 not_empty xs ys t same tests some none = absurd (let all : (length xs == 0) ≡ true = ap (λ (x : List ℕ). length x == 0) (same ∙ none) in cc)
+
+-- and one that is
+some_is_not_zero : (n : ℕ) → true ≡ (suc n == 0) → ⊥
+some_is_not_zero n e = grind (arith, nat_tests)
+
+pub is_empty_list : (xs ys : List ℕ) (t : Bool) → xs ≡ ys → t ≡ (length xs == 0) → t ≡ true → ys ≡ []
+is_empty_list [] ys t same tests empty = sym same
+is_empty_list (x ∷ xs) ys t same tests empty = absurd (some_is_not_zero (length xs) (sym empty ∙ tests))

@@ -2,7 +2,7 @@ use Rattle.std.proofs.Common.{true, is_ok, ◌∷◌}
 use Rattle.world_setup.specs.Seen.{node_seen}
 use Rattle.node_process.specs.Acts.{Append, Sync}
 use Rattle.node_process.specs.Safe.{Logs}
-use Rattle.node_process.proofs.Moments.{serves_runs, append_runs, sync_runs, sync_logs, when_done}
+use Rattle.node_process.proofs.Moments.{serves_runs, append_runs, sync_runs, sync_logs, when_done, nothing_logs, is_empty_list}
 use Rattle.node_process.proofs.serving.keep_records.Goals as goal
 
 pub returns-then-is_empty-clause-each : goal.returns-then-is_empty-clause-each
@@ -16,3 +16,6 @@ returns-clause-each g c = rw (c.sync.ensures, c.append.ensures, c.records-2.ensu
 
 pub returns-clause-logged : goal.returns-clause-logged
 returns-clause-logged g c = rw (c.sync.ensures, c.append.ensures, c.records-2.ensures, c.in_ok-append.was) (when_done c.sync.result (λ done. Logs c.args.owner.now.settings.now (node_seen c.args.owner.now.node) (Sync done ∷ Append c.args.service.now.records true ∷ g.M.Machine.acts c.args.machine.now) c.args.service.now) (sync_logs c.args.owner.now.settings.now (node_seen c.args.owner.now.node) (g.M.Machine.acts c.args.machine.now) c.args.service.now c.requires))
+
+pub returns-then-is_empty-clause-logged : goal.returns-then-is_empty-clause-logged
+returns-then-is_empty-clause-logged g c = nothing_logs c.args.owner.now.settings.now (node_seen c.args.owner.now.node) (g.M.Machine.acts c.args.machine.now) c.args.service.now c.requires (is_empty_list c.records.result.now c.args.service.now.records c.is_empty.result c.records.ensures c.is_empty.ensures c.if-is_empty.true)

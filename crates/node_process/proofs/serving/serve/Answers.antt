@@ -1,8 +1,8 @@
-use Rattle.std.proofs.Common.{take, ◌∙◌, ap}
+use Rattle.std.proofs.Common.{take, ◌∙◌, ap, ℕ}
 use Rattle.world_setup.specs.Seen.{node_seen}
 use Rattle.node_process.specs.Acts.{heard}
 use Rattle.node_process.proofs.Moments.{serves_runs}
-use Rattle.node_process.proofs.Turning.{turn_runs, turn_serves, turn_on}
+use Rattle.node_process.proofs.Turning.{turn_runs, turn_serves, turn_on, turn_ends}
 use Rattle.node_process.proofs.serving.serve.Goals as goal
 
 pub returns-in_err-count-clause-each : goal.returns-in_err-count-clause-each
@@ -25,3 +25,7 @@ loop-preserved g c =
 
 pub returns-clause-each : goal.returns-clause-each
 returns-clause-each g c = serves_runs c.args.owner.now.settings.now (node_seen c.args.owner.now.node) (g.M.Machine.acts c.loop.machine) c.loop.service c.loop.invariant.serves
+
+pub returns-then-count-eq0-clause-done : goal.returns-then-count-eq0-clause-done
+returns-then-count-eq0-clause-done g c =
+    rw c.in_ok-count.ensures.heard (turn_ends c.args.owner.now.settings.now (node_seen c.args.owner.now.node) (g.M.Machine.acts c.loop.machine) c.loop.service c.loop.pending.items (take c.in_ok-count.count c.hear.new.buffer) (ap (λ (count : ℕ). take count c.hear.new.buffer) c.if-count-eq0.true) c.loop.invariant)
