@@ -79,9 +79,4 @@ def groups(path: str, name: str, kind: type[Case]) -> list[Group]:
         if row.word == 'input':
             found.append([])
         found[-1].append(row)
-    return [weighty(rows_in_order(name, some, Failing().tell, kind)) for some in found]
-
-
-def weighty(group: Group) -> Group:
-    group.weight = 100
-    return group
+    return [rows_in_order(name, some, Failing().tell, kind, weight=100) for some in found]

@@ -1,5 +1,4 @@
 """Worlds: the settings and events of a day, the reports on it, and the logs that its nodes would have."""
-import copy
 import os
 import re
 import sys
@@ -12,9 +11,9 @@ from suite.printed import octets_of, printed
 from suite.programs import TOP, run
 
 sys.path.append(f'{TOP}/tests')
-from report_walk import Report, Walk  # noqa: E402
+from report_walk import Broken, Report, Walk  # noqa: E402
 
-__all__ = ['Day', 'Dump', 'Report', 'Settings', 'Walk', 'dump', 'nodes_in', 'replayed']
+__all__ = ['Broken', 'Day', 'Dump', 'Packet', 'Report', 'Settings', 'Walk']
 
 
 class Settings:
