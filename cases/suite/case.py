@@ -48,15 +48,15 @@ class Differing(Case):
 
 
 class Group:
-    """Cases that one process runs in order, those of one thing. Groups of more weight are begun first."""
+    """Cases that one process runs in order, those of one thing; `end` is called behind them. Groups of more weight are begun first."""
 
-    def __init__(self, cases: list[Case], weight: int = 1):
-        self.cases, self.weight = cases, weight
+    def __init__(self, cases: list[Case], weight: int = 1, end: Callable[[], None] = lambda: None):
+        self.cases, self.weight, self.end = cases, weight, end
 
 
-def rows_in_order(name: str, rows, tell: Callable[[str, bytes], str], kind: type[Case] = Case) -> Group:
+def rows_in_order(name: str, rows, tell: Callable[[str, bytes], str], kind: type[Case] = Case, **more) -> Group:
     """The rows of a file as cases, one after another: `tell` gives what the call of a word and an argument came to."""
-    return Group([row_case(name, row, tell, kind) for row in rows])
+    return Group([row_case(name, row, tell, kind) for row in rows], **more)
 
 
 def rows_apart(name: str, rows, tell: Callable[[str, bytes], str], kind: type[Case] = Case,

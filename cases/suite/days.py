@@ -22,3 +22,9 @@ def parts(path: str) -> tuple[bytes, str]:
 def named(name: str) -> str:
     """The file of the day of a name."""
     return f'{DAYS}/{name}.day'
+
+
+def settings(path: str) -> bytes:
+    """The settings of a day: what stands before the line `---` of its input."""
+    given, _ = parts(path)
+    return given.partition(b'\n---\n')[0] + b'\n'
