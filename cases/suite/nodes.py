@@ -47,8 +47,16 @@ class Served:
 
     def ask(self, line: str) -> Answer:
         """What it says to a line."""
-        self.process.stdin.write(line.encode('latin-1') + b'\n')
+        return self.ask_all([line])[0]
+
+    def ask_all(self, lines: list[str]) -> list[Answer]:
+        """What it says to lines that are given to it at once: not more than pipes hold."""
+        self.process.stdin.write(''.join(f'{line}\n' for line in lines).encode('latin-1'))
         self.process.stdin.flush()
+        return [self.answer() for _ in lines]
+
+    def answer(self) -> Answer:
+        """What it says to the next line that it was given."""
         sent = []
         while True:
             told = self.line()
