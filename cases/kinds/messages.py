@@ -244,7 +244,52 @@ def printed_text(word: str, argument: bytes) -> str:
     return unprinted(argument)
 
 
-FILES = {'answers': answers, 'orders': orders, 'reversals': orders, 'headers': headers, 'framing': framing, 'printed-text': printed_text}
+ACCEPTED = b'D0B11A011234567893     20240115\x1d\x1e\x1cAM21\x1cAN'
+
+
+def rejected(codes: list[bytes]) -> dict:
+    """What is said of an answer that rejects with these codes."""
+    said, = described('answer', [ACCEPTED + b'R\x1cFA' + str(len(codes)).encode() + b''.join(b'\x1cFB' + it for it in codes)])
+    return said
+
+
+def authorization(payer: int, serial: int) -> str:
+    """The authorization of a payer and a serial, where it is described as theirs."""
+    text = f'{payer:04}{serial:012}'
+    said, = described('answer', [ACCEPTED + b'P\x1cF3' + text.encode()])
+    return text if said['parts'][-1].get('meaning') == f'payer {payer}, serial {serial}' else 'none'
+
+
+def codes(word: str, argument: bytes) -> str:
+    if word == 'authorization':
+        return authorization(*map(int, argument.split()))
+    said = rejected(argument.split())
+    if word == 'rejects':
+        found = ruling(said['findings'][0])
+        return 'none' if found == 'BadRejects' else found
+    meaning = said['parts'][-1]['meaning']
+    return 'none' if meaning == 'a code that the product does not know' else meaning
+
+
+def envelopes(_: str, argument: bytes) -> str:
+    said, = described('packet', [argument])
+    found = said['findings'][0]
+    if found['finding'] == 'no_envelope':
+        return spelled(found)
+    payload = joined({'kind': found['carries'], 'parts': [it | {'at': it['at'] - 18} for it in said['parts'] if it['at'] >= 18]})
+    return f'{found["carries"].capitalize()} {found["pharmacy"]}.{found["number"]} {shown(printed(payload))}'
+
+
+def lines_of(_: str, argument: bytes) -> str:
+    told = []
+    for line in run('claimdecode', 'request', '--json', given=argument).out.splitlines():
+        said = json.loads(line)
+        told.append(f'{said["line"]} at {said["place"]}' if said['kind'] == 'none' else f'{said["line"]} {printed(joined(said))}')
+    return ' '.join(told)
+
+
+FILES = {'answers': answers, 'codes': codes, 'envelopes': envelopes, 'framing': framing, 'headers': headers, 'lines': lines_of, 'orders': orders,
+         'printed-text': printed_text, 'reversals': orders}
 
 
 def groups(path: str, name: str, kind: type[Case]) -> list[Group]:

@@ -85,7 +85,7 @@ def why(case: Case, word: str, row: Row) -> None:
     if row.outcome == 'nothing':
         case.compare('', complaint)
     elif place:
-        case.compare(f'byte {int(place.group(1)) + 1} of the request is not printed text', complaint.split('\n')[1].split(': ')[1])
+        case.compare(f'byte {place.group(1)} of the request is not printed text', complaint.split('\n')[1].split(': ')[1])
     else:
         case.compare(f'claimswitch: {SAYS[row.outcome]}', complaint.split('\n')[1])
 

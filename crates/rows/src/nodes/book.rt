@@ -2,9 +2,8 @@
 
 mod adding;
 mod answers;
-mod each;
 mod keys;
-pub(crate) mod opening;
+mod opening;
 mod texts;
 mod views;
 
