@@ -32,7 +32,7 @@ def filled(texts: dict[str, str], text: str) -> str:
         if star and int(count) <= MOST_REPEATS:
             return text * int(count)
         return texts[found.group(1)]
-    if text.count('<') > text.count('>'):
+    if '<' in re.sub('<[^>]*>', '', text):
         raise ValueError(f'a name without an end: {text!r}')
     return re.sub('<([^>]*)>', one, text)
 
