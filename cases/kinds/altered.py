@@ -5,15 +5,19 @@ from typing import NamedTuple
 
 from suite.case import Case, Group, rows_apart
 from suite.live import line_for
-from suite.logs import HEAD, START, STOP, TAKE, Call, Log, write_log
+from suite.logs import START, write_log
 from suite.nodes import Answer, Served, room
 from suite.parallel import spread
+from suite.printed import printed
+from suite.programs import run
 from suite.rows import read_rows
-from suite.worlds import Day, Dump, Packet, dump, packets_of
+from suite.worlds import Day, Dump, Packet, Report, dump, packets_of, replayed, schedule
 
 # Where an envelope has the pharmacy's number, low byte, and how many bytes its head has.
 PHARMACY, ENVELOPE = 5, 18
-# How many packets one process alters in a row.
+# What each byte of a record is changed to.
+VALUES = (0, 1, 0x1C, 0x7F, 0xFF)
+# How many packets or records one process alters in a row.
 CHUNK = 300
 
 
@@ -162,10 +166,67 @@ def packets(word: str, name: str, names: list[str]) -> str:
         return told(sum(spread(one, work), Counter()), names)
 
 
+class Tried(NamedTuple):
+    """An altered record, and whether it has another length."""
+    octets: bytes
+    longer: bool
+
+
+def altered_record(octets: bytes) -> list[Tried]:
+    """A record with each byte changed to each of some others, cut off at each length, and with one byte more."""
+    changed = [Tried(with_octet(octets, place, value), False) for place in range(len(octets)) for value in VALUES]
+    return [*changed, *(Tried(octets[:length], True) for length in range(len(octets))), Tried(octets + b'\0', True)]
+
+
+def read_records(some: list[bytes]) -> list[bool]:
+    """Whether claimdecode reads these bytes as records. No bytes at all are no line, and are read as the whole input."""
+    if some == [b'']:
+        ran = run('claimdecode', 'record', '--raw', '--json')
+    else:
+        ran = run('claimdecode', 'record', '--hex', '--json', given=b''.join(it.hex().encode('ascii') + b'\n' for it in some))
+    found = [b'"finding": "no_record"' not in line and b'"finding":"no_record"' not in line for line in ran.out.splitlines()]
+    if ran.status or len(found) != len(some):
+        raise AssertionError(f'claimdecode: status {ran.status}, {len(found)} of {len(some)} records, {ran.err!r}')
+    return found
+
+
+def record(name: str, node: str) -> str:
+    """Alters the record with which a node ends a day: how many are refused, and how many are read."""
+    with room() as folder:
+        octets = dump(folder, Day(name)).read(f'{node}.{"journal" if node.startswith("ph") else "book"}')
+    tried = sorted(altered_record(octets), key=lambda it: len(it.octets))
+    parts = [tried[:1], *(tried[at:at + CHUNK] for at in range(1, len(tried), CHUNK))]
+    found = [read for some in spread(lambda part: read_records([it.octets for it in part]), parts) for read in some]
+    counts = Counter((it.longer, read) for it, read in zip(tried, found))
+    return (f'bytes={len(octets)} {"reads-back" if read_records([octets])[0] else "lost"} refused={counts[False, False]} read={counts[False, True]} '
+            f'lengths-refused={counts[True, False]} wrong={counts[True, True]}')
+
+
+def rest(name: str) -> str:
+    """What a pharmacy is as a world opens, at rest, and started again."""
+    day, events, words = Day(name), [], []
+    for event in (None, ('stop', 'ph1'), ('start', 'ph1')):
+        events += [event] if event else []
+        report = Report(replayed(day.settings, events), len(events))
+        words.append('up' if report.nodes['pharmacy', 1].up else 'down')
+        if words[-1] == 'down':
+            with room() as folder:
+                words.append(printed(Dump(folder, schedule(day.settings, events)).read('ph1.journal')))
+    return ' '.join([*words, f'entries={report.nodes["pharmacy", 1].count}'])
+
+
+def weight(word: str, _: bytes) -> int:
+    return 1 if word == 'rest' else 3000
+
+
 def groups(path: str, name: str, kind: type[Case]) -> list[Group]:
     found = []
+    words = {'record': record, 'rest': rest}
     for row in read_rows(path):
         names = [word.partition('=')[0] for word in row.outcome.split(' ')[3:]]
-        if row.word in ALTERATIONS:
-            found += rows_apart(name, [row], lambda word, it, names=names: packets(word, it.decode('ascii'), names), kind, lambda *_: 3000)
+
+        def tell(word: str, argument: bytes, names: list[str] = names) -> str:
+            text = argument.decode('ascii')
+            return words[word](*text.split(' ')) if word in words else packets(word, text, names)
+        found += rows_apart(name, [row], tell, kind, weight)
     return found
