@@ -198,7 +198,7 @@ def record(name: str, node: str) -> str:
     parts = [tried[:1], *(tried[at:at + CHUNK] for at in range(1, len(tried), CHUNK))]
     found = [read for some in spread(lambda part: read_records([it.octets for it in part]), parts) for read in some]
     counts = Counter((it.longer, read) for it, read in zip(tried, found))
-    return (f'bytes={len(octets)} {"reads-back" if read_records([octets])[0] else "lost"} refused={counts[False, False]} read={counts[False, True]} '
+    return (f'bytes={len(octets)} {"reads-back" if read_records([octets])[0] else "lost"} refused={counts[False, False]} itself={counts[False, True]} '
             f'lengths-refused={counts[True, False]} wrong={counts[True, True]}')
 
 
