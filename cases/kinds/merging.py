@@ -11,7 +11,7 @@ from suite.live import Live, line_for
 from suite.logs import TAKE, Log, read_log, write_log
 from suite.nodes import Served, room
 from suite.parallel import spread
-from suite.programs import run
+from suite.programs import Ran, run
 from suite.rows import read_rows
 from suite.worlds import Day, Dump, dump, nodes_in, replayed
 
@@ -27,10 +27,14 @@ class Logs:
     def path(self, node: str) -> str:
         return f'{self.folder}/{node}.log'
 
-    def audit(self, *words: str, instead: dict[str, str] | None = None, without: tuple[str, ...] = ()):
+    def audit(self, *words: str, instead: dict[str, str] | None = None, without: tuple[str, ...] = ()) -> Ran:
         """What claimaudit makes of them, with other files in the place of some."""
         files = [(instead or {}).get(node, self.path(node)) for node in self.nodes if node not in without]
         return run('claimaudit', *words, f'{self.folder}/settings.toml', *files)
+
+    def merge(self, **more) -> bytes | None:
+        """The run into which claimaudit merges them."""
+        return merged(self.audit('--schedule', **more))
 
     def read(self) -> list[Log]:
         found = []
@@ -47,24 +51,17 @@ class Logs:
         return found
 
 
-def is_merged(ran) -> bool:
-    """Whether logs were merged, by what claimaudit writes."""
-    lines = ran.out.decode('latin-1').splitlines()
-    if ran.status == 0 and any(re.fullmatch(r'one legal run of \d+ events?', line) for line in lines) and not ran.err:
-        return True
-    if ran.status == 1 and 'no legal run' in lines:
-        return False
+def merged(ran) -> bytes | None:
+    """The run into which logs are merged, as the input of a replay; none where they are tangled."""
+    if ran.status == 0 and not ran.err and b'\n---\n' in ran.out:
+        return ran.out
+    if ran.status == 1 and not ran.err and b'no legal run' in ran.out.split(b'\n'):
+        return None
     raise AssertionError(f'claimaudit: {ran}')
 
 
-def told(ran) -> str:
-    return 'merged' if is_merged(ran) else 'Tangled'
-
-
-def schedule(logs: Logs, **more) -> bytes | None:
-    """The run into which logs are merged, as the input of a replay; none where they are tangled."""
-    ran = logs.audit('--schedule', **more)
-    return ran.out if ran.status == 0 else None
+def told(given: bytes | None) -> str:
+    return 'Tangled' if given is None else 'merged'
 
 
 def leads_to(given: bytes, octets: list[bytes], nodes: list[str]) -> bool:
@@ -87,9 +84,9 @@ def events_told(logs: Logs, given: bytes) -> str:
 
 def over(day: Day, logs: Logs) -> str:
     """Merges the logs of a day: their events lead to the same logs and to the same nodes."""
-    given = schedule(logs)
+    given = logs.merge()
     if given is None:
-        return told(logs.audit())
+        return told(given)
     ran = run('claimswitch', 'replay', given=given)
     same = ran.status == 0 and b'refused' not in ran.out and nodes_in(ran.out.decode('latin-1')) == day.nodes
     return ' '.join([events_told(logs, given), 'same-logs' if leads_to(given, logs.octets(), logs.nodes) else 'other-logs',
@@ -101,8 +98,8 @@ def over_copies(_: Day, logs: Logs) -> str:
     with room() as folder:
         for name in ('settings.toml', *(f'{node}.log' for node in logs.nodes)):
             shutil.copyfile(f'{logs.folder}/{name}', f'{folder}/{name}')
-        given = schedule(logs)
-        return f'{events_told(logs, given)} {"yes" if given == schedule(Logs(folder, logs.nodes)) else "no"}'
+        given = logs.merge()
+        return f'{events_told(logs, given)} {"yes" if given == Logs(folder, logs.nodes).merge() else "no"}'
 
 
 def over_other(logs: Logs, node: str, octets: bytes) -> str:
@@ -110,7 +107,7 @@ def over_other(logs: Logs, node: str, octets: bytes) -> str:
     other = f'{logs.folder}/other'
     with open(other, 'wb') as file:
         file.write(octets)
-    return told(logs.audit(instead={node: other}))
+    return told(logs.merge(instead={node: other}))
 
 
 def without_calls(_: Day, logs: Logs) -> str:
@@ -125,7 +122,7 @@ def with_change(change: str, _: Day, logs: Logs) -> str:
 
 
 DAYS = {
-    'merge': over, 'copies': over_copies, 'without-calls': without_calls, 'without-payer': lambda _, logs: told(logs.audit(without=('pr1',))),
+    'merge': over, 'copies': over_copies, 'without-calls': without_calls, 'without-payer': lambda _, logs: told(logs.merge(without=('pr1',))),
     'other-answer': functools.partial(with_change, 'sent'), 'other-order': functools.partial(with_change, 'exchanged'),
 }
 
@@ -175,7 +172,7 @@ class Merger:
 
     def __init__(self, live: Live, draws: Draws, searches: bool):
         self.live, self.draws, self.searches = live, draws, searches
-        self.logs, self.merged, self.tangled, self.wrong = Logs(live.folder, list(live.nodes)), 0, 0, []
+        self.logs, self.merged, self.tangled, self.wrong = Logs(live.folder, live.nodes), 0, 0, []
 
     def expect(self, holds: bool, what: str) -> None:
         if not holds:
@@ -183,7 +180,7 @@ class Merger:
 
     def back(self) -> None:
         """The logs of the run merge into a run with the same logs and the same nodes."""
-        given = schedule(self.logs)
+        given = self.logs.merge()
         if given is None:
             return self.wrong.append('its own logs are tangled')
         self.expect(count_events(given) == self.live.calls and leads_to(given, self.logs.octets(), self.logs.nodes), 'other logs')
@@ -200,9 +197,8 @@ class Merger:
         octets = write_log(others[place])
         with open(name, 'wb') as file:
             file.write(octets)
-        given = schedule(self.logs, instead={node: name})
+        given = self.logs.merge(instead={node: name})
         if given is None:
-            is_merged(self.logs.audit(instead={node: name}))
             self.tangled += 1
         else:
             self.merged += 1
@@ -210,7 +206,7 @@ class Merger:
             whole[place] = octets
             self.expect(leads_to(given, whole, self.logs.nodes), f'other logs, {node} {change}')
         if self.searches:
-            right = makes(f'{self.live.folder}/settings.toml', others[place]) and has_order(others)
+            right = has_order(others) and makes(f'{self.live.folder}/settings.toml', others[place])
             self.expect((given is not None) == right, f'merged {given is not None}, {node} {change}')
         else:
             self.expect(given is None or change != 'sent', f'merged, {node} {change}')

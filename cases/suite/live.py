@@ -1,5 +1,5 @@
 """A world of processes: each node is a claimnode of its own, and packets are carried from one to another by hand."""
-from suite.logs import DROP, PRICE, START, STOP, SUBMIT, TAKE, TICK, Call, Log, read_log
+from suite.logs import DROP, PRICE, START, STOP, SUBMIT, TAKE, TICK, Call, Log, head_of, read_log
 from suite.nodes import Answer, Served
 from suite.printed import printed
 from suite.worlds import Packet, Settings, line_of
@@ -22,14 +22,22 @@ def line_for(call: Call) -> str:
 
 
 class Live:
-    """The nodes of settings, served from new logs in a folder."""
+    """The nodes of settings, served from new logs in a folder. A node is begun at its first call; without one it has a log of no calls."""
 
     def __init__(self, settings: Settings, folder: str):
-        self.settings, self.folder = settings, folder
+        self.settings, self.folder, self.nodes, self.served = settings, folder, settings.nodes(), {}
         with open(f'{folder}/settings.toml', 'wb') as file:
             file.write(settings.octets)
-        self.nodes = {node: Served(f'{folder}/settings.toml', node, f'{folder}/{node}.log') for node in settings.nodes()}
+        for node in self.nodes:
+            with open(f'{folder}/{node}.log', 'wb') as file:
+                file.write(head_of(node, settings.octets))
         self.up, self.packets, self.calls, self.events = set(self.nodes), [], 0, []
+
+    def node(self, name: str) -> Served:
+        """The process of a node."""
+        if name not in self.served:
+            self.served[name] = Served(f'{self.folder}/settings.toml', name, f'{self.folder}/{name}.log')
+        return self.served[name]
 
     def make(self, event: tuple) -> None:
         """Makes an event, refused or not."""
@@ -47,9 +55,9 @@ class Live:
             if not 1 <= event[1] <= len(self.packets):
                 return None, ''
             packet = self.packets[event[1] - 1]
-            return self.nodes[packet.to].take(packet.sender, packet.octets), packet.to
+            return self.node(packet.to).take(packet.sender, packet.octets), packet.to
         node = f'ph{event[1]}' if event[0] in ('submit', 'tick') else event[1]
-        return (self.nodes[node].ask(words_of(event)) if node in self.nodes else None), node
+        return (self.node(node).ask(words_of(event)) if node in self.nodes else None), node
 
     def logs(self) -> list[Log]:
         """The logs of the nodes, pharmacies before switches before payers."""
@@ -60,5 +68,5 @@ class Live:
         return found
 
     def end(self) -> None:
-        for node in self.nodes.values():
+        for node in self.served.values():
             node.end()

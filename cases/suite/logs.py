@@ -46,6 +46,12 @@ def check_sum(number: int, octets: bytes) -> bytes:
     return hashlib.sha256(struct.pack('>Q', number) + octets).digest()[:8]
 
 
+def head_of(node: str, settings: bytes) -> bytes:
+    """The head of a log: a log of no calls."""
+    body = node_octets(node) + hashlib.sha256(settings).digest()
+    return b'PL\x01' + body + check_sum(0, body)
+
+
 def text(octets: bytes) -> bytes:
     return struct.pack('>Q', len(octets)) + octets
 

@@ -27,11 +27,15 @@ class Row(NamedTuple):
 
 def filled(texts: dict[str, str], text: str) -> str:
     """A text with each name in angle brackets filled in."""
-    def one(found):
-        text, star, count = found.group(1).partition('*')
-        if star and int(count) <= MOST_REPEATS:
-            return text * int(count)
-        return texts[found.group(1)]
+    def one(found: re.Match) -> str:
+        part, star, count = found[1].rpartition('*')
+        if star:
+            if int(count) > MOST_REPEATS:
+                raise ValueError(f'so many repeats: {found[0]}')
+            return part * int(count)
+        if found[1] not in texts:
+            raise ValueError(f'no text has the name {found[0]}')
+        return texts[found[1]]
     if '<' in re.sub('<[^>]*>', '', text):
         raise ValueError(f'a name without an end: {text!r}')
     return re.sub('<([^>]*)>', one, text)
