@@ -125,6 +125,9 @@ class Book(Steps):
         if word == 'refused':
             self.number += 1
             return self.node.served.take('sw1', packet_of(REQUEST, 1, self.number, argument)).refused or 'answered'
+        if word == 'packet':
+            pharmacy, number, request = argument.split(b' ', 2)
+            return printed(self.node.served.take('sw1', packet_of(REQUEST, int(pharmacy), int(number), request)).sent[0][1][:18])
         count, _, request = argument.partition(b' ')
         return self.each(int(count), request)
 
