@@ -288,8 +288,33 @@ def lines_of(_: str, argument: bytes) -> str:
     return ' '.join(told)
 
 
-FILES = {'answers': answers, 'codes': codes, 'envelopes': envelopes, 'framing': framing, 'headers': headers, 'lines': lines_of, 'orders': orders,
-         'printed-text': printed_text, 'reversals': orders}
+SIGNED = {octet: (sign, digit) for sign, row in ((1, b'{ABCDEFGHI'), (-1, b'}JKLMNOPQR'), (1, b'0123456789')) for digit, octet in enumerate(row)}
+
+
+def plain_sum(text: bytes) -> str:
+    """What an amount of one or two bytes means, by the table of its last byte."""
+    *tens, last = text
+    if tens and not 0x30 <= tens[0] <= 0x39:
+        return 'no amount: no digit at place 0'
+    if last not in SIGNED:
+        return 'no amount: the last byte is no signed digit'
+    sign, digit = SIGNED[last]
+    cents = digit + sum(10 * (it - 0x30) for it in tens)
+    return f'{"-" if sign < 0 and cents else ""}{cents // 100}.{cents % 100:02} dollars'
+
+
+def amounts(word: str, _: bytes) -> str:
+    """How many amounts of one or two bytes mean what the plain sum says."""
+    octets = [bytes([it]) for it in range(256) if it not in SEPARATORS]
+    texts = octets if word == 'every-byte' else [first + last for first in octets for last in octets]
+    front = b'610455D0B1A1        1011234567893     20240115SW00000001\x1d\x1e\x1cAM11'
+    said = described('request', (front + b''.join(b'\x1cD9' + it for it in texts[at:at + 256]) for at in range(0, len(texts), 256)))
+    told = [part['meaning'] for message in said for part in message['parts'] if part['name'] == 'ingredient_cost_submitted']
+    return f'agreeing={sum(meaning == plain_sum(text) for meaning, text in zip(told, texts, strict=True))}'
+
+
+FILES = {'amounts': amounts, 'answers': answers, 'codes': codes, 'envelopes': envelopes, 'framing': framing, 'headers': headers, 'lines': lines_of,
+         'orders': orders, 'printed-text': printed_text, 'reversals': orders}
 
 
 def groups(path: str, name: str, kind: type[Case]) -> list[Group]:

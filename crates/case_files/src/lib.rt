@@ -10,7 +10,7 @@ mod runner;
 mod texts;
 mod told;
 
-pub use fakes::{ALL, Endless, Paper, Pieces, pieces_in};
+pub use fakes::{ALL, Endless, Paper, Pieces};
 pub use folder::{CaseFile, read_folder};
 pub use row::Row;
 pub use runner::{Runner, Subject, Suite, run};

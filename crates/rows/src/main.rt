@@ -5,6 +5,7 @@
 mod amounts;
 mod arguments;
 mod building;
+mod failing;
 mod lists;
 mod nodes;
 mod numbers;
@@ -12,7 +13,6 @@ mod telling;
 mod threads;
 
 use case_files::{CaseFile, Runner, read_folder};
-use payer_book::HashKeys;
 use std::alloc::AllocError;
 use std::io::Read;
 use std::process::ExitCode;
@@ -69,19 +69,17 @@ where
     T: Threads + Wait + Clock + Copy + Send + Sync + 'static,
 {
     let files = read_folder(rt, ".")?;
-    let drawn = HashKeys::random(rt).ok();
     let mut runner = Runner::new(rt.alloc());
-    let done = run_files(threads, &mut runner, &files, &drawn);
+    let done = run_files(threads, &mut runner, &files);
     rt.print(runner.printed())?;
     Ok(done.is_ok() && !runner.has_failed())
 }
 
-/// Runs all files of cases: texts first, then the others, by name. The keys are for the maps of books.
+/// Runs all files of cases: texts first, then the others, by name.
 fn run_files<T>(
     rt: &T,
     runner: &mut Runner,
     files: &[CaseFile],
-    drawn: &Option<HashKeys>,
 ) -> Result<(), AllocError>
 where
     T: Threads + Wait + Clock + Copy + Send + Sync + 'static,
@@ -92,7 +90,7 @@ where
         }
     }
     for file in files {
-        run_file(rt, runner, files, file, drawn)?;
+        run_file(rt, runner, files, file)?;
     }
     Ok(())
 }
@@ -103,11 +101,11 @@ fn run_file<T>(
     runner: &mut Runner,
     files: &[CaseFile],
     file: &CaseFile,
-    drawn: &Option<HashKeys>,
 ) -> Result<(), AllocError>
 where
     T: Threads + Wait + Clock + Copy + Send + Sync + 'static,
 {
+    let alloc = runner.alloc();
     match file.ending() {
         "texts" => return Ok(()),
         "toml" => return runner.line(file, "settings"),
@@ -117,11 +115,12 @@ where
     match file.stem() {
         "amounts" => runner.rows(file, &mut amounts::Amounts),
         "numbers" => runner.rows(file, &mut numbers::Numbers),
+        "failing" => runner.rows(file, &mut failing::Failing::new(alloc)),
         "lists" => runner.rows(file, &mut lists::Lists),
         "building" => runner.rows(file, &mut building::Building),
         "inboxes" | "held" | "judging" | "systems" | "refused" | "stops" => {
             threads::check(rt, runner, files, file)
         }
-        _ => nodes::check(runner, file, drawn),
+        _ => nodes::check(runner, file),
     }
 }

@@ -12,20 +12,13 @@ mod transactions;
 use bin_routes::{RouteRow, Routes};
 use case_files::{CaseFile, Runner};
 use octets::Octets;
-use payer_book::HashKeys;
 use std::alloc::{AllocError, Global};
 
-/// Runs a file of nodes; the keys are for the maps of books.
-pub(crate) fn check(
-    runner: &mut Runner,
-    file: &CaseFile,
-    drawn: &Option<HashKeys>,
-) -> Result<(), AllocError> {
+/// Runs a file of nodes.
+pub(crate) fn check(runner: &mut Runner, file: &CaseFile) -> Result<(), AllocError> {
     let alloc = runner.alloc();
     match file.stem() {
-        "book" | "book_again" | "book_keys" | "book_text" => {
-            runner.rows(file, &mut book::Books::new(drawn))
-        }
+        "book" | "book_again" | "book_text" => runner.rows(file, &mut book::Books::new()),
         "switch" => runner.rows(file, &mut switch::Switches::new(alloc)),
         _ => journals(runner, file),
     }
