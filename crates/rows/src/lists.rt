@@ -6,9 +6,7 @@ use crate::telling::tell_text;
 use case_files::{Subject, Told};
 use claim_profile::{read_order, read_readable};
 use d0_header::{RequestHeader, ResponseHeader};
-use d0_segments::{
-    Field, Header, Segment, Transmission, read_request, read_response, write,
-};
+use d0_segments::{Field, Header, Segment, Transmission, read_request, read_response, write};
 use std::alloc::{AllocError, Global};
 
 /// Rows of lists.

@@ -76,11 +76,7 @@ where
 }
 
 /// Runs all files of cases: texts first, then the others, by name.
-fn run_files<T>(
-    rt: &T,
-    runner: &mut Runner,
-    files: &[CaseFile],
-) -> Result<(), AllocError>
+fn run_files<T>(rt: &T, runner: &mut Runner, files: &[CaseFile]) -> Result<(), AllocError>
 where
     T: Threads + Wait + Clock + Copy + Send + Sync + 'static,
 {
