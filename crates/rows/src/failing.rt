@@ -1,7 +1,7 @@
 //! A flush that fails, and what else of failing reads and writes no program shows: how often a reader is called that never ends.
 
 use case_files::{ALL, Endless, Paper, Pieces, Subject, Told};
-use schedule_cli::{MOST_CALLS, ProgramFault, Word, read_claims, replay};
+use schedule_cli::{HashKeys, MOST_CALLS, ProgramFault, Word, read_claims_keyed, replay_keyed};
 use std::alloc::Global;
 use std::io::Read;
 
@@ -76,8 +76,8 @@ fn run<R: Read>(
     writer: &mut Paper,
 ) -> Result<(), ProgramFault> {
     match word {
-        Word::Read => read_claims(alloc, reader, writer),
-        Word::Replay | Word::Run => replay(alloc, reader, writer),
+        Word::Read => read_claims_keyed(alloc, &HashKeys::fixed(), reader, writer),
+        Word::Replay | Word::Run => replay_keyed(alloc, &HashKeys::fixed(), reader, writer),
     }
 }
 
