@@ -27,11 +27,11 @@ class Run:
         """Makes an event, refused or not, and walks the promises."""
         self.events.append(event)
         self.text = replayed(self.settings, self.events)
-        self.report = Report(self.text, len(self.events))
         try:
+            self.report = Report(self.text, len(self.events))
             self.walk.walk(self.events, self.report)
-        except Broken as fault:
-            self.broken.append(f'{fault} after event {len(self.events)}')
+        except (Broken, KeyError, IndexError, ValueError) as fault:
+            self.broken.append(f'{type(fault).__name__} {fault} after event {len(self.events)}')
 
 
 def paused(before: Run, node: str, rest: list[tuple]) -> tuple[list[str], str]:
