@@ -13,6 +13,7 @@ from suite.programs import run
 from suite.rows import read_rows
 from suite.worlds import Day, Dump, Packet, Report, dump, packets_of, replayed, schedule
 
+PROGRAMS = ('claimswitch', 'claimdump', 'claimnode', 'claimdecode')
 # Where an envelope has the pharmacy's number, low byte, and how many bytes its head has.
 PHARMACY, ENVELOPE = 5, 18
 # Where it has the numbers of pharmacy and request.

@@ -4,6 +4,7 @@ from suite.case import Case, Group, rows_in_order
 from suite.programs import Ran, run
 from suite.rows import read_rows
 
+PROGRAMS = ('claimswitch',)
 # How often an input is run where no key of a map may change its answer: each run draws keys of its own.
 KEYS = 8
 

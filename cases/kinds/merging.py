@@ -15,6 +15,7 @@ from suite.programs import Ran, run
 from suite.rows import read_rows
 from suite.worlds import Day, Dump, dump, nodes_in, replayed
 
+PROGRAMS = ('claimswitch', 'claimdump', 'claimnode', 'claimaudit')
 WORLDS, EVENTS = 4, 200
 
 

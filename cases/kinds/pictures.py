@@ -10,6 +10,7 @@ from suite.rows import read_rows
 from suite.svg import KINDS, Picture
 from suite.worlds import Day, addressee, dump, packets_of
 
+PROGRAMS = ('claimswitch', 'claimdump', 'claimpicture')
 # A day of so many events that the ends alone are drawn of it.
 LONG = 'many-prices'
 NAMES = {'settings refused': 'Settings', 'read fault': 'Read', 'write fault': 'Write', 'out of memory': 'OutOfMemory'}

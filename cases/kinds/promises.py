@@ -7,6 +7,7 @@ from suite.parallel import spread
 from suite.rows import read_rows
 from suite.worlds import Broken, Day, Report, Settings, Walk, nodes_in, replayed
 
+PROGRAMS = ('claimswitch',)
 MET = ('answers', 'standing', 'counted', 'reversed')
 
 

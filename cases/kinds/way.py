@@ -9,6 +9,7 @@ from suite.nodes import Answer, Served, room
 from suite.printed import octets_of, printed
 from suite.rows import read_rows
 
+PROGRAMS = ('claimnode',)
 NODES = ('ph1', 'sw1', 'pr1')
 KINDS = {'ph': 'Pharmacy', 'sw': 'Switch', 'pr': 'Payer'}
 # An answer and a request that are readable, of nobody.
