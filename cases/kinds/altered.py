@@ -55,7 +55,8 @@ def altered_bytes(packet: Packet) -> list[Altered]:
 def altered_ends(packet: Packet) -> list[Altered]:
     """The packet is cut off at each length, and stands twice in a row."""
     octets = packet.octets
-    return [*(Altered(octets[:length], 'Short' if length < ENVELOPE else 'Length') for length in range(len(octets))), Altered(octets * 2, 'Length')]
+    cut = [Altered(octets[:length], 'Short' if length < ENVELOPE else 'Length') for length in range(len(octets))]
+    return [*cut, Altered(octets * 2, 'Length')]
 
 
 def altered_pharmacy(packet: Packet) -> list[Altered]:
@@ -230,8 +231,9 @@ def record(name: str, node: str) -> str:
     parts = [tried[:1], *(tried[at:at + CHUNK] for at in range(1, len(tried), CHUNK))]
     found = [read for some in spread(lambda part: read_records([it.octets for it in part]), parts) for read in some]
     counts = Counter((it.longer, read) for it, read in zip(tried, found))
-    return (f'bytes={len(octets)} {"reads-back" if read_records([octets])[0] else "lost"} refused={counts[False, False]} itself={counts[False, True]} '
-            f'lengths-refused={counts[True, False]} wrong={counts[True, True]}')
+    whole = 'reads-back' if read_records([octets])[0] else 'lost'
+    return (f'bytes={len(octets)} {whole} refused={counts[False, False]} itself={counts[False, True]} lengths-refused={counts[True, False]} '
+            f'wrong={counts[True, True]}')
 
 
 def rest(name: str) -> str:

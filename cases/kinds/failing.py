@@ -68,8 +68,8 @@ class Failing:
         elif word == 'writes':
             self.output = argument
         else:
-            return {'each-read-fails': self.each_read, 'each-write-fails': self.each_write, 'nothing-is-taken': lambda _: self.nothing_taken(),
-                    'secret-keys': self.keyed, 'never-ends': self.never_ends}[word](*words)
+            return {'each-read-fails': self.each_read, 'each-write-fails': self.each_write, 'secret-keys': self.keyed,
+                    'nothing-is-taken': lambda _: self.nothing_taken(), 'never-ends': self.never_ends}[word](*words)
         return ''
 
 

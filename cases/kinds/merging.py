@@ -1,6 +1,5 @@
 """The logs of all nodes, merged by claimaudit into the events of one run: of days, and of random runs, as they are and changed."""
 import functools
-import os
 import re
 import shutil
 

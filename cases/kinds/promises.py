@@ -126,8 +126,9 @@ def groups(path: str, name: str, kind: type[Case]) -> list[Group]:
     crowd, crowded, found = Crowd(), [], []
     for row in read_rows(path):
         if row.word in ('pauses', 'pause'):
-            found.append(Group([row_case(name, row, lambda word, it: {'pauses': pauses, 'pause': pause}[word](*it.decode('ascii').split(' ')), kind)],
-                               weight(row)))
+            words = {'pauses': pauses, 'pause': pause}
+            case = row_case(name, row, lambda word, it, words=words: words[word](*it.decode('ascii').split(' ')), kind)
+            found.append(Group([case], weight(row)))
         else:
             words = {'opens': crowd.opens, 'submits': crowd.submits, 'random': lambda it: random(crowd, *it.decode('ascii').split(' '))}
             crowded.append(row_case(name, row, lambda word, argument, words=words: words[word](argument), kind))

@@ -85,7 +85,9 @@ class Way:
         if refused != 'NumberReused':
             return f'another request: {refused}'
         with open(self.nodes['pr1'].log, 'rb') as file:
-            asked = next(call.octets for call in read_log(file.read()).calls if call.octets.startswith(envelope(False, pharmacy, number, b'')[:14]))
+            taken = [call.octets for call in read_log(file.read()).calls]
+        head = envelope(False, pharmacy, number, b'')[:14]
+        asked = next(octets for octets in taken if octets.startswith(head))
         return ' '.join(printed(octets[18:]) for _, octets in copy.take('sw1', asked).sent)
 
     def call(self, word: str, node: str, rest: bytes) -> str:
