@@ -8,6 +8,7 @@ from suite.programs import run
 from suite.rows import read_rows
 from suite.worlds import Day, Dump, dump, packets_of
 
+PROGRAMS = ('claimswitch', 'claimdump', 'claimnode')
 # How claimswitch explains that settings make no world, and the name of that fault.
 NO_WORLD = {
     'there are more than 256 pharmacies, 64 switches or 64 payers': 'TooMany',

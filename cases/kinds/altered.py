@@ -13,12 +13,17 @@ from suite.programs import run
 from suite.rows import read_rows
 from suite.worlds import Day, Dump, Packet, Report, dump, packets_of, replayed, schedule
 
+PROGRAMS = ('claimswitch', 'claimdump', 'claimnode', 'claimdecode')
 # Where an envelope has the pharmacy's number, low byte, and how many bytes its head has.
 PHARMACY, ENVELOPE = 5, 18
+# Where it has the numbers of pharmacy and request.
+NUMBER = slice(4, 14)
 # What each byte of a record is changed to.
 VALUES = (0, 1, 0x1C, 0x7F, 0xFF)
 # How many packets or records one process alters in a row.
 CHUNK = 300
+# Of how many altered requests under a number that a payer has used since it stood as before one is given to it anew.
+ANEW = 6
 
 
 def other_values(octet: int) -> list[int]:
@@ -50,7 +55,8 @@ def altered_bytes(packet: Packet) -> list[Altered]:
 def altered_ends(packet: Packet) -> list[Altered]:
     """The packet is cut off at each length, and stands twice in a row."""
     octets = packet.octets
-    return [*(Altered(octets[:length], 'Short' if length < ENVELOPE else 'Length') for length in range(len(octets))), Altered(octets * 2, 'Length')]
+    cut = [Altered(octets[:length], 'Short' if length < ENVELOPE else 'Length') for length in range(len(octets))]
+    return [*cut, Altered(octets * 2, 'Length')]
 
 
 def altered_pharmacy(packet: Packet) -> list[Altered]:
@@ -123,23 +129,50 @@ def outcome(answer: Answer) -> str:
     return answer.refused or 'taken'
 
 
-def given(folder: str, dumped: Dump, delivery: Delivery, some: list[Altered]) -> Counter:
-    """What the node of a delivery makes of altered packets in place of its own."""
-    receiver, counts, refused = Receiver(folder, dumped, delivery), Counter(), []
-    try:
-        receiver.begin()
-        for octets, wanted in some:
-            came = outcome(receiver.served.take(delivery.packet.sender, octets))
-            counts['wrong' if wanted and came != wanted else came] += 1
-            if came == 'taken':
-                receiver.again()
-            else:
-                refused.append((octets, came))
-        if not receiver.goes_on(refused, delivery.packet.sender):
-            counts['wrong'] += 1
-    finally:
-        receiver.end()
-    return counts
+class Given:
+    """Altered packets that are given to the node of a delivery in place of its own, each where it stands as before.
+
+    A payer that took one has used its number, and refuses others of that number as NumberReused, last of all: they are readable and its own,
+    and it would have taken them. Every sixth of these is given to the payer anew, as are those that other nodes take."""
+
+    def __init__(self, folder: str, dumped: Dump, delivery: Delivery):
+        self.receiver, self.sender = Receiver(folder, dumped, delivery), delivery.packet.sender
+        self.counts, self.refused, self.used, self.spared = Counter(), [], set(), 0
+        self.known = {call.octets[NUMBER] for call in self.receiver.before.calls}
+
+    def come(self, octets: bytes) -> str:
+        """What comes of a packet."""
+        came = outcome(self.receiver.served.take(self.sender, octets))
+        if came == 'NumberReused' and octets[NUMBER] in self.used:
+            self.spared += 1
+            if self.spared % ANEW:
+                return 'taken'
+            self.anew()
+            came = outcome(self.receiver.served.take(self.sender, octets))
+        if came != 'taken':
+            self.refused.append((octets, came))
+        elif not self.receiver.node.startswith('pr'):
+            self.anew()
+        elif octets[NUMBER] not in self.known:
+            self.used.add(octets[NUMBER])
+        return came
+
+    def anew(self) -> None:
+        self.receiver.again()
+        self.used.clear()
+
+    def all(self, some: list[Altered]) -> Counter:
+        """How many packets came to what."""
+        try:
+            self.receiver.begin()
+            for octets, wanted in some:
+                came = self.come(octets)
+                self.counts['wrong' if wanted and came != wanted else came] += 1
+            if not self.receiver.goes_on(self.refused, self.sender):
+                self.counts['wrong'] += 1
+        finally:
+            self.receiver.end()
+        return self.counts
 
 
 def told(counts: Counter, names: list[str]) -> str:
@@ -162,7 +195,7 @@ def packets(word: str, name: str, names: list[str]) -> str:
 
         def one(item: tuple[Delivery, list[Altered]]) -> Counter:
             with room() as own:
-                return given(own, dumped, *item)
+                return Given(own, dumped, item[0]).all(item[1])
         return told(sum(spread(one, work), Counter()), names)
 
 
@@ -198,8 +231,9 @@ def record(name: str, node: str) -> str:
     parts = [tried[:1], *(tried[at:at + CHUNK] for at in range(1, len(tried), CHUNK))]
     found = [read for some in spread(lambda part: read_records([it.octets for it in part]), parts) for read in some]
     counts = Counter((it.longer, read) for it, read in zip(tried, found))
-    return (f'bytes={len(octets)} {"reads-back" if read_records([octets])[0] else "lost"} refused={counts[False, False]} itself={counts[False, True]} '
-            f'lengths-refused={counts[True, False]} wrong={counts[True, True]}')
+    whole = 'reads-back' if read_records([octets])[0] else 'lost'
+    return (f'bytes={len(octets)} {whole} refused={counts[False, False]} itself={counts[False, True]} lengths-refused={counts[True, False]} '
+            f'wrong={counts[True, True]}')
 
 
 def rest(name: str) -> str:

@@ -3,6 +3,8 @@ from suite import days
 from suite.case import Case, Group
 from suite.programs import run
 
+PROGRAMS = ('claimswitch',)
+
 
 def told(word: str, given: bytes) -> str:
     """What claimswitch makes of an input."""

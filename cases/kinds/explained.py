@@ -6,6 +6,7 @@ from suite.case import Case, Group, rows_apart
 from suite.programs import Ran, run
 from suite.rows import read_rows
 
+PROGRAMS = ('claimswitch',)
 EXPLAIN = {'CLAIMSWITCH_EXPLAIN': '1'}
 NAMES = {'settings refused': 'Settings', 'read fault': 'Read', 'write fault': 'Write', 'out of memory': 'OutOfMemory'}
 

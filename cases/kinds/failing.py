@@ -4,6 +4,7 @@ from suite.case import Case, Group, rows_in_order
 from suite.programs import Ran, run
 from suite.rows import read_rows
 
+PROGRAMS = ('claimswitch',)
 # How often an input is run where no key of a map may change its answer: each run draws keys of its own.
 KEYS = 8
 
@@ -67,8 +68,8 @@ class Failing:
         elif word == 'writes':
             self.output = argument
         else:
-            return {'each-read-fails': self.each_read, 'each-write-fails': self.each_write, 'nothing-is-taken': lambda _: self.nothing_taken(),
-                    'secret-keys': self.keyed, 'never-ends': self.never_ends}[word](*words)
+            return {'each-read-fails': self.each_read, 'each-write-fails': self.each_write, 'secret-keys': self.keyed,
+                    'nothing-is-taken': lambda _: self.nothing_taken(), 'never-ends': self.never_ends}[word](*words)
         return ''
 
 

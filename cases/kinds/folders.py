@@ -6,6 +6,8 @@ from suite import days
 from suite.case import Case, Group, rows_apart
 from suite.rows import HERE, read_rows
 
+PROGRAMS = ('claimswitch',)
+
 
 def tell(word: str, argument: bytes) -> str:
     """Runs all cases of a folder under a word of claimswitch."""

@@ -1,6 +1,5 @@
 """The logs of all nodes, merged by claimaudit into the events of one run: of days, and of random runs, as they are and changed."""
 import functools
-import os
 import re
 import shutil
 
@@ -15,6 +14,7 @@ from suite.programs import Ran, run
 from suite.rows import read_rows
 from suite.worlds import Day, Dump, dump, nodes_in, replayed
 
+PROGRAMS = ('claimswitch', 'claimdump', 'claimnode', 'claimaudit')
 WORLDS, EVENTS = 4, 200
 
 

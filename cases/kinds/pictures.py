@@ -10,6 +10,7 @@ from suite.rows import read_rows
 from suite.svg import KINDS, Picture
 from suite.worlds import Day, addressee, dump, packets_of
 
+PROGRAMS = ('claimswitch', 'claimdump', 'claimpicture')
 # A day of so many events that the ends alone are drawn of it.
 LONG = 'many-prices'
 NAMES = {'settings refused': 'Settings', 'read fault': 'Read', 'write fault': 'Write', 'out of memory': 'OutOfMemory'}
@@ -56,12 +57,11 @@ def marks_told(name: str) -> list[str]:
     with room() as folder:
         report = day.report()
         packets = packets_of(day, report, dump(folder, day))
-    spelled = [*({'from': name_of(it.sender), 'to': name_of(it.to)} for it in packets)]
+    ends = [f'from: {name_of(it.sender)}, to: {name_of(it.to)}' for it in packets]
     marks = []
     for place, (event, outcome) in enumerate(zip(day.events, report.outcomes), 1):
         marks.append(mark_told(place, event, outcome.refused))
-        marks += [f'Sent {{ event: {place}, packet: {number}, from: {spelled[number - 1]["from"]}, to: {spelled[number - 1]["to"]} }}'
-                  for number in outcome.sent]
+        marks += [f'Sent {{ event: {place}, packet: {number}, {ends[number - 1]} }}' for number in outcome.sent]
     return marks
 
 
@@ -75,8 +75,8 @@ def mark_told(place: int, event: tuple, refused: str | None) -> str:
         return f'Refused {{ event: {place}, fault: {refused} }}'
     if event[0] == 'deliver':
         return f'Arrived {{ event: {place}, packet: {event[1]} }}'
-    name, kind = {'submit': ('Submitted', 'pharmacy'), 'tick': ('Ticked', 'pharmacy'), 'plan': ('Priced', 'payer'), 'stop': ('Stopped', 'node'),
-                  'start': ('Started', 'node')}[event[0]]
+    name, kind = {'submit': ('Submitted', 'pharmacy'), 'tick': ('Ticked', 'pharmacy'), 'plan': ('Priced', 'payer'),
+                  'stop': ('Stopped', 'node'), 'start': ('Started', 'node')}[event[0]]
     node = addressee(event)
     return f'{name} {{ event: {place}, {kind}: {name_of(node) if kind == "node" else node[2:]} }}'
 

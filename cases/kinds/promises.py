@@ -7,6 +7,7 @@ from suite.parallel import spread
 from suite.rows import read_rows
 from suite.worlds import Broken, Day, Report, Settings, Walk, nodes_in, replayed
 
+PROGRAMS = ('claimswitch',)
 MET = ('answers', 'standing', 'counted', 'reversed')
 
 
@@ -27,11 +28,11 @@ class Run:
         """Makes an event, refused or not, and walks the promises."""
         self.events.append(event)
         self.text = replayed(self.settings, self.events)
-        self.report = Report(self.text, len(self.events))
         try:
+            self.report = Report(self.text, len(self.events))
             self.walk.walk(self.events, self.report)
-        except Broken as fault:
-            self.broken.append(f'{fault} after event {len(self.events)}')
+        except (Broken, KeyError, IndexError, ValueError) as fault:
+            self.broken.append(f'{type(fault).__name__} {fault} after event {len(self.events)}')
 
 
 def paused(before: Run, node: str, rest: list[tuple]) -> tuple[list[str], str]:
@@ -125,8 +126,9 @@ def groups(path: str, name: str, kind: type[Case]) -> list[Group]:
     crowd, crowded, found = Crowd(), [], []
     for row in read_rows(path):
         if row.word in ('pauses', 'pause'):
-            found.append(Group([row_case(name, row, lambda word, it: {'pauses': pauses, 'pause': pause}[word](*it.decode('ascii').split(' ')), kind)],
-                               weight(row)))
+            words = {'pauses': pauses, 'pause': pause}
+            case = row_case(name, row, lambda word, it, words=words: words[word](*it.decode('ascii').split(' ')), kind)
+            found.append(Group([case], weight(row)))
         else:
             words = {'opens': crowd.opens, 'submits': crowd.submits, 'random': lambda it: random(crowd, *it.decode('ascii').split(' '))}
             crowded.append(row_case(name, row, lambda word, argument, words=words: words[word](argument), kind))

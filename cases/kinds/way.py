@@ -9,6 +9,7 @@ from suite.nodes import Answer, Served, room
 from suite.printed import octets_of, printed
 from suite.rows import read_rows
 
+PROGRAMS = ('claimnode',)
 NODES = ('ph1', 'sw1', 'pr1')
 KINDS = {'ph': 'Pharmacy', 'sw': 'Switch', 'pr': 'Payer'}
 # An answer and a request that are readable, of nobody.
@@ -84,7 +85,9 @@ class Way:
         if refused != 'NumberReused':
             return f'another request: {refused}'
         with open(self.nodes['pr1'].log, 'rb') as file:
-            asked = next(call.octets for call in read_log(file.read()).calls if call.octets.startswith(envelope(False, pharmacy, number, b'')[:14]))
+            taken = [call.octets for call in read_log(file.read()).calls]
+        head = envelope(False, pharmacy, number, b'')[:14]
+        asked = next(octets for octets in taken if octets.startswith(head))
         return ' '.join(printed(octets[18:]) for _, octets in copy.take('sw1', asked).sent)
 
     def call(self, word: str, node: str, rest: bytes) -> str:

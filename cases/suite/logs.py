@@ -107,11 +107,11 @@ def taking(sender: str, octets: bytes, sent: tuple[Sent, ...]) -> Call:
 
 
 class Exchange(NamedTuple):
-    """A request that is kept, and the answer to it, if there is one."""
+    """A request that is kept, and the answer to it."""
     pharmacy: int
     number: int
     request: bytes
-    answer: bytes | None
+    answer: bytes
 
 
 def read_book(octets: bytes) -> list[Exchange]:
@@ -127,21 +127,6 @@ def read_book(octets: bytes) -> list[Exchange]:
         rows.append(Exchange(pharmacy, number, request, octets[at + 4:at + 4 + size]))
         at += 4 + size
     return rows
-
-
-def read_journal(octets: bytes) -> list[Exchange]:
-    """The entries of a journal at rest."""
-    pharmacy, count = struct.unpack('>HI', octets[3:9])
-    at, entries = 9, []
-    for _ in range(count):
-        number, size = struct.unpack('>QI', octets[at:at + 12])
-        request, at, answer = octets[at + 12:at + 12 + size], at + 12 + size, None
-        if octets[at]:
-            size = struct.unpack('>I', octets[at + 1:at + 5])[0]
-            answer, at = octets[at + 5:at + 5 + size], at + 4 + size
-        at += 1
-        entries.append(Exchange(pharmacy, number, request, answer))
-    return entries
 
 
 def envelope(answer: bool, pharmacy: int, number: int, payload: bytes) -> bytes:

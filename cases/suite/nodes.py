@@ -32,8 +32,8 @@ class Served:
 
     def __init__(self, settings: str, node: str, log: str):
         self.node, self.log = node, log
-        self.process = subprocess.Popen(['claimnode', settings, node, log], executable=program('claimnode'), env=environment(), stdin=subprocess.PIPE,
-                                        stdout=subprocess.PIPE, stderr=subprocess.PIPE)
+        self.process = subprocess.Popen(['claimnode', settings, node, log], executable=program('claimnode'), env=environment(),
+                                        stdin=subprocess.PIPE, stdout=subprocess.PIPE, stderr=subprocess.PIPE)
         self.ready = self.line()
 
     def line(self) -> str:

@@ -55,7 +55,8 @@ class Picture:
     def sent(self, event: str, row: int) -> list[str]:
         """The packets that an event sent: each has its label and an arrow, or a line that ends in a cross."""
         found = {self.packet_of(it): it for it in self.arrows if it.y1 == row + SENT and abs(it.x1 - it.x2) > 20}
-        return [f'Sent {{ event: {event}, packet: {packet}, from: {self.column(it.x1)}, to: {self.column(it.x2)} }}' for packet, it in found.items()]
+        return [f'Sent {{ event: {event}, packet: {packet}, from: {self.column(it.x1)}, to: {self.column(it.x2)} }}'
+                for packet, it in found.items()]
 
     def call(self, row: int) -> str:
         """What an event did: its call, or its refusal."""
