@@ -8,6 +8,8 @@ from suite.printed import printed
 from suite.programs import run
 from suite.rows import read_rows
 
+PROGRAMS = ('claimpicture',)
+
 
 def picture(product: bytes) -> str:
     """The picture of a price of a product."""

@@ -7,6 +7,7 @@ from suite.case import Case, Group, rows_apart
 from suite.programs import Ran, text_of
 from suite.rows import HERE, read_rows
 
+PROGRAMS = ('claimswitch',)
 PROGRAM = 'claimswitch', 'run'
 
 

@@ -8,6 +8,7 @@ from suite.printed import octets_of, printed
 from suite.programs import run
 from suite.rows import read_rows
 
+PROGRAMS = ('claimdecode',)
 HEADER_FAULTS = {'Short', 'BadBin', 'BadCount', 'DateNotDigits', 'Separator'}
 # Where the header of a request, or of an answer, ends.
 HEADS = {'request': 56, 'answer': 31}

@@ -8,6 +8,7 @@ from suite.printed import printed
 from suite.programs import run
 from suite.rows import read_rows
 
+PROGRAMS = ('claimnode', 'claimdecode')
 SETTINGS = ('again = {again}\ntries = {tries}\n[[pharmacy]]\nqualifier = "01"\nprovider = "1234567893"\nnodes = [1, 2]\ncap = {journal}\n'
             '[[switch]]\ncap = {table}\n[[switch]]\ncap = 64\n[[payer]]\nfee = 150\ncopay = 1000\ncap = {book}\n[payer.prices]\n'
             '00093721410 = 18567\n[[route]]\nbin = "610455"\npayer = 1\n')

@@ -7,6 +7,7 @@ from suite.printed import printed
 from suite.programs import run
 from suite.rows import read_rows
 
+PROGRAMS = ('claimswitch', 'claimdump')
 THERE_AND_BACK = ''.join(f'deliver {packet}\n' for packet in range(1, 5))
 
 

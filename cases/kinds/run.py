@@ -3,6 +3,8 @@ each behind a line `===`, comes."""
 from suite.case import Case, Group
 from suite.programs import run, text_of
 
+PROGRAMS = ('claimswitch',)
+
 
 def parts(path: str) -> tuple[bytes, list[str]]:
     """The input, and each outcome."""

@@ -10,6 +10,7 @@ from suite.printed import octets_of, printed
 from suite.programs import run
 from suite.rows import Row, read_rows
 
+PROGRAMS = ('claimswitch',)
 WORDS = {'schedules': 'replay', 'commands': 'run'}
 NODES = {'pharmacy': 'ph', 'switch': 'sw', 'payer': 'pr'}
 # What a fault of a line is for people, as docs/FORMATS.md has it.

@@ -4,6 +4,7 @@ from suite.printed import printed
 from suite.programs import run
 from suite.rows import read_rows
 
+PROGRAMS = ('claimswitch',)
 ASKED_TO_EXPLAIN = {'CLAIMSWITCH_EXPLAIN': '1'}
 # A request goes over a switch to its payer, and the answer back.
 THERE_AND_BACK = ''.join(f'deliver {packet}\n' for packet in range(1, 5))
