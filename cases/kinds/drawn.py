@@ -13,12 +13,15 @@ PROGRAMS = ('claimpicture',)
 
 def picture(product: bytes) -> str:
     """The picture of a price of a product."""
-    given = days.parts(days.named('restarts'))[0].split(b'---\n')[0] + b'---\nplan pr1 ' + printed(product).replace(' ', '\\x20').encode() + b' 20000\n'
+    settings = days.parts(days.named('restarts'))[0].split(b'---\n')[0]
+    spelled = printed(product).replace(' ', '\\x20').encode()
+    given = settings + b'---\nplan pr1 ' + spelled + b' 20000\n'
     return run('claimpicture', given=given).told()
 
 
 def skeleton() -> str:
-    """The kinds of elements of a picture, those behind the first three in the order of their names, and whether title and description name the root."""
+    """The kinds of elements of a picture, those behind the first three in the order of their names; and whether title and description
+    name the root."""
     root = tree.fromstring(picture(b'X'))
     kinds = [it.tag.split('}')[1] for it in root]
     order = kinds[:3] + sorted(set(kinds[3:]))

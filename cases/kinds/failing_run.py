@@ -46,7 +46,8 @@ def each_write(name: str, size: str) -> str:
     step = longest if size == 'all' else int(size)
     for most in range(0, longest + step, step):
         ran = faults.written_until(*PROGRAM, given=given, most=most)
-        if not (is_fault(ran, 'write') and len(ran.out) == most and begins(outcomes, ran.out)) and not (not ran.status and text_of(ran.out) in outcomes):
+        cut = is_fault(ran, 'write') and len(ran.out) == most and begins(outcomes, ran.out)
+        if not cut and (ran.status or text_of(ran.out) not in outcomes):
             return f'another outcome where {most} bytes are taken: {ran}'
     return 'as told' if not ran.status else f'another outcome where all are taken: {ran}'
 

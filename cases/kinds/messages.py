@@ -132,8 +132,9 @@ def framing(word: str, argument: bytes) -> str:
     return framed({'request': 'request', 'response': 'answer'}[word], argument)
 
 
-REQUEST_HEADER = {'bin_number': 'bin', 'version': 'version', 'transaction_code': 'code', 'processor_control_number': 'pcn', 'transaction_count': 'count=',
-                  'service_provider_id_qualifier': 'qualifier', 'service_provider_id': 'provider', 'date_of_service': 'date', 'software_vendor_id': 'vendor'}
+REQUEST_HEADER = {'bin_number': 'bin', 'version': 'version', 'transaction_code': 'code', 'processor_control_number': 'pcn',
+                  'transaction_count': 'count=', 'service_provider_id_qualifier': 'qualifier', 'service_provider_id': 'provider',
+                  'date_of_service': 'date', 'software_vendor_id': 'vendor'}
 ANSWER_HEADER = {'version': 'version', 'transaction_code': 'code', 'transaction_count': 'count=', 'header_response_status': 'status',
                  'service_provider_id_qualifier': 'qualifier', 'service_provider_id': 'provider', 'date_of_service': 'date'}
 
@@ -221,8 +222,8 @@ def unprinted(text: bytes) -> str:
 
 
 def is_printed(octet: int) -> bool:
-    """Whether a byte is printed as it should be, and read back from that and from upper-case digits. It stands in a header, or is a part of its
-    own where it is a separator."""
+    """Whether a byte is printed as it should be, and read back from that and from upper-case digits. It stands in a header, or is a part
+    of its own where it is a separator."""
     front = b'610455D0B1'
     spellings = [printed(bytes([octet])), f'\\x{octet:02X}']
     lines = ''.join(f'{front.decode()}{it}\n' for it in spellings)
@@ -289,7 +290,8 @@ def lines_of(_: str, argument: bytes) -> str:
     return ' '.join(told)
 
 
-SIGNED = {octet: (sign, digit) for sign, row in ((1, b'{ABCDEFGHI'), (-1, b'}JKLMNOPQR'), (1, b'0123456789')) for digit, octet in enumerate(row)}
+LAST_DIGITS = ((1, b'{ABCDEFGHI'), (-1, b'}JKLMNOPQR'), (1, b'0123456789'))
+SIGNED = {octet: (sign, digit) for sign, row in LAST_DIGITS for digit, octet in enumerate(row)}
 
 
 def plain_sum(text: bytes) -> str:
@@ -314,8 +316,8 @@ def amounts(word: str, _: bytes) -> str:
     return f'agreeing={sum(meaning == plain_sum(text) for meaning, text in zip(told, texts, strict=True))}'
 
 
-FILES = {'amounts': amounts, 'answers': answers, 'codes': codes, 'envelopes': envelopes, 'framing': framing, 'headers': headers, 'lines': lines_of,
-         'orders': orders, 'printed-text': printed_text, 'reversals': orders}
+FILES = {'amounts': amounts, 'answers': answers, 'codes': codes, 'envelopes': envelopes, 'framing': framing, 'headers': headers,
+         'lines': lines_of, 'orders': orders, 'printed-text': printed_text, 'reversals': orders}
 
 
 def groups(path: str, name: str, kind: type[Case]) -> list[Group]:

@@ -159,7 +159,8 @@ class Dice:
 # Two billings that have a route, one that has none, and no request; two answers, and no answer; the rejection of the billings.
 BILLED = b'D0B1A1        1011234567893     20240115SW00000001\x1d\x1e\x1cAM07\x1cEM1\x1cD2123456\x1cD3'
 REQUESTS = [b'610455' + BILLED + b'0', b'610455' + BILLED + b'1', b'999999' + BILLED + b'0', b'x']
-ACCEPTED, REFUSED = b'D0B11A011234567893     20240115\x1d\x1e\x1cAM21\x1cANR\x1cFA1\x1cFB', b'D0B11R011234567893     20240115\x1d\x1e\x1cAM21\x1cANR\x1cFA1\x1cFB01'
+ACCEPTED = b'D0B11A011234567893     20240115\x1d\x1e\x1cAM21\x1cANR\x1cFA1\x1cFB'
+REFUSED = b'D0B11R011234567893     20240115\x1d\x1e\x1cAM21\x1cANR\x1cFA1\x1cFB01'
 ANSWERS = [ACCEPTED + b'70', ACCEPTED + b'83', b'x']
 UNROUTED, NO_REQUEST, NO_ANSWER = 2, 3, 2
 COUNTED = ('forwarded', 'answered', 'rejected', 'refused', 'sent', 'stopped')

@@ -13,7 +13,8 @@ THERE_AND_BACK = ''.join(f'deliver {packet}\n' for packet in range(1, 5))
 
 def settings(plans: list[tuple[str, str]], routes: list[dict], prices: str = '') -> str:
     """Settings of a pharmacy, a switch, a payer for each plan of a fee and a copay, and routes."""
-    parts = ['again = 1\ntries = 1\n[[pharmacy]]\nqualifier = "01"\nprovider = "1234567893"\nnodes = [1]\ncap = 65536\n[[switch]]\ncap = 64\n']
+    parts = ['again = 1\ntries = 1\n[[pharmacy]]\nqualifier = "01"\nprovider = "1234567893"\nnodes = [1]\ncap = 65536\n'
+             '[[switch]]\ncap = 64\n']
     parts += [f'[[payer]]\nfee = {fee}\ncopay = {copay}\ncap = 1000\n[payer.prices]\n{prices}' for fee, copay in plans]
     for route in routes:
         parts.append('[[route]]\n' + ''.join(f'{key} = {json.dumps(value)}\n' for key, value in route.items()))
@@ -22,8 +23,8 @@ def settings(plans: list[tuple[str, str]], routes: list[dict], prices: str = '')
 
 def request(bin_number: str, control: str, quantity: str = '30000', cost: int = 6000, fee: int = 200, product: str = '00093721410') -> str:
     """A billing in printed bytes."""
-    return (f'{bin_number}D0B1{control:10}1011234567893     20240115SW00000001\\S\\FAM04\\FC2987654321\\G\\S\\FAM07\\FEM1\\FD2123456\\FD30\\FE103'
-            f'\\FD7{product}\\FE7{quantity}\\S\\FAM11\\FD9{amount(cost)}\\FDC{amount(fee)}')
+    return (f'{bin_number}D0B1{control:10}1011234567893     20240115SW00000001\\S\\FAM04\\FC2987654321\\G\\S\\FAM07\\FEM1\\FD2123456'
+            f'\\FD30\\FE103\\FD7{product}\\FE7{quantity}\\S\\FAM11\\FD9{amount(cost)}\\FDC{amount(fee)}')
 
 
 def amount(cents: int) -> str:

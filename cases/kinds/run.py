@@ -1,5 +1,5 @@
-"""A run of nodes on threads: an input of `claimswitch run`, and what may be written of it. How the threads go decides which of its outcomes,
-each behind a line `===`, comes."""
+"""A run of nodes on threads: an input of `claimswitch run`, and what may be written of it. How the threads go decides which of its
+outcomes, each behind a line `===`, comes."""
 from suite.case import Case, Group
 from suite.programs import run, text_of
 

@@ -1,12 +1,11 @@
 """Lines of a schedule, of `replay` and of `run`: what they spell, the first line that spells nothing, and what is wrong in it.
 
-What lines spell is told in words: `tick pharmacy=1`. Written as the one plain line of those words, `tick ph1`, a program has to make the same
-of them as of the lines themselves."""
+What lines spell is told in words: `tick pharmacy=1`. Written as the one plain line of those words, `tick ph1`, a program has to make
+the same of them as of the lines themselves."""
 import re
 
 from suite import days
 from suite.case import Case, Group
-from suite.printed import octets_of, printed
 from suite.programs import run
 from suite.rows import Row, read_rows
 
@@ -14,15 +13,17 @@ PROGRAMS = ('claimswitch',)
 WORDS = {'schedules': 'replay', 'commands': 'run'}
 NODES = {'pharmacy': 'ph', 'switch': 'sw', 'payer': 'pr'}
 # What a fault of a line is for people, as docs/FORMATS.md has it.
-SAYS = {'EventWord': 'a line is submit ph1 TEXT, tick ph1, deliver 3, stop sw1, start sw1 or plan pr1 PRODUCT PRICE, with one space between words',
-        'CommandWord': 'a line is submit ph1 TEXT, tick ph1, plan pr1 PRODUCT PRICE, restart sw1 or await ph1 3, with one space between words, and '
-                       'before all of these fault ph1 sw1 ACTIONS',
+SAYS = {'EventWord': 'a line is submit ph1 TEXT, tick ph1, deliver 3, stop sw1, start sw1 or plan pr1 PRODUCT PRICE, with one space '
+                     'between words',
+        'CommandWord': 'a line is submit ph1 TEXT, tick ph1, plan pr1 PRODUCT PRICE, restart sw1 or await ph1 3, with one space between '
+                       'words, and before all of these fault ph1 sw1 ACTIONS',
         'Pharmacy': 'a pharmacy is wanted: ph and 1 to 5 digits', 'Payer': 'a payer is wanted: pr and 1 to 5 digits',
         'Node': 'a node is wanted: ph, sw or pr and 1 to 5 digits', 'Number': 'a number is wanted: 1 to 18 digits',
         'Request': 'behind the pharmacy one space and a request are wanted',
         'Product': 'a product is wanted: one or more printed bytes without a space',
         'Price': 'a price is wanted: 1 to 18 digits, at most 4294967295, or none',
-        'Actions': 'actions are wanted: deliver, lose, twice and hold, joined by commas', 'Order': 'faults of links stand before all commands'}
+        'Actions': 'actions are wanted: deliver, lose, twice and hold, joined by commas',
+        'Order': 'faults of links stand before all commands'}
 ACTIONS = {'deliver', 'lose', 'twice', 'hold'}
 
 
@@ -94,4 +95,5 @@ def why(case: Case, word: str, row: Row) -> None:
 def groups(path: str, name: str, kind: type[Case]) -> list[Group]:
     word = WORDS[name.rsplit('/', 1)[1].rsplit('.', 1)[0]]
     compared = {'read': read, 'why': why}
-    return [Group([kind(f'{name}:{row.line}', lambda case, row=row: compared[row.word](case, word, row), row.spelled)]) for row in read_rows(path)]
+    return [Group([kind(f'{name}:{row.line}', lambda case, row=row: compared[row.word](case, word, row), row.spelled)])
+            for row in read_rows(path)]
