@@ -1,5 +1,7 @@
 """A node as a process: claimnode, asked line by line."""
+import glob
 import os
+import shutil
 import subprocess
 import tempfile
 from typing import NamedTuple
@@ -11,9 +13,21 @@ from suite.programs import Ran, environment, program
 MEMORY = '/dev/shm'
 
 
+def rooms() -> str:
+    """Where folders of cases stand."""
+    return MEMORY if os.access(MEMORY, os.W_OK) else tempfile.gettempdir()
+
+
 def room() -> tempfile.TemporaryDirectory:
     """A folder of its own, which is gone at its end."""
-    return tempfile.TemporaryDirectory(prefix='cases-', dir=MEMORY if os.access(MEMORY, os.W_OK) else None)
+    return tempfile.TemporaryDirectory(prefix=f'cases-{os.getpid()}-', dir=rooms())
+
+
+def clear_rooms() -> None:
+    """Removes the folders of processes that were killed."""
+    for path in glob.glob(f'{rooms()}/cases-*-*'):
+        if not os.path.exists(f'/proc/{os.path.basename(path).split("-")[1]}'):
+            shutil.rmtree(path, ignore_errors=True)
 
 
 class Answer(NamedTuple):
