@@ -75,7 +75,7 @@ class Cases:
     def take(self, name, bare=False):
         """The rows of a file: word, argument as bytes, outcome."""
         known, rows = dict(self.names), []
-        for line in open(f"{repository}/crates/rows/data/{name}", encoding="ascii").read().splitlines():
+        for line in open(f"{repository}/cases/messages/{name}", encoding="ascii").read().splitlines():
             if not line or line.startswith("#"):
                 continue
             if bare or line.startswith("let "):

@@ -43,7 +43,7 @@ SCRIPTS = (
     Part('callers-payer', ('trials/run', 'callers', '--unproved', 'payer_book')),
     Part('callers-pharmacy', ('trials/run', 'callers', '--unproved', 'pharmacy_journal')),
     Part('cases', ('cases/run',), PRODUCTS),
-    Part('refuse-memory', ('tests/refuse-memory', '--every', REFUSALS), ('claimswitch', 'systems')),
+    Part('refuse-memory', ('tests/refuse-memory', '--every', REFUSALS), ('claimswitch', 'claimdump', 'claimaudit', 'claimnode', 'rows')),
     Part('library', ('tests/library',), ('library', 'claimnode')),
     Part('audit', ('tests/audit',), ('claimdump', 'claimaudit', 'claimswitch')),
     Part('package', ('tests/package',), PRODUCTS),

@@ -132,8 +132,3 @@ impl Write for Paper {
         Ok(())
     }
 }
-
-/// How many pieces of at most so many bytes there are.
-pub fn pieces_in(bytes: &[u8], most: usize) -> u64 {
-    bytes.chunks(most.max(1)).count() as u64
-}

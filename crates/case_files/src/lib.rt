@@ -10,9 +10,9 @@ mod runner;
 mod texts;
 mod told;
 
-pub use fakes::{ALL, Endless, Paper, Pieces, pieces_in};
+pub use fakes::{ALL, Endless, Paper, Pieces};
 pub use folder::{CaseFile, read_folder};
 pub use row::Row;
-pub use runner::{Runner, Subject, Suite, run};
+pub use runner::{Runner, Subject};
 pub use texts::cut;
 pub use told::Told;

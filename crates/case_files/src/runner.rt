@@ -1,26 +1,17 @@
 //! Running files of rows, and telling what differs.
 
 use crate::compared::{Place, put_place};
-use crate::folder::{CaseFile, read_folder};
+use crate::folder::CaseFile;
 use crate::row::{Row, read_row};
 use crate::texts::Texts;
 use crate::told::Told;
 use input_text::{Line, Lines, is_skipped};
 use std::alloc::{AllocError, Global};
-use std::io;
-use std::process::ExitCode;
-use std::rt::Files;
 
 /// What the rows of a file are about: its calls, and the state that they change from row to row.
 pub trait Subject {
     /// Tells what the call of a row comes to, or refuses the row.
     fn tell(&mut self, told: &mut Told, alloc: Global, word: &str, argument: &[u8]);
-}
-
-/// The files that a program knows.
-pub trait Suite {
-    /// Runs a file, or says that it is not known.
-    fn check(&mut self, runner: &mut Runner, file: &CaseFile) -> Result<(), AllocError>;
 }
 
 /// How a file's rows came out.
@@ -230,40 +221,4 @@ impl Runner {
         self.shared = self.texts.len();
         Ok(())
     }
-}
-
-/// Runs all files of the folder that the program runs in: first the texts, of the ending `texts`, and then the others, by
-/// name. Prints what was counted and what differs. The status is 0 where nothing differs.
-pub fn run<R: Files + Print + AllocGlobal + Clone + Drop, S: Suite>(
-    rt: &R,
-    suite: &mut S,
-) -> ExitCode {
-    let mut runner = Runner::new(rt.alloc());
-    let done = run_files(rt, &mut runner, suite);
-    let printed = rt.print(runner.printed());
-    if done.is_ok() && printed.is_ok() && !runner.has_failed() {
-        ExitCode::SUCCESS
-    } else {
-        ExitCode::FAILURE
-    }
-}
-
-/// Runs all files.
-fn run_files<R: Files + AllocGlobal + Clone + Drop, S: Suite>(
-    rt: &R,
-    runner: &mut Runner,
-    suite: &mut S,
-) -> io::Result<()> {
-    let files = read_folder(rt, ".")?;
-    for file in &files {
-        if file.ending() == "texts" {
-            runner.texts(file)?;
-        }
-    }
-    for file in &files {
-        if file.ending() != "texts" {
-            suite.check(runner, file)?;
-        }
-    }
-    Ok(())
 }

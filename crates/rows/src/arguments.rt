@@ -23,14 +23,6 @@ pub(crate) fn number_first(argument: &[u8]) -> Option<(u64, &[u8])> {
     }
 }
 
-/// The place that stands first, where it is one of the text behind its space, or the text's end.
-pub(crate) fn place_first(argument: &[u8]) -> Option<(usize, &[u8])> {
-    match number_first(argument) {
-        Some((place, text)) if place <= text.len() as u64 => Some((place as usize, text)),
-        _ => None,
-    }
-}
-
 /// Two numbers, and what stands behind them.
 pub(crate) fn two_first(argument: &[u8]) -> Option<(u64, u64, &[u8])> {
     match number_first(argument) {
@@ -49,29 +41,10 @@ pub(crate) fn three_numbers(argument: &[u8]) -> Option<(u32, u32, u32)> {
     Some((small(first)?, small(second)?, small(third)?))
 }
 
-/// Four numbers, and what stands behind them.
-pub(crate) fn four_first(argument: &[u8]) -> Option<(u64, u64, u64, u64, &[u8])> {
-    match two_first(argument) {
-        Some((first, second, rest)) => match two_first(rest) {
-            Some((third, fourth, rest)) => Some((first, second, third, fourth, rest)),
-            None => None,
-        },
-        None => None,
-    }
-}
-
 /// A number that fits 32 bits.
 pub(crate) fn small(word: &[u8]) -> Option<u32> {
     match read_decimal(word, 10) {
         Some(number @ 0..=4_294_967_295) => Some(number as u32),
-        _ => None,
-    }
-}
-
-/// The place, from 0, of what a number from 1 names.
-pub(crate) fn place_in(word: &[u8]) -> Option<usize> {
-    match read_decimal(word, 5) {
-        Some(number @ 1..=99_999) => Some(number as usize - 1),
         _ => None,
     }
 }
@@ -177,15 +150,6 @@ pub(crate) fn capped(text: &[u8]) -> Option<(u32, &[u8])> {
     match named_number(b"cap=", text) {
         Some((cap @ 0..=65_536, rest)) => Some((cap as u32, rest)),
         _ => None,
-    }
-}
-
-/// The text that a word stands for: `""` is the one without a byte.
-pub(crate) fn text_of(word: &[u8]) -> &[u8] {
-    if word == b"\"\"".as_slice() {
-        b""
-    } else {
-        word
     }
 }
 

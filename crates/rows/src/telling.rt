@@ -11,11 +11,6 @@ pub(crate) fn part(told: &mut Told, name: &str, bytes: &[u8]) {
     told.bytes(bytes);
 }
 
-/// Tells that two calls that have to agree did not.
-pub(crate) fn differ(told: &mut Told) {
-    told.word("doors differ");
-}
-
 /// Tells a refusal by its name.
 pub(crate) fn refused<F: Debug + Drop>(told: &mut Told, fault: F) {
     told.word("refused");

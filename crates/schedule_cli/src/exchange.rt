@@ -40,7 +40,7 @@ pub(crate) fn begin(alloc: Global, keys: &HashKeys, input: Vec<u8>) -> Result<Sc
     }
 }
 
-/// Reads the input of a replay, as `replay` does: the world that its settings open, and its events. The maps of its books
+/// Reads the input of a replay, as `replay_keyed` does: the world that its settings open, and its events. The maps of its books
 /// hash with keys that are the same in every program.
 ///
 /// # Errors

@@ -1,5 +1,5 @@
 //! The program as a library: reading the whole input, checking it, answering it, and only then writing.
-//! `read_claims` takes lines of billings for one book. The words of the command line, the exit statuses and
+//! `read_claims_keyed` takes lines of billings for one book. The words of the command line, the exit statuses and
 //! the lines for standard error stand here too, so that `main` is thin.
 #![tactic(auto)]
 
@@ -29,6 +29,6 @@ pub use read::read_claims_over;
 pub use replaying::replay_over;
 pub use sink::{Sink, WriterSink};
 pub use source::{Failed, ReaderSource, Source};
-pub use standard::{read_claims, read_claims_keyed, replay, replay_keyed};
+pub use standard::{read_claims_keyed, replay_keyed};
 pub use why::{EntryFault, entry_fault, why_refused};
 pub use words::{Stop, Word, word_of};

@@ -14,4 +14,4 @@ mod place_count;
 mod running;
 
 pub use fault::{RunFault, Unjudged};
-pub use running::{run_schedule, run_schedule_keyed, run_schedule_over};
+pub use running::{run_schedule_keyed, run_schedule_over};

@@ -44,31 +44,13 @@ impl Gate for Open {
 /// The input is settings in TOML, a line `---`, and one fault of a link or command a line, as `schedule::read_run` says. A
 /// fault prints `ok`. A command prints `ok`, or `refused` and the refusal's name; a submission that is taken prints `number`
 /// and the number of its entry. `await` prints for each place of the request what was ruled, or that it is open after
-/// 10,000 turns. The lines of the nodes are those of a replay's report. The maps of books hash with keys that are the same in
-/// every program.
+/// 10,000 turns. The lines of the nodes are those of a replay's report. The maps of books hash with these
+/// keys.
 ///
 /// # Errors
 /// `Program` with `Read`, then `Settings`, then `Line` of the first line that spells neither in its place, and then
 /// `NoThread`, before anything is written; `Program` with `Write` or `OutOfMemory`; `Finish`. The threads have ended in each
 /// case.
-pub fn run_schedule<T, R: Read, W: Write>(
-    rt: &T,
-    alloc: Global,
-    reader: &mut R,
-    writer: &mut W,
-) -> Result<(), RunFault>
-where
-    T: Threads + Wait + Clock + Copy + Send + 'static,
-    // What the commands were told and the nodes as they ended were written, or the input, a thread, the end or a write is at fault.
-    ensures { Runs result (R.remaining reader.old) W.contents writer.old writer.new }
-{
-    run_schedule_keyed(rt, alloc, &HashKeys::fixed(), reader, writer)
-}
-
-/// The same, and the maps of books hash with these keys.
-///
-/// # Errors
-/// Those of `run_schedule`.
 pub fn run_schedule_keyed<T, R: Read, W: Write>(
     rt: &T,
     alloc: Global,
@@ -89,7 +71,7 @@ where
 /// The same over a source and a sink.
 ///
 /// # Errors
-/// Those of `run_schedule`.
+/// Those of `run_schedule_keyed`.
 pub fn run_schedule_over<T, S: Source, K: Sink>(
     rt: &T,
     alloc: Global,

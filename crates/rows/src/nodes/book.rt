@@ -2,20 +2,17 @@
 
 mod adding;
 mod answers;
-mod each;
-mod keys;
-pub(crate) mod opening;
+mod opening;
 mod texts;
 mod views;
 
 use case_files::{Subject, Told};
-use payer_book::{Book, BookAtRest, HashKeys};
+use payer_book::{Book, BookAtRest};
 use std::alloc::Global;
 
-/// The book that the next step is for, at work or at rest, and keys that nobody chose.
+/// The book that the next step is for, at work or at rest.
 #[derive(Drop)]
 pub(crate) struct Books {
-    drawn: Option<HashKeys>,
     work: Option<Book>,
     rest: Option<BookAtRest>,
 }
@@ -24,7 +21,6 @@ impl Subject for Books {
     fn tell(&mut self, told: &mut Told, alloc: Global, word: &str, argument: &[u8]) {
         match word {
             "open" => self.open(told, alloc, argument),
-            "open-keyed" => self.open_keyed(told, alloc, argument),
             "stop" => self.stop(told),
             "start" => self.start(told),
             "add" => self.add(told, argument),
@@ -38,13 +34,8 @@ impl Subject for Books {
 
 impl Books {
     /// No book yet.
-    pub(crate) fn new(drawn: &Option<HashKeys>) -> Books {
-        let drawn = match drawn {
-            Some(keys) => Some(keys.copy()),
-            None => None,
-        };
+    pub(crate) fn new() -> Books {
         Books {
-            drawn,
             work: None,
             rest: None,
         }

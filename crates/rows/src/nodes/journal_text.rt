@@ -1,7 +1,6 @@
 //! Steps on the journal of pharmacy 1, and its text.
 
 use crate::arguments::{capped, number_first};
-use crate::nodes::journal::opened;
 use crate::nodes::journal_settings::pharmacy_settings;
 use crate::nodes::records::{self, Kind};
 use crate::telling::tell_text;
@@ -120,6 +119,14 @@ impl Journals {
             },
             None => told.refuse(),
         }
+    }
+}
+
+/// Pharmacy 1 without an entry.
+fn opened(alloc: Global, again: u32, tries: u32, cap: u32) -> Option<Pharmacy> {
+    match pharmacy_settings(alloc, again, tries, cap) {
+        Some(settings) => Pharmacy::new(alloc, 1, settings).ok(),
+        None => None,
     }
 }
 

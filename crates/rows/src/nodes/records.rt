@@ -2,10 +2,25 @@
 //! byte changed.
 
 use crate::arguments::are_same;
-use crate::replacing::with_byte;
 use case_files::Told;
 use kept_records::RecordFault;
 use std::alloc::Global;
+
+/// A text with one byte replaced.
+pub(crate) fn with_byte(alloc: Global, text: &[u8], place: usize, byte: u8) -> Option<Vec<u8>> {
+    match Vec::from_slice(alloc, text) {
+        Ok(text) => Some(put_byte(text, place, byte)),
+        Err(_) => None,
+    }
+}
+
+/// The same of a text that is owned.
+fn put_byte(mut text: Vec<u8>, place: usize, byte: u8) -> Vec<u8> {
+    if place < text.len() {
+        text[place] = byte;
+    }
+    text
+}
 
 /// A kind of record.
 pub(crate) trait Kind {

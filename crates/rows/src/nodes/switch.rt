@@ -1,7 +1,7 @@
 //! A switch, step by step.
 
 use crate::arguments::{id_first, small};
-use crate::routes::routed;
+use crate::nodes::routed;
 use crate::telling::{refused, tell_id, tell_packet};
 use bin_routes::Routes;
 use case_files::{Subject, Told};

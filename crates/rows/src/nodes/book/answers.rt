@@ -1,8 +1,8 @@
 //! What a book at work answers.
 
 use crate::arguments::{are_same, first_word, numbered};
-use crate::nodes::book::{each, keys, texts, views};
-use crate::routes::routed;
+use crate::nodes::book::{texts, views};
+use crate::nodes::routed;
 use crate::telling::{refused, tell_envelope};
 use bin_routes::Routes;
 use case_files::Told;
@@ -16,8 +16,6 @@ pub(crate) fn tell(told: &mut Told, alloc: Global, book: &mut Book, word: &str, 
     match word {
         "answer" | "packet" | "place" => request(told, alloc, book, word, argument),
         "price" => price(told, book, argument),
-        "each" => each::tell(told, alloc, book, argument),
-        "keys" => keys::compare(told, book, argument),
         "held" => views::held(told, book, argument),
         "payment" => views::payment(told, book, argument),
         "row" => views::row(told, book.rows(), argument),

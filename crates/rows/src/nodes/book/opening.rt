@@ -1,10 +1,10 @@
 //! Opening, stopping and starting books.
 
-use crate::arguments::{book_settings, first_word};
-use crate::nodes::book::{Books, keys};
+use crate::arguments::book_settings;
+use crate::nodes::book::Books;
 use case_files::Told;
 use claim_profile::Amount;
-use payer_book::{Book, BookAtRest, BookSettings, HashKeys, PayerNo, Plan};
+use payer_book::{Book, BookAtRest, BookSettings, PayerNo, Plan};
 use std::alloc::Global;
 
 impl Books {
@@ -12,18 +12,6 @@ impl Books {
     pub(crate) fn open(&mut self, told: &mut Told, alloc: Global, argument: &[u8]) {
         match book_settings(argument) {
             Some((settings, _)) => self.begin(told, opened(alloc, settings)),
-            None => told.refuse(),
-        }
-    }
-
-    /// Opens an empty book whose maps hash with these keys: `open-keyed KEYS serial=FIRST cap=ROWS`.
-    pub(crate) fn open_keyed(&mut self, told: &mut Told, alloc: Global, argument: &[u8]) {
-        let (name, rest) = first_word(argument);
-        match book_settings(rest) {
-            Some((settings, _)) => match keys::named(&self.drawn, name) {
-                Some(keys) => self.begin(told, keyed(alloc, settings, &keys)),
-                None => told.word("no-keys"),
-            },
             None => told.refuse(),
         }
     }
@@ -77,15 +65,6 @@ pub(crate) fn opened(alloc: Global, settings: BookSettings) -> Option<Book> {
     let payer = PayerNo::new(1)?;
     match plan(alloc) {
         Some(plan) => Some(Book::new(alloc, payer, settings, plan)),
-        None => None,
-    }
-}
-
-/// The same, and its maps hash with these keys.
-pub(crate) fn keyed(alloc: Global, settings: BookSettings, keys: &HashKeys) -> Option<Book> {
-    let payer = PayerNo::new(1)?;
-    match plan(alloc) {
-        Some(plan) => Some(Book::keyed(alloc, payer, settings, plan, keys)),
         None => None,
     }
 }

@@ -2,8 +2,7 @@
 
 use crate::arguments::{book_settings, number_first};
 use crate::nodes::book::{Books, views};
-use crate::nodes::records::{self, Kind};
-use crate::replacing::with_byte;
+use crate::nodes::records::{self, Kind, with_byte};
 use crate::telling::tell_text;
 use case_files::Told;
 use d0_segments::check_request;

@@ -1,0 +1,134 @@
+"""Logs and records of nodes as bytes (docs/FORMATS.md), read and written without the product."""
+import hashlib
+import struct
+from typing import NamedTuple
+
+HEAD = 46
+KINDS = ('ph', 'sw', 'pr')
+SUBMIT, TICK, TAKE, STOP, START, DROP, PRICE = range(7)
+
+
+class Sent(NamedTuple):
+    """A packet, and the node that it is for."""
+    to: str
+    octets: bytes
+
+
+class Call(NamedTuple):
+    """A call that a node accepted: its kind, the bytes behind that, and what it sent. Of a TAKE `sender` and `octets` are the packet."""
+    kind: int
+    rest: bytes
+    sent: tuple[Sent, ...]
+    sender: str = ''
+    octets: bytes = b''
+
+
+class Log(NamedTuple):
+    """The head of a log, and its calls."""
+    head: bytes
+    calls: tuple[Call, ...]
+
+    @property
+    def node(self) -> str:
+        return node_name(self.head[3:6])
+
+
+def node_name(octets: bytes) -> str:
+    kind, number = struct.unpack('>BH', octets)
+    return f'{KINDS[kind]}{number}'
+
+
+def node_octets(name: str) -> bytes:
+    return struct.pack('>BH', KINDS.index(name[:2]), int(name[2:]))
+
+
+def check_sum(number: int, octets: bytes) -> bytes:
+    return hashlib.sha256(struct.pack('>Q', number) + octets).digest()[:8]
+
+
+def head_of(node: str, settings: bytes) -> bytes:
+    """The head of a log: a log of no calls."""
+    body = node_octets(node) + hashlib.sha256(settings).digest()
+    return b'PL\x01' + body + check_sum(0, body)
+
+
+def text(octets: bytes) -> bytes:
+    return struct.pack('>Q', len(octets)) + octets
+
+
+def read_text(octets: bytes, at: int) -> tuple[bytes, int]:
+    """The text at a place, and the place behind it."""
+    size = struct.unpack('>Q', octets[at:at + 8])[0]
+    return octets[at + 8:at + 8 + size], at + 8 + size
+
+
+def read_call(body: bytes) -> Call:
+    """The call of a record's body."""
+    kind, at, sender, octets = body[0], 1, '', b''
+    if kind == TAKE:
+        sender, at = node_name(body[1:4]), 4
+    if kind in (SUBMIT, TAKE, DROP, PRICE):
+        octets, at = read_text(body, at)
+    if kind == PRICE:
+        at += 4
+    rest, count, sent = body[1:at], struct.unpack('>Q', body[at:at + 8])[0], []
+    at += 8
+    for _ in range(count):
+        to = node_name(body[at:at + 3])
+        packet, at = read_text(body, at + 3)
+        sent.append(Sent(to, packet))
+    return Call(kind, rest, tuple(sent), sender, octets)
+
+
+def read_log(octets: bytes) -> Log:
+    """A log that is whole."""
+    calls, at = [], HEAD
+    while at < len(octets):
+        size = struct.unpack('>Q', octets[at:at + 8])[0]
+        calls.append(read_call(octets[at + 16:at + 16 + size]))
+        at += 24 + size
+    return Log(octets[:HEAD], tuple(calls))
+
+
+def write_log(log: Log) -> bytes:
+    """The bytes of a log."""
+    parts = [log.head]
+    for number, call in enumerate(log.calls, 1):
+        body = bytes([call.kind]) + call.rest + struct.pack('>Q', len(call.sent))
+        body += b''.join(node_octets(to) + text(packet) for to, packet in call.sent)
+        size = struct.pack('>Q', len(body))
+        parts += [size, bytes(it ^ 255 for it in size), body, check_sum(number, body)]
+    return b''.join(parts)
+
+
+def taking(sender: str, octets: bytes, sent: tuple[Sent, ...]) -> Call:
+    """The taking of a packet."""
+    return Call(TAKE, node_octets(sender) + text(octets), sent, sender, octets)
+
+
+class Exchange(NamedTuple):
+    """A request that is kept, and the answer to it."""
+    pharmacy: int
+    number: int
+    request: bytes
+    answer: bytes
+
+
+def read_book(octets: bytes) -> list[Exchange]:
+    """The rows of a book at rest."""
+    products, count = struct.unpack('>II', octets[21:29])
+    at, rows = 29, []
+    for _ in range(products):
+        at += 1 + octets[at] + 4
+    for _ in range(count):
+        pharmacy, number, size = struct.unpack('>HQI', octets[at:at + 14])
+        request, at = octets[at + 14:at + 14 + size], at + 14 + size
+        size = struct.unpack('>I', octets[at:at + 4])[0]
+        rows.append(Exchange(pharmacy, number, request, octets[at + 4:at + 4 + size]))
+        at += 4 + size
+    return rows
+
+
+def envelope(answer: bool, pharmacy: int, number: int, payload: bytes) -> bytes:
+    """The envelope of a request or an answer."""
+    return struct.pack('>2sBBHQI', b'PS', 1, 2 if answer else 1, pharmacy, number, len(payload)) + payload
