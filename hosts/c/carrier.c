@@ -90,11 +90,11 @@ static void came_again(natsConnection *connection, void *closure) {
 }
 
 static void went(natsConnection *connection, void *closure) {
-    (void)closure;
     const char *why = NULL;
+    counts_connected(false);
+    if (((struct carrier *)closure)->is_closing) return;
     natsConnection_GetLastError(connection, &why);
     say("warning", "no server, trying again", why);
-    counts_connected(false);
 }
 
 static void closed(natsConnection *connection, void *closure) {
@@ -245,6 +245,7 @@ void carrier_stop(struct carrier *carrier) {
 }
 
 void carrier_close(struct carrier *carrier) {
+    carrier->is_closing = true;
     for (int place = 0; place < 3; place++) natsSubscription_Destroy(carrier->subscriptions[place]);
     natsConnection_FlushTimeout(carrier->connection, 1000);
     natsConnection_Destroy(carrier->connection);

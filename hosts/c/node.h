@@ -101,7 +101,7 @@ struct carrier {
     pthread_cond_t came;
     struct message *first, **last;
     size_t waiting, waiting_bytes;
-    volatile bool is_closed;
+    volatile bool is_closing, is_closed;
 };
 
 struct carrier *carrier_open(const char *name, const struct access *access, volatile sig_atomic_t *is_stopping);
