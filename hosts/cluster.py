@@ -2,7 +2,7 @@
 """A node each of a settings file, over NATS, on this machine.
 
     hosts/cluster.py SETTINGS FOLDER [--server] [--access FOLDER] [--nats URL[,URL..]] [--ca FILE] [--jetstream] [--tick SECONDS]
-                     [--watch PORT] [--hold-back MS] [--program PATH] [--host PATH] [-v]
+                     [--watch PORT] [--hold-back MS] [--ping SECONDS] [--program PATH] [--host PATH] [-v]
 
 SETTINGS is a file of settings alone, as examples/six-nodes.toml. Logs go to FOLDER, one a node. A host that dies is started
 again, at first at once, then ever later; one whose log or settings are refused (status 78) is not. With --server a server is started
@@ -147,6 +147,7 @@ class Cluster:
         words = [given.settings, name, str(self._folder / f"{name}.log"), *self._login(name), "--tick", given.tick]
         words += ["--watch", f"127.0.0.1:{given.watch + place}"] if given.watch else []
         words += ["--hold-back", given.hold_back] if given.hold_back else []
+        words += ["--ping", given.ping] if given.ping else []
         words += ["-v"] * given.v
         if given.host:
             words = [program, *words]
@@ -189,6 +190,7 @@ def words() -> argparse.Namespace:
     parser.add_argument("--tick", default="1.0", metavar="SECONDS")
     parser.add_argument("--watch", type=int, metavar="PORT", help="metrics of the first node are at this port of this machine, of the next at the next")
     parser.add_argument("--hold-back", metavar="MS", help="switches lose what they forwarded less than so long ago")
+    parser.add_argument("--ping", metavar="SECONDS", help="how long a server may be silent before it is asked whether it is there")
     parser.add_argument("--program", metavar="PATH", help="where claimnode is, for nodes of hosts/node.py")
     parser.add_argument("--host", metavar="PATH", help="the program of hosts/c, which is host and node in one, in the place of hosts/node.py")
     parser.add_argument("-v", action="store_true", help="words for people on standard error")

@@ -105,10 +105,12 @@ def python_of():
 class Network:
     """A cluster of six nodes in a folder of its own."""
 
-    def __init__(self, folder, tls=False, jetstream=False, words=(), host=None, settings=SETTINGS, python=sys.executable):
+    def __init__(self, folder, tls=False, jetstream=False, words=(), host=None, settings=SETTINGS, python=sys.executable, url=None):
         self.folder, self.tls, self.host, self.python = pathlib.Path(folder), tls, host, python
         self.port = free_port()
-        self.url = f"{'tls://' if tls else ''}127.0.0.1:{self.port}"
+        self.url = url or f"{'tls://' if tls else ''}127.0.0.1:{self.port}"
+        # Servers of a given URL are the test's.
+        self._has_server = url is None
         self.access_folder, self.logs = self.folder / "access", self.folder / "logs"
         self.settings = self.folder / "settings.toml"
         shutil.copyfile(settings, self.settings)
@@ -132,7 +134,8 @@ class Network:
 
     def words(self):
         """The words of the cluster."""
-        words = [self.python, HOSTS / "cluster.py", self.settings, self.logs, "--server", "--access", self.access_folder, "--nats", self.url]
+        words = [self.python, HOSTS / "cluster.py", self.settings, self.logs, "--access", self.access_folder, "--nats", self.url]
+        words += ["--server"] * self._has_server
         words += ["--ca", self.ca] if self.ca else []
         words += ["--jetstream"] if self._jetstream else []
         words += ["--host", self.host] if self.host else ["--program", programs.program("claimnode")]
