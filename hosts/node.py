@@ -266,6 +266,8 @@ class Run:
         if name.startswith("ph"):
             carrier.subscribe(subjects.calls(name), host.called)
         await carrier.start()
+        # Whoever reads that the node is ready may ask it at once.
+        await carrier.flush(DRAIN_SECONDS)
         self._say("ready", calls=self._node.at_start)
         print(f"{name} ready", flush=True)
         works = [carrier.task]

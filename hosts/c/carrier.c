@@ -203,6 +203,8 @@ struct carrier *carrier_open(const char *name, const struct access *access, vola
     subscribe(carrier, 0, ".from.*", taken);
     subscribe(carrier, 1, ".operate", operated);
     if (begins(name, strlen(name), "ph")) subscribe(carrier, 2, ".call", called);
+    /* Whoever reads that the node is ready may ask it at once. */
+    natsConnection_FlushTimeout(carrier->connection, STOP_MS);
     return carrier;
 }
 
