@@ -10,6 +10,19 @@ from collections.abc import Callable, Iterable
 
 import counts as counting
 
+# What is told of what the host knows beside its counts.
+SAYS = {
+    "ready": "Whether the node serves.",
+    "connected": "Whether there is a connection.",
+    "connections_total": "Connections that were opened.",
+    "messages_lost_total": "Messages that no connection took.",
+    "waiting_calls": "Calls that wait for the node.",
+    "rows": "Entries, slots or rows that the node has.",
+    "rows_most": "The most entries, slots or rows that the node may have.",
+    "open_entries_known": "Whether the entries that were open at the start are known.",
+    "log_calls": "Calls in the log.",
+    "log_calls_at_start": "Calls that the log had at the start.",
+}
 READ_SECONDS = 2
 MOST_REQUEST_BYTES = 4096
 
@@ -49,7 +62,7 @@ class Watched:
             yield family(GaugeMetricFamily, "oldest_open_entry_seconds", "How long the oldest has been open.", {"": told.oldest()})
         for name, value in self._facts().items():
             kind = CounterMetricFamily if name.endswith("_total") else GaugeMetricFamily
-            yield family(kind, name, f"{name.replace('_', ' ').capitalize()}.", {"": value})
+            yield family(kind, name, SAYS[name], {"": value})
         size = os.path.getsize(self._log) if os.path.exists(self._log) else 0
         yield family(GaugeMetricFamily, "log_bytes", "Bytes of the log.", {"": size})
         calls = HistogramMetricFamily("vogrilas_call_seconds", "From a call to its last word, its sync included.", labels=["node"])
