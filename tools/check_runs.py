@@ -44,22 +44,23 @@ class Runner:
         folder.mkdir(parents=True)
         return folder
 
-    def run(self, words: list[str], folder: pathlib.Path, stdin: pathlib.Path | None = None) -> tuple[int, bytes, bytes]:
-        """Runs a command in a folder: its status, or one below zero where it was ended, and what it wrote."""
+    def run(self, words: list[str], folder: pathlib.Path, stdin: pathlib.Path | None = None, said: int = subprocess.STDOUT) -> tuple[int, bytes, bytes]:
+        """Runs a command in a folder: its status, or one below zero where it was ended, and what it wrote; what it said of faults is
+        among that, or by itself."""
         with open(stdin or os.devnull, 'rb') as given:
             # A session of its own: whatever it started is ended with it.
             process = subprocess.Popen(words, cwd=folder, env=self.environment | {'TMPDIR': str(folder)}, stdin=given, stdout=subprocess.PIPE,
-                                       stderr=subprocess.PIPE, start_new_session=True)
+                                       stderr=said, start_new_session=True)
         self.running.add(process)
         try:
-            written, said = process.communicate(timeout=MOST_SECONDS)
+            written, faults = process.communicate(timeout=MOST_SECONDS)
         except subprocess.TimeoutExpired:
             self.end(process)
-            written, said = process.communicate()
-            said += f'\nended after {MOST_SECONDS} seconds\n'.encode()
+            written, faults = process.communicate()
+            written += f'\nended after {MOST_SECONDS} seconds\n'.encode()
         finally:
             self.running.discard(process)
-        return process.returncode, written, said
+        return process.returncode, written, faults or b''
 
     @staticmethod
     def end(process: subprocess.Popen) -> None:
@@ -85,8 +86,8 @@ class Runner:
 
     def script(self, part: Part, folder: pathlib.Path) -> tuple[str, str]:
         """Runs a script."""
-        status, written, said = self.run([str(TOP / part.words[0]), *part.words[1:]], folder)
-        told = (written + said).decode(errors='replace').strip()
+        status, written, _ = self.run([str(TOP / part.words[0]), *part.words[1:]], folder)
+        told = written.decode(errors='replace').strip()
         if status == 0:
             return PASSED, told
         return (SKIPPED, told) if status == NOT_RUN else (FAILED, f'{told}\nstatus {status} of {part.told()}')
@@ -104,13 +105,14 @@ class Runner:
         if (crate / 'args').exists():
             words = (crate / 'args').read_text(encoding='utf-8').splitlines()
         stdin = crate / 'stdin' if (crate / 'stdin').exists() else None
-        got, written, said = self.run([f"{self.environment['VOGRILAS_PROGRAMS']}/{part.name}", *words], folder, stdin)
+        program = f"{self.environment['VOGRILAS_PROGRAMS']}/{part.name}"
+        got, written, faults = self.run([program, *words], folder, stdin, subprocess.PIPE)
         if (got, written) == (status, wanted):
             return PASSED, f'{len(written.splitlines())} lines as stored'
         told = list(difference(wanted, written, f'crates/{part.name}/stdout'))
         if got != status:
             told.append(f'status {got}, and {status} is stored')
-        return FAILED, '\n'.join([*told, *said.decode(errors='replace').splitlines()[-5:]])
+        return FAILED, '\n'.join([*told, *faults.decode(errors='replace').splitlines()[-5:]])
 
 
 def difference(wanted: bytes, written: bytes, name: str) -> list[str]:
