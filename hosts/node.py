@@ -28,6 +28,7 @@ from typing import Protocol
 
 import jetstream
 import nats
+import service
 import subjects
 import watch
 from claimnode import Ended, Node
@@ -243,7 +244,7 @@ class Run:
     def _begin(self, stop: asyncio.Event) -> list[asyncio.Task[object]]:
         """The tasks of a host, none of which ends while all is well. A task that dies ends the process."""
         self._say("the log is replayed", calls=self._node.at_start)
-        works = [self._node.listen(), self._serve(), stop.wait()]
+        works = [self._node.listen(), self._serve(), stop.wait(), service.live()]
         if self._given.watch:
             works.append(self._watch())
         if self._given.v:
@@ -269,6 +270,7 @@ class Run:
         # Whoever reads that the node is ready may ask it at once.
         await carrier.flush(DRAIN_SECONDS)
         self._say("ready", calls=self._node.at_start)
+        service.tell("READY=1")
         print(f"{name} ready", flush=True)
         works = [carrier.task]
         if name.startswith("ph"):
@@ -282,6 +284,7 @@ class Run:
     async def _end(self) -> None:
         """Finishes what was taken: no more is taken, what was is said, and only then the node ends."""
         self._is_draining = True
+        service.tell("STOPPING=1")
         self._say("draining", waiting=self._node.waiting)
         await self._carrier.stop_hearing(DRAIN_SECONDS)
         await self._host.drain()

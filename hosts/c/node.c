@@ -260,6 +260,7 @@ static void serve_for_ever(struct host *host) {
         turn(host, batch, is_tick);
         if (now() < host->next_word) continue;
         host->next_word = now() + 1;
+        service_tell("WATCHDOG=1");
         struct bytes told = { NULL, 0, 0 };
         add_form(&told, "%llu calls, %llu syncs", (unsigned long long)node_calls(&host->node), (unsigned long long)host->node.syncs);
         if (host->given.says) say("info", "serves", told.at);
@@ -269,6 +270,7 @@ static void serve_for_ever(struct host *host) {
 
 /* Finishes what was taken: no more is taken, what was is served, synced and said. */
 static void drain(struct host *host) {
+    service_tell("STOPPING=1");
     say("info", "draining", NULL);
     carrier_stop(host->carrier);
     for (struct message *batch; (batch = take_all(host->carrier, 0)) != NULL;) turn(host, batch, false);
@@ -293,6 +295,7 @@ int main(int count, char **word) {
     host.carrier = carrier_open(host.given.name, &host.given.access, &is_stopping);
     if (!is_stopping) {
         say("info", "ready", NULL);
+        service_tell("READY=1");
         printf("%s ready\n", host.given.name);
         fflush(stdout);
         serve_for_ever(&host);

@@ -157,5 +157,7 @@ bool counts_lives(void);
 
 /* Serves /metrics, /healthz and /readyz at ADDRESS:PORT, by a thread of its own. */
 void watch_start(const char *at, const char *node, const char *log);
+/* Tells systemd one thing, as READY=1, where it listens. */
+void service_tell(const char *what);
 
 #endif

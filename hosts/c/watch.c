@@ -1,7 +1,9 @@
-/* /metrics, /healthz and /readyz over HTTP, by a thread of its own, one question at a time. */
+/* /metrics, /healthz and /readyz over HTTP, by a thread of its own, one question at a time; and what systemd is told. */
 #include <netdb.h>
+#include <stddef.h>
 #include <sys/socket.h>
 #include <sys/time.h>
+#include <sys/un.h>
 #include <unistd.h>
 
 #include "node.h"
@@ -89,4 +91,19 @@ void watch_start(const char *at, const char *node, const char *log) {
     *watch = (struct watch){ listen_at(at), node, log };
     if (pthread_create(&thread, NULL, serve, watch) != 0) fail(at, "no thread");
     pthread_detach(thread);
+}
+
+void service_tell(const char *what) {
+    const char *at = getenv("NOTIFY_SOCKET");
+    struct sockaddr_un address = { .sun_family = AF_UNIX };
+    if (at == NULL || strlen(at) >= sizeof address.sun_path) return;
+    strcpy(address.sun_path, at);
+    /* A name that begins with @ is in no file system: a 0 stands there then. */
+    if (at[0] == '@') address.sun_path[0] = '\0';
+    int made = socket(AF_UNIX, SOCK_DGRAM, 0);
+    if (made < 0) return;
+    socklen_t size = (socklen_t)(offsetof(struct sockaddr_un, sun_path) + strlen(at));
+    ssize_t sent = sendto(made, what, strlen(what), MSG_NOSIGNAL, (const struct sockaddr *)&address, size);
+    (void)sent;
+    close(made);
 }
