@@ -116,14 +116,15 @@ class Host:
 
         def heard(sent: list[tuple[str, bytes]], last: bytes) -> None:
             self.send(sent)
-            if sent and last == b"ok":
-                self._held.went(sender, message.payload)
+            if not sent:
+                self._held.forget(sender, message.payload)
             if last == b"ok" and self.node.name.startswith("ph"):
                 head = head_of(message.payload)
                 self.counts.settled(head[2] if head else 0)
             done()
 
         if self.make(b"take " + sender.encode() + b" " + message.payload, heard):
+            self._held.went(sender, message.payload)
             self.counts.heard_from(sender)
         else:
             self.counts.dropped["full"] += 1

@@ -129,9 +129,10 @@ void later_begin(struct later *later, double seconds);
 /* Sends what is due, or all; how many seconds until more is. */
 double later_send(struct later *later, struct carrier *carrier, bool all);
 
-/* Requests that went out a moment ago: the same once more may be lost, as a packet may be. */
+/* Requests that go out or went out a moment ago: the same once more may be lost, as a packet may be. One that did not go is forgotten. */
 bool held_is(double seconds, const char *sender, const char *text, size_t size);
 void held_went(double seconds, const char *sender, const char *text, size_t size);
+void held_forget(const char *text, size_t size);
 
 /* What the host has seen since it started. Each call may come from any thread. */
 enum call { CALL_SUBMIT, CALL_ANSWER, CALL_TAKE, CALL_TICK, CALL_PLAN, CALL_STOP, CALL_START, CALL_OTHER, CALLS };
