@@ -46,7 +46,7 @@ SCRIPTS = (
     Part('refuse-memory', ('tests/refuse-memory', '--every', REFUSALS), ('claimswitch', 'systems')),
     Part('library', ('tests/library',), ('library', 'claimnode')),
     Part('audit', ('tests/audit',), ('claimdump', 'claimaudit', 'claimswitch')),
-    Part('package', ('tests/package',), PRODUCTS),
+    Part('package', ('tests/package',), (*PRODUCTS, 'library'), timed=True),
     Part('documents', ('tests/documents',), PRODUCTS),
     Part('examples', ('tests/examples',), ('claimswitch', 'claimpicture')),
     Part('decode', ('tests/decode',), ('claimdecode',)),
