@@ -80,7 +80,7 @@ class Counts:
 
 
 class HoldBack:
-    """Which requests go out, or went out a moment ago: the same once more may be lost, as a packet may be. One that did not go is forgotten."""
+    """Which requests go out, or went out a moment ago: the same once more may be lost, as a packet may be. What did not go is forgotten."""
 
     MOST = 65_536
 
