@@ -191,13 +191,12 @@ class Network:
         answer, _ = self.ask(pharmacy, "wait", told.split()[1])
         expect("ANP" in answer, f"claim {number} was not paid: {answer}")
 
-    async def client(self, user, password=None, access=None):
-        """A connection of a user; its `errors` are what the server refuses it."""
-        if access is None:
-            access = nats.Access(self.url, self.ca, self.login(user))
-        if password is not None:
-            access.password = password
-        connection = nats.Connection(access, user or "nobody")
+    async def client(self, user):
+        """A connection of a user; its `errors` are what the server refuses it, `told` what it says."""
+        access = nats.Access(self.url, self.ca, self.login(user))
+        told = []
+        connection = nats.Connection(access, user or "nobody", lambda what, **facts: told.append(f"{what} {facts}"))
+        connection.told = told
         await asyncio.wait_for(connection.start(), 10)
         return connection
 
