@@ -5,6 +5,7 @@ What a test wants and this machine does not have ends it with status 3, and says
 import asyncio
 import os
 import pathlib
+import random
 import re
 import shutil
 import socket
@@ -44,12 +45,11 @@ def expect(is_so, what):
 
 
 def free_port(count=1):
-    """A port of this machine behind which, with those that follow it, nobody listens."""
+    """A port of this machine behind which, with those that follow it, nobody listens. It is below those that the kernel gives to whoever
+    connects, which could be taken before a server has it."""
     while True:
-        with socket.socket() as first:
-            first.bind(("127.0.0.1", 0))
-            port = first.getsockname()[1]
-        if port + count < 65536 and all(not is_open(port + it) for it in range(count)):
+        port = random.randint(12_000, 30_000)
+        if all(not is_open(port + it) for it in range(count)):
             return port
 
 
