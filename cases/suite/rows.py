@@ -57,11 +57,17 @@ def is_remark(line: str) -> bool:
     return not line or line.startswith('#')
 
 
+# Texts that the rows of the crate have too, by folder.
+KEPT = os.path.join(os.path.dirname(HERE), 'crates', 'rows', 'data')
+KEPT_FOR = {'messages': ('claims', 'messages'), 'node': ('claims', 'messages'), 'settings': ('claims',)}
+
+
 @functools.cache
 def shared_texts(folder: str) -> dict[str, str]:
     """The texts by name of all folders, and of this one."""
     texts: dict[str, str] = {}
-    for path in sorted(glob.glob(f'{HERE}/*.texts')) + sorted(glob.glob(f'{folder}/*.texts')):
+    kept = [f'{KEPT}/{name}.texts' for name in KEPT_FOR.get(os.path.basename(folder), ())]
+    for path in sorted(glob.glob(f'{HERE}/*.texts')) + kept + sorted(glob.glob(f'{folder}/*.texts')):
         for line in lines_of(path):
             if not is_remark(line):
                 take(texts, line)

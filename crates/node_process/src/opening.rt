@@ -30,8 +30,10 @@ pub(crate) fn open<M: Machine>(
     machine: &mut M,
 ) -> Result<Service, Unserved>
     requires { M.acts machine.old ≡ [] }
-    ensures each { IsUnopened (M.acts machine.new) ⊎ IsRun owner.now.settings.now (node_seen owner.now.node) (M.acts machine.new) }
-    ensures served { IfOk result (λ s. Serves owner.now.settings.now (node_seen owner.now.node) (M.acts machine.new) s) }
+    ensures each { IsUnopened (M.acts machine.new)
+        ⊎ IsRun owner.now.settings.now (node_seen owner.now.node) (M.acts machine.new) }
+    ensures served { IfOk result (λ s.
+        Serves owner.now.settings.now (node_seen owner.now.node) (M.acts machine.new) s) }
     ensures deaf { OnOk result (heard (M.acts machine.new) ≡ []) }
     ensures quiet { IfOk result (λ s. (s.records ≡ []) × (s.out ≡ [])) }
 {
@@ -53,7 +55,8 @@ fn begin<M: Machine>(
 ) -> Result<Service, Unserved>
     requires { Reads owner.now.settings.now (node_seen owner.now.node) (M.acts machine.old) whole size service }
     ensures each { IsRun owner.now.settings.now (node_seen owner.now.node) (M.acts machine.new) }
-    ensures served { IfOk result (λ s. Serves owner.now.settings.now (node_seen owner.now.node) (M.acts machine.new) s) }
+    ensures served { IfOk result (λ s.
+        Serves owner.now.settings.now (node_seen owner.now.node) (M.acts machine.new) s) }
     ensures deaf { OnOk result (heard (M.acts machine.new) ≡ []) }
     ensures quiet { IfOk result (λ s. (s.records ≡ []) × (s.out ≡ [])) }
 {
@@ -75,7 +78,8 @@ fn trim<M: Machine>(
 ) -> io::Result<()>
     requires { Reads owner.now.settings.now (node_seen owner.now.node) (M.acts machine.old) whole size service.now }
     ensures each { IsRun owner.now.settings.now (node_seen owner.now.node) (M.acts machine.new) }
-    ensures trimmed { OnOk result (Trims owner.now.settings.now (node_seen owner.now.node) (M.acts machine.new) whole service.now) }
+    ensures trimmed { OnOk result
+        (Trims owner.now.settings.now (node_seen owner.now.node) (M.acts machine.new) whole service.now) }
 {
     if whole == size {
         return Ok(());
@@ -92,7 +96,8 @@ fn append_head<M: Machine>(
 ) -> io::Result<()>
     requires { Trims owner.now.settings.now (node_seen owner.now.node) (M.acts machine.old) whole service.now }
     ensures each { IsRun owner.now.settings.now (node_seen owner.now.node) (M.acts machine.new) }
-    ensures headed { OnOk result (Heads owner.now.settings.now (node_seen owner.now.node) (M.acts machine.new) whole service.now) }
+    ensures headed { OnOk result
+        (Heads owner.now.settings.now (node_seen owner.now.node) (M.acts machine.new) whole service.now) }
 {
     if service.records().is_empty() {
         return Ok(());
@@ -109,7 +114,8 @@ fn settle<M: Machine>(
 ) -> io::Result<()>
     requires { Heads owner.now.settings.now (node_seen owner.now.node) (M.acts machine.old) whole service.now }
     ensures each { IsRun owner.now.settings.now (node_seen owner.now.node) (M.acts machine.new) }
-    ensures begun { OnOk result (Begins owner.now.settings.now (node_seen owner.now.node) (M.acts machine.new) whole service.now) }
+    ensures begun { OnOk result
+        (Begins owner.now.settings.now (node_seen owner.now.node) (M.acts machine.new) whole service.now) }
 {
     machine.sync()
 }
@@ -125,7 +131,8 @@ fn greet<M: Machine>(
     requires begun { Begins owner.now.settings.now (node_seen owner.now.node) (M.acts machine.old) whole service.now }
     requires ready { ready.now ≡ ready_line service.now.calls }
     ensures each { IsRun owner.now.settings.now (node_seen owner.now.node) (M.acts machine.new) }
-    ensures served { OnOk result (Serves owner.now.settings.now (node_seen owner.now.node) (M.acts machine.new) (cleared service.now)) }
+    ensures served { OnOk result
+        (Serves owner.now.settings.now (node_seen owner.now.node) (M.acts machine.new) (cleared service.now)) }
     ensures deaf { OnOk result (heard (M.acts machine.new) ≡ []) }
 {
     machine.say(ready)

@@ -25,7 +25,8 @@ pub(crate) fn serve_heard(
     bytes: &[u8],
 ) -> Result<(), Unserved>
     requires { NoNewline pending.old.items }
-    ensures served { OnOk result (service.new ≡ after_lines service.old (whole_lines (pending.old.items ++ bytes.now))) }
+    ensures served { OnOk result
+        (service.new ≡ after_lines service.old (whole_lines (pending.old.items ++ bytes.now))) }
     ensures kept { OnOk result (pending.new.items ≡ begun_line (pending.old.items ++ bytes.now)) }
     ensures begun { OnOk result (NoNewline pending.new.items) }
 {

@@ -74,7 +74,8 @@ fn keep_records<M: Machine>(owner: &Owner<'_>, machine: &mut M, service: &Servic
     requires { Serves owner.now.settings.now (node_seen owner.now.node) (M.acts machine.old) service.now }
     ensures each { IsRun owner.now.settings.now (node_seen owner.now.node) (M.acts machine.new) }
     ensures heard { heard (M.acts machine.new) ≡ heard (M.acts machine.old) }
-    ensures logged { OnOk result (Logs owner.now.settings.now (node_seen owner.now.node) (M.acts machine.new) service.now) }
+    ensures logged { OnOk result
+        (Logs owner.now.settings.now (node_seen owner.now.node) (M.acts machine.new) service.now) }
 {
     if service.records().is_empty() {
         return Ok(());
@@ -88,7 +89,8 @@ fn say<M: Machine>(owner: &Owner<'_>, machine: &mut M, service: &mut Service) ->
     requires { Logs owner.now.settings.now (node_seen owner.now.node) (M.acts machine.old) service.old }
     ensures each { IsRun owner.now.settings.now (node_seen owner.now.node) (M.acts machine.new) }
     ensures heard { heard (M.acts machine.new) ≡ heard (M.acts machine.old) }
-    ensures served { OnOk result (Serves owner.now.settings.now (node_seen owner.now.node) (M.acts machine.new) service.new) }
+    ensures served { OnOk result
+        (Serves owner.now.settings.now (node_seen owner.now.node) (M.acts machine.new) service.new) }
     ensures quiet { OnOk result ((service.new.records ≡ []) × (service.new.out ≡ [])) }
 {
     machine.say(service.written())?;
