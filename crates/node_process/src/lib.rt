@@ -7,7 +7,6 @@
 
 mod host;
 mod machine;
-mod memory;
 mod noted;
 mod opening;
 mod pending;
@@ -16,6 +15,5 @@ mod unserved;
 
 pub use host::Host;
 pub use machine::Machine;
-pub use memory::Memory;
 pub use serving::serve_all;
 pub use unserved::Unserved;
