@@ -1,0 +1,74 @@
+"""How a node opens from the bytes of its log: what a start says, and that a file which is refused stays as it was."""
+import struct
+
+from suite.case import Case, Group, rows_apart
+from suite.logs import DROP, TICK, Call, Log, Sent, head_of, text, write_log
+from suite.nodes import room
+from suite.programs import run
+from suite.rows import read_rows
+
+PROGRAMS = ('claimnode',)
+SETTINGS = (b'again = 1\ntries = 1\n[[pharmacy]]\nqualifier = "01"\nprovider = "1234567893"\nnodes = [1]\ncap = 100\n'
+            b'[[switch]]\ncap = 64\n[[payer]]\nfee = 150\ncopay = 1000\ncap = 1000\n[payer.prices]\n00093721410 = 18567\n'
+            b'[[route]]\nbin = "610455"\npayer = 1\n')
+HEAD = head_of('ph1', SETTINGS)
+# A tick of a pharmacy that has no entry sends nothing; its record has 33 bytes.
+QUIET = Call(TICK, b'', ())
+TICKS = 3
+RECORD = 33
+
+
+def start(octets: bytes, settings: bytes = SETTINGS) -> str:
+    """What a start of pharmacy 1 from these bytes says, and how many bytes the file has behind it."""
+    with room() as folder:
+        paths = f'{folder}/settings.toml', f'{folder}/ph1.log'
+        for path, given in zip(paths, (settings, octets)):
+            with open(path, 'wb') as file:
+                file.write(given)
+        ran = run('claimnode', paths[0], 'ph1', paths[1], given=b'')
+        with open(paths[1], 'rb') as file:
+            left = file.read()
+    if ran.status == 0:
+        return f'{ran.out.decode().strip()} kept={len(left)}'
+    said = ran.err.decode().strip().removeprefix('claimnode: ')
+    return said if left == octets and not ran.out else f'{said} kept={len(left)} said={ran.out!r}'
+
+
+def ticks(*calls: Call) -> bytes:
+    return write_log(Log(HEAD, calls))
+
+
+def with_length(place: int, size: int) -> bytes:
+    """The three ticks, where the record at a place says that it is so long."""
+    octets, sizes = bytearray(ticks(*[QUIET] * TICKS)), struct.pack('>Q', size)
+    octets[place:place + 16] = sizes + bytes(it ^ 255 for it in sizes)
+    return bytes(octets)
+
+
+def tell(word: str, argument: bytes) -> str:
+    """What a row comes to."""
+    whole, count = ticks(*[QUIET] * TICKS), int(argument or b'0')
+    if word == 'cut':
+        return start(whole[:count])
+    if word == 'zeros-behind':
+        return start(whole + bytes(count))
+    if word == 'zeros-from':
+        return start(whole[:count] + bytes(len(whole) - count))
+    if word == 'length':
+        return start(with_length(len(HEAD) + RECORD, count))
+    if word == 'sends':
+        made = QUIET._replace(sent=(Sent('sw1', b'made up'),))
+        return start(ticks(*[made if at == count else QUIET for at in range(1, TICKS + 1)]))
+    if word == 'plan':
+        other = Call(DROP, text(b'00093721410'), ())
+        return start(ticks(*[other if at == count else QUIET for at in range(1, TICKS + 1)]))
+    if word == 'of-switch':
+        return start(head_of('sw1', SETTINGS))
+    if word == 'of-other-settings':
+        return start(head_of('ph1', SETTINGS + b'\n'))
+    raise ValueError(f'no such word: {word}')
+
+
+def groups(path: str, name: str, kind: type[Case]) -> list[Group]:
+    """Each row by itself."""
+    return rows_apart(name, read_rows(path), tell, kind)
