@@ -1,46 +1,42 @@
 #!/usr/bin/env python3
-"""A node each of a settings file, over one NATS server, on this machine.
+"""A node each of a settings file, over NATS, on this machine.
 
-    hosts/cluster.py SETTINGS FOLDER [--server] [--nats URL] [--ca FILE] [--jetstream] [--tick SECONDS] [--program PATH] [--host PATH] [-v]
+    hosts/cluster.py SETTINGS FOLDER [--server] [--access FOLDER] [--nats URL[,URL..]] [--ca FILE] [--jetstream] [--tick SECONDS]
+                     [--watch PORT] [--hold-back MS] [--ping SECONDS] [--program PATH] [--host PATH] [-v]
 
 SETTINGS is a file of settings alone, as examples/six-nodes.toml. Logs go to FOLDER, one a node. A host that dies is started
-again, at first at once, then ever later. With --server a server is started too; its program is `nats-server` (Debian: apt-get
-install nats-server). Ends by Ctrl-C or SIGTERM, and its nodes with it.
+again, at first at once, then ever later; one whose log or settings are refused (status 78) is not. With --server a server is started
+too; its program is `nats-server` (Debian: apt-get install nats-server). --access is a folder that hosts/permissions has written: each
+node comes as a user of its own, and the server is the one of its server.conf. Without it, anybody who reaches the server can speak
+as any node. Ends by Ctrl-C or SIGTERM: its nodes finish what they have taken, and end.
 """
 
 import argparse
 import asyncio
+import json
 import os
 import pathlib
+import re
 import shutil
 import signal
 import socket
 import subprocess
 import sys
 import time
-import tomllib
 
 import nats
+from said import Said
+from settings import REFUSED, Settings
 
 HERE = pathlib.Path(__file__).resolve().parent
 AGAIN_SECONDS = 0.2
-MOST_SECONDS = 10
+MOST_SECONDS = 10.0
+# A program that has run so long is started again at once.
+STEADY_SECONDS = 30.0
+END_SECONDS = 20.0
 
 
-def nodes_of(settings):
-    """The names of the nodes of a settings file."""
-    try:
-        lines = pathlib.Path(settings).read_text(encoding="utf-8").split("\n")
-        if "---" in lines:
-            sys.exit(f"cluster: {settings}: settings alone are wanted, the part before line {lines.index('---') + 1}, `---`")
-        given = tomllib.loads("\n".join(lines))
-    except (OSError, ValueError) as fault:
-        sys.exit(f"cluster: {settings}: {fault}")
-    kinds = (("ph", "pharmacy"), ("sw", "switch"), ("pr", "payer"))
-    return [f"{short}{place}" for short, key in kinds for place in range(1, len(given.get(key, [])) + 1)]
-
-
-def program_of(given):
+def program_of(given: str | None) -> str:
     """The program claimnode: the one that is named, that of this repository, or that of the PATH."""
     built = HERE.parent / "crates" / "claimnode" / "out" / "claimnode"
     script = HERE.parent / "claimnode"
@@ -53,78 +49,156 @@ def program_of(given):
     return shutil.which("claimnode") or sys.exit("cluster: no claimnode on the PATH; --program names it")
 
 
-def check_free(host, port):
+def check_free(host: str, port: int) -> None:
     """Ends the program where a server has the port already: the nodes would be on that one."""
     with socket.socket() as other:
         if other.connect_ex((host, port)) == 0:
             sys.exit(f"cluster: {host}:{port} has a server already: leave out --server, or give another by --nats")
 
 
-async def keep(name, words):
-    """Runs a program, and starts it again where it ends: the sooner it ended, the later."""
-    wait = AGAIN_SECONDS
-    while True:
-        started = time.monotonic()
-        # A session of its own: Ctrl-C ends this program, which ends the others in order.
-        process = await asyncio.create_subprocess_exec(*words, start_new_session=True)
+class Keeper:
+    """A program that is started again where it ends: the sooner it ended, the later."""
+
+    def __init__(self, name: str, words: list[str], say: Said) -> None:
+        self._name, self._words, self._say = name, words, say
+
+    async def keep(self) -> None:
+        """Ends where the program is refused, or told to end."""
+        wait = AGAIN_SECONDS
+        while True:
+            started = time.monotonic()
+            # A session of its own: Ctrl-C ends this program, which ends the others in order.
+            process = await asyncio.create_subprocess_exec(*self._words, start_new_session=True)
+            try:
+                status = await process.wait()
+            except asyncio.CancelledError:
+                await self._end(process)
+                raise
+            if status == REFUSED:
+                self._say(f"{self._name} is refused, and not started again", "error", status=status)
+                return
+            if time.monotonic() - started > STEADY_SECONDS:
+                wait = AGAIN_SECONDS
+            self._say(f"{self._name} ended, and is started again", "warning", status=status, seconds=wait)
+            await asyncio.sleep(wait)
+            wait = min(wait * 2, MOST_SECONDS)
+
+    async def _end(self, process: asyncio.subprocess.Process) -> None:
+        """Has the program end in order, or at all."""
+        process.terminate()
         try:
-            status = await process.wait()
-        except asyncio.CancelledError:
-            process.terminate()
+            await asyncio.wait_for(process.wait(), END_SECONDS)
+        except TimeoutError:
+            self._say(f"{self._name} does not end, and is killed", "error")
+            process.kill()
             await process.wait()
-            raise
-        wait = min(wait * 2, MOST_SECONDS) if time.monotonic() - started < MOST_SECONDS / 5 else AGAIN_SECONDS
-        print(f"{name} ended with status {status}, and is started again", file=sys.stderr, flush=True)
-        await asyncio.sleep(wait)
 
 
-async def main():
-    parser = argparse.ArgumentParser(description=__doc__.split("\n")[0])
-    parser.add_argument("settings")
-    parser.add_argument("folder")
-    parser.add_argument("--server", action="store_true", help="start a server as well")
-    parser.add_argument("--nats", default=nats.URL, metavar="URL", help="[tls://][USER:PASSWORD@]HOST:PORT; the default is NATS_URL")
-    parser.add_argument("--ca", metavar="FILE", help="the certificates to trust")
-    parser.add_argument("--jetstream", action="store_true", help="the server keeps packets for nodes that are down")
-    parser.add_argument("--tick", default="1.0", metavar="SECONDS")
-    parser.add_argument("--program", metavar="PATH", help="where claimnode is, for nodes of hosts/node.py")
-    parser.add_argument("--host", metavar="PATH", help="the program of hosts/c, which is host and node in one, in the place of hosts/node.py")
-    parser.add_argument("-v", action="store_true")
-    given = parser.parse_args()
-    names = nodes_of(given.settings)
-    if given.host and given.jetstream:
-        sys.exit("cluster: the host in C takes packets of plain NATS alone")
-    program = given.host or program_of(given.program)
-    os.makedirs(given.folder, exist_ok=True)
-    at = nats.Server(given.nats, given.ca)
-    tasks, servers = [], []
-    if given.server:
-        if at.tls:
+class Cluster:
+    """The programs of all nodes, and of a server."""
+
+    def __init__(self, given: argparse.Namespace) -> None:
+        self._given = given
+        self._say = Said("cluster", given.v)
+        self._access = nats.access_of(given)
+        self._folder = pathlib.Path(given.folder)
+        self._folder.mkdir(mode=0o700, parents=True, exist_ok=True)
+
+    def server(self) -> Keeper:
+        """The server: that of the access folder, or one for this machine whose settings are written here."""
+        at = self._access.servers[0]
+        if at.is_tls and not self._given.access:
             sys.exit("cluster: a server with TLS is started by its own settings: leave out --server")
         check_free(at.host, at.port)
-        server = ["nats-server", "-a", at.host, "-p", str(at.port), "-l", f"{given.folder}/server.txt"]
-        server += ["--user", at.login["user"], "--pass", at.login["pass"]] if at.login else []
-        server += ["-js", "-sd", f"{given.folder}/server"] if given.jetstream else []
-        servers.append(asyncio.create_task(keep("the server", server)))
-    for name in names:
-        words = [given.settings, name, f"{given.folder}/{name}.log", "--nats", given.nats, "--tick", given.tick]
+        if self._given.access:
+            settings = pathlib.Path(self._given.access) / "server.conf"
+            if not re.search(rf"^listen: .*:{at.port}\b", settings.read_text(encoding="utf-8"), re.MULTILINE):
+                sys.exit(f"cluster: {settings} listens elsewhere than at {at.host}:{at.port}: give --nats")
+        else:
+            settings = self._folder / "server.conf"
+            self._write_settings(settings, at)
+        return Keeper("the server", ["nats-server", "-c", str(settings), "-l", str(self._folder / "server.txt")], self._say)
+
+    def _write_settings(self, path: pathlib.Path, at: nats.Server) -> None:
+        """Writes settings of a server for this machine. Who may do what it does not say: it is for a first look."""
+        lines = [f"listen: {json.dumps(f'{at.host}:{at.port}')}", "max_payload: 140000"]
+        if self._given.jetstream:
+            lines.append(f"jetstream {{ store_dir: {json.dumps(str(self._folder / 'server'))} }}")
+        if self._access.user:
+            user, password = json.dumps(self._access.user), json.dumps(self._access.password)
+            lines.append(f"authorization {{ user: {user}, password: {password} }}")
+        with open(os.open(path, os.O_WRONLY | os.O_CREAT | os.O_TRUNC, 0o600), "w", encoding="utf-8") as file:
+            file.write("\n".join([*lines, ""]))
+
+    def _login(self, user: str) -> list[str]:
+        """The words by which a user comes. Passwords never stand among words: those of NATS_URL are inherited."""
+        given = self._given
+        words = ["--nats", given.nats] if given.nats else []
         words += ["--ca", given.ca] if given.ca else []
+        login = f"{given.access}/{user}.login" if given.access else given.login
+        return words + (["--login", login] if login else [])
+
+    def streams(self) -> Keeper:
+        words = [sys.executable, str(HERE / "streams"), self._given.settings, *self._login("streams")]
+        return Keeper("streams", words + ["-v"] * self._given.v, self._say)
+
+    def node(self, place: int, name: str, program: str) -> Keeper:
+        given = self._given
+        words = [given.settings, name, str(self._folder / f"{name}.log"), *self._login(name), "--tick", given.tick]
+        words += ["--watch", f"127.0.0.1:{given.watch + place}"] if given.watch else []
+        words += ["--hold-back", given.hold_back] if given.hold_back else []
+        words += ["--ping", given.ping] if given.ping else []
         words += ["-v"] * given.v
         if given.host:
             words = [program, *words]
         else:
             words = [sys.executable, str(HERE / "node.py"), *words, "--program", program] + ["--jetstream"] * given.jetstream
-        tasks.append(asyncio.create_task(keep(name, words)))
-    stop = asyncio.Event()
-    for number in (signal.SIGINT, signal.SIGTERM):
-        asyncio.get_running_loop().add_signal_handler(number, stop.set)
-    await stop.wait()
-    for kept in (tasks, servers):
-        for task in kept:
-            task.cancel()
-        await asyncio.gather(*kept, return_exceptions=True)
-    return 0
+        return Keeper(name, words, self._say)
+
+    async def go(self) -> int:
+        """Runs all until it is told to end: the nodes first, then the server. Status 1 where every node is refused."""
+        given = self._given
+        names = Settings.read(given.settings).nodes()
+        program = given.host or program_of(given.program)
+        servers = [self.server()] if given.server else []
+        servers += [self.streams()] if given.jetstream else []
+        nodes = [self.node(place, name, program) for place, name in enumerate(names)]
+        stop = asyncio.Event()
+        for number in (signal.SIGINT, signal.SIGTERM):
+            asyncio.get_running_loop().add_signal_handler(number, stop.set)
+        if not given.access and not self._access.user:
+            self._say("anybody who reaches the server can speak as any node: see hosts/permissions", "warning")
+        kept = [[asyncio.create_task(it.keep()) for it in some] for some in (nodes, servers)]
+        all_refused = asyncio.gather(*kept[0], return_exceptions=True)
+        stopped = asyncio.create_task(stop.wait())
+        await asyncio.wait([stopped, all_refused], return_when=asyncio.FIRST_COMPLETED)
+        for tasks in kept:
+            for task in tasks:
+                task.cancel()
+            await asyncio.gather(*tasks, return_exceptions=True)
+        return 0 if stop.is_set() else 1
+
+
+def words() -> argparse.Namespace:
+    parser = argparse.ArgumentParser(description=__doc__.split("\n", maxsplit=1)[0])
+    parser.add_argument("settings")
+    parser.add_argument("folder")
+    parser.add_argument("--server", action="store_true", help="start a server as well")
+    parser.add_argument("--access", metavar="FOLDER", help="what hosts/permissions has written: a user a node")
+    nats.add_words(parser)
+    parser.add_argument("--jetstream", action="store_true", help="the server keeps packets for nodes that are down")
+    parser.add_argument("--tick", default="1.0", metavar="SECONDS")
+    parser.add_argument("--watch", type=int, metavar="PORT", help="metrics of the first node are at this port of this machine, of the next at the next")
+    parser.add_argument("--hold-back", metavar="MS", help="switches lose what they forwarded less than so long ago")
+    parser.add_argument("--ping", metavar="SECONDS", help="how long a server may be silent before it is asked whether it is there")
+    parser.add_argument("--program", metavar="PATH", help="where claimnode is, for nodes of hosts/node.py")
+    parser.add_argument("--host", metavar="PATH", help="the program of hosts/c, which is host and node in one, in the place of hosts/node.py")
+    parser.add_argument("-v", action="store_true", help="words for people on standard error")
+    given = parser.parse_args()
+    if given.host and given.jetstream:
+        parser.error("the host in C takes packets of plain NATS alone")
+    return given
 
 
 if __name__ == "__main__":
-    sys.exit(asyncio.run(main()))
+    sys.exit(asyncio.run(Cluster(words()).go()))

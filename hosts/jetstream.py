@@ -1,45 +1,79 @@
-"""JetStream for a node's packets: the server keeps each until the node has it on disk, also while the node is down.
+"""JetStream for nodes' packets: the server keeps each until its node has it on disk, also while the node is down.
 
-The nodes need none of it: what is lost is sent again. It saves some of that. A stream and a consumer for each node are made anew
-whenever the connection is, since a server may have lost its store. What is published is not waited for: the server's word that
-it has a packet is no promise of a disk.
+The nodes need none of it: what is lost is sent again. It saves some of that. Streams and consumers are made by one who may, and
+made anew whenever the connection comes, since a server may have lost its store; nodes may only hear what is delivered, and say
+that they have it. A stream is bounded: where it is full the oldest packets are lost, as packets may be. What is published is
+not waited for: the server's word that it has a packet is no promise of a disk.
 """
 
 import json
+from collections.abc import Callable, Iterable
+
+import nats
+import subjects
 
 SECONDS = 2
 ACK_NANOSECONDS = 2_000_000_000
+# What a stream keeps at most for a node that is down: what is older or more is sent again by its sender.
+MOST_PACKETS = 20_000
+MOST_BYTES = 64 << 20
+MOST_AGE_NANOSECONDS = 600_000_000_000
+# What is on its way to a node at most, and has not been said to be there.
+MOST_ON_THE_WAY = 256
 
 
-async def keep(connection, name, handler):
-    """Has the packets of a node kept, and calls `handler(payload, reply)` for each; a message to `reply` says that it is done."""
-    await connection.subscribe(f"deliver.{name}", handler)
+def hear(connection: nats.Connection, node: str, handler: Callable[[nats.Message], None]) -> None:
+    """Calls `handler(message)` for each packet that is kept for a node; its reply is for `done`."""
+    connection.subscribe(subjects.delivered(node), handler)
 
-    async def make():
-        stream = {"name": f"claims-{name}", "subjects": [f"claims.{name}"], "retention": "workqueue", "storage": "file"}
-        await _ask(connection, f"STREAM.CREATE.claims-{name}", stream)
-        consumer = {
-            "durable_name": name,
-            "deliver_subject": f"deliver.{name}",
-            "ack_policy": "explicit",
-            "ack_wait": ACK_NANOSECONDS,
-            "deliver_policy": "all",
-        }
-        asked = {"stream_name": f"claims-{name}", "config": consumer}
-        await _ask(connection, f"CONSUMER.DURABLE.CREATE.claims-{name}.{name}", asked)
+
+def done(connection: nats.Connection, node: str, reply: str) -> None:
+    """Says that a packet is on disk, or was refused, which is as good."""
+    if reply.startswith(subjects.acknowledgement(node)):
+        connection.publish(reply, b"+ACK")
+
+
+async def keep(connection: nats.Connection, nodes: Iterable[str]) -> None:
+    """Has the packets of these nodes kept, now and whenever the connection comes."""
+
+    async def make() -> None:
+        for node in nodes:
+            await _ask(connection, f"STREAM.CREATE.{subjects.stream(node)}", _stream(node))
+            await _ask(connection, f"CONSUMER.DURABLE.CREATE.{subjects.stream(node)}.{node}", _consumer(node))
 
     await connection.at_open(make)
 
 
-def done(connection, reply):
-    """Says that a packet is on disk, or was refused, which is as good."""
-    if reply:
-        connection.publish(reply, b"+ACK")
+def _stream(node: str) -> dict[str, object]:
+    return {
+        "name": subjects.stream(node),
+        "subjects": [subjects.packets(node)],
+        "retention": "workqueue",
+        "storage": "file",
+        "discard": "old",
+        "max_msgs": MOST_PACKETS,
+        "max_bytes": MOST_BYTES,
+        "max_age": MOST_AGE_NANOSECONDS,
+        "max_msg_size": subjects.MOST_BYTES,
+        "num_replicas": 1,
+    }
 
 
-async def _ask(connection, subject, asked):
+def _consumer(node: str) -> dict[str, object]:
+    config = {
+        "durable_name": node,
+        "deliver_subject": subjects.delivered(node),
+        "ack_policy": "explicit",
+        "ack_wait": ACK_NANOSECONDS,
+        "deliver_policy": "all",
+        "max_ack_pending": MOST_ON_THE_WAY,
+    }
+    return {"stream_name": subjects.stream(node), "config": config}
+
+
+async def _ask(connection: nats.Connection, subject: str, asked: dict[str, object]) -> None:
     """Asks the server, and says what it refuses; without JetStream there is no reply."""
     reply = await connection.request(f"$JS.API.{subject}", json.dumps(asked).encode(), SECONDS)
-    fault = "no reply: does the server run with -js?" if reply is None else json.loads(reply).get("error")
+    fault = "no reply: does the server run with -js, and may this user make streams?" if reply is None else json.loads(reply).get("error")
     if fault:
         connection.say(f"JetStream: {subject}: {fault}")

@@ -1,183 +1,373 @@
 #!/usr/bin/env python3
-"""One node of a switch on a carrier: moves lines between `claimnode`, which is the node, and a NATS server.
+"""One node of a switch on a carrier: moves lines between `claimnode`, which is the node, and NATS servers.
 
-    hosts/node.py SETTINGS NODE LOG [--nats URL] [--ca FILE] [--jetstream] [--tick SECONDS] [--program PATH] [-v]
+    hosts/node.py SETTINGS NODE LOG [--nats URL[,URL..]] [--ca FILE] [--login FILE] [--jetstream] [--tick SECONDS]
+                  [--watch ADDRESS:PORT] [--hold-back MS] [--program PATH] [-v]
 
-The node's packets come on the subject `claims.NODE`, each as its sender's name, a space and the packet in printed bytes.
-Callers' lines come on `claims.NODE.call`: `submit` and `answer`, no others. An operator's come on `claims.NODE.operate`: any line
-but `take`. Each is replied to with the last line of what the node says. Who may write to a subject is for the server to say.
-The program appends each call to its log and syncs the log before it says anything, so whatever this host hears may go out.
-Ticks carry progress: what the carrier loses is sent again.
+The node's packets come on the subjects `claims.NODE.from.SENDER`, in printed bytes: the subject says who sent one, and the server
+lets nobody publish there but that sender (hosts/permissions). Callers' lines come on `claims.NODE.call`: `submit` and `answer`, no
+others. An operator's come on `claims.NODE.operate`: any line but `take`, and `kill`, which ends the host as a power cut would. Each
+is replied to with the last line of what the node says. The program appends each call to its log and syncs the log before it says
+anything, so whatever this host hears may go out. Ticks carry progress: what the carrier loses is sent again, and what a tick
+sends is spread over its time. SIGTERM drains: what was taken is finished, said and synced.
+
+Status 0: it was told to end. 1: something failed that may be otherwise at the next try. 78: the settings, the name or the log are
+refused, or a sync of the log has failed: it stays so until people have looked. Standard error has a JSON object a line, with -v words.
 """
 
 import argparse
 import asyncio
-import collections
+import os
+import random
 import signal
+import subprocess
 import sys
+import time
+from collections.abc import Callable
+from typing import Protocol
 
 import jetstream
 import nats
+import service
+import subjects
+import watch
+from claimnode import Ended, Node
+from counts import Counts, HoldBack, head_of
+from said import Said
+from settings import Settings
 
 CALLERS = (b"submit ", b"answer ")
+# What may wait for the node at most; what comes beyond it is refused, or lost, as a packet may be.
+MOST_WAITING = 512
+MOST_WAITING_BYTES = 16 << 20
+DRAIN_SECONDS = 10.0
+# The part of a tick's time over which its packets go out, and in how many groups at most.
+SPREAD = 0.8
+GROUPS = 32
+# How many entries are asked about at once, to learn which are open from an earlier life.
+ASKED_AT_ONCE = 64
 
 
-class Node:
-    """The program, and the calls that wait for its answer, in order."""
+class Carrier(Protocol):
+    """What a host wants of a carrier."""
 
-    def __init__(self, program, settings, name, log):
-        self._words = (program, settings, name, log)
-        self.name = name
-        self.calls = self.packets = 0
-        self._waiting = collections.deque()
-        self._process = None
-
-    async def start(self):
-        """Starts the program; its first line says how many calls it has replayed."""
-        self._process = await asyncio.create_subprocess_exec(
-            *self._words, stdin=asyncio.subprocess.PIPE, stdout=asyncio.subprocess.PIPE, limit=1 << 21
-        )
-        ready = await self._process.stdout.readline()
-        if not ready.startswith(b"ready "):
-            status = await self._process.wait()
-            print(f"{self.name}: claimnode ended with status {status}; log {self._words[3]}", file=sys.stderr, flush=True)
-            raise SystemExit(status or 1)
-        self.calls = int(ready.split()[1])
-
-    async def call(self, line):
-        """Makes a call: the packets that it sends, each as addressee and text, and the last line."""
-        done = asyncio.get_running_loop().create_future()
-        self._waiting.append(done)
-        self._process.stdin.write(line + b"\n")
-        await self._process.stdin.drain()
-        return await done
-
-    async def end(self):
-        """Lets the program end: nothing more is asked of it."""
-        if self._process.returncode is None:
-            self._process.stdin.close()
-            await self._process.wait()
-
-    def said(self, line):
-        """Hears the last line of a call, before who asked does."""
-
-    async def listen(self):
-        """Hands on what the program says, until it ends. A line that was cut off with it is none."""
-        sent = []
-        while (line := await self._process.stdout.readline()).endswith(b"\n"):
-            line = line.rstrip(b"\n")
-            if line.startswith(b"send "):
-                _, to, text = line.split(b" ", 2)
-                sent.append((to.decode(), text))
-                continue
-            self.calls += 1
-            self.packets += len(sent)
-            self.said(line)
-            done = self._waiting.popleft()
-            if not done.done():
-                done.set_result((sent, line))
-            sent = []
-        for waiting in self._waiting:
-            waiting.cancel()
-        return await self._process.wait()
+    def publish(self, subject: str, payload: bytes, reply: str = "") -> None: ...
 
 
 class Host:
     """A node and its carrier."""
 
-    def __init__(self, node, carrier):
-        self._node, self._carrier = node, carrier
+    def __init__(self, node: Node, carrier: Carrier, hold_back: float = 0.0, tick_seconds: float = 0.0) -> None:
+        self.node, self._carrier = node, carrier
+        self.counts = Counts()
+        self._held = HoldBack(hold_back if node.name.startswith("sw") else 0.0)
+        self._tick_seconds = tick_seconds
+        self._waiting_bytes = 0
+        self._is_ticking = False
+        self.kill: Callable[[], None] = lambda: None
 
-    async def _make(self, line):
-        """Makes the call of a line. What would be two lines is none: whoever may send packets may not operate the node."""
-        if b"\n" in line:
-            return b"refused Line"
-        sent, last = await self._node.call(line)
+    def make(self, line: bytes, done: Callable[[list[tuple[str, bytes]], bytes], None]) -> bool:
+        """Makes the call of a line, and sends what comes of it before `done` hears of it; False where too much waits. What would be two
+        lines is none: whoever may send packets may not operate the node."""
+        if b"\n" in line or len(line) > subjects.MOST_BYTES:
+            self.counts.refusals["Line"] += 1
+            done([], b"refused Line")
+            return True
+        if self.node.waiting >= MOST_WAITING or self._waiting_bytes + len(line) > MOST_WAITING_BYTES:
+            return False
+        self._waiting_bytes += len(line)
+        asked = time.monotonic()
+
+        def heard(sent: list[tuple[str, bytes]], last: bytes) -> None:
+            self._waiting_bytes -= len(line)
+            self.counts.seconds.add(time.monotonic() - asked)
+            if last.startswith(b"refused "):
+                self.counts.refusals[last[8:].decode(errors="replace")] += 1
+            done(sent, last)
+
+        self.counts.calls[line.split(b" ", 1)[0].decode(errors="replace") if line.startswith(KNOWN) else "other"] += 1
+        self.node.call(line, heard)
+        return True
+
+    def send(self, sent: list[tuple[str, bytes]]) -> None:
+        """Sends packets of the node."""
         for to, text in sent:
-            self._carrier.publish(f"claims.{to}", self._node.name.encode() + b" " + text)
-        return last
+            self.counts.sent[to] += 1
+            self._carrier.publish(subjects.packet(to, self.node.name), text)
 
-    async def taken(self, payload, _reply):
+    def taken(self, message: nats.Message) -> None:
         """A packet for this node."""
-        asyncio.create_task(self._make(b"take " + payload))
+        self._take(message, lambda: None)
 
-    async def kept(self, payload, reply):
+    def kept(self, message: nats.Message) -> None:
         """A packet for this node that the server keeps until it is told that the node has it."""
-        asyncio.create_task(self._done(payload, reply))
+        self._take(message, lambda: jetstream.done(self._carrier, self.node.name, message.reply))
 
-    async def _done(self, payload, reply):
-        await self._make(b"take " + payload)
-        jetstream.done(self._carrier, reply)
+    def _take(self, message: nats.Message, done: Callable[[], None]) -> None:
+        sender = subjects.sender_of(message.subject, self.node.name)
+        if sender is None or len(message.payload) > subjects.MOST_BYTES:
+            self.counts.dropped["not_a_packet"] += 1
+            done()
+            return
+        if self._held.is_held(sender, message.payload):
+            self.counts.dropped["held_back"] += 1
+            done()
+            return
 
-    async def called(self, payload, reply):
+        def heard(sent: list[tuple[str, bytes]], last: bytes) -> None:
+            self.send(sent)
+            if sent and last == b"ok":
+                self._held.went(sender, message.payload)
+            if last == b"ok" and self.node.name.startswith("ph"):
+                head = head_of(message.payload)
+                self.counts.settled(head[2] if head else 0)
+            done()
+
+        if self.make(b"take " + sender.encode() + b" " + message.payload, heard):
+            self.counts.heard_from(sender)
+        else:
+            self.counts.dropped["full"] += 1
+
+    def called(self, message: nats.Message) -> None:
         """A line of a caller."""
-        asyncio.create_task(self._answered(payload, reply, payload.startswith(CALLERS)))
+        self._answer(message, message.payload.startswith(CALLERS))
 
-    async def operated(self, payload, reply):
+    def operated(self, message: nats.Message) -> None:
         """A line of an operator."""
-        asyncio.create_task(self._answered(payload, reply, not payload.startswith(b"take")))
+        if message.payload == b"kill":
+            self._reply(message, b"ok")
+            self.kill()
+        self._answer(message, not message.payload.startswith(b"take"))
 
-    async def _answered(self, payload, reply, is_allowed):
-        last = await self._make(payload) if is_allowed else b"refused Line"
-        if reply:
-            self._carrier.publish(reply, last)
+    def _answer(self, message: nats.Message, is_allowed: bool) -> None:
+        def heard(sent: list[tuple[str, bytes]], last: bytes) -> None:
+            self.send(sent)
+            if last.startswith(b"number "):
+                self.counts.entered(int(last.split()[1]))
+            self._reply(message, last)
 
-    async def tick(self, seconds):
-        """Ticks a pharmacy, for ever."""
+        if not is_allowed:
+            self.counts.refusals["Line"] += 1
+            self._reply(message, b"refused Line")
+        elif not self.make(message.payload, heard):
+            self.counts.dropped["full"] += 1
+            self._reply(message, b"refused Busy")
+
+    def _reply(self, message: nats.Message, last: bytes) -> None:
+        if subjects.is_inbox(message.reply):
+            self._carrier.publish(message.reply, last)
+        elif message.reply:
+            self.counts.dropped["reply"] += 1
+
+    def tick(self) -> None:
+        """A tick of a pharmacy, unless the last one is still being made."""
+
+        def heard(sent: list[tuple[str, bytes]], _last: bytes) -> None:
+            self._is_ticking = False
+            self.counts.sent_again += len(sent)
+            self._spread(sent)
+
+        self._is_ticking = self._is_ticking or self.make(b"tick", heard)
+
+    def _spread(self, sent: list[tuple[str, bytes]]) -> None:
+        """Sends what a tick sent, spread over the time until the next one. What the host does not come to send is sent by a later tick."""
+        group = max(1, -(-len(sent) // GROUPS))
+        for place in range(0, len(sent), group):
+            late = self._tick_seconds * SPREAD * place / len(sent)
+            asyncio.get_running_loop().call_later(late, self.send, sent[place : place + group])
+
+    async def tick_for_ever(self) -> None:
+        """Ticks a pharmacy. No two hosts tick together for long, since the time between two ticks is never quite the same."""
+        await asyncio.sleep(self._tick_seconds * random.random())
         while True:
-            await asyncio.sleep(seconds)
-            await self._make(b"tick")
+            self.tick()
+            await asyncio.sleep(self._tick_seconds * random.uniform(0.8, 1.2))
 
-    async def report(self):
-        """A line a second."""
+    async def learn_open(self) -> None:
+        """Learns which entries are open from an earlier life, some at a time, while the node serves."""
+        number, is_there = 1, True
+        while is_there:
+            asked = range(number, number + ASKED_AT_ONCE)
+            lines = await asyncio.gather(*(self.node.ask(b"answer %d" % it) for it in asked))
+            for it, line in zip(asked, lines):
+                self.counts.entries = max(self.counts.entries, it if line != b"none" else 0)
+                if line == b"open":
+                    self.counts.entered(it)
+                is_there = is_there and line != b"none"
+            number += ASKED_AT_ONCE
+
+    async def drain(self) -> None:
+        """Waits until all that the node was asked has been said."""
+        end = asyncio.get_running_loop().time() + DRAIN_SECONDS
+        while self.node.waiting and self.node.is_alive and asyncio.get_running_loop().time() < end:
+            await asyncio.sleep(0.005)
+
+
+KNOWN = (b"submit ", b"answer ", b"take ", b"plan ", b"tick", b"stop", b"start")
+
+
+class Run:
+    """A host from its start to its end."""
+
+    def __init__(self, given: argparse.Namespace) -> None:
+        self._given = given
+        self._say = Said(given.node, given.v)
+        self._carrier = nats.Connection(nats.access_of(given), given.node, self._say, given.ping)
+        self._node = Node(given.program, given.settings, given.node, given.log, self._say)
+        self._host = Host(self._node, self._carrier, given.hold_back / 1000, given.tick)
+        self._host.kill = self._kill
+        self._is_draining = self._is_learned = False
+        self._most = Settings.read(given.settings).cap(given.node)
+
+    async def go(self) -> int:
+        """The status with which the host ends."""
+        stop = asyncio.Event()
+        for number in (signal.SIGTERM, signal.SIGINT):
+            asyncio.get_running_loop().add_signal_handler(number, stop.set)
+        tasks: list[asyncio.Task[object]] = []
+        try:
+            await self._node.start()
+            tasks = self._begin(stop)
+            await self._until_one_ends(tasks)
+            if stop.is_set():
+                await self._end()
+                return 0
+            raise self._node.why_ended()
+        except Ended as end:
+            self._say(str(end), "error", log=self._given.log)
+            return end.status
+        finally:
+            for task in tasks:
+                task.cancel()
+            self._node.kill()
+
+    def _begin(self, stop: asyncio.Event) -> list[asyncio.Task[object]]:
+        """The tasks of a host, none of which ends while all is well. A task that dies ends the process."""
+        self._say("the log is replayed", calls=self._node.at_start)
+        works = [self._node.listen(), self._serve(), stop.wait(), service.live()]
+        if self._given.watch:
+            works.append(self._watch())
+        if self._given.v:
+            works.append(self._report())
+        return [asyncio.create_task(work) for work in works]
+
+    async def _until_one_ends(self, tasks: list[asyncio.Task[object]]) -> None:
+        done, _ = await asyncio.wait(tasks, return_when=asyncio.FIRST_COMPLETED)
+        for task in done:
+            task.result()
+
+    async def _serve(self) -> None:
+        """Is on the carrier, and ticks."""
+        name, carrier, host = self._given.node, self._carrier, self._host
+        if self._given.jetstream:
+            jetstream.hear(carrier, name, host.kept)
+        else:
+            carrier.subscribe(subjects.packets(name), host.taken)
+        carrier.subscribe(subjects.operations(name), host.operated)
+        if name.startswith("ph"):
+            carrier.subscribe(subjects.calls(name), host.called)
+        await carrier.start()
+        # Whoever reads that the node is ready may ask it at once.
+        await carrier.flush(DRAIN_SECONDS)
+        self._say("ready", calls=self._node.at_start)
+        service.tell("READY=1")
+        print(f"{name} ready", flush=True)
+        works = [carrier.task]
+        if name.startswith("ph"):
+            works += [asyncio.create_task(host.tick_for_ever()), asyncio.create_task(self._learn())]
+        await asyncio.gather(*works)
+
+    async def _learn(self) -> None:
+        await self._host.learn_open()
+        self._is_learned = True
+
+    async def _end(self) -> None:
+        """Finishes what was taken: no more is taken, what was is said, and only then the node ends."""
+        self._is_draining = True
+        service.tell("STOPPING=1")
+        self._say("draining", waiting=self._node.waiting)
+        await self._carrier.stop_hearing(DRAIN_SECONDS)
+        await self._host.drain()
+        await self._carrier.close()
+        status = await self._node.end()
+        self._say("ended", calls=self._node.calls, status=status)
+
+    def _kill(self) -> None:
+        """Ends node and host at once, as a power cut would."""
+        self._node.kill()
+        os.kill(os.getpid(), signal.SIGKILL)
+
+    async def _report(self) -> None:
+        """A line a second, for people."""
         while True:
             await asyncio.sleep(1)
-            print(f"{self._node.name}: {self._node.calls} calls, {self._node.packets} packets", file=sys.stderr, flush=True)
+            told = self._host.counts
+            self._say(f"{self._node.calls} calls, {told.sent.total()} packets, {told.sent_again} of them again")
+
+    async def _watch(self) -> None:
+        version = subprocess.run([self._given.program, "-V"], capture_output=True, text=True, check=False).stdout.strip()
+        watched = watch.Watched(
+            self._given.node, self._given.log, self._host.counts, self._facts, version.removeprefix("claimnode ") or "unknown"
+        )
+        await watch.Watch(watched, self._unready).start(self._given.watch)
+        await asyncio.Event().wait()
+
+    def _facts(self) -> dict[str, float]:
+        """What is told beside the counts, by the names of its metrics."""
+        facts = {
+            "ready": float(not self._unready()),
+            "connected": float(self._carrier.is_open.is_set()),
+            "connections_total": self._carrier.opened,
+            "messages_lost_total": self._carrier.lost,
+            "waiting_calls": self._node.waiting,
+            "log_calls": self._node.calls,
+            "log_calls_at_start": self._node.at_start,
+        }
+        if self._given.node.startswith("ph"):
+            facts["rows"] = self._host.counts.entries
+            facts["rows_most"] = self._most
+            facts["open_entries_known"] = float(self._is_learned)
+        return facts
+
+    def _unready(self) -> str:
+        """Why the node does not serve; nothing where it does."""
+        if not self._node.is_alive:
+            return "the node does not run"
+        if self._is_draining:
+            return "draining"
+        return "" if self._carrier.is_open.is_set() else "not connected"
 
 
-def words():
-    parser = argparse.ArgumentParser(description=__doc__.split("\n")[0])
+def words() -> argparse.Namespace:
+    parser = argparse.ArgumentParser(description=__doc__.split("\n", maxsplit=1)[0])
     parser.add_argument("settings", help="the settings of a replay")
     parser.add_argument("node", help="ph1, sw1, pr1 ..")
     parser.add_argument("log", help="the node's log file")
-    parser.add_argument("--nats", default=nats.URL, metavar="URL", help="[tls://][USER:PASSWORD@]HOST:PORT; the default is NATS_URL")
-    parser.add_argument("--ca", metavar="FILE", help="the certificates to trust")
+    nats.add_words(parser)
     parser.add_argument("--tick", type=float, default=1.0, metavar="SECONDS", help="how long a pharmacy's tick is")
     parser.add_argument("--program", default="claimnode", help="where claimnode is")
-    parser.add_argument("--jetstream", action="store_true", help="the server keeps packets: it runs with -js")
-    parser.add_argument("-v", action="store_true", help="a line a second on standard error")
-    return parser.parse_args()
+    parser.add_argument("--jetstream", action="store_true", help="packets are kept by the server: it runs with -js, and hosts/streams keeps them")
+    parser.add_argument("--watch", metavar="ADDRESS:PORT", help="where /metrics, /healthz and /readyz are")
+    parser.add_argument("--hold-back", type=float, default=0.0, metavar="MS", help="of a switch: lose what it forwarded less than so long ago")
+    parser.add_argument("--ping", type=float, default=nats.PING_SECONDS, metavar="SECONDS", help="how long a server may be silent before it is asked")
+    parser.add_argument("-v", action="store_true", help="words for people on standard error, and a line a second")
+    given = parser.parse_args()
+    if not subjects.NODE.fullmatch(given.node) or not given.tick > 0 or not given.ping > 0 or not given.hold_back >= 0:
+        parser.error("NODE is ph, sw or pr and a number, as ph1; times are above 0")
+    return given
 
 
-async def main():
-    given = words()
-    carrier = nats.Connection(nats.Server(given.nats, given.ca), given.node)
-    node = Node(given.program, given.settings, given.node, given.log)
-    await node.start()
-    host = Host(node, carrier)
-    await carrier.start()
-    if given.jetstream:
-        await jetstream.keep(carrier, given.node, host.kept)
-    else:
-        await carrier.subscribe(f"claims.{given.node}", host.taken)
-    await carrier.subscribe(f"claims.{given.node}.call", host.called)
-    await carrier.subscribe(f"claims.{given.node}.operate", host.operated)
-    tasks = [asyncio.create_task(node.listen())]
-    if given.node.startswith("ph"):
-        tasks.append(asyncio.create_task(host.tick(given.tick)))
-    if given.v:
-        tasks.append(asyncio.create_task(host.report()))
-    print(f"{given.node} ready", flush=True)
-    stop = asyncio.Event()
-    asyncio.get_running_loop().add_signal_handler(signal.SIGTERM, stop.set)
-    tasks.append(asyncio.create_task(stop.wait()))
-    done, _ = await asyncio.wait(tasks, return_when=asyncio.FIRST_COMPLETED)
-    if not stop.is_set():
-        for task in done:
-            task.result()
-    await node.end()
-    return 0 if stop.is_set() else 1
+def take_descriptors() -> None:
+    """Has descriptors 0 to 2 open: the log, or a socket, would be taken for standard output otherwise."""
+    for descriptor in range(3):
+        try:
+            os.fstat(descriptor)
+        except OSError:
+            os.open(os.devnull, os.O_RDWR)
+    sys.stdout = sys.stdout or open(os.devnull, "w", encoding="utf-8")
+    sys.stderr = sys.stderr or open(os.devnull, "w", encoding="utf-8")
 
 
 if __name__ == "__main__":
-    sys.exit(asyncio.run(main()))
+    take_descriptors()
+    sys.exit(asyncio.run(Run(words()).go()))

@@ -3,6 +3,8 @@
 
 import os
 import pathlib
+import subprocess
+import sys
 import tempfile
 import threading
 import unittest
@@ -130,10 +132,12 @@ class Trials(unittest.TestCase):
             pharmacy.submit(REQUEST)
         path = self.folder / "ph1.log"
         whole = path.read_bytes()
-        path.write_bytes(whole[:-1])
-        with self.opened("ph1") as pharmacy:
-            self.assertEqual(pharmacy.calls, 0)
-        self.assertEqual(path.read_bytes(), whole[:46])
+        for name in ("ph1.log.cut-46", "ph1.log.cut-46-2"):
+            path.write_bytes(whole[:-1])
+            with self.assertWarnsRegex(UserWarning, "torn end of .* kept in"), self.opened("ph1") as pharmacy:
+                self.assertEqual(pharmacy.calls, 0)
+            self.assertEqual(path.read_bytes(), whole[:46])
+            self.assertEqual((self.folder / name).read_bytes(), whole[46:-1])
         damaged = bytearray(whole)
         damaged[-1] ^= 1
         path.write_bytes(damaged)
@@ -144,6 +148,80 @@ class Trials(unittest.TestCase):
         self.fails(Code.SETTINGS, Node, b"", "ph1")
         self.fails(Code.NO_SUCH_NODE, Node, SETTINGS, "ph2")
         self.fails(Code.NAME, Node, SETTINGS, "")
+
+    def test_only_who_opened_it_may_read_it(self):
+        self.opened("ph1")
+        self.assertEqual((self.folder / "ph1.log").stat().st_mode & 0o777, 0o600)
+
+    def test_fork(self):
+        pharmacy = self.opened("ph1")
+        self.assertEqual(pharmacy.submit(REQUEST).number, 1)
+        child = os.fork()
+        if child == 0:
+            try:
+                pharmacy.submit(REQUEST)
+            except RuntimeError:
+                os._exit(0)
+            os._exit(1)
+        self.assertEqual(os.waitstatus_to_exitcode(os.waitpid(child, 0)[1]), 0)
+        self.assertEqual(pharmacy.submit(REQUEST).number, 2)
+
+    def test_log_that_is_removed(self):
+        for replaced in (False, True):
+            pharmacy = FileNode(SETTINGS, "ph1", self.folder / f"{replaced}.log")
+            pharmacy.submit(REQUEST)
+            path = self.folder / f"{replaced}.log"
+            path.unlink()
+            if replaced:
+                path.touch()
+            with self.assertRaisesRegex(OSError, "removed or replaced"):
+                pharmacy.submit(REQUEST)
+            with self.assertRaises(ValueError):
+                pharmacy.tick()
+            kept = (self.folder / f"{replaced}.log.removed").read_bytes()
+            path.write_bytes(kept)
+            with FileNode(SETTINGS, "ph1", path) as again:
+                self.assertEqual(again.calls, 2)
+
+    def test_sync_that_fails(self):
+        pharmacy = self.opened("ph1")
+        real, os.fsync = os.fsync, self.refuse_sync
+        try:
+            with self.assertRaises(OSError):
+                pharmacy.submit(REQUEST)
+        finally:
+            os.fsync = real
+        with self.assertRaisesRegex(OSError, "a sync of the log failed"):
+            self.opened("ph1")
+        (self.folder / "ph1.log.sync-failed").unlink()
+        self.assertEqual(self.opened("ph1").calls, 1)
+
+    def refuse_sync(self, file):
+        if os.fstat(file).st_size == 0 or os.readlink(f"/proc/self/fd/{file}").endswith(".log"):
+            raise OSError(5, "Input/output error")
+
+    def test_each_start_syncs(self):
+        self.opened("ph1").close()
+        synced, real = [], os.fsync
+        os.fsync = lambda file: synced.append(os.readlink(f"/proc/self/fd/{file}"))
+        try:
+            self.opened("ph1")
+        finally:
+            os.fsync = real
+        self.assertEqual(synced, [str(self.folder.resolve() / "ph1.log"), str(self.folder.resolve())])
+
+    def test_closed_descriptors(self):
+        script = (
+            "import os, sys; os.close(0); os.close(1)\n"
+            "from vogrilas import FileNode\n"
+            "node = FileNode(open(sys.argv[1], 'rb').read(), 'ph1', sys.argv[2])\n"
+            "node.tick()\n"
+            "os.write(node._file, b'') if node._file > 2 else sys.exit(3)\n"
+        )
+        path = self.folder / "ph1.log"
+        done = subprocess.run([sys.executable, "-c", script, os.environ["VOGRILAS_TRIAL_SETTINGS"], str(path)], check=False)
+        self.assertEqual(done.returncode, 0)
+        self.assertEqual(self.opened("ph1").calls, 1)
 
     def test_closed(self):
         node = Node(SETTINGS, "ph1")

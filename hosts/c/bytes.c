@@ -1,10 +1,8 @@
-/* Bytes that grow, and the end of a process that cannot go on. */
-#include "node.h"
+/* Bytes that grow, and clocks. */
+#include <stdarg.h>
+#include <unistd.h>
 
-void fail(const char *what, const char *why) {
-    fprintf(stderr, "%s: %s\n", what, why);
-    exit(1);
-}
+#include "node.h"
 
 void add(struct bytes *bytes, const void *more, size_t size) {
     if (bytes->room - bytes->size < size + 1) {
@@ -19,6 +17,43 @@ void add(struct bytes *bytes, const void *more, size_t size) {
     bytes->at[bytes->size] = '\0';
 }
 
+void add_text(struct bytes *bytes, const char *text) {
+    add(bytes, text, strlen(text));
+}
+
+void add_form(struct bytes *bytes, const char *form, ...) {
+    char text[1001];
+    va_list given;
+    va_start(given, form);
+    vsnprintf(text, sizeof text, form, given);
+    va_end(given);
+    add_text(bytes, text);
+}
+
 bool begins(const char *text, size_t size, const char *word) {
     return size >= strlen(word) && memcmp(text, word, strlen(word)) == 0;
+}
+
+struct bytes whole(int file, const char *path) {
+    struct bytes bytes = { NULL, 0, 0 };
+    char part[65536];
+    ssize_t count;
+    add(&bytes, "", 0);
+    while ((count = read(file, part, sizeof part)) > 0) add(&bytes, part, (size_t)count);
+    if (count < 0) fail(path, "not readable");
+    return bytes;
+}
+
+static double seconds_of(clockid_t clock) {
+    struct timespec time;
+    clock_gettime(clock, &time);
+    return (double)time.tv_sec + (double)time.tv_nsec / 1e9;
+}
+
+double now(void) {
+    return seconds_of(CLOCK_MONOTONIC);
+}
+
+double wall(void) {
+    return seconds_of(CLOCK_REALTIME);
 }

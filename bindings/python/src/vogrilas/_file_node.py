@@ -6,6 +6,7 @@ import fcntl
 import os
 import pathlib
 import threading
+import warnings
 from typing import Callable, Optional, TypeVar, Union
 
 from ._node import Code, Node, Payment, Refused, Said, VogrilasError, printed, read_said
@@ -18,24 +19,30 @@ class FileNode:
     """A node with the file of its log, which is locked for this process.
 
     Each call is on disk before it returns, so what it gives may be used at once. Where a call fails in the middle, by want
-    of memory or of the disk, the node is closed; what the file has then decides, when it is opened again.
+    of memory or of the disk, the node is closed; what the file has then decides, when it is opened again. Where a sync fails a
+    file `LOG.sync-failed` stays beside the log, and the log is not opened again until people have removed it: what the kernel shows
+    of a file whose sync failed may be on no disk. What is cut off a log, a record that a crash has torn, stays beside it as
+    `LOG.cut-PLACE`, and a warning says so. A node belongs to the process that opened it: behind a fork the child has none.
     """
 
     def __init__(self, settings: bytes, name: str, path: Union[str, os.PathLike[str]]) -> None:
         self._lock = threading.Lock()
         self._node: Optional[Node] = None
-        self._file = open(path, "a+b", buffering=0)
+        self._process = os.getpid()
+        self._path = pathlib.Path(path).resolve()
+        if _beside(self._path, "sync-failed").exists():
+            raise OSError(f"a sync of the log failed: look at it, and remove {_beside(self._path, 'sync-failed')}")
+        self._file = _opened(self._path)
         try:
             fcntl.flock(self._file, fcntl.LOCK_EX | fcntl.LOCK_NB)
-            self._file.seek(0)
-            log = self._file.read()
+            log = _read_all(self._file)
             self._node = Node(settings, name, log)
             if self._node.kept < len(log):
-                self._file.truncate(self._node.kept)
-                os.fsync(self._file.fileno())
-            if self._node.records():
-                self._settle()
-                _sync_folder(path)
+                self._cut(log, self._node.kept)
+            self._settle()
+            # An earlier life may have ended between a write and its sync, or before its folder was synced.
+            self._sync()
+            _sync_folder(self._path)
         except BaseException:
             self.close()
             raise
@@ -102,7 +109,9 @@ class FileNode:
         if self._node is not None:
             self._node.close()
             self._node = None
-        self._file.close()
+        if self._file >= 0:
+            os.close(self._file)
+            self._file = -1
 
     def __enter__(self) -> FileNode:
         return self
@@ -113,6 +122,8 @@ class FileNode:
     def _open_node(self) -> Node:
         if self._node is None:
             raise ValueError("the node is closed")
+        if os.getpid() != self._process:
+            raise RuntimeError("the node belongs to the process that opened it, and this is a child of it")
         return self._node
 
     def _read(self, call: Callable[[Node], _Read]) -> _Read:
@@ -149,16 +160,89 @@ class FileNode:
         node = self._open_node()
         records = node.records()
         if records:
-            _write_all(self._file.fileno(), records)
-            os.fsync(self._file.fileno())
+            _write_all(self._file, records)
+            self._sync()
+            self._check_name()
         written = node.written()
         node.clear()
         return written
+
+    def _sync(self) -> None:
+        """Has on disk what was written, or leaves a mark that it may not be."""
+        try:
+            os.fsync(self._file)
+        except OSError as fault:
+            try:
+                _write_new(_beside(self._path, "sync-failed"), f"{fault}\n".encode())
+            except OSError:
+                pass
+            raise
+
+    def _check_name(self) -> None:
+        """That the log still has its name. Where it has lost it what it has is kept beside its place: nobody would find it again."""
+        here = os.fstat(self._file)
+        try:
+            there = os.stat(self._path)
+        except FileNotFoundError:
+            there = None
+        if there is None or (here.st_dev, here.st_ino) != (there.st_dev, there.st_ino):
+            kept = _write_new(_beside(self._path, "removed"), _read_all(self._file))
+            raise OSError(f"the log was removed or replaced while its node was open; what it had is kept in {kept}")
+
+    def _cut(self, log: bytes, kept: int) -> None:
+        """Cuts what a crash has left of a record, and keeps it beside the log."""
+        name = _write_new(_beside(self._path, f"cut-{kept}"), log[kept:])
+        os.ftruncate(self._file, kept)
+        self._sync()
+        warnings.warn(f"{self._path}: a torn end of {len(log) - kept} bytes was cut, and kept in {name}", stacklevel=3)
 
 
 def _line(line: bytes) -> Callable[[Node], None]:
     """The call that serves a line."""
     return lambda node: node.serve(line)
+
+
+def _opened(path: pathlib.Path) -> int:
+    """The descriptor of a log, which nobody else may read. It is none of the standard ones: where those are closed, what a program
+    prints would go into the log."""
+    file = os.open(path, os.O_RDWR | os.O_CREAT | os.O_APPEND | os.O_CLOEXEC, 0o600)
+    if file > 2:
+        return file
+    moved = fcntl.fcntl(file, fcntl.F_DUPFD_CLOEXEC, 3)
+    os.close(file)
+    return moved
+
+
+def _beside(path: pathlib.Path, ending: str) -> pathlib.Path:
+    return path.with_name(f"{path.name}.{ending}")
+
+
+def _read_all(file: int) -> bytes:
+    parts = []
+    place = 0
+    while part := os.pread(file, 1 << 20, place):
+        parts.append(part)
+        place += len(part)
+    return b"".join(parts)
+
+
+def _write_new(path: pathlib.Path, data: bytes) -> pathlib.Path:
+    """Writes a file under this name, or one with a number behind it where there is one already, and has it on disk; its name."""
+    number, name = 1, path
+    while True:
+        try:
+            file = os.open(name, os.O_WRONLY | os.O_CREAT | os.O_EXCL | os.O_CLOEXEC, 0o600)
+            break
+        except FileExistsError:
+            number += 1
+            name = path.with_name(f"{path.name}-{number}")
+    try:
+        _write_all(file, data)
+        os.fsync(file)
+    finally:
+        os.close(file)
+    _sync_folder(name)
+    return name
 
 
 def _write_all(file: int, data: bytes) -> None:
@@ -167,8 +251,8 @@ def _write_all(file: int, data: bytes) -> None:
         view = view[os.write(file, view) :]
 
 
-def _sync_folder(path: Union[str, os.PathLike[str]]) -> None:
-    folder = os.open(pathlib.Path(path).resolve().parent, os.O_RDONLY)
+def _sync_folder(path: pathlib.Path) -> None:
+    folder = os.open(path.parent, os.O_RDONLY)
     try:
         os.fsync(folder)
     finally:

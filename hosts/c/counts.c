@@ -1,0 +1,232 @@
+/* What the host has seen since it started, and the metrics that tell it. Behind one lock, since threads of others ask and tell. */
+#include <sys/stat.h>
+
+#include "node.h"
+
+#define MOST_NAMES 512
+#define CLASSES 16
+/* The node's thread is thought to live where it was heard of so lately. */
+#define LIVES_SECONDS 10
+
+/* A name with its count, and when it was last counted. */
+struct named {
+    char name[24];
+    uint64_t count;
+    double last;
+};
+
+static const double class_end[CLASSES] = { 0.0001, 0.00025, 0.0005, 0.001, 0.0025, 0.005, 0.01, 0.025, 0.05, 0.1, 0.25, 0.5, 1, 2.5, 5, 10 };
+static const char *const call_name[CALLS] = { "submit", "answer", "take", "tick", "plan", "stop", "start", "other" };
+static const char *const why_name[WHYS] = { "not_a_packet", "held_back", "full", "reply" };
+
+static pthread_mutex_t lock = PTHREAD_MUTEX_INITIALIZER;
+static struct {
+    uint64_t calls[CALLS], dropped[WHYS], classes[CLASSES + 1], again, syncs, connections;
+    struct named refusals[MOST_NAMES], sent[MOST_NAMES], taken[MOST_NAMES];
+    double sync_seconds, heard;
+    uint64_t log_calls, at_start, rows;
+    size_t waiting;
+    bool is_connected, is_ready;
+    /* When each open entry was first known to be open, by its number; 0 of one that is settled. */
+    double *open;
+    uint64_t open_room, open_count;
+} seen;
+
+/* Counts a name of a list; beyond its end names are not told apart. */
+static void count_named(struct named *list, const char *name, size_t size) {
+    int at = 0;
+    size = size < sizeof list->name - 1 ? size : sizeof list->name - 1;
+    while (at < MOST_NAMES - 1 && list[at].count > 0 && (strncmp(list[at].name, name, size) != 0 || list[at].name[size] != '\0')) at++;
+    memcpy(list[at].name, name, size);
+    list[at].name[size] = '\0';
+    list[at].count++;
+    list[at].last = wall();
+}
+
+static void locked(void) {
+    pthread_mutex_lock(&lock);
+}
+
+static void unlocked(void) {
+    pthread_mutex_unlock(&lock);
+}
+
+void counts_call(const char *line, size_t size) {
+    int call = 0;
+    while (call < CALL_OTHER && !begins(line, size, call_name[call])) call++;
+    locked();
+    seen.calls[call]++;
+    unlocked();
+}
+
+void counts_refusal(const char *name, size_t size) {
+    locked();
+    count_named(seen.refusals, name, size);
+    unlocked();
+}
+
+void counts_sent(const char *to, size_t size) {
+    locked();
+    count_named(seen.sent, to, size);
+    unlocked();
+}
+
+void counts_again(uint64_t more) {
+    locked();
+    seen.again += more;
+    unlocked();
+}
+
+void counts_taken(const char *from) {
+    locked();
+    count_named(seen.taken, from, strlen(from));
+    unlocked();
+}
+
+void counts_dropped(enum why why) {
+    locked();
+    seen.dropped[why]++;
+    unlocked();
+}
+
+void counts_sync(double seconds) {
+    int class = 0;
+    while (class < CLASSES && seconds > class_end[class]) class++;
+    locked();
+    seen.classes[class]++;
+    seen.syncs++;
+    seen.sync_seconds += seconds;
+    unlocked();
+}
+
+void counts_connected(bool is_connected) {
+    locked();
+    seen.connections += is_connected;
+    seen.is_connected = is_connected;
+    unlocked();
+}
+
+void counts_entered(uint64_t number) {
+    locked();
+    if (number >= seen.open_room) {
+        uint64_t room = 2 * number + 64;
+        double *open = realloc(seen.open, room * sizeof *open);
+        if (open == NULL) fail("memory", "refused");
+        memset(open + seen.open_room, 0, (room - seen.open_room) * sizeof *open);
+        seen.open = open;
+        seen.open_room = room;
+    }
+    seen.open_count += seen.open[number] == 0;
+    if (seen.open[number] == 0) seen.open[number] = wall();
+    unlocked();
+}
+
+void counts_settled(uint64_t number) {
+    locked();
+    if (number < seen.open_room && seen.open[number] != 0) {
+        seen.open[number] = 0;
+        seen.open_count--;
+    }
+    unlocked();
+}
+
+void counts_node(uint64_t calls, uint64_t at_start, uint64_t rows, size_t waiting, bool is_ready) {
+    locked();
+    seen.log_calls = calls;
+    seen.at_start = at_start;
+    seen.rows = rows;
+    seen.waiting = waiting;
+    seen.is_ready = is_ready;
+    seen.heard = now();
+    unlocked();
+}
+
+bool counts_lives(void) {
+    locked();
+    bool lives = now() - seen.heard < LIVES_SECONDS;
+    unlocked();
+    return lives;
+}
+
+const char *counts_unready(void) {
+    locked();
+    const char *why = !seen.is_ready ? "starting, or draining" : !seen.is_connected ? "not connected" : NULL;
+    unlocked();
+    return why;
+}
+
+static void add_head(struct bytes *text, const char *name, const char *kind, const char *says) {
+    add_form(text, "# HELP vogrilas_%s %s\n# TYPE vogrilas_%s %s\n", name, says, name, kind);
+}
+
+static void add_one(struct bytes *text, const char *node, const char *name, const char *kind, const char *says, double value) {
+    add_head(text, name, kind, says);
+    add_form(text, "vogrilas_%s{node=\"%s\"} %.15g\n", name, node, value);
+}
+
+static void add_list(struct bytes *text, const char *node, const char *name, const char *label, const char *says, const struct named *list) {
+    add_head(text, name, "counter", says);
+    for (int at = 0; at < MOST_NAMES && list[at].count > 0; at++)
+        add_form(text, "vogrilas_%s{%s=\"%s\",node=\"%s\"} %llu\n", name, label, list[at].name, node, (unsigned long long)list[at].count);
+}
+
+static void add_fixed(struct bytes *text, const char *node, const char *name, const char *label, const char *says, const char *const *key,
+                      const uint64_t *value, int count) {
+    add_head(text, name, "counter", says);
+    for (int at = 0; at < count; at++)
+        if (value[at] > 0) add_form(text, "vogrilas_%s{%s=\"%s\",node=\"%s\"} %llu\n", name, label, key[at], node, (unsigned long long)value[at]);
+}
+
+static void add_syncs(struct bytes *text, const char *node) {
+    uint64_t total = 0;
+    add_head(text, "sync_seconds", "histogram", "How long a sync of the log took.");
+    for (int class = 0; class <= CLASSES; class++) {
+        total += seen.classes[class];
+        if (class < CLASSES) add_form(text, "vogrilas_sync_seconds_bucket{le=\"%g\",node=\"%s\"} %llu\n", class_end[class], node, (unsigned long long)total);
+        else add_form(text, "vogrilas_sync_seconds_bucket{le=\"+Inf\",node=\"%s\"} %llu\n", node, (unsigned long long)total);
+    }
+    add_form(text, "vogrilas_sync_seconds_count{node=\"%s\"} %llu\n", node, (unsigned long long)seen.syncs);
+    add_form(text, "vogrilas_sync_seconds_sum{node=\"%s\"} %.9g\n", node, seen.sync_seconds);
+}
+
+static void add_entries(struct bytes *text, const char *node) {
+    double oldest = 0;
+    for (uint64_t number = 0; number < seen.open_room; number++)
+        if (seen.open[number] != 0 && (oldest == 0 || seen.open[number] < oldest)) oldest = seen.open[number];
+    add_one(text, node, "open_entries", "gauge", "Entries without an answer.", (double)seen.open_count);
+    add_one(text, node, "oldest_open_entry_seconds", "gauge", "How long the oldest has been open.", oldest == 0 ? 0 : wall() - oldest);
+}
+
+static void add_peers(struct bytes *text, const char *node) {
+    add_head(text, "peer_last_packet_timestamp_seconds", "gauge", "When the last packet of a peer came.");
+    for (int at = 0; at < MOST_NAMES && seen.taken[at].count > 0; at++)
+        add_form(text, "vogrilas_peer_last_packet_timestamp_seconds{node=\"%s\",peer=\"%s\"} %.3f\n", node, seen.taken[at].name, seen.taken[at].last);
+}
+
+struct bytes counts_text(const char *node, const char *log) {
+    struct bytes text = { NULL, 0, 0 };
+    struct stat at;
+    uint32_t version = vogrilas_version();
+    locked();
+    add_head(&text, "host_info", "gauge", "The host and the version of its node.");
+    add_form(&text, "vogrilas_host_info{host=\"c\",node=\"%s\",version=\"%u.%u.%u\"} 1\n", node, version / 1000000, version / 1000 % 1000, version % 1000);
+    add_fixed(&text, node, "calls_total", "call", "Calls on the node, by what was asked.", call_name, seen.calls, CALLS);
+    add_list(&text, node, "refusals_total", "name", "Calls that the node or its host refused, by name.", seen.refusals);
+    add_list(&text, node, "packets_sent_total", "to", "Packets sent, by addressee.", seen.sent);
+    add_list(&text, node, "packets_taken_total", "from", "Packets that came for the node, by sender.", seen.taken);
+    add_fixed(&text, node, "packets_dropped_total", "why", "Messages that were not handed to the node, by cause.", why_name, seen.dropped, WHYS);
+    add_one(&text, node, "packets_sent_again_total", "counter", "Packets that a tick sent once more.", (double)seen.again);
+    add_peers(&text, node);
+    if (begins(node, strlen(node), "ph")) add_entries(&text, node);
+    add_one(&text, node, "ready", "gauge", "Whether the node serves.", seen.is_ready && seen.is_connected);
+    add_one(&text, node, "connected", "gauge", "Whether there is a connection.", seen.is_connected);
+    add_one(&text, node, "connections_total", "counter", "Connections that were opened.", (double)seen.connections);
+    add_one(&text, node, "waiting_calls", "gauge", "Calls of the last turn.", (double)seen.waiting);
+    add_one(&text, node, "rows", "gauge", "Entries, slots or rows that the node has.", (double)seen.rows);
+    add_one(&text, node, "log_calls", "gauge", "Calls in the log.", (double)seen.log_calls);
+    add_one(&text, node, "log_calls_at_start", "gauge", "Calls that the log had at the start.", (double)seen.at_start);
+    add_one(&text, node, "log_bytes", "gauge", "Bytes of the log.", stat(log, &at) == 0 ? (double)at.st_size : 0);
+    add_syncs(&text, node);
+    unlocked();
+    return text;
+}

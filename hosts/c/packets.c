@@ -1,0 +1,103 @@
+/* Packets: their heads, those that go out later, and those that went out a moment ago. */
+#include <ctype.h>
+
+#include "node.h"
+
+#define HEAD_BYTES 14
+/* Into how many groups the packets of a tick are parted at most. */
+#define GROUPS 32
+/* How many requests are remembered; where two have one place, the older is forgotten. */
+#define REMEMBERED 8192
+
+static int digit_of(char digit) {
+    return isdigit((unsigned char)digit) ? digit - '0' : tolower((unsigned char)digit) - 'a' + 10;
+}
+
+/* The byte that stands at the start of printed bytes, and in *used how many letters it has; -1 where none does. */
+static int byte_of(const char *text, size_t size, size_t *used) {
+    *used = 1;
+    if (size == 0 || text[0] < 0x20 || text[0] > 0x7e) return -1;
+    if (text[0] != '\\') return (unsigned char)text[0];
+    *used = 2;
+    if (size < 2) return -1;
+    if (text[1] == 'F') return 0x1c;
+    if (text[1] == 'G') return 0x1d;
+    if (text[1] == 'S') return 0x1e;
+    if (text[1] == '\\') return '\\';
+    *used = 4;
+    if (size < 4 || text[1] != 'x' || !isxdigit((unsigned char)text[2]) || !isxdigit((unsigned char)text[3])) return -1;
+    return 16 * digit_of(text[2]) + digit_of(text[3]);
+}
+
+bool head_of(const char *text, size_t size, struct head *head) {
+    unsigned char byte[HEAD_BYTES];
+    for (int at = 0; at < HEAD_BYTES; at++) {
+        size_t used;
+        int one = byte_of(text, size, &used);
+        if (one < 0) return false;
+        byte[at] = (unsigned char)one;
+        text += used;
+        size -= used;
+    }
+    *head = (struct head){ byte[3], (uint16_t)(byte[4] << 8 | byte[5]), 0 };
+    for (int at = 6; at < HEAD_BYTES; at++) head->number = head->number << 8 | byte[at];
+    return byte[0] == 'P' && byte[1] == 'S';
+}
+
+void later_add(struct later *later, const char *to, size_t to_size, const char *text, size_t size) {
+    add(&later->packets, to, to_size);
+    add(&later->packets, " ", 1);
+    add(&later->packets, text, size);
+    add(&later->packets, "\n", 1);
+    later->count++;
+}
+
+void later_begin(struct later *later, double seconds) {
+    later->start = now();
+    later->seconds = seconds;
+}
+
+double later_send(struct later *later, struct carrier *carrier, bool all) {
+    size_t group = later->count / GROUPS + 1;
+    while (later->gone < later->count) {
+        double due = later->start + later->seconds * (double)(later->gone - later->gone % group) / (double)later->count;
+        if (!all && due > now()) return due - now();
+        char *line = later->packets.at + later->sent, *end = strchr(line, '\n'), *text = strchr(line, ' ');
+        send_packet(carrier, line, (size_t)(text - line), text + 1, (size_t)(end - text - 1));
+        later->sent += (size_t)(end - line) + 1;
+        later->gone++;
+    }
+    free(later->packets.at);
+    *later = (struct later){ .packets = { NULL, 0, 0 } };
+    return 1;
+}
+
+static struct {
+    struct head head;
+    char sender[9];
+    double at;
+} remembered[REMEMBERED];
+
+/* Where a request is remembered; false of what is no request. */
+static bool place_of(const char *text, size_t size, struct head *head, size_t *place) {
+    if (!head_of(text, size, head) || head->kind != 1) return false;
+    *place = (size_t)((head->number * 31 + head->pharmacy) % REMEMBERED);
+    return true;
+}
+
+bool held_is(double seconds, const char *sender, const char *text, size_t size) {
+    struct head head;
+    size_t place;
+    if (!(seconds > 0) || !place_of(text, size, &head, &place)) return false;
+    return remembered[place].head.number == head.number && remembered[place].head.pharmacy == head.pharmacy &&
+           strcmp(remembered[place].sender, sender) == 0 && now() - remembered[place].at < seconds;
+}
+
+void held_went(double seconds, const char *sender, const char *text, size_t size) {
+    struct head head;
+    size_t place;
+    if (!(seconds > 0) || !place_of(text, size, &head, &place)) return;
+    remembered[place].head = head;
+    remembered[place].at = now();
+    snprintf(remembered[place].sender, sizeof remembered[place].sender, "%s", sender);
+}

@@ -1,0 +1,65 @@
+"""What a settings file says of nodes: their names, and who sends to whom."""
+
+import pathlib
+import sys
+import tomllib
+from typing import Any, NoReturn
+
+# The status of a program whose settings are refused.
+REFUSED = 78
+KINDS = (("ph", "pharmacy"), ("sw", "switch"), ("pr", "payer"))
+MOST_BYTES = 16 << 20
+
+
+def refuse(why: str) -> NoReturn:
+    """Says why settings are refused, and ends the program."""
+    print(why, file=sys.stderr, flush=True)
+    raise SystemExit(REFUSED)
+
+
+class Settings:
+    """The nodes of a settings file, and the ways between them."""
+
+    def __init__(self, given: dict[str, Any]) -> None:
+        self._given = given
+
+    @classmethod
+    def read(cls, name: str) -> "Settings":
+        """Of a file of settings alone; ends the program where it is none."""
+        try:
+            with pathlib.Path(name).open("rb") as file:
+                data = file.read(MOST_BYTES + 1)
+            if len(data) > MOST_BYTES:
+                refuse(f"{name}: settings have at most {MOST_BYTES} bytes")
+            lines = data.decode().split("\n")
+            if "---" in lines:
+                refuse(f"{name}: settings alone are wanted, the part before line {lines.index('---') + 1}, `---`")
+            return cls(tomllib.loads("\n".join(lines)))
+        except (OSError, ValueError) as fault:
+            refuse(f"{name}: {fault}")
+
+    def nodes(self) -> list[str]:
+        """The names of the nodes, pharmacies first."""
+        return [f"{short}{place}" for short, key in KINDS for place in range(1, len(self._given.get(key, [])) + 1)]
+
+    def pharmacies(self) -> list[str]:
+        return [node for node in self.nodes() if node.startswith("ph")]
+
+    def addressees(self, node: str) -> list[str]:
+        """To whom a node sends: a pharmacy to its switches, a switch to the payers of routes and the pharmacies that name it, a payer to the
+        switches that some pharmacy names."""
+        number = int(node[2:])
+        named = [[f"sw{it}" for it in one.get("nodes", [])] for one in self._given.get("pharmacy", [])]
+        payers = [f"pr{it}" for it in sorted({route["payer"] for route in self._given.get("route", [])})]
+        if node.startswith("ph"):
+            return sorted(set(named[number - 1]))
+        if node.startswith("pr"):
+            return sorted({it for one in named for it in one})
+        return payers + [f"ph{place}" for place, one in enumerate(named, 1) if node in one]
+
+    def cap(self, node: str) -> int:
+        """The most entries, slots or rows of a node; ends the program where there is no such node."""
+        of_kind = self._given.get(dict(KINDS)[node[:2]], [])
+        if int(node[2:]) > len(of_kind):
+            refuse(f"the settings have no {node}")
+        return int(of_kind[int(node[2:]) - 1]["cap"])

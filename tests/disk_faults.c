@@ -1,0 +1,78 @@
+/*
+** A disk that fails, for tests/disks: preloaded into a host, it looks into the folder that TRIAL_DISK names. Where a file `eio` is there, syncs
+** of logs fail; where `full` is there, a log takes half of what is written to it, and then nothing. Each sync is noted in `synced`.
+*/
+#define _GNU_SOURCE
+#include <dlfcn.h>
+#include <errno.h>
+#include <fcntl.h>
+#include <limits.h>
+#include <stdbool.h>
+#include <stdio.h>
+#include <stdlib.h>
+#include <string.h>
+#include <sys/syscall.h>
+#include <unistd.h>
+
+static bool is_on(const char *name) {
+    char path[PATH_MAX];
+    const char *folder = getenv("TRIAL_DISK");
+    snprintf(path, sizeof path, "%s/%s", folder == NULL ? "/nonexistent" : folder, name);
+    return access(path, F_OK) == 0;
+}
+
+/* The name of an open file. */
+static const char *name_of(int file) {
+    static _Thread_local char name[PATH_MAX];
+    char link[64];
+    snprintf(link, sizeof link, "/proc/self/fd/%d", file);
+    ssize_t size = readlink(link, name, sizeof name - 1);
+    name[size < 0 ? 0 : size] = '\0';
+    return name;
+}
+
+static bool is_log(int file) {
+    const char *name = name_of(file);
+    size_t size = strlen(name);
+    return size > 4 && strcmp(name + size - 4, ".log") == 0;
+}
+
+static void note(int file) {
+    char path[PATH_MAX], line[PATH_MAX + 1];
+    const char *folder = getenv("TRIAL_DISK");
+    if (folder == NULL) return;
+    snprintf(path, sizeof path, "%s/synced", folder);
+    int to = open(path, O_WRONLY | O_CREAT | O_APPEND, 0600);
+    int size = snprintf(line, sizeof line, "%s\n", name_of(file));
+    if (to >= 0) syscall(SYS_write, to, line, (size_t)size);
+    if (to >= 0) close(to);
+}
+
+static int synced(int file, const char *name) {
+    int (*real)(int) = (int (*)(int))dlsym(RTLD_NEXT, name);
+    note(file);
+    if (!is_log(file) || !is_on("eio")) return real(file);
+    errno = EIO;
+    return -1;
+}
+
+int fsync(int file) {
+    return synced(file, "fsync");
+}
+
+int fdatasync(int file) {
+    return synced(file, "fdatasync");
+}
+
+ssize_t write(int file, const void *bytes, size_t size) {
+    static bool has_failed;
+    if (is_log(file) && is_on("full")) {
+        if (has_failed || size < 2) {
+            errno = ENOSPC;
+            return -1;
+        }
+        has_failed = true;
+        size /= 2;
+    }
+    return syscall(SYS_write, file, bytes, size);
+}
