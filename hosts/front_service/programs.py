@@ -1,0 +1,93 @@
+"""The proved programs that the front asks: claimdecode for what a message says, and those that judge and draw logs."""
+
+from __future__ import annotations
+
+import asyncio
+import collections
+import contextlib
+import json
+import os
+import pathlib
+import shutil
+from typing import Any
+
+from .printed import printed
+from .problems import Problem
+
+TOP = pathlib.Path(__file__).resolve().parent.parent.parent
+MOST_LINE_BYTES = 16 << 20
+# How long a program may take that is asked by a person.
+SECONDS = 60.0
+
+
+def words_of(name: str) -> list[str]:
+    """The words that start a program: of VOGRILAS_PROGRAMS, of this repository, or of the PATH; Problem where it is nowhere."""
+    folder = os.environ.get("VOGRILAS_PROGRAMS")
+    script = pathlib.Path(folder or TOP, name)
+    found = str(script) if script.exists() else shutil.which(name)
+    if not found:
+        raise Problem("NoAudit", f"there is no program {name}")
+    return [found]
+
+
+async def run(name: str, *words: str, given: bytes = b"") -> tuple[int, bytes, bytes]:
+    """The status of a program, what it wrote, and what it said."""
+    pipe = asyncio.subprocess.PIPE
+    process = await asyncio.create_subprocess_exec(*words_of(name), *words, stdin=pipe, stdout=pipe, stderr=pipe)
+    try:
+        written, said = await asyncio.wait_for(process.communicate(given), SECONDS)
+    except TimeoutError:
+        raise Problem("NoReply", f"{name} took longer than {SECONDS:.0f} s") from None
+    finally:
+        if process.returncode is None:
+            process.kill()
+    return process.returncode, written, said
+
+
+class Decoder:
+    """A claimdecode that stays, for messages of one kind: a line in, an object out, in order."""
+
+    def __init__(self, kind: str) -> None:
+        self._kind = kind
+        self._process: asyncio.subprocess.Process | None = None
+        self._waiting: collections.deque[asyncio.Future[bytes]] = collections.deque()
+        self._hearing: asyncio.Task[None] | None = None
+
+    async def ask(self, message: bytes) -> dict[str, Any]:
+        """What claimdecode says of a message."""
+        if self._process is None or self._process.returncode is not None:
+            await self._start()
+        text = printed(message)
+        # Lines that are empty or begin with # are none.
+        if text.startswith(b"#"):
+            text = b"\\x23" + text[1:]
+        if not text:
+            return {"kind": self._kind, "bytes": 0, "parts": [], "findings": []}
+        told = asyncio.get_running_loop().create_future()
+        self._waiting.append(told)
+        self._process.stdin.write(text + b"\n")
+        return json.loads(await asyncio.wait_for(told, SECONDS))
+
+    async def close(self) -> None:
+        if self._process is not None:
+            with contextlib.suppress(ProcessLookupError):
+                self._process.kill()
+            await self._process.wait()
+        if self._hearing is not None:
+            await self._hearing
+
+    async def _start(self) -> None:
+        pipe = asyncio.subprocess.PIPE
+        words = [*words_of("claimdecode"), "--json", self._kind]
+        self._process = await asyncio.create_subprocess_exec(*words, stdin=pipe, stdout=pipe, limit=MOST_LINE_BYTES)
+        self._hearing = asyncio.create_task(self._hear(self._process))
+
+    async def _hear(self, process: asyncio.subprocess.Process) -> None:
+        while line := await process.stdout.readline():
+            told = self._waiting.popleft()
+            if not told.done():
+                told.set_result(line)
+        while self._waiting:
+            told = self._waiting.popleft()
+            if not told.done():
+                told.set_exception(Problem("Fault", "claimdecode ended"))
