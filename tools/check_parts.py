@@ -52,6 +52,7 @@ SCRIPTS = (
     Part('decode', ('tests/decode',), ('claimdecode',)),
     Part('hosts', ('tests/hosts',), ('claimnode', 'claimaudit'), timed=True),
     Part('hosts-c', ('tests/hosts', 'c'), ('library', 'claimnode', 'claimaudit'), timed=True),
+    Part('front', ('tests/front',), ('claimnode', 'claimaudit', 'claimdecode', 'claimpicture', 'claimswitch'), timed=True),
     Part('torture', ('hosts/torture', '6', '1'), ('claimnode', 'claimaudit', 'claimswitch'), timed=True),
     Part('torture-jetstream', ('hosts/torture', '6', '2', '--jetstream'), ('claimnode', 'claimaudit', 'claimswitch'), timed=True),
     Part('torture-unsynced', ('hosts/torture', '4', '1', '--unsynced', '3'), ('claimnode', 'claimaudit', 'claimswitch'), timed=True),
