@@ -46,7 +46,8 @@ class Replays:
     async def schedules(self, _request: web.Request) -> web.Response:
         """The names of the schedules that are there: the file that was named, and the examples."""
         there = sorted(it.stem for it in EXAMPLES.glob("*.txt") if it.with_suffix(".expected").exists())
-        return web.json_response({"schedules": ([pathlib.Path(self._name).stem] if self._name else []) + there})
+        own = [pathlib.Path(self._name).stem] if self._name else []
+        return web.json_response({"schedules": own + [it for it in there if it not in own], "is_alone": bool(own)})
 
     async def schedule(self, request: web.Request) -> web.Response:
         """A schedule, by its name: settings and events."""
