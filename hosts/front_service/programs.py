@@ -45,45 +45,61 @@ async def run(name: str, *words: str, given: bytes = b"") -> tuple[int, bytes, b
 
 
 class Decoder:
-    """A claimdecode that stays, for messages of one kind: a line in, an object out, in order."""
+    """A claimdecode that stays, for messages of one kind: a line in, an object out, in order. One that has ended is started again."""
 
     def __init__(self, kind: str) -> None:
         self._kind = kind
-        self._process: asyncio.subprocess.Process | None = None
-        self._waiting: collections.deque[asyncio.Future[bytes]] = collections.deque()
-        self._hearing: asyncio.Task[None] | None = None
+        self._starting = asyncio.Lock()
+        self._child: Child | None = None
 
     async def ask(self, message: bytes) -> dict[str, Any]:
         """What claimdecode says of a message."""
-        if self._process is None or self._process.returncode is not None:
-            await self._start()
         text = printed(message)
         # Lines that are empty or begin with # are none.
         if text.startswith(b"#"):
             text = b"\\x23" + text[1:]
         if not text:
             return {"kind": self._kind, "bytes": 0, "parts": [], "findings": []}
-        told = asyncio.get_running_loop().create_future()
-        self._waiting.append(told)
-        self._process.stdin.write(text + b"\n")
+        async with self._starting:
+            if self._child is None or not self._child.is_alive:
+                pipe = asyncio.subprocess.PIPE
+                words = [*words_of("claimdecode"), "--json", self._kind]
+                process = await asyncio.create_subprocess_exec(*words, stdin=pipe, stdout=pipe, limit=MOST_LINE_BYTES)
+                self._child = Child(process)
+            told = self._child.ask(text)
         return json.loads(await asyncio.wait_for(told, SECONDS))
 
     async def close(self) -> None:
-        if self._process is not None:
-            with contextlib.suppress(ProcessLookupError):
-                self._process.kill()
-            await self._process.wait()
-        if self._hearing is not None:
-            await self._hearing
+        if self._child is not None:
+            await self._child.close()
 
-    async def _start(self) -> None:
-        pipe = asyncio.subprocess.PIPE
-        words = [*words_of("claimdecode"), "--json", self._kind]
-        self._process = await asyncio.create_subprocess_exec(*words, stdin=pipe, stdout=pipe, limit=MOST_LINE_BYTES)
-        self._hearing = asyncio.create_task(self._hear(self._process))
 
-    async def _hear(self, process: asyncio.subprocess.Process) -> None:
-        while line := await process.stdout.readline():
+class Child:
+    """A program that answers each line with one, in order, and who waits for which."""
+
+    def __init__(self, process: asyncio.subprocess.Process) -> None:
+        self._process = process
+        self._waiting: collections.deque[asyncio.Future[bytes]] = collections.deque()
+        self._hearing = asyncio.create_task(self._hear())
+
+    @property
+    def is_alive(self) -> bool:
+        return self._process.returncode is None and not self._hearing.done()
+
+    def ask(self, line: bytes) -> asyncio.Future[bytes]:
+        told = asyncio.get_running_loop().create_future()
+        self._waiting.append(told)
+        self._process.stdin.write(line + b"\n")
+        return told
+
+    async def close(self) -> None:
+        with contextlib.suppress(ProcessLookupError):
+            self._process.kill()
+        await self._process.wait()
+        await self._hearing
+
+    async def _hear(self) -> None:
+        while line := await self._process.stdout.readline():
             told = self._waiting.popleft()
             if not told.done():
                 told.set_result(line)

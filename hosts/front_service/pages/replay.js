@@ -30,7 +30,7 @@ function list() {
     const said = place < step ? (results[place] ?? "").replace(/^\d+ /, "") : "";
     const result = said ? tag(said.startsWith("ok") ? "good" : "bad", said) : "";
     return make("li", { class: place === step - 1 ? "now" : place >= step ? "later" : null },
-      make("button", { type: "button", class: "line", title: line, "aria-current": place === step - 1 ? "step" : null, onclick: () => go(place + 1) }, `${place + 1} ${shortened(line)} `, result),
+      make("button", { type: "button", class: "line", title: line, "aria-current": place === step - 1 ? "step" : null, onclick: () => go(place + 1) }, `${place + 1} ${shortened(line)}`), result || make("span"),
       make("button", { type: "button", "aria-label": `Take event ${place + 1} out`, title: "Take it out", onclick: () => change(place, 1) }, "drop"),
       make("button", { type: "button", "aria-label": `Repeat event ${place + 1}`, title: "Once more", onclick: () => change(place + 1, 0, line) }, "repeat"));
   }));
@@ -58,6 +58,7 @@ function change(place, removed, ...added) {
 
 async function load(name) {
   schedule = await ask(`/replay/schedules/${encodeURIComponent(name)}`);
+  at("schedules").value = name;
   events = [...schedule.events];
   const nodes = nodesOf(schedule.settings);
   const lines = [...nodes.filter((it) => it.startsWith("ph")).map((it) => `tick ${it}`), ...nodes.flatMap((it) => [`stop ${it}`, `start ${it}`]), "deliver 1"];

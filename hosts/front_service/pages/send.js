@@ -58,7 +58,7 @@ export async function send({ who }) {
       make("p", { class: "lead" }, "It is a claim like any other: it is entered, and paid where the plan pays it. Sent again with the same key it is the same claim."),
       make("form", { class: "sheet", onsubmit: sent },
         make("div", { class: "fields" }, make("label", {}, "Pharmacy", choose("pharmacy", who.pharmacies)), make("label", {}, "Order", choose("order", ["billing", "reversal"])), inputs),
-        make("div", { class: "row" }, make("label", {}, "Idempotency-Key", key),
+        make("div", { class: "filters row" }, make("label", {}, "Idempotency-Key", key),
           make("button", { type: "button", onclick: () => { key.value = crypto.randomUUID?.() ?? `test-${Date.now()}`; } }, "Another key"), make("button", { class: "first" }, "Send"))),
       result,
     ],
