@@ -24,14 +24,13 @@ KEPT_SECONDS = 2.0
 
 
 class Audit(NamedTuple):
-    """What an audit told."""
+    """What an audit told; drawn are the schedule of the run and the table of its packets, where they were asked for."""
 
     is_legal: bool
     text: str
     left_out: dict[str, int]
     seconds: float
-    schedule: bytes
-    packets: list[dict[str, str]]
+    drawn: tuple[bytes, bytes] | None
 
 
 class Audits:
@@ -42,28 +41,22 @@ class Audits:
         self._one = asyncio.Lock()
         self._last: tuple[float, Audit] | None = None
 
-    async def audit(self) -> Audit:
+    async def audit(self, is_drawn: bool = False) -> Audit:
         """The audit of the logs as they are. Nodes run meanwhile: what a log took after the copying began may be left out, as after a crash at that
         moment, and how much is told. What stood in a log before is never left out: its sender's log had it by then."""
         if self._folder is None:
             raise Problem("NoAudit", "the front was started without --logs")
         async with self._one:
-            if self._last is not None and time.monotonic() - self._last[0] < KEPT_SECONDS:
+            if self._last is not None and time.monotonic() - self._last[0] < KEPT_SECONDS and (self._last[1].drawn or not is_drawn):
                 return self._last[1]
             with tempfile.TemporaryDirectory(prefix="front-audit-") as work:
-                made = await self._audit(pathlib.Path(work))
+                made = await self._audit(pathlib.Path(work), is_drawn)
             self._last = (time.monotonic(), made)
             return made
 
-    async def _audit(self, work: pathlib.Path) -> Audit:
+    async def _audit(self, work: pathlib.Path, is_drawn: bool) -> Audit:
         started = time.monotonic()
-        logs = {node: pathlib.Path(self._folder, f"{node}.log") for node in self._nodes}
-        lacking = [node for node, log in logs.items() if not log.exists()]
-        if lacking:
-            raise Problem("NoAudit", f"there is no log of {', '.join(lacking)}")
-        before = {node: log.stat().st_size for node, log in logs.items()}
-        for node, log in logs.items():
-            await asyncio.to_thread(shutil.copyfile, log, work / f"{node}.log")
+        before = await self._copy(work)
         copies = [str(work / f"{node}.log") for node in self._nodes]
         status, told, said = await run("claimaudit", self._settings, *copies)
         left_out = {}
@@ -73,13 +66,23 @@ class Audits:
                     log.truncate(place)
                 left_out[node] = calls
             status, told, said = await run("claimaudit", self._settings, *copies)
+        drawn = None
+        if status == 0 and is_drawn:
+            words = (["--schedule"], ["--csv", "packets"])
+            drawn = tuple([it[1] for it in await asyncio.gather(*(run("claimaudit", *more, self._settings, *copies) for more in words))])
         text = re.sub(rf"{re.escape(str(work))}/", "", told.decode("ascii") + said.decode(errors="replace"))
-        schedule, packets = b"", []
-        if status == 0:
-            _, schedule, _ = await run("claimaudit", "--schedule", self._settings, *copies)
-            _, table, _ = await run("claimaudit", "--csv", "packets", self._settings, *copies)
-            packets = list(csv.DictReader(io.StringIO(table.decode("ascii"))))
-        return Audit(status == 0, text, left_out, time.monotonic() - started, schedule, packets)
+        return Audit(status == 0, text, left_out, time.monotonic() - started, drawn)
+
+    async def _copy(self, work: pathlib.Path) -> dict[str, int]:
+        """Copies all logs; how long each was before the first was copied."""
+        logs = {node: pathlib.Path(self._folder, f"{node}.log") for node in self._nodes}
+        lacking = [node for node, log in logs.items() if not log.exists()]
+        if lacking:
+            raise Problem("NoAudit", f"there is no log of {', '.join(lacking)}")
+        before = {node: log.stat().st_size for node, log in logs.items()}
+        for node, log in logs.items():
+            await asyncio.to_thread(shutil.copyfile, log, work / f"{node}.log")
+        return before
 
     def _cuts(self, told: str, work: pathlib.Path, before: dict[str, int]) -> dict[str, tuple[int, int]]:
         """Where logs are cut, and how many calls that leaves out; nothing where a reason is no late one."""
@@ -99,18 +102,20 @@ class Audits:
 
     async def picture(self, pharmacy: str, number: int) -> bytes:
         """The picture of the events from a claim's submission until its last packet has come; of others what happened between."""
-        audit = await self.audit()
-        if not audit.is_legal:
+        audit = await self.audit(is_drawn=True)
+        if audit.drawn is None:
             raise Problem("NoAudit", "the logs are not those of one legal run, so that nothing can be drawn")
-        own = [row for row in audit.packets if row["pharmacy"] == pharmacy[2:] and row["number"] == str(number)]
+        schedule, packets_table = audit.drawn
+        rows = csv.DictReader(io.StringIO(packets_table.decode("ascii")))
+        own = [row for row in rows if row["pharmacy"] == pharmacy[2:] and row["number"] == str(number)]
         packets = {row["packet"] for row in own}
         events = {int(row["event"]) for row in own}
-        behind = audit.schedule.decode("ascii").split("\n---\n", 1)[1].splitlines()
+        behind = schedule.decode("utf-8").split("\n---\n", 1)[1].splitlines()
         lines = [line for line in behind if line and not line.startswith("#")]
         events |= {place for place, line in enumerate(lines, 1) if line.startswith("deliver ") and line.split()[1] in packets}
         if not events:
             raise Problem("NoSuchClaim", "the logs have no packet of it")
-        return await draw(audit.schedule, f"{min(events)}-{max(events)}")
+        return await draw(schedule, f"{min(events)}-{max(events)}")
 
 
 async def draw(schedule: bytes, part: str = "") -> bytes:

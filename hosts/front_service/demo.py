@@ -4,6 +4,7 @@ from __future__ import annotations
 
 import argparse
 import pathlib
+import random
 import shutil
 import signal
 import socket
@@ -25,14 +26,16 @@ Ctrl-C ends all. Whoever has the tokens in {folder}/tokens may call.
 """
 
 
-def free_port(count: int = 1) -> int:
-    """A port of this machine behind which, with those that follow it, nobody listens."""
+# Ports that this machine gives to nobody who connects.
+PORTS = range(10_000, 32_000)
+
+
+def free_ports(count: int) -> int:
+    """The first of so many ports of this machine, one behind the other, at which nobody listens."""
     while True:
-        with socket.socket() as first:
-            first.bind(("127.0.0.1", 0))
-            port = first.getsockname()[1]
-        if port + count < 65536 and not any(_is_open(port + it) for it in range(count)):
-            return port
+        first = random.choice(PORTS)
+        if not any(_is_open(first + place) for place in range(count)):
+            return first
 
 
 def _is_open(port: int) -> bool:
@@ -49,7 +52,8 @@ def start(given: argparse.Namespace) -> int:
     settings = folder / "settings.toml"
     if not settings.exists():
         shutil.copyfile(TOP / "examples" / "six-nodes.toml", settings)
-    port, framed, watch = free_port(), free_port(), free_port(6)
+    port = free_ports(8)
+    framed, watch = port + 1, port + 2
     text = (TOP / "examples" / "messages" / "billing.txt").read_bytes().strip()
     (folder / "billing").write_bytes(unprinted(text))
     file = folder / "tokens"
