@@ -4,14 +4,13 @@ from __future__ import annotations
 
 import argparse
 import pathlib
-import random
 import shutil
 import signal
-import socket
 import subprocess
 import sys
 
 from . import tokens
+from .ports import free_ports
 from .printed import unprinted
 from .programs import TOP
 
@@ -24,23 +23,6 @@ kill the payer     hosts/vogctl --nats 127.0.0.1:{port} --access {folder}/access
 framed messages    127.0.0.1:{framed} (0x02, 0x03)
 Ctrl-C ends all. Whoever has the tokens in {folder}/tokens may call.
 """
-
-
-# Ports that this machine gives to nobody who connects.
-PORTS = range(10_000, 32_000)
-
-
-def free_ports(count: int) -> int:
-    """The first of so many ports of this machine, one behind the other, at which nobody listens."""
-    while True:
-        first = random.choice(PORTS)
-        if not any(_is_open(first + place) for place in range(count)):
-            return first
-
-
-def _is_open(port: int) -> bool:
-    with socket.socket() as other:
-        return other.connect_ex(("127.0.0.1", port)) == 0
 
 
 def start(given: argparse.Namespace) -> int:
