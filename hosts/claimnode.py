@@ -31,7 +31,9 @@ class Ended(Exception):
 
 def sync(path: str) -> None:
     """Has a log and its name on disk, whatever an earlier life has left undone."""
-    with contextlib.suppress(FileNotFoundError):
+    if os.path.exists(path):
+        if not os.path.isfile(path):
+            raise OSError("it is no file that keeps what is written")
         with open(path, "rb") as file:
             os.fsync(file.fileno())
     folder = os.open(pathlib.Path(path).resolve().parent, os.O_RDONLY)

@@ -188,11 +188,11 @@ def words() -> argparse.Namespace:
     nats.add_words(parser)
     parser.add_argument("--jetstream", action="store_true", help="the server keeps packets for nodes that are down")
     parser.add_argument("--tick", default="1.0", metavar="SECONDS")
-    parser.add_argument("--watch", type=int, metavar="PORT", help="metrics of the first node are at this port of this machine, of the next at the next")
+    parser.add_argument("--watch", type=int, metavar="PORT", help="metrics of the first node are at this port, of the next at the next")
     parser.add_argument("--hold-back", metavar="MS", help="switches lose what they forwarded less than so long ago")
     parser.add_argument("--ping", metavar="SECONDS", help="how long a server may be silent before it is asked whether it is there")
     parser.add_argument("--program", metavar="PATH", help="where claimnode is, for nodes of hosts/node.py")
-    parser.add_argument("--host", metavar="PATH", help="the program of hosts/c, which is host and node in one, in the place of hosts/node.py")
+    parser.add_argument("--host", metavar="PATH", help="the program of hosts/c, in the place of hosts/node.py")
     parser.add_argument("-v", action="store_true", help="words for people on standard error")
     given = parser.parse_args()
     if given.host and given.jetstream:

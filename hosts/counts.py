@@ -80,7 +80,7 @@ class Counts:
 
 
 class HoldBack:
-    """Which requests went out a moment ago: the same once more may be lost, as a packet may be."""
+    """Which requests go out, or went out a moment ago: the same once more may be lost, as a packet may be. What did not go is forgotten."""
 
     MOST = 65_536
 
@@ -95,8 +95,14 @@ class HoldBack:
             return False
         return time.monotonic() - self._times.get((sender, *head[1:]), -self._seconds) < self._seconds
 
+    def forget(self, sender: str, text: bytes) -> None:
+        """Notes that a node has not forwarded this request."""
+        head = head_of(text) if self._seconds else None
+        if head is not None:
+            self._times.pop((sender, *head[1:]), None)
+
     def went(self, sender: str, text: bytes) -> None:
-        """Notes that a node has forwarded this request."""
+        """Notes that a node is to forward this request."""
         head = head_of(text) if self._seconds else None
         if head is None or head[0] != 1:
             return

@@ -118,14 +118,15 @@ class Host:
 
         def heard(sent: list[tuple[str, bytes]], last: bytes) -> None:
             self.send(sent)
-            if sent and last == b"ok":
-                self._held.went(sender, message.payload)
+            if not sent:
+                self._held.forget(sender, message.payload)
             if last == b"ok" and self.node.name.startswith("ph"):
                 head = head_of(message.payload)
                 self._settled(head[2] if head else 0)
             done()
 
         if self.make(b"take " + sender.encode() + b" " + message.payload, heard):
+            self._held.went(sender, message.payload)
             self.counts.heard_from(sender)
         else:
             self.counts.dropped["full"] += 1
@@ -372,10 +373,10 @@ def words() -> argparse.Namespace:
     nats.add_words(parser)
     parser.add_argument("--tick", type=float, default=1.0, metavar="SECONDS", help="how long a pharmacy's tick is")
     parser.add_argument("--program", default="claimnode", help="where claimnode is")
-    parser.add_argument("--jetstream", action="store_true", help="packets are kept by the server: it runs with -js, and hosts/streams keeps them")
+    parser.add_argument("--jetstream", action="store_true", help="the server keeps packets: see hosts/streams")
     parser.add_argument("--watch", metavar="ADDRESS:PORT", help="where /metrics, /healthz and /readyz are")
-    parser.add_argument("--hold-back", type=float, default=0.0, metavar="MS", help="of a switch: lose what it forwarded less than so long ago")
-    parser.add_argument("--ping", type=float, default=nats.PING_SECONDS, metavar="SECONDS", help="how long a server may be silent before it is asked")
+    parser.add_argument("--hold-back", type=float, default=0.0, metavar="MS", help="of a switch: lose what it forwarded so lately")
+    parser.add_argument("--ping", type=float, default=nats.PING_SECONDS, metavar="SECONDS", help="how long a server may be silent")
     parser.add_argument("-v", action="store_true", help="words for people on standard error, and a line a second")
     given = parser.parse_args()
     if not subjects.NODE.fullmatch(given.node) or not given.tick > 0 or not given.ping > 0 or not given.hold_back >= 0:

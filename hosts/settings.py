@@ -27,6 +27,8 @@ class Settings:
     def read(cls, name: str) -> "Settings":
         """Of a file of settings alone; ends the program where it is none."""
         try:
+            if not pathlib.Path(name).is_file():
+                refuse(f"{name}: there is no such file")
             with pathlib.Path(name).open("rb") as file:
                 data = file.read(MOST_BYTES + 1)
             if len(data) > MOST_BYTES:
@@ -46,8 +48,8 @@ class Settings:
         return [node for node in self.nodes() if node.startswith("ph")]
 
     def addressees(self, node: str) -> list[str]:
-        """To whom a node sends: a pharmacy to its switches, a switch to the payers of routes and the pharmacies that name it, a payer to the
-        switches that some pharmacy names."""
+        """To whom a node sends: a pharmacy to its switches, a switch to the payers of routes and the pharmacies that name it, a payer
+        to the switches that some pharmacy names."""
         number = int(node[2:])
         named = [[f"sw{it}" for it in one.get("nodes", [])] for one in self._given.get("pharmacy", [])]
         payers = [f"pr{it}" for it in sorted({route["payer"] for route in self._given.get("route", [])})]

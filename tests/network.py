@@ -5,6 +5,7 @@ What a test wants and this machine does not have ends it with status 3, and says
 import asyncio
 import os
 import pathlib
+import random
 import re
 import shutil
 import socket
@@ -44,12 +45,11 @@ def expect(is_so, what):
 
 
 def free_port(count=1):
-    """A port of this machine behind which, with those that follow it, nobody listens."""
+    """A port of this machine behind which, with those that follow it, nobody listens. It is below those that the kernel gives to whoever
+    connects, which could be taken before a server has it."""
     while True:
-        with socket.socket() as first:
-            first.bind(("127.0.0.1", 0))
-            port = first.getsockname()[1]
-        if port + count < 65536 and all(not is_open(port + it) for it in range(count)):
+        port = random.randint(12_000, 30_000)
+        if all(not is_open(port + it) for it in range(count)):
             return port
 
 
@@ -191,13 +191,12 @@ class Network:
         answer, _ = self.ask(pharmacy, "wait", told.split()[1])
         expect("ANP" in answer, f"claim {number} was not paid: {answer}")
 
-    async def client(self, user, password=None, access=None):
-        """A connection of a user; its `errors` are what the server refuses it."""
-        if access is None:
-            access = nats.Access(self.url, self.ca, self.login(user))
-        if password is not None:
-            access.password = password
-        connection = nats.Connection(access, user or "nobody")
+    async def client(self, user):
+        """A connection of a user; its `errors` are what the server refuses it, `told` what it says."""
+        access = nats.Access(self.url, self.ca, self.login(user))
+        told = []
+        connection = nats.Connection(access, user or "nobody", lambda what, **facts: told.append(f"{what} {facts}"))
+        connection.told = told
         await asyncio.wait_for(connection.start(), 10)
         return connection
 

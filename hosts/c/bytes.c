@@ -34,12 +34,13 @@ bool begins(const char *text, size_t size, const char *word) {
     return size >= strlen(word) && memcmp(text, word, strlen(word)) == 0;
 }
 
-struct bytes whole(int file, const char *path) {
+struct bytes whole(int file, const char *path, size_t most) {
     struct bytes bytes = { NULL, 0, 0 };
     char part[65536];
     ssize_t count;
     add(&bytes, "", 0);
-    while ((count = read(file, part, sizeof part)) > 0) add(&bytes, part, (size_t)count);
+    while ((count = read(file, part, sizeof part)) > 0 && bytes.size <= most) add(&bytes, part, (size_t)count);
+    if (bytes.size > most) fail_with(REFUSED, path, "too long");
     if (count < 0) fail(path, "not readable");
     return bytes;
 }

@@ -72,7 +72,7 @@ bool sender_of(const char *node, const char *subject, char sender[9]) {
     size_t size = strlen(subject);
     if (!begins(subject, size, head) || size - strlen(head) > 7) return false;
     strcpy(sender, subject + strlen(head));
-    if (!begins(sender, strlen(sender), "ph") && !begins(sender, strlen(sender), "sw") && !begins(sender, strlen(sender), "pr")) return false;
+    if (strncmp(sender, "ph", 2) != 0 && strncmp(sender, "sw", 2) != 0 && strncmp(sender, "pr", 2) != 0) return false;
     if (sender[2] < '1' || sender[2] > '9') return false;
     for (const char *digit = sender + 2; *digit != '\0'; digit++)
         if (!isdigit((unsigned char)*digit)) return false;
@@ -112,7 +112,8 @@ static void erred(natsConnection *connection, natsSubscription *subscription, na
 /* Parts URLs at commas. */
 static int parted(char *urls, const char *part[MOST_SERVERS]) {
     int count = 0;
-    for (char *rest = NULL, *at = strtok_r(urls, ", ", &rest); at != NULL && count < MOST_SERVERS; at = strtok_r(NULL, ", ", &rest)) part[count++] = at;
+    char *rest = NULL;
+    for (char *at = strtok_r(urls, ", ", &rest); at != NULL && count < MOST_SERVERS; at = strtok_r(NULL, ", ", &rest)) part[count++] = at;
     return count;
 }
 
@@ -120,7 +121,7 @@ static int parted(char *urls, const char *part[MOST_SERVERS]) {
 static void set_login(natsOptions *options, const char *path) {
     int file = open(path, O_RDONLY);
     if (file < 0) fail(path, "not there");
-    struct bytes login = whole(file, path);
+    struct bytes login = whole(file, path, 4096);
     close(file);
     char *end = strpbrk(login.at, "\r\n"), *password;
     if (end != NULL) *end = '\0';
@@ -142,7 +143,8 @@ static void set_access(natsOptions *options, const struct access *access) {
     free(urls);
     if (is_tls) check("tls", natsOptions_SetSecure(options, true));
     if (access->authorities != NULL) check(access->authorities, natsOptions_LoadCATrustedCertificates(options, access->authorities));
-    if (access->credentials != NULL) check(access->credentials, natsOptions_SetUserCredentialsFromFiles(options, access->credentials, NULL));
+    const char *credentials = access->credentials;
+    if (credentials != NULL) check(credentials, natsOptions_SetUserCredentialsFromFiles(options, credentials, NULL));
     if (access->login != NULL) set_login(options, access->login);
 }
 

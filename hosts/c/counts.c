@@ -15,7 +15,8 @@ struct named {
     double last;
 };
 
-static const double class_end[CLASSES] = { 0.0001, 0.00025, 0.0005, 0.001, 0.0025, 0.005, 0.01, 0.025, 0.05, 0.1, 0.25, 0.5, 1, 2.5, 5, 10 };
+static const double class_end[CLASSES] = { 0.0001, 0.00025, 0.0005, 0.001, 0.0025, 0.005, 0.01, 0.025,
+                                           0.05,   0.1,     0.25,   0.5,   1,      2.5,   5,    10 };
 static const char *const call_name[CALLS] = { "submit", "answer", "take", "tick", "plan", "stop", "start", "other" };
 static const char *const why_name[WHYS] = { "not_a_packet", "held_back", "full", "reply" };
 
@@ -164,7 +165,8 @@ static void add_one(struct bytes *text, const char *node, const char *name, cons
     add_form(text, "vogrilas_%s{node=\"%s\"} %.15g\n", name, node, value);
 }
 
-static void add_list(struct bytes *text, const char *node, const char *name, const char *label, const char *says, const struct named *list) {
+static void add_list(struct bytes *text, const char *node, const char *name, const char *label, const char *says,
+                     const struct named *list) {
     add_head(text, name, "counter", says);
     for (int at = 0; at < MOST_NAMES && list[at].count > 0; at++)
         add_form(text, "vogrilas_%s{%s=\"%s\",node=\"%s\"} %llu\n", name, label, list[at].name, node, (unsigned long long)list[at].count);
@@ -173,17 +175,20 @@ static void add_list(struct bytes *text, const char *node, const char *name, con
 static void add_fixed(struct bytes *text, const char *node, const char *name, const char *label, const char *says, const char *const *key,
                       const uint64_t *value, int count) {
     add_head(text, name, "counter", says);
-    for (int at = 0; at < count; at++)
-        if (value[at] > 0) add_form(text, "vogrilas_%s{%s=\"%s\",node=\"%s\"} %llu\n", name, label, key[at], node, (unsigned long long)value[at]);
+    for (int at = 0; at < count; at++) {
+        if (value[at] == 0) continue;
+        add_form(text, "vogrilas_%s{%s=\"%s\",node=\"%s\"} %llu\n", name, label, key[at], node, (unsigned long long)value[at]);
+    }
 }
 
 static void add_syncs(struct bytes *text, const char *node) {
     uint64_t total = 0;
     add_head(text, "sync_seconds", "histogram", "How long a sync of the log took.");
     for (int class = 0; class <= CLASSES; class++) {
+        char end[24] = "+Inf";
         total += seen.classes[class];
-        if (class < CLASSES) add_form(text, "vogrilas_sync_seconds_bucket{le=\"%g\",node=\"%s\"} %llu\n", class_end[class], node, (unsigned long long)total);
-        else add_form(text, "vogrilas_sync_seconds_bucket{le=\"+Inf\",node=\"%s\"} %llu\n", node, (unsigned long long)total);
+        if (class < CLASSES) snprintf(end, sizeof end, "%g", class_end[class]);
+        add_form(text, "vogrilas_sync_seconds_bucket{le=\"%s\",node=\"%s\"} %llu\n", end, node, (unsigned long long)total);
     }
     add_form(text, "vogrilas_sync_seconds_count{node=\"%s\"} %llu\n", node, (unsigned long long)seen.syncs);
     add_form(text, "vogrilas_sync_seconds_sum{node=\"%s\"} %.9g\n", node, seen.sync_seconds);
@@ -199,8 +204,8 @@ static void add_entries(struct bytes *text, const char *node) {
 
 static void add_peers(struct bytes *text, const char *node) {
     add_head(text, "peer_last_packet_timestamp_seconds", "gauge", "When the last packet of a peer came.");
-    for (int at = 0; at < MOST_NAMES && seen.taken[at].count > 0; at++)
-        add_form(text, "vogrilas_peer_last_packet_timestamp_seconds{node=\"%s\",peer=\"%s\"} %.3f\n", node, seen.taken[at].name, seen.taken[at].last);
+    for (const struct named *peer = seen.taken; peer < seen.taken + MOST_NAMES && peer->count > 0; peer++)
+        add_form(text, "vogrilas_peer_last_packet_timestamp_seconds{node=\"%s\",peer=\"%s\"} %.3f\n", node, peer->name, peer->last);
 }
 
 struct bytes counts_text(const char *node, const char *log) {
@@ -209,12 +214,14 @@ struct bytes counts_text(const char *node, const char *log) {
     uint32_t version = vogrilas_version();
     locked();
     add_head(&text, "host_info", "gauge", "The host and the version of its node.");
-    add_form(&text, "vogrilas_host_info{host=\"c\",node=\"%s\",version=\"%u.%u.%u\"} 1\n", node, version / 1000000, version / 1000 % 1000, version % 1000);
+    add_form(&text, "vogrilas_host_info{host=\"c\",node=\"%s\",version=\"%u.%u.%u\"} 1\n", node, version / 1000000,
+             version / 1000 % 1000, version % 1000);
     add_fixed(&text, node, "calls_total", "call", "Calls on the node, by what was asked.", call_name, seen.calls, CALLS);
     add_list(&text, node, "refusals_total", "name", "Calls that the node or its host refused, by name.", seen.refusals);
     add_list(&text, node, "packets_sent_total", "to", "Packets sent, by addressee.", seen.sent);
     add_list(&text, node, "packets_taken_total", "from", "Packets that came for the node, by sender.", seen.taken);
-    add_fixed(&text, node, "packets_dropped_total", "why", "Messages that were not handed to the node, by cause.", why_name, seen.dropped, WHYS);
+    add_fixed(&text, node, "packets_dropped_total", "why", "Messages that were not handed to the node, by cause.", why_name,
+              seen.dropped, WHYS);
     add_one(&text, node, "packets_sent_again_total", "counter", "Packets that a tick sent once more.", (double)seen.again);
     add_peers(&text, node);
     if (begins(node, strlen(node), "ph")) add_entries(&text, node);

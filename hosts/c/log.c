@@ -109,6 +109,8 @@ static int open_log(const char *path) {
     free(mark);
     int log = open(path, O_RDWR | O_CREAT | O_APPEND, 0600);
     if (log < 0) fail_with(REFUSED, path, "not there");
+    struct stat at;
+    if (fstat(log, &at) != 0 || !S_ISREG(at.st_mode)) fail_with(REFUSED, path, "no file that keeps what is written");
     if (flock(log, LOCK_EX | LOCK_NB) != 0) fail(path, "another process has it");
     return log;
 }
@@ -118,7 +120,7 @@ struct served node_open(const char *settings, const char *name, const char *path
     int file = open(settings, O_RDONLY);
     if (file < 0) fail_with(REFUSED, settings, "not there");
     node.log = open_log(path);
-    struct bytes text = whole(file, settings), log = whole(node.log, path);
+    struct bytes text = whole(file, settings, MOST_SETTINGS), log = whole(node.log, path, SIZE_MAX);
     close(file);
     char seed[16];
     draw(seed, sizeof seed);
@@ -156,7 +158,7 @@ static void check_name(struct served *node) {
     snprintf(ending, sizeof ending, ".removed-%lld", (long long)time(NULL));
     char *name = beside(node->path, ending);
     lseek(node->log, 0, SEEK_SET);
-    struct bytes bytes = whole(node->log, node->path);
+    struct bytes bytes = whole(node->log, node->path, SIZE_MAX);
     bool is_kept = write_new(name, bytes.at, bytes.size);
     say("error", is_kept ? "what the log had is kept" : "what the log had could not be kept", name);
     fail_with(REFUSED, node->path, "the log was removed or replaced while the node ran");

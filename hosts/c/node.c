@@ -152,7 +152,11 @@ static void serve(struct host *host, struct message *one) {
         counts_dropped(HELD_BACK);
     } else if (line_of(host, one, &host->line)) {
         counts_call(host->line.at, host->line.size);
-        if (one->from == FROM_NODE && sender_of(host->given.name, natsMsg_GetSubject(one->text), sender)) counts_taken(sender);
+        if (one->from == FROM_NODE && sender_of(host->given.name, natsMsg_GetSubject(one->text), sender)) {
+            counts_taken(sender);
+            if (begins(host->given.name, 2, "sw"))
+                held_went(host->given.hold_back / 1000, sender, text, (size_t)natsMsg_GetDataLength(one->text));
+        }
         node_serve(&host->node, host->line.at, host->line.size);
         one->is_served = true;
     } else {
@@ -167,12 +171,10 @@ static void note(const struct host *host, const struct message *one, const char 
     size_t text_size = (size_t)natsMsg_GetDataLength(one->text);
     bool is_pharmacy = begins(host->given.name, 2, "ph");
     struct head head;
-    char sender[9];
     if (begins(line, size, "number ")) counts_entered(strtoull(line + 7, NULL, 10));
-    if (one->from != FROM_NODE || !begins(line, size, "ok")) return;
-    if (is_pharmacy && head_of(text, text_size, &head)) counts_settled(head.number);
-    if (has_sent && begins(host->given.name, 2, "sw") && sender_of(host->given.name, natsMsg_GetSubject(one->text), sender))
-        held_went(host->given.hold_back / 1000, sender, text, text_size);
+    if (one->from != FROM_NODE) return;
+    if (is_pharmacy && begins(line, size, "ok") && head_of(text, text_size, &head)) counts_settled(head.number);
+    if (!has_sent) held_forget(text, text_size);
 }
 
 /* Sends a packet that a line of the node has: now, or where a tick sent it, later. */

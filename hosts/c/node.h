@@ -20,6 +20,8 @@
 #define REFUSED 78
 /* A packet has at most 131,144 printed bytes, a request 131,072; what is longer is none. */
 #define MOST_BYTES 131200
+/* A settings file has at most 16 MiB. */
+#define MOST_SETTINGS (16u << 20)
 
 /* Bytes that grow. */
 struct bytes {
@@ -32,8 +34,8 @@ void add_text(struct bytes *bytes, const char *text);
 /* Adds what printf would print, which has at most 1,000 bytes. */
 void add_form(struct bytes *bytes, const char *form, ...) __attribute__((format(printf, 2, 3)));
 bool begins(const char *text, size_t size, const char *word);
-/* All bytes of an open file. */
-struct bytes whole(int file, const char *path);
+/* All bytes of an open file; one that has more than so many is refused. */
+struct bytes whole(int file, const char *path, size_t most);
 /* Seconds of a clock that nobody sets, and of the clock of the day. */
 double now(void);
 double wall(void);
@@ -129,9 +131,10 @@ void later_begin(struct later *later, double seconds);
 /* Sends what is due, or all; how many seconds until more is. */
 double later_send(struct later *later, struct carrier *carrier, bool all);
 
-/* Requests that went out a moment ago: the same once more may be lost, as a packet may be. */
+/* Requests that go out or went out a moment ago: the same once more may be lost, as a packet may be. One that did not go is forgotten. */
 bool held_is(double seconds, const char *sender, const char *text, size_t size);
 void held_went(double seconds, const char *sender, const char *text, size_t size);
+void held_forget(const char *text, size_t size);
 
 /* What the host has seen since it started. Each call may come from any thread. */
 enum call { CALL_SUBMIT, CALL_ANSWER, CALL_TAKE, CALL_TICK, CALL_PLAN, CALL_STOP, CALL_START, CALL_OTHER, CALLS };

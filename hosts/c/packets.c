@@ -101,3 +101,9 @@ void held_went(double seconds, const char *sender, const char *text, size_t size
     remembered[place].at = now();
     snprintf(remembered[place].sender, sizeof remembered[place].sender, "%s", sender);
 }
+
+void held_forget(const char *text, size_t size) {
+    struct head head;
+    size_t place;
+    if (place_of(text, size, &head, &place)) remembered[place].head.number = 0;
+}

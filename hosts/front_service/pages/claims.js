@@ -47,7 +47,7 @@ export async function claim({ who, words: [pharmacy, number], show }) {
   const elements = [
     make("h1", {}, `Claim ${number} of ${pharmacy} `, isOpen ? tag("wait", "open") : rulings),
     make("p", { class: "lead" }, `Entered ${time(told.entered)}${told.answered ? `, answered ${time(told.answered)}` : ", and not answered yet"}${told.key ? `; key ${told.key}` : ""}.`),
-    message("Request", told.request), message("Answer", told.answer), make("section", {}, make("h2", {}, "On its way"), drawn),
+    make("section", {}, make("h2", {}, "On its way"), drawn), message("Request", told.request), message("Answer", told.answer),
   ];
   let isLeft = false;
   if (isOpen) {

@@ -5,6 +5,7 @@ from __future__ import annotations
 import fcntl
 import os
 import pathlib
+import stat
 import threading
 import warnings
 from typing import Callable, Optional, TypeVar, Union
@@ -212,6 +213,9 @@ def _opened(path: pathlib.Path) -> int:
     """The descriptor of a log, which nobody else may read. It is none of the standard ones: where those are closed, what a program
     prints would go into the log."""
     file = os.open(path, os.O_RDWR | os.O_CREAT | os.O_APPEND | os.O_CLOEXEC, 0o600)
+    if not stat.S_ISREG(os.fstat(file).st_mode):
+        os.close(file)
+        raise OSError(f"{path}: no file that keeps what is written")
     if file > 2:
         return file
     moved = fcntl.fcntl(file, fcntl.F_DUPFD_CLOEXEC, 3)
