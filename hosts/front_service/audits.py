@@ -41,17 +41,18 @@ class Audits:
         self._one = asyncio.Lock()
         self._last: tuple[float, Audit] | None = None
 
-    async def audit(self, is_drawn: bool = False) -> Audit:
-        """The audit of the logs as they are. Nodes run meanwhile: what a log took after the copying began may be left out, as after a crash at that
+    async def audit(self, is_drawn: bool = False, most_age: float = KEPT_SECONDS) -> Audit:
+        """The audit of the logs as they are, or were so many seconds ago. Nodes run meanwhile: what a log took after the copying began may be left out, as after a crash at that
         moment, and how much is told. What stood in a log before is never left out: its sender's log had it by then."""
         if self._folder is None:
             raise Problem("NoAudit", "the front was started without --logs")
         async with self._one:
-            if self._last is not None and time.monotonic() - self._last[0] < KEPT_SECONDS and (self._last[1].drawn or not is_drawn):
+            if self._last is not None and time.monotonic() - self._last[0] < most_age and (self._last[1].drawn or not is_drawn):
                 return self._last[1]
+            started = time.monotonic()
             with tempfile.TemporaryDirectory(prefix="front-audit-") as work:
                 made = await self._audit(pathlib.Path(work), is_drawn)
-            self._last = (time.monotonic(), made)
+            self._last = (started, made)
             return made
 
     async def _audit(self, work: pathlib.Path, is_drawn: bool) -> Audit:
@@ -102,20 +103,23 @@ class Audits:
 
     async def picture(self, pharmacy: str, number: int) -> bytes:
         """The picture of the events from a claim's submission until its last packet has come; of others what happened between."""
-        audit = await self.audit(is_drawn=True)
-        if audit.drawn is None:
-            raise Problem("NoAudit", "the logs are not those of one legal run, so that nothing can be drawn")
-        schedule, packets_table = audit.drawn
-        rows = csv.DictReader(io.StringIO(packets_table.decode("ascii")))
-        own = [row for row in rows if row["pharmacy"] == pharmacy[2:] and row["number"] == str(number)]
-        packets = {row["packet"] for row in own}
-        events = {int(row["event"]) for row in own}
-        behind = schedule.decode("utf-8").split("\n---\n", 1)[1].splitlines()
-        lines = [line for line in behind if line and not line.startswith("#")]
-        events |= {place for place, line in enumerate(lines, 1) if line.startswith("deliver ") and line.split()[1] in packets}
-        if not events:
-            raise Problem("NoSuchClaim", "the logs have no packet of it")
-        return await draw(schedule, f"{min(events)}-{max(events)}")
+        for most_age in (KEPT_SECONDS, 0.0):
+            audit = await self.audit(is_drawn=True, most_age=most_age)
+            if audit.drawn is None:
+                raise Problem("NoAudit", "the logs are not those of one legal run, so that nothing can be drawn")
+            schedule, packets = audit.drawn
+            events = _events_of(schedule.decode("utf-8"), packets.decode("ascii"), pharmacy[2:], str(number))
+            if events:
+                return await draw(schedule, f"{min(events)}-{max(events)}")
+        raise Problem("NoSuchClaim", "the logs have no packet of it")
+
+
+def _events_of(schedule: str, packets: str, pharmacy: str, number: str) -> set[int]:
+    """The events that send or deliver the packets of a claim, by their numbers."""
+    own = [row for row in csv.DictReader(io.StringIO(packets)) if row["pharmacy"] == pharmacy and row["number"] == number]
+    names = {row["packet"] for row in own}
+    lines = [line for line in schedule.partition("\n---\n")[2].splitlines() if line and not line.startswith("#")]
+    return {int(row["event"]) for row in own} | {at for at, line in enumerate(lines, 1) if line.startswith("deliver ") and line.split()[1] in names}
 
 
 async def draw(schedule: bytes, part: str = "") -> bytes:
