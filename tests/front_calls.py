@@ -115,7 +115,10 @@ class Caller:
         for method, path, status, kind, body in self.seen:
             template = next((name for name, way in ways if way.fullmatch(path)), None)
             if template is None or (status == "405" and method not in document["paths"][template]):
-                expect(status in ("404", "405") and kind == "application/problem+json", f"{method} {path}: {status} is nowhere in /openapi.json")
+                expect(
+                    status in ("404", "405") and kind == "application/problem+json",
+                    f"{method} {path}: {status} is nowhere in /openapi.json",
+                )
                 continue
             answer = told.get((template, method, status))
             expect(answer is not None and kind in answer["content"], f"{method} {path}: {status} {kind} is not in /openapi.json")

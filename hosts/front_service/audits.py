@@ -119,7 +119,9 @@ def _events_of(schedule: str, packets: str, pharmacy: str, number: str) -> set[i
     own = [row for row in csv.DictReader(io.StringIO(packets)) if row["pharmacy"] == pharmacy and row["number"] == number]
     names = {row["packet"] for row in own}
     lines = [line for line in schedule.partition("\n---\n")[2].splitlines() if line and not line.startswith("#")]
-    return {int(row["event"]) for row in own} | {at for at, line in enumerate(lines, 1) if line.startswith("deliver ") and line.split()[1] in names}
+    return {int(row["event"]) for row in own} | {
+        at for at, line in enumerate(lines, 1) if line.startswith("deliver ") and line.split()[1] in names
+    }
 
 
 async def draw(schedule: bytes, part: str = "") -> bytes:
@@ -132,7 +134,13 @@ async def draw(schedule: bytes, part: str = "") -> bytes:
 
 def told(audit: Audit) -> dict[str, Any]:
     """An audit, for a caller."""
-    return {"legal": audit.is_legal, "text": audit.text, "left_out": audit.left_out, "seconds": round(audit.seconds, 3), "events": _events(audit.text)}
+    return {
+        "legal": audit.is_legal,
+        "text": audit.text,
+        "left_out": audit.left_out,
+        "seconds": round(audit.seconds, 3),
+        "events": _events(audit.text),
+    }
 
 
 def _events(text: str) -> int:

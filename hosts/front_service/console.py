@@ -90,4 +90,6 @@ def page(name: str) -> web.Response:
     path = PAGES / name
     if path.parent != PAGES or path.suffix not in TYPES or not path.is_file():
         raise Problem("NotFound")
-    return web.Response(body=path.read_bytes(), content_type=TYPES[path.suffix], charset="utf-8", headers={**HEADERS, "Cache-Control": "no-cache"})
+    return web.Response(
+        body=path.read_bytes(), content_type=TYPES[path.suffix], charset="utf-8", headers={**HEADERS, "Cache-Control": "no-cache"}
+    )

@@ -12,7 +12,7 @@ import sys
 from . import tokens
 from .ports import free_ports
 from .printed import unprinted
-from .programs import TOP
+from .programs import EXAMPLES, TOP
 
 HOSTS = TOP / "hosts"
 WORDS = """
@@ -33,17 +33,21 @@ def start(given: argparse.Namespace) -> int:
     folder.mkdir(mode=0o700, parents=True, exist_ok=True)
     settings = folder / "settings.toml"
     if not settings.exists():
-        shutil.copyfile(TOP / "examples" / "six-nodes.toml", settings)
+        shutil.copyfile(EXAMPLES / "six-nodes.toml", settings)
     port = free_ports(8)
     framed, watch = port + 1, port + 2
-    text = (TOP / "examples" / "messages" / "billing.txt").read_bytes().strip()
+    text = (EXAMPLES / "messages" / "billing.txt").read_bytes().strip()
     (folder / "billing").write_bytes(unprinted(text))
     file = folder / "tokens"
     if not file.exists():
         for who in ("ph1", "ph2", tokens.OPERATOR):
             tokens.make(who, str(file))
     known = dict(line.split() for line in file.read_text(encoding="ascii").splitlines())
-    subprocess.run([sys.executable, HOSTS / "permissions", settings, folder / "access", "--listen", f"127.0.0.1:{port}"], check=True, stdout=subprocess.DEVNULL)
+    subprocess.run(
+        [sys.executable, HOSTS / "permissions", settings, folder / "access", "--listen", f"127.0.0.1:{port}"],
+        check=True,
+        stdout=subprocess.DEVNULL,
+    )
     nats = ["--nats", f"127.0.0.1:{port}", "--access", str(folder / "access")]
     watched = ["--watch", str(watch)] if _can_watch() else []
     cluster = [sys.executable, HOSTS / "cluster.py", settings, folder / "logs", "--server", *nats, *watched, "--tick", "0.5"]

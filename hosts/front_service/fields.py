@@ -54,7 +54,9 @@ def of_parts(parts: Any) -> bytes:
         except ValueError as fault:
             raise Problem("FieldRefused", f"the value is not in printed bytes: {fault}", field=f"{where}/value") from None
         is_behind_header = is_behind_header or field == "111-AM"
-        made.append((b"\x1e\x1cAM" if field == "111-AM" else b"\x1c" + field[-2:].encode("ascii", "replace") if is_behind_header else b"") + data)
+        made.append(
+            (b"\x1e\x1cAM" if field == "111-AM" else b"\x1c" + field[-2:].encode("ascii", "replace") if is_behind_header else b"") + data
+        )
     return b"".join(made)
 
 
@@ -127,7 +129,9 @@ async def checked(message: bytes, decoder: Decoder, given: dict[str, Any] | None
     told = await decoder.ask(message)
     for one in told["findings"]:
         if one["finding"] in ("not_framed", "not_carried"):
-            raise Problem("FieldRefused" if given else "Unreadable", one["says"], **{name: one[name] for name in ("at", "fault") if name in one})
+            raise Problem(
+                "FieldRefused" if given else "Unreadable", one["says"], **{name: one[name] for name in ("at", "fault") if name in one}
+            )
         if given and one["finding"] == "rejected":
             raise Problem("FieldRefused", one["says"], field=one["field"], code=one["code"])
     if given:

@@ -92,7 +92,9 @@ class Framed:
             # The caller may have closed its half, and wait for what is on its way.
             await asyncio.gather(*works)
         except (BadFrame, asyncio.LimitOverrunError, asyncio.IncompleteReadError) as fault:
-            self._write(writer, f"VOGRILAS REFUSED Frame {fault}" if isinstance(fault, BadFrame) else "VOGRILAS REFUSED Frame it is no whole frame")
+            self._write(
+                writer, f"VOGRILAS REFUSED Frame {fault}" if isinstance(fault, BadFrame) else "VOGRILAS REFUSED Frame it is no whole frame"
+            )
         except (OSError, TimeoutError):
             pass
         finally:
@@ -127,7 +129,9 @@ class Framed:
             self._write(writer, f"VOGRILAS {word} {problem.name} {problem.detail or problem.title}")
             return
         if answer is None:
-            self._write(writer, f"VOGRILAS OPEN {self._pharmacy.name} {number} still open after {self._seconds:g} s; the answer is asked for on")
+            self._write(
+                writer, f"VOGRILAS OPEN {self._pharmacy.name} {number} still open after {self._seconds:g} s; the answer is asked for on"
+            )
             return
         if not writer.is_closing():
             writer.write(framed(answer, self._framing))

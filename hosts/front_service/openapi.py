@@ -29,7 +29,11 @@ def _refused(*statuses: int) -> Document:
 def _got(summary: str, says: str, schema: Document, *statuses: int, parameters: list[Document] | None = None, **more: Any) -> Document:
     """An operation that reads."""
     name = "".join(word.capitalize() for word in summary.split())
-    operation = {"operationId": name[0].lower() + name[1:], "summary": summary, "responses": {"200": _json(says, schema, **more)} | _refused(*statuses)}
+    operation = {
+        "operationId": name[0].lower() + name[1:],
+        "summary": summary,
+        "responses": {"200": _json(says, schema, **more)} | _refused(*statuses),
+    }
     return operation | ({"parameters": parameters} if parameters else {})
 
 
@@ -80,11 +84,18 @@ PROBLEM_SCHEMA = {
     "type": "object", "required": ["type", "title", "status", "name"],
     "properties": {name: TEXT for name in ("type", "title", "name", "detail", "field", "fault", "code")} | {"status": NUMBER, "at": NUMBER},
 }  # fmt: skip
-REPLAY = {"type": "object", "required": ["settings", "events"], "properties": {"settings": TEXT, "events": {"type": "array", "items": TEXT}}}
+REPLAY = {
+    "type": "object",
+    "required": ["settings", "events"],
+    "properties": {"settings": TEXT, "events": {"type": "array", "items": TEXT}},
+}
 
 
 def _several(name: str, row: Document) -> Document:
-    return {"type": "object", "properties": {name: {"type": "array", "items": row}, "page": NUMBER, "size": NUMBER, "more": {"type": "boolean"}}}
+    return {
+        "type": "object",
+        "properties": {name: {"type": "array", "items": row}, "page": NUMBER, "size": NUMBER, "more": {"type": "boolean"}},
+    }
 
 
 def _sending() -> Document:
@@ -93,7 +104,13 @@ def _sending() -> Document:
     raw = {RAW: {"schema": {"type": "string", "format": "binary"}}}
     parts = {"type": "object", "required": ["parts"], "properties": {"parts": {"type": "array", "items": {"type": "object"}}}}
     body = {"oneOf": [{"$ref": "#/components/schemas/Order"}, parts]}
-    key = {"name": "Idempotency-Key", "in": "header", "required": False, "description": "the same key is the same claim", "schema": {"type": "string", "maxLength": 128}}
+    key = {
+        "name": "Idempotency-Key",
+        "in": "header",
+        "required": False,
+        "description": "the same key is the same claim",
+        "schema": {"type": "string", "maxLength": 128},
+    }
     responses = {"200": _json("The answer of the payer", claim, headers, **raw), "202": _json("Entered, and still open", claim, headers)}
     return {
         "operationId": "sendClaim", "summary": "Send a claim", "parameters": [WAIT, key],
@@ -111,7 +128,9 @@ def _payments(head: str) -> Document:
     totals = {"type": "object", "properties": {"by": TEXT, "totals": {"type": "array", "items": TOTAL}}}
     page = _several("payments", {"$ref": "#/components/schemas/Payment"})
     return {
-        f"{head}/payments": {"get": _got(f"List payments{of}", "A page of payments", page, *refused, parameters=[*DAYS, *PAGES, *own], **kinds)},
+        f"{head}/payments": {
+            "get": _got(f"List payments{of}", "A page of payments", page, *refused, parameters=[*DAYS, *PAGES, *own], **kinds)
+        },
         f"{head}/totals": {"get": _got(f"Sum payments{of}", "Totals", totals, *refused, parameters=[*DAYS, by, *own])},
     }
 

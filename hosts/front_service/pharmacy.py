@@ -148,7 +148,9 @@ class Pharmacy:
         known then, that has no key. Without the node's log nobody can tell; the message is then submitted once more (docs/FRONT.md)."""
         if not self._log:
             return None
-        found = await asyncio.to_thread(lambda: [number for number, request in entries_in(self._log, kept.after_number) if request == kept.request])
+        found = await asyncio.to_thread(
+            lambda: [number for number, request in entries_in(self._log, kept.after_number) if request == kept.request]
+        )
         for number in found:
             known = await self._receipts.of_number(self.name, number)
             if known is None or known.key is None:

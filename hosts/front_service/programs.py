@@ -15,6 +15,8 @@ from .printed import printed
 from .problems import Problem
 
 TOP = pathlib.Path(__file__).resolve().parent.parent.parent
+# In the repository, and where the packages lay them out.
+EXAMPLES = next((it for it in (TOP / "examples", TOP.parent / "doc" / "vogrilas" / "examples") if it.is_dir()), TOP / "examples")
 MOST_LINE_BYTES = 16 << 20
 # How long a program may take that is asked by a person.
 SECONDS = 60.0

@@ -7,12 +7,14 @@ becomes two entries, also where the front ends in between: `number` is then empt
 from __future__ import annotations
 
 import asyncio
+import concurrent.futures
 import hashlib
 import os
 import queue
 import sqlite3
 import threading
 import time
+import urllib.parse
 from collections.abc import Callable
 from typing import Any, NamedTuple, TypeVar
 
@@ -57,7 +59,7 @@ def digest_of(message: bytes) -> bytes:
 
 
 class Receipts:
-    """The file, and the one thread that has it. Writes that wait together are synced together."""
+    """The file, and the one thread that writes it. Writes that wait together are synced together."""
 
     def __init__(self, name: str) -> None:
         self._work: queue.SimpleQueue[tuple[Callable[[sqlite3.Connection], Any], asyncio.Future[Any]] | None] = queue.SimpleQueue()
@@ -72,6 +74,10 @@ class Receipts:
         self._file.execute("PRAGMA synchronous = FULL")
         self._file.executescript(SCHEMA)
         os.umask(old)
+        # Long questions of people are asked on the side, and hold up no claim.
+        self._side = sqlite3.connect(f"file:{urllib.parse.quote(name)}?mode=ro", uri=True, check_same_thread=False)
+        self._side.row_factory = sqlite3.Row
+        self._asking = concurrent.futures.ThreadPoolExecutor(1, "receipts-side")
         self._thread = threading.Thread(target=self._run, name="receipts", daemon=True)
         self._thread.start()
 
@@ -84,12 +90,14 @@ class Receipts:
     def close(self) -> None:
         self._work.put(None)
         self._thread.join()
+        self._asking.shutdown()
+        self._side.close()
         self._file.close()
 
     def _run(self) -> None:
         while (first := self._work.get()) is not None:
             some = [first]
-            while len(some) < MOST_AT_ONCE and not self._work.empty():
+            while len(some) < MOST_AT_ONCE and some[-1] is not None and not self._work.empty():
                 some.append(self._work.get())
             is_last = some[-1] is None
             self._make([it for it in some if it is not None])
@@ -138,12 +146,15 @@ class Receipts:
         """Notes which number a key has. A row that was made for a number that others had asked about goes over into it."""
 
         def made(file: sqlite3.Connection) -> None:
-            seen = file.execute("SELECT answer, answered FROM claims WHERE pharmacy = ? AND number = ? AND key IS NULL", (pharmacy, number)).fetchone()
+            seen = file.execute(
+                "SELECT answer, answered FROM claims WHERE pharmacy = ? AND number = ? AND key IS NULL", (pharmacy, number)
+            ).fetchone()
             if seen is not None:
                 file.execute("DELETE FROM claims WHERE pharmacy = ? AND number = ?", (pharmacy, number))
             answer, answered = tuple(seen) if seen is not None else (None, None)
             file.execute(
-                "UPDATE claims SET number = ?, answer = ?, answered = ? WHERE pharmacy = ? AND key = ?", (number, answer, answered, pharmacy, key)
+                "UPDATE claims SET number = ?, answer = ?, answered = ? WHERE pharmacy = ? AND key = ?",
+                (number, answer, answered, pharmacy, key),
             )
 
         await self.do(made)
@@ -169,8 +180,8 @@ class Receipts:
         return await self.do(lambda file: _one(file, "pharmacy = ? AND key = ?", pharmacy, key))
 
     async def rows(self, text: str, *values: object) -> list[sqlite3.Row]:
-        """What a question in SQL finds."""
-        return await self.do(lambda file: file.execute(text, values).fetchall())
+        """What a question in SQL finds, of all that is on disk."""
+        return await self._loop.run_in_executor(self._asking, lambda: self._side.execute(text, values).fetchall())
 
     async def write_rulings(self, ruled: list[int], rows: list[tuple[Any, ...]]) -> None:
         """Notes what answers say, and which rows of claims that were."""

@@ -11,11 +11,10 @@ from aiohttp import web
 from .audits import draw
 from .console import page
 from .problems import Problem
-from .programs import TOP, run
+from .programs import EXAMPLES, run
 
 MOST_EVENTS = 2000
 MOST_BYTES = 1 << 20
-EXAMPLES = TOP / "examples"
 
 
 def parted(text: str) -> tuple[str, list[str]]:
@@ -65,7 +64,9 @@ class Replays:
         try:
             given = json.loads(await request.read())
             settings, events = given["settings"], given["events"]
-            is_good = isinstance(settings, str) and len(events) <= MOST_EVENTS and all(isinstance(it, str) and "\n" not in it for it in events)
+            is_good = (
+                isinstance(settings, str) and len(events) <= MOST_EVENTS and all(isinstance(it, str) and "\n" not in it for it in events)
+            )
         except (ValueError, KeyError, TypeError, RecursionError):
             is_good = False
         if not is_good or len(settings) + sum(map(len, events)) > MOST_BYTES:
@@ -73,7 +74,12 @@ class Replays:
         text = "\n".join([settings, "---", *events, ""]).encode()
         (status, report, said), picture = await asyncio.gather(run("claimswitch", "replay", given=text), self._picture(text))
         lines = report.decode("ascii").splitlines()
-        told = {"status": status, "said": said.decode(errors="replace").strip(), "events": lines[: len(events)], "nodes": lines[len(events) :]}
+        told = {
+            "status": status,
+            "said": said.decode(errors="replace").strip(),
+            "events": lines[: len(events)],
+            "nodes": lines[len(events) :],
+        }
         return web.json_response(told | {"picture": picture})
 
     async def _picture(self, text: bytes) -> str:

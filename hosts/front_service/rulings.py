@@ -84,7 +84,9 @@ class Rulings:
         await self.catch_up()
         columns = {"payer": "r.payer AS payer", "pharmacy": "r.pharmacy AS pharmacy", "day": "r.day AS day"}
         sums = "count(*) AS payments, coalesce(sum(CASE WHEN back.number IS NULL THEN r.total ELSE 0 END), 0) AS standing_cents, "
-        sums += "count(back.number) AS reversed, coalesce(sum(CASE WHEN back.number IS NOT NULL THEN r.total ELSE 0 END), 0) AS reversed_cents"
+        sums += (
+            "count(back.number) AS reversed, coalesce(sum(CASE WHEN back.number IS NOT NULL THEN r.total ELSE 0 END), 0) AS reversed_cents"
+        )
         text, values = which.ask(f"{columns[by]}, {sums}" if by else sums, "GROUP BY 1 ORDER BY 1" if by else "")
         return [dict(row) for row in await self._receipts.rows(text, *values)]
 

@@ -99,7 +99,12 @@ class Front:
         app.update(receipts=receipts, pharmacies=pharmacies, tokens=Tokens.read(given.tokens))
         app["document"] = document(self._names)
         watched = self._watched()
-        for part in (claims, Payments(rulings), Console(Audits(given.settings, given.logs, self._settings.nodes()), watched), Replays(None)):
+        for part in (
+            claims,
+            Payments(rulings),
+            Console(Audits(given.settings, given.logs, self._settings.nodes()), watched),
+            Replays(None),
+        ):
             part.add_to(app)
         app.router.add_get("/openapi.json", lambda request: asyncio.sleep(0, web.json_response(request.app["document"])))
         app.router.add_get("/healthz", lambda request: asyncio.sleep(0, web.json_response({"front": "lives"})))
