@@ -1,15 +1,22 @@
-"""Callers of hosts/front over HTTP, for tests: what they see is compared with what /openapi.json tells."""
+"""A front beside nodes, and its callers over HTTP and TCP, for tests: what they see is compared with what /openapi.json tells."""
 
 import http.client
 import json
 import re
+import signal
+import socket
 import ssl
 import subprocess
 import sys
 from typing import NamedTuple
 
-from network import expect
+import network
+from network import HOSTS, expect
 
+sys.path.insert(0, str(HOSTS))
+from front_service.printed import unprinted  # noqa: E402
+
+BILLING = unprinted(network.BILLING.encode())
 OVERPUNCH = {digit: str(place) for place, digit in enumerate("{ABCDEFGHI")}
 # What no test brings about: they are left out of the count, and why.
 NOT_SEEN = {
@@ -31,6 +38,72 @@ def amount_of(answer):
     """The total that an answer of one transaction pays, in cents (509-F9); 0 where it pays nothing."""
     found = re.search(rb"\x1cF9([0-9]*)([{A-I])", answer)
     return int(found[1].decode() + OVERPUNCH[found[2].decode()]) if found else 0
+
+
+def billing(number):
+    """A billing of a prescription of its own."""
+    return BILLING.replace(b"D2123456", b"D2%d" % (100000 + number))
+
+
+class Front:
+    """A front beside the nodes of a network."""
+
+    def __init__(self, net, python, name, words=(), tls=True):
+        self.net, self.folder, self.tls = net, net.folder, tls
+        self.port, self.framed = network.free_port(), network.free_port()
+        self.receipts = self.folder / f"{name}.receipts"
+        self.tokens = self.folder / "tokens"
+        made = [python, HOSTS / "front", net.settings, "--tokens", self.tokens, "--receipts", self.receipts, "--nats", net.url]
+        made += [
+            "--access",
+            net.access_folder,
+            "--logs",
+            net.logs,
+            "--listen",
+            f"127.0.0.1:{self.port}",
+            "--tcp",
+            f"ph1=127.0.0.1:{self.framed}",
+        ]
+        made += ["--tls", self.folder / "server.pem", self.folder / "server.key"] if tls else []
+        self._words = [str(it) for it in (*made, *words)]
+        self.process = None
+
+    def start(self):
+        with open(self.folder / "said", "ab") as said:
+            self.process = subprocess.Popen(self._words, stdout=subprocess.PIPE, stderr=said)
+        expect(self.process.stdout.readline().startswith(b"front ready "), "the front is not ready")
+
+    def end(self, number=signal.SIGTERM):
+        self.process.send_signal(number)
+        return self.process.wait(20)
+
+    def connect(self):
+        """A connection over TCP."""
+        plain = socket.create_connection(("127.0.0.1", self.framed), timeout=30)
+        if not self.tls:
+            return plain
+        trusted = ssl.create_default_context(cafile=str(self.folder / "ca.pem"))
+        return trusted.wrap_socket(plain, server_hostname="127.0.0.1")
+
+
+def frames(connection, count, framing="stx"):
+    """The next frames of a connection."""
+    found, data = [], b""
+    while len(found) < count:
+        more = connection.recv(65536)
+        expect(more, f"the connection ended behind {len(found)} frames")
+        data += more
+        while True:
+            if framing == "stx" and b"\x03" in data:
+                expect(data[:1] == b"\x02", "a frame begins with 0x02")
+                one, _, data = data[1:].partition(b"\x03")
+            elif framing != "stx" and len(data) >= (size := int(framing[6:])) and len(data) >= size + int.from_bytes(data[:size], "big"):
+                end = size + int.from_bytes(data[:size], "big")
+                one, data = data[size:end], data[end:]
+            else:
+                break
+            found.append(one)
+    return found
 
 
 class Answer(NamedTuple):

@@ -67,6 +67,8 @@ SCRIPTS = (
     Part('container', ('tests/container',), ('claimnode', 'claimaudit')),
     Part('units', ('tests/units',), (*PRODUCTS, 'library'), timed=True),
     Part('front', ('tests/front',), ('claimnode', 'claimaudit', 'claimdecode', 'claimpicture', 'claimswitch'), timed=True),
+    Part('front-c', ('tests/front', 'c'), ('library', 'claimnode', 'claimaudit', 'claimdecode', 'claimpicture', 'claimswitch'), timed=True),
+    Part('front-soak', ('tests/front-soak', '8'), ('claimnode', 'claimaudit', 'claimdecode'), timed=True),
     Part('console', ('tests/console',), ('claimnode', 'claimaudit', 'claimdecode', 'claimpicture', 'claimswitch'), timed=True),
     Part('torture', ('hosts/torture', '6', '1'), ('claimnode', 'claimaudit', 'claimswitch'), timed=True),
     Part('torture-jetstream', ('hosts/torture', '6', '2', '--jetstream'), ('claimnode', 'claimaudit', 'claimswitch'), timed=True),
