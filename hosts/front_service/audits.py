@@ -42,8 +42,9 @@ class Audits:
         self._last: tuple[float, Audit] | None = None
 
     async def audit(self, is_drawn: bool = False, most_age: float = KEPT_SECONDS) -> Audit:
-        """The audit of the logs as they are, or were so many seconds ago. Nodes run meanwhile: what a log took after the copying began may be left out, as after a crash at that
-        moment, and how much is told. What stood in a log before is never left out: its sender's log had it by then."""
+        """The audit of the logs as they are, or were so many seconds ago. Nodes run meanwhile: what a log took after the copying began may
+        be left out, as after a crash at that moment, and how much is told. What stood in a log before is never left out: its sender's log
+        had it by then."""
         if self._folder is None:
             raise Problem("NoAudit", "the front was started without --logs")
         async with self._one:

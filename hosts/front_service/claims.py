@@ -96,7 +96,8 @@ class Claims:
         found = [
             {
                 "number": row["number"], "key": row["key"], "state": "open" if row["is_open"] else "answered", "rulings": row["rulings"],
-                "entered": asked.stamp(row["entered"]), "answered": asked.stamp(row["answered"]), "location": where(pharmacy.name, row["number"]),
+                "entered": asked.stamp(row["entered"]), "answered": asked.stamp(row["answered"]),
+                "location": where(pharmacy.name, row["number"]),
             }
             for row in rows[:size]
         ]  # fmt: skip

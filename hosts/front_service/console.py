@@ -19,7 +19,7 @@ TYPES = {".html": "text/html", ".css": "text/css", ".js": "text/javascript", ".s
 WATCH_SECONDS = 2.0
 # Nothing comes from outside, nothing runs that is written into a page, and no other page may show these.
 HEADERS = {
-    "Content-Security-Policy": "default-src 'self'; style-src 'self'; img-src 'self' data: blob:; frame-ancestors 'none'; base-uri 'none'; form-action 'none'",
+    "Content-Security-Policy": "default-src 'self'; img-src 'self' data: blob:; frame-ancestors 'none'; base-uri 'none'; form-action 'none'",
     "X-Content-Type-Options": "nosniff",
     "Referrer-Policy": "no-referrer",
 }
@@ -67,9 +67,9 @@ class Console:
         for metric, _, value in _METRIC.findall(text):
             sums[metric] = sums.get(metric, 0.0) + float(value)
         names = {
-            "ready": "ready", "connected": "connected", "open": "open_entries", "oldest_seconds": "oldest_open_entry_seconds", "rows": "rows",
-            "rows_most": "rows_most", "calls": "log_calls", "log_bytes": "log_bytes", "waiting": "waiting_calls", "sent": "packets_sent_total",
-            "refusals": "refusals_total", "sent_again": "packets_sent_again_total",
+            "ready": "ready", "connected": "connected", "open": "open_entries", "oldest_seconds": "oldest_open_entry_seconds",
+            "rows": "rows", "rows_most": "rows_most", "calls": "log_calls", "log_bytes": "log_bytes", "waiting": "waiting_calls",
+            "sent": "packets_sent_total", "refusals": "refusals_total", "sent_again": "packets_sent_again_total",
         }  # fmt: skip
         return {"node": name, "up": True} | {key: sums[metric] for key, metric in names.items() if metric in sums}
 

@@ -1,11 +1,11 @@
 """Claims over TCP as pharmacy systems speak: a framed message in, its framed answer out on the same connection, many at a time.
 
-A frame is a message between the bytes 0x02 and 0x03, or behind its length in two or four bytes, the high byte first. Answers come in the order in
-which they are there, each once; a caller that has one message on its way at a time need not look further. What is no answer of a payer is
-said in a frame that no answer can be, since each begins with D0 and a code: `VOGRILAS OPEN ph1 7 ..`: the time limit is over, and the entry goes
-on; `VOGRILAS REFUSED Name ..`: nothing was entered; `VOGRILAS UNKNOWN Name ..`: nobody knows yet, so send it again.
+A frame is a message between the bytes 0x02 and 0x03, or behind its length in two or four bytes, the high byte first. Answers come in the
+order in which they are there, each once; a caller that has one message on its way at a time need not look further. What is no answer of a
+payer is said in a frame that no answer can be, since each begins with D0 and a code: `VOGRILAS OPEN ph1 7 ..`: the time limit is over, and
+the entry goes on; `VOGRILAS REFUSED Name ..`: nothing was entered; `VOGRILAS UNKNOWN Name ..`: nobody knows yet, so send it again.
 
-A message whose very bytes stand in an entry that is still open, or that was answered to nobody, is that entry sent again: it makes no new one.
+A message whose very bytes stand in an entry that is still open, or whose answer was told to nobody, is that entry sent again.
 """
 
 from __future__ import annotations

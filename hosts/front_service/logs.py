@@ -1,5 +1,5 @@
-"""Records of a log (docs/FORMATS.md) by their places: to find what was entered under a key where the front ended before it noted the number, and
-to cut the copy of a log behind a call. What records say is for the proved programs to judge."""
+"""Records of a log (docs/FORMATS.md) by their places: to find what was entered under a key where the front ended before it noted the
+number, and to cut the copy of a log behind a call. What records say is for the proved programs to judge."""
 
 from __future__ import annotations
 

@@ -9,7 +9,8 @@ RAW = "application/vnd.ncpdp"
 PROBLEM = "application/problem+json"
 REFUSED = {
     400: "BadRequest", 401: "NoToken", 403: "NotAllowed", 404: "NoSuchPharmacy, NoSuchClaim", 409: "KeyReused", 413: "TooLong",
-    415: "MediaType", 422: "The message is refused, and nothing was entered: the name says why", 503: "Down, Busy, JournalFull, NoAudit", 504: "NoReply",
+    415: "MediaType", 422: "The message is refused, and nothing was entered: the name says why",
+    503: "Down, Busy, JournalFull, NoAudit", 504: "NoReply",
 }  # fmt: skip
 
 
@@ -70,7 +71,8 @@ ORDER = {
     "type": "object", "required": ["order", "bin_number", "date_of_service", "transactions"],
     "properties": {
         "order": {"type": "string", "enum": ["billing", "reversal"]}, "bin_number": TEXT, "processor_control_number": TEXT,
-        "service_provider_id_qualifier": TEXT, "service_provider_id": TEXT, "date_of_service": TEXT, "software_vendor_id": TEXT, "cardholder": TEXT,
+        "service_provider_id_qualifier": TEXT, "service_provider_id": TEXT, "date_of_service": TEXT, "software_vendor_id": TEXT,
+        "cardholder": TEXT,
         "transactions": {
             "type": "array", "minItems": 1, "maxItems": 4,
             "items": {
@@ -151,7 +153,8 @@ def document(pharmacies: list[str]) -> Document:
         },
         f"{head}/claims/{{number}}": {
             "parameters": [number],
-            "get": _got("Read claim", "What is known of the claim", {"$ref": "#/components/schemas/Claim"}, 400, 401, 403, 404, parameters=[WAIT], **raw),
+            "get": _got("Read claim", "What is known of the claim", {"$ref": "#/components/schemas/Claim"}, 400, 401, 403, 404,
+                        parameters=[WAIT], **raw),
         },
         f"{head}/claims/{{number}}/picture": {
             "parameters": [number], "get": _got("Draw claim", "The claim on its way", thing, 401, 403, 404, 503),
@@ -178,7 +181,7 @@ def document(pharmacies: list[str]) -> Document:
         paths[path]["get"]["responses"]["200"]["content"] = {kind: {"schema": TEXT}}
     schemas = {"Claim": CLAIM, "Order": ORDER, "Payment": PAYMENT, "Problem": PROBLEM_SCHEMA}
     return {
-        "openapi": "3.0.3", "info": {"title": "Vogrilas front", "version": "0.7.0", "description": "Claims of pharmacies over a claim switch; see docs/FRONT.md."},
+        "openapi": "3.0.3", "info": {"title": "Vogrilas front", "version": "0.7.0", "description": "Claims over a claim switch: docs/FRONT.md"},
         "security": [{"token": []}], "paths": paths,
         "components": {"schemas": schemas, "securitySchemes": {"token": {"type": "http", "scheme": "bearer"}}},
     }  # fmt: skip

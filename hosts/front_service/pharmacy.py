@@ -56,8 +56,8 @@ class Pharmacy:
         self.last_number = rows[0][0] or 0
 
     async def submit(self, key: str, message: bytes) -> Receipt:
-        """The receipt of a message under a key: the one that is there, or that of a new entry. Problem where nothing was entered, or where that
-        is not known yet."""
+        """The receipt of a message under a key: the one that is there, or that of a new entry. Problem where nothing was entered, or where
+        that is not known yet."""
         if len(message) > MOST_BYTES:
             raise Problem("TooLong")
         async with self._one_at_a_time(key):
@@ -144,8 +144,9 @@ class Pharmacy:
                 del self._keys[key]
 
     async def _find(self, kept: Receipt) -> int | None:
-        """The entry that an earlier try under this key has left, where its number was not noted: the first of these bytes, behind those that were
-        known then, that has no key. Without the node's log nobody can tell; the message is then submitted once more (docs/FRONT.md)."""
+        """The entry that an earlier try under this key has left, where its number was not noted: the first of these bytes, behind those that
+        were known then, that has no key. Without the node's log nobody can tell; the message is then submitted once more (docs/FRONT.md).
+        """
         if not self._log:
             return None
         found = await asyncio.to_thread(

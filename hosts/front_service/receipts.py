@@ -1,7 +1,7 @@
 """What the front keeps: which key stands for which number, and the messages that it has seen. One SQLite file, synced at each commit.
 
-A row is there, synced, before its message goes to the node, and has its number, synced, before the caller hears of it. So the same key never
-becomes two entries, also where the front ends in between: `number` is then empty, and what the node has is looked up (pharmacy.py).
+A row is there, synced, before its message goes to the node, and has its number, synced, before the caller hears of it. So the same key
+never becomes two entries, also where the front ends in between: `number` is then empty, and what the node has is looked up (pharmacy.py).
 """
 
 from __future__ import annotations

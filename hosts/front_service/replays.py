@@ -1,4 +1,4 @@
-"""The playground: a schedule step by step. Whatever is asked goes to `claimswitch replay`, whose report is what is shown, and to claimpicture."""
+"""The playground: a schedule step by step. What is asked goes to `claimswitch replay`, whose report is shown, and to claimpicture."""
 
 from __future__ import annotations
 

@@ -12,12 +12,13 @@ from .receipts import Receipts
 # How many answers are read together, and how often it is looked whether there are any.
 AT_ONCE = 256
 LOOK_SECONDS = 1.0
-# A payment that a pharmacy counts: an authorization that a paid or duplicate answer names, once. Reversed is what an answer names as reversed.
+# A payment that a pharmacy counts: an authorization that a paid or duplicate answer names, once. Reversed is what an answer names so.
 _PAYMENTS = """
     FROM (SELECT pharmacy, authorization, min(number * 10 + place) AS place FROM rulings
           WHERE ruling IN ('paid', 'duplicate') AND pharmacy IN ({pharmacies}) GROUP BY pharmacy, authorization) AS first
     JOIN rulings AS r ON r.pharmacy = first.pharmacy AND r.number = first.place / 10 AND r.place = first.place % 10
-    LEFT JOIN (SELECT pharmacy, authorization, min(number) AS number FROM rulings WHERE ruling = 'reversed' GROUP BY pharmacy, authorization) AS back
+    LEFT JOIN (SELECT pharmacy, authorization, min(number) AS number FROM rulings
+               WHERE ruling = 'reversed' GROUP BY pharmacy, authorization) AS back
         ON back.pharmacy = r.pharmacy AND back.authorization = r.authorization
     WHERE {conditions}"""
 _COLUMNS = """r.pharmacy, r.number, r.place AS "transaction", r.day AS date_of_service, r.payer, r.authorization, r.prescription,
@@ -25,8 +26,8 @@ _COLUMNS = """r.pharmacy, r.number, r.place AS "transaction", r.day AS date_of_s
     CASE WHEN back.number IS NULL THEN 'standing' ELSE 'reversed' END AS state, back.number AS reversed_by"""
 
 NAMES = (
-    "pharmacy", "number", "transaction", "date_of_service", "payer", "authorization", "prescription", "cost_cents", "fee_cents", "copay_cents",
-    "paid_cents", "state", "reversed_by",
+    "pharmacy", "number", "transaction", "date_of_service", "payer", "authorization", "prescription", "cost_cents", "fee_cents",
+    "copay_cents", "paid_cents", "state", "reversed_by",
 )  # fmt: skip
 
 
