@@ -128,9 +128,15 @@ class Connection:
         self.task: asyncio.Task[None] | None = None
 
     async def start(self) -> None:
-        """Connects, and goes on connecting for as long as the program runs."""
+        """Connects, and goes on connecting for as long as the program runs; what ends its task before is raised."""
         self.task = asyncio.create_task(self._run())
-        await self.is_open.wait()
+        opening = asyncio.create_task(self.is_open.wait())
+        try:
+            await asyncio.wait([opening, self.task], return_when=asyncio.FIRST_COMPLETED)
+        finally:
+            opening.cancel()
+        if self.task.done():
+            self.task.result()
 
     async def close(self) -> None:
         """Goes from the server, once what was published has reached it."""

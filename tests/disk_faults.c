@@ -1,6 +1,7 @@
 /*
 ** A disk that fails, for tests/disks: preloaded into a host, it looks into the folder that TRIAL_DISK names. Where a file `eio` is there, syncs
-** of logs fail; where `full` is there, a log takes half of what is written to it, and then nothing. Each sync is noted in `synced`.
+** of logs fail; where `full` is there, a log takes half of what is written to it, and then nothing; where `slow` is there, a sync takes half a
+** second. Each sync is noted in `synced`.
 */
 #define _GNU_SOURCE
 #include <dlfcn.h>
@@ -51,6 +52,7 @@ static void note(int file) {
 static int synced(int file, const char *name) {
     int (*real)(int) = (int (*)(int))dlsym(RTLD_NEXT, name);
     note(file);
+    if (is_log(file) && is_on("slow")) usleep(500000);
     if (!is_log(file) || !is_on("eio")) return real(file);
     errno = EIO;
     return -1;
