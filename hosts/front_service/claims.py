@@ -119,6 +119,9 @@ class Claims:
                     await response.write(f"event: answered\nid: {number}\ndata: {told}\n\n".encode())
                 except TimeoutError:
                     await response.write(b": alive\n\n")
+        except ConnectionError:
+            # The caller has gone.
+            return response
         finally:
             pharmacy.listeners.discard(heard)
 

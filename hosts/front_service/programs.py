@@ -9,6 +9,8 @@ import json
 import os
 import pathlib
 import shutil
+import subprocess
+import sys
 from typing import Any
 
 from .printed import printed
@@ -30,6 +32,15 @@ def words_of(name: str) -> list[str]:
     if not found:
         raise Problem("NoAudit", f"there is no program {name}")
     return [found]
+
+
+def prepare(*names: str) -> None:
+    """Has the programs there before anybody waits for them: the scripts of this repository compile what is not built, once."""
+    for name in names:
+        try:
+            subprocess.run([*words_of(name), "-V"], stdout=subprocess.DEVNULL, check=False)
+        except Problem as problem:
+            sys.exit(f"front: {problem.detail}")
 
 
 async def run(name: str, *words: str, given: bytes = b"") -> tuple[int, bytes, bytes]:
