@@ -149,6 +149,8 @@ class Pharmacy:
         """
         if not self._log:
             return None
+        # What was on its way to the node stands before this question, and in its log once this is answered.
+        await self._ask(b"answer 1", REPLY_SECONDS)
         found = await asyncio.to_thread(
             lambda: [number for number, request in entries_in(self._log, kept.after_number) if request == kept.request]
         )

@@ -12,11 +12,11 @@ from .receipts import Receipts
 # How many answers are read together, and how often it is looked whether there are any.
 AT_ONCE = 256
 LOOK_SECONDS = 1.0
-# A payment that a pharmacy counts: an authorization that a paid or duplicate answer names, once. Reversed is what an answer names so.
+# A payment that a pharmacy counts: an authorization that a paid (else duplicate) answer names. Reversed is what an answer names so.
 _PAYMENTS = """
-    FROM (SELECT pharmacy, authorization, min(number * 10 + place) AS place FROM rulings
+    FROM (SELECT pharmacy, authorization, min((ruling <> 'paid') * 100000000000 + number * 10 + place) AS place FROM rulings
           WHERE ruling IN ('paid', 'duplicate') AND pharmacy IN ({pharmacies}) GROUP BY pharmacy, authorization) AS first
-    JOIN rulings AS r ON r.pharmacy = first.pharmacy AND r.number = first.place / 10 AND r.place = first.place % 10
+    JOIN rulings AS r ON r.pharmacy = first.pharmacy AND r.number = first.place % 100000000000 / 10 AND r.place = first.place % 10
     LEFT JOIN (SELECT pharmacy, authorization, min(number) AS number FROM rulings
                WHERE ruling = 'reversed' GROUP BY pharmacy, authorization) AS back
         ON back.pharmacy = r.pharmacy AND back.authorization = r.authorization
