@@ -5,8 +5,8 @@
                   [--watch ADDRESS:PORT] [--hold-back MS] [--program PATH] [-v]
 
 The node's packets come on the subjects `claims.NODE.from.SENDER`, in printed bytes: the subject says who sent one, and the server
-lets nobody publish there but that sender (hosts/permissions). Callers' lines come on `claims.NODE.call`: `submit` and `answer`, no
-others. An operator's come on `claims.NODE.operate`: any line but `take`, and `kill`, which ends the host as a power cut would. Each
+lets nobody publish there but that sender (hosts/permissions). Callers' lines come on `claims.NODE.call`: `submit` and `answer`, and `wait
+NUMBER`, which is replied to as `answer NUMBER` is, but not before the entry has its answer; no others. An operator's come on `claims.NODE.operate`: any line but `take`, and `kill`, which ends the host as a power cut would. Each
 is replied to with the last line of what the node says. The program appends each call to its log and syncs the log before it says
 anything, so whatever this host hears may go out. Ticks carry progress: what the carrier loses is sent again, and what a tick
 sends is spread over its time. SIGTERM drains: what was taken is finished, said and synced.
@@ -35,6 +35,7 @@ from claimnode import Ended, Node
 from counts import Counts, HoldBack, head_of
 from said import Said
 from settings import Settings
+from waits import Waits
 
 CALLERS = (b"submit ", b"answer ")
 # What may wait for the node at most; what comes beyond it is refused, or lost, as a packet may be.
@@ -64,6 +65,7 @@ class Host:
         self._tick_seconds = tick_seconds
         self._waiting_bytes = 0
         self._is_ticking = False
+        self._waits = Waits()
         self.kill: Callable[[], None] = lambda: None
 
     def make(self, line: bytes, done: Callable[[list[tuple[str, bytes]], bytes], None]) -> bool:
@@ -120,7 +122,7 @@ class Host:
                 self._held.forget(sender, message.payload)
             if last == b"ok" and self.node.name.startswith("ph"):
                 head = head_of(message.payload)
-                self.counts.settled(head[2] if head else 0)
+                self._settled(head[2] if head else 0)
             done()
 
         if self.make(b"take " + sender.encode() + b" " + message.payload, heard):
@@ -131,7 +133,31 @@ class Host:
 
     def called(self, message: nats.Message) -> None:
         """A line of a caller."""
-        self._answer(message, message.payload.startswith(CALLERS))
+        if message.payload.startswith(b"wait ") and subjects.is_inbox(message.reply):
+            self._wait(message)
+        else:
+            self._answer(message, message.payload.startswith(CALLERS))
+
+    def _wait(self, message: nats.Message) -> None:
+        """Replies with the answer to an entry: now where it is there, else once it is. What the node is asked stands in one order with what it
+        takes, so no answer comes in between unnoticed."""
+        number = message.payload[5:]
+
+        def heard(_sent: list[tuple[str, bytes]], last: bytes) -> None:
+            if last != b"open" or not self._waits.add(int(number), message.reply):
+                self._reply(message, last)
+
+        if not self.make(b"answer " + number, heard):
+            self.counts.dropped["full"] += 1
+            self._reply(message, b"refused Busy")
+
+    def _settled(self, number: int) -> None:
+        """An entry has its answer: who waits for it hears it."""
+        self.counts.settled(number)
+        for reply in self._waits.settled(number):
+            message = nats.Message("", reply, b"")
+            if not self.make(b"answer %d" % number, lambda _sent, last, message=message: self._reply(message, last)):
+                self._reply(message, b"refused Busy")
 
     def operated(self, message: nats.Message) -> None:
         """A line of an operator."""

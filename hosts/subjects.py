@@ -1,7 +1,7 @@
 """The subjects of messages, and who stands in them: what hosts/permissions lets a user use is written from these names alone.
 
     claims.sw1.from.ph1     a packet of ph1 for sw1, in printed bytes; the server lets nobody but ph1 publish here
-    claims.ph1.call         a caller's line for ph1: `submit` or `answer`
+    claims.ph1.call         a caller's line for ph1: `submit`, `answer` or `wait`
     claims.ph1.operate      an operator's line for a node: any but `take`
     deliver.ph1             where JetStream hands over what it keeps for ph1; the server's own, nobody publishes here
     _INBOX.USER.>           the replies to one user, which no other may read

@@ -51,6 +51,27 @@ class Trials(unittest.TestCase):
         again = self.opened("ph1")
         self.assertEqual((again.answer(1), again.calls), (answer, 2))
 
+    def test_arguments(self):
+        pharmacy, payer = self.opened("ph1"), self.opened("pr1")
+        log = self.folder / "ph1.log"
+        before = log.read_bytes()
+        wrong = [
+            lambda: pharmacy.submit("text"), lambda: pharmacy.submit(None), lambda: pharmacy.submit(5), lambda: pharmacy.submit([1]),
+            lambda: pharmacy.take(b"sw1", b"packet"), lambda: pharmacy.take("sw1", "packet"), lambda: pharmacy.take(None, b"packet"),
+            lambda: payer.plan("00093721410", 1), lambda: payer.plan(b"00093721410", 1.5), lambda: payer.plan(b"00093721410", True),
+            lambda: payer.plan(b"00093721410", "1"), lambda: pharmacy.answer("1"), lambda: pharmacy.request(None),
+            lambda: FileNode("settings", "ph1", self.folder / "other.log"), lambda: FileNode(SETTINGS, b"ph1", self.folder / "other.log"),
+            lambda: vogrilas.printed("text"), lambda: vogrilas.unprinted("text"), lambda: vogrilas.described("text"), lambda: vogrilas.decoded(7),
+        ]
+        for place, call in enumerate(wrong):
+            with self.subTest(place), self.assertRaises(TypeError):
+                call()
+        # A name that no node has is refused, and closes nothing either.
+        self.fails(Code.NAME, pharmacy.take, "\udc80", b"packet")
+        self.assertEqual(log.read_bytes(), before)
+        self.assertEqual(pharmacy.submit(memoryview(bytearray(REQUEST))).number, 1)
+        self.assertEqual(payer.plan(b"00093721410", 1).sent, ())
+
     def test_readers(self):
         pharmacy, switch, payer = nodes = [self.opened(name) for name in ("ph1", "sw1", "pr1")]
         self.assertEqual([(node.count, node.payments()) for node in nodes], [(0, [])] * 3)

@@ -10,7 +10,7 @@ import threading
 import warnings
 from typing import Callable, Optional, TypeVar, Union
 
-from ._node import Code, Node, Payment, Refused, Said, VogrilasError, printed, read_said
+from ._node import Code, Node, Payment, Refused, Said, VogrilasError, as_bytes, as_name, printed, read_said
 
 
 _Read = TypeVar("_Read")
@@ -19,7 +19,8 @@ _Read = TypeVar("_Read")
 class FileNode:
     """A node with the file of its log, which is locked for this process.
 
-    Each call is on disk before it returns, so what it gives may be used at once. Where a call fails in the middle, by want
+    Each call is on disk before it returns, so what it gives may be used at once. An argument of another type than is told is a
+    TypeError, before anything is done. Where a call fails in the middle, by want
     of memory or of the disk, the node is closed; what the file has then decides, when it is opened again. Where a sync fails a
     file `LOG.sync-failed` stays beside the log, and the log is not opened again until people have removed it: what the kernel shows
     of a file whose sync failed may be on no disk. What is cut off a log, a record that a crash has torn, stays beside it as
@@ -51,7 +52,8 @@ class FileNode:
 
     def submit(self, request: bytes) -> Said:
         """Enters a request and sends it; the number of its entry is in what is said. Of a pharmacy."""
-        return self._call(lambda node: node.submit(request))
+        data = as_bytes(request, "a request")
+        return self._call(lambda node: node.submit(data))
 
     def tick(self) -> Said:
         """Time goes on, and what is due is sent again. Of a pharmacy."""
@@ -59,10 +61,14 @@ class FileNode:
 
     def take(self, sender: str, packet: bytes) -> Said:
         """A packet has come from this node."""
-        return self._call(lambda node: node.take(sender, packet))
+        as_name(sender)
+        data = as_bytes(packet, "a packet")
+        return self._call(lambda node: node.take(sender, data))
 
     def plan(self, product: bytes, price: Optional[int]) -> Said:
         """Another price for a product, in ten-thousandths of a dollar a unit, or none. Of a payer."""
+        if price is not None and (not isinstance(price, int) or isinstance(price, bool)):
+            raise TypeError(f"a price has to be an int or None, not {type(price).__name__}")
         price_text = b"none" if price is None else b"%d" % price
         return self._call(_line(b"plan " + printed(product).replace(b" ", b"\\x20") + b" " + price_text))
 

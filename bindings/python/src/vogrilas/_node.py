@@ -125,11 +125,13 @@ def _copied(call: Callable[..., int], *given: Any, room: int = 0) -> bytes:
 
 def printed(data: bytes) -> bytes:
     """The text that spells bytes in lines."""
+    data = as_bytes(data, "a message")
     return _copied(LIBRARY.vogrilas_print, data, len(data), room=len(data) + 64)
 
 
 def unprinted(text: bytes) -> bytes:
     """The bytes that a text spells. Raises VogrilasError with BAD_TEXT where it spells none."""
+    text = as_bytes(text, "a text")
     return _copied(LIBRARY.vogrilas_unprint, text, len(text), room=len(text))
 
 
@@ -181,7 +183,24 @@ def _audited(settings: bytes, logs: Sequence[bytes], style: int) -> Audit:
 
 
 def _described(message: bytes, style: int) -> bytes:
+    message = as_bytes(message, "a message")
     return _copied(LIBRARY.vogrilas_describe, message, len(message), style, room=1 << 14)
+
+
+def as_bytes(given: Any, what: str) -> bytes:
+    """What a caller gives as bytes. TypeError where it is something else, before any call is made with it."""
+    if isinstance(given, bytes):
+        return given
+    if isinstance(given, (bytearray, memoryview)):
+        return bytes(given)
+    raise TypeError(f"{what} has to be bytes, not {type(given).__name__}")
+
+
+def as_name(given: Any) -> bytes:
+    """The name of a node, in the same way. One that no node has is for the library to refuse."""
+    if not isinstance(given, str):
+        raise TypeError(f"the name of a node has to be a str, not {type(given).__name__}")
+    return given.encode("utf-8", "replace")
 
 
 def _expect_id(number: int, pharmacy: int = 1) -> None:
@@ -209,7 +228,7 @@ class Node:
         self._handle = Handle()
         self._lock = threading.Lock()
         kept = ctypes.c_size_t()
-        word = name.encode()
+        settings, word, log = as_bytes(settings, "settings"), as_name(name), as_bytes(log, "a log")
         seed = os.urandom(16)
         given = (settings, len(settings), word, len(word), log, len(log), seed, len(seed))
         code = LIBRARY.vogrilas_open(ctypes.byref(self._handle), *given, ctypes.byref(kept))
@@ -219,17 +238,19 @@ class Node:
 
     def serve(self, line: bytes) -> None:
         """Does what a line asks. After a MemoryError the node is closed, and has to be opened again from its log."""
+        line = as_bytes(line, "a line")
         with self._lock:
             _check(LIBRARY.vogrilas_serve(ctypes.byref(self._handle), line, len(line)))
 
     def submit(self, request: bytes) -> None:
         """Enters a request, of a pharmacy: the line `submit` with the text of these bytes."""
+        request = as_bytes(request, "a request")
         with self._lock:
             _check(LIBRARY.vogrilas_submit(ctypes.byref(self._handle), request, len(request)))
 
     def take(self, sender: str, packet: bytes) -> None:
         """Takes a packet that has come from this node: the line `take` with the text of these bytes."""
-        name = sender.encode()
+        name, packet = as_name(sender), as_bytes(packet, "a packet")
         with self._lock:
             _check(LIBRARY.vogrilas_take(ctypes.byref(self._handle), name, len(name), packet, len(packet)))
 

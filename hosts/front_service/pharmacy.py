@@ -1,0 +1,206 @@
+"""A pharmacy's node as the front sees it: a message goes in once for each key, and answers come as soon as the node has them."""
+
+from __future__ import annotations
+
+import asyncio
+import contextlib
+from collections.abc import AsyncIterator, Callable
+
+import nats
+import subjects
+
+from .logs import entries_in
+from .printed import printed, unprinted
+from .problems import Problem
+from .receipts import Receipt, Receipts, digest_of
+
+REPLY_SECONDS = 10.0
+# A host that waits on a caller's behalf may have ended meanwhile, and knows nothing of it then: it is asked again so often.
+ASK_AGAIN_SECONDS = 3.0
+# A host that waits for nobody, as that in C, is asked so often, and one that is down or full.
+POLL_SECONDS = 0.02
+BUSY_SECONDS = 0.2
+# How often it is looked at what came by other ways and what nobody waits for, and how much at once.
+LOOK_SECONDS = 2.0
+LOOK_AT_ONCE = 64
+MOST_BYTES = 32_768
+
+
+class Wait:
+    """The question for an answer that some callers have, and how many they are."""
+
+    def __init__(self, task: asyncio.Task[bytes]) -> None:
+        self.task, self.callers = task, 0
+
+
+class Pharmacy:
+    """A pharmacy, and the connection on which its caller comes."""
+
+    def __init__(self, name: str, carrier: nats.Connection, receipts: Receipts, log: str | None, say: Callable[..., None]) -> None:
+        self.name = name
+        self._carrier, self._receipts, self._log, self._say = carrier, receipts, log, say
+        self._keys: dict[str, tuple[asyncio.Lock, list[int]]] = {}
+        self._waits: dict[int, Wait] = {}
+        self._host_waits = True
+        self._writes: set[asyncio.Task[None]] = set()
+        self.last_number = 0
+        self.listeners: set[asyncio.Queue[int]] = set()
+
+    @property
+    def is_connected(self) -> bool:
+        return self._carrier.is_open.is_set()
+
+    async def start(self) -> None:
+        """Learns which numbers are known from an earlier life."""
+        rows = await self._receipts.rows("SELECT max(number) FROM claims WHERE pharmacy = ?", self.name)
+        self.last_number = rows[0][0] or 0
+
+    async def submit(self, key: str, message: bytes) -> Receipt:
+        """The receipt of a message under a key: the one that is there, or that of a new entry. Problem where nothing was entered, or where
+        that is not known yet."""
+        if len(message) > MOST_BYTES:
+            raise Problem("TooLong")
+        async with self._one_at_a_time(key):
+            is_new, kept = await self._receipts.reserve(self.name, key, message, self.last_number)
+            if kept.digest != digest_of(message):
+                raise Problem("KeyReused")
+            if kept.number is not None:
+                return kept
+            number = (None if is_new else await self._find(kept)) or await self._enter(key, message)
+            await self._receipts.number(self.name, key, number)
+            self.last_number = max(self.last_number, number)
+            return kept._replace(number=number)
+
+    async def wait(self, number: int, seconds: float) -> bytes | None:
+        """The answer to an entry, or None where it has none within so many seconds."""
+        waiting = self._waits.get(number)
+        if waiting is None:
+            waiting = self._waits[number] = Wait(asyncio.create_task(self._await(number)))
+        waiting.callers += 1
+        try:
+            done, _ = await asyncio.wait({waiting.task}, timeout=seconds)
+            return waiting.task.result() if done else None
+        finally:
+            waiting.callers -= 1
+            if not waiting.callers:
+                self._waits.pop(number, None)
+                waiting.task.cancel()
+
+    async def look_for_ever(self) -> None:
+        """Learns what is known of entries that nobody waits for, and of those that came by another way than the front."""
+        open_after = 0
+        while True:
+            try:
+                await self._look_beyond()
+                open_after = await self._look_at_open(open_after)
+            except Problem as problem:
+                self._say("a pharmacy does not say what is open", "warning", pharmacy=self.name, name=problem.name)
+            await asyncio.sleep(LOOK_SECONDS)
+
+    async def _look_beyond(self) -> None:
+        is_there = self.is_connected
+        while is_there:
+            asked = range(self.last_number + 1, self.last_number + 1 + LOOK_AT_ONCE)
+            replies = await asyncio.gather(*(self._ask(b"answer %d" % it, REPLY_SECONDS) for it in asked))
+            for number, reply in zip(asked, replies):
+                is_there = is_there and (reply == b"open" or reply.startswith(b"answer "))
+                if is_there:
+                    self.last_number = max(self.last_number, number)
+                    await self._note(number, reply)
+
+    async def _look_at_open(self, after: int) -> int:
+        """Asks about some open entries behind a number; the number behind which others stand."""
+        text = "SELECT number FROM claims WHERE pharmacy = ? AND answer IS NULL AND number > ? ORDER BY number LIMIT ?"
+        numbers = [row[0] for row in await self._receipts.rows(text, self.name, after, LOOK_AT_ONCE)]
+        if self.is_connected:
+            replies = await asyncio.gather(*(self._ask(b"answer %d" % it, REPLY_SECONDS) for it in numbers))
+            for number, reply in zip(numbers, replies):
+                if reply.startswith(b"answer "):
+                    await self._note(number, reply)
+        return numbers[-1] if len(numbers) == LOOK_AT_ONCE else 0
+
+    async def look_at(self, number: int) -> None:
+        """Learns what the node knows of an entry."""
+        reply = await self._ask(b"answer %d" % number, REPLY_SECONDS)
+        if reply == b"open" or reply.startswith(b"answer "):
+            await self._note(number, reply)
+
+    async def _note(self, number: int, reply: bytes) -> None:
+        await self._receipts.seen(self.name, number, unprinted(reply[7:]) if reply.startswith(b"answer ") else None)
+        if reply.startswith(b"answer "):
+            self._tell(number)
+
+    @contextlib.asynccontextmanager
+    async def _one_at_a_time(self, key: str) -> AsyncIterator[None]:
+        """Has requests of one key wait for one another."""
+        lock, users = self._keys.setdefault(key, (asyncio.Lock(), [0]))
+        users[0] += 1
+        try:
+            async with lock:
+                yield
+        finally:
+            users[0] -= 1
+            if not users[0]:
+                del self._keys[key]
+
+    async def _find(self, kept: Receipt) -> int | None:
+        """The entry that an earlier try under this key has left, where its number was not noted: the first of these bytes, behind those that
+        were known then, that has no key. Without the node's log nobody can tell; the message is then submitted once more (docs/FRONT.md).
+        """
+        if not self._log:
+            return None
+        # What was on its way to the node stands before this question, and in its log once this is answered.
+        await self._ask(b"answer 1", REPLY_SECONDS)
+        found = await asyncio.to_thread(
+            lambda: [number for number, request in entries_in(self._log, kept.after_number) if request == kept.request]
+        )
+        for number in found:
+            known = await self._receipts.of_number(self.name, number)
+            if known is None or known.key is None:
+                return number
+        return None
+
+    async def _enter(self, key: str, message: bytes) -> int:
+        reply = await self._ask(b"submit " + printed(message), REPLY_SECONDS)
+        if reply.startswith(b"number "):
+            return int(reply[7:])
+        await self._receipts.forget(self.name, key)
+        raise Problem(reply.removeprefix(b"refused ").decode(errors="replace"))
+
+    async def _ask(self, line: bytes, seconds: float) -> bytes:
+        """The node's reply; Problem where none comes: what was asked may have been done all the same."""
+        reply = await self._carrier.request(subjects.calls(self.name), line, seconds)
+        if reply is None:
+            raise Problem("NoReply")
+        return reply
+
+    async def _await(self, number: int) -> bytes:
+        """The answer to an entry, however long that takes."""
+        poll = POLL_SECONDS
+        while True:
+            word = b"wait" if self._host_waits else b"answer"
+            reply = await self._carrier.request(subjects.calls(self.name), b"%s %d" % (word, number), ASK_AGAIN_SECONDS)
+            if reply is None:
+                continue
+            if reply.startswith(b"answer "):
+                answer = unprinted(reply[7:])
+                self._settle(number, answer)
+                return answer
+            if reply == b"none":
+                raise Problem("NoSuchClaim")
+            if reply == b"refused Line":
+                self._host_waits = False
+            await asyncio.sleep(poll if reply == b"open" else BUSY_SECONDS)
+            poll = min(poll * 1.2, BUSY_SECONDS)
+
+    def _settle(self, number: int, answer: bytes) -> None:
+        """Notes an answer. Nobody waits for the note: the node has the answer on disk."""
+        task = asyncio.create_task(self._receipts.seen(self.name, number, answer))
+        self._writes.add(task)
+        task.add_done_callback(self._writes.discard)
+        self._tell(number)
+
+    def _tell(self, number: int) -> None:
+        for listener in self.listeners:
+            with contextlib.suppress(asyncio.QueueFull):
+                listener.put_nowait(number)

@@ -1,0 +1,224 @@
+"""A front beside nodes, and its callers over HTTP and TCP, for tests: what they see is compared with what /openapi.json tells."""
+
+import http.client
+import json
+import re
+import signal
+import socket
+import ssl
+import subprocess
+import sys
+from typing import NamedTuple
+
+import network
+from network import HOSTS, expect
+
+sys.path.insert(0, str(HOSTS))
+from front_service.printed import unprinted  # noqa: E402
+
+BILLING = unprinted(network.BILLING.encode())
+OVERPUNCH = {digit: str(place) for place, digit in enumerate("{ABCDEFGHI")}
+# What no test brings about: they are left out of the count, and why.
+NOT_SEEN = {
+    ("/audit", "get", "503"): "it wants a front without --logs",
+    ("/pharmacies/{pharmacy}/claims/{number}/picture", "get", "503"): "the same",
+}
+
+
+def python_with_aiohttp(name):
+    """A Python that has aiohttp; ends the test where there is none."""
+    for python in (sys.executable, "/usr/bin/python3"):
+        if subprocess.run([python, "-c", "import aiohttp, tomllib"], capture_output=True, check=False).returncode == 0:
+            return python
+    print(f"{name}: skipped, since python3-aiohttp is not there")
+    sys.exit(3)
+
+
+def amount_of(answer):
+    """The total that an answer of one transaction pays, in cents (509-F9); 0 where it pays nothing."""
+    found = re.search(rb"\x1cF9([0-9]*)([{A-I])", answer)
+    return int(found[1].decode() + OVERPUNCH[found[2].decode()]) if found else 0
+
+
+def billing(number):
+    """A billing of a prescription of its own."""
+    return BILLING.replace(b"D2123456", b"D2%d" % (100000 + number))
+
+
+class Front:
+    """A front beside the nodes of a network."""
+
+    def __init__(self, net, python, name, words=(), tls=True):
+        self.net, self.folder, self.tls = net, net.folder, tls
+        self.port, self.framed = network.free_port(), network.free_port()
+        self.receipts = self.folder / f"{name}.receipts"
+        self.tokens = self.folder / "tokens"
+        made = [python, HOSTS / "front", net.settings, "--tokens", self.tokens, "--receipts", self.receipts, "--nats", net.url]
+        made += [
+            "--access",
+            net.access_folder,
+            "--logs",
+            net.logs,
+            "--listen",
+            f"127.0.0.1:{self.port}",
+            "--tcp",
+            f"ph1=127.0.0.1:{self.framed}",
+        ]
+        made += ["--tls", self.folder / "server.pem", self.folder / "server.key"] if tls else []
+        self._words = [str(it) for it in (*made, *words)]
+        self.process = None
+
+    def start(self):
+        with open(self.folder / "said", "ab") as said:
+            self.process = subprocess.Popen(self._words, stdout=subprocess.PIPE, stderr=said)
+        expect(self.process.stdout.readline().startswith(b"front ready "), "the front is not ready")
+
+    def end(self, number=signal.SIGTERM):
+        self.process.send_signal(number)
+        return self.process.wait(20)
+
+    def connect(self):
+        """A connection over TCP."""
+        plain = socket.create_connection(("127.0.0.1", self.framed), timeout=30)
+        if not self.tls:
+            return plain
+        trusted = ssl.create_default_context(cafile=str(self.folder / "ca.pem"))
+        return trusted.wrap_socket(plain, server_hostname="127.0.0.1")
+
+
+def frames(connection, count, framing="stx"):
+    """The next frames of a connection."""
+    found, data = [], b""
+    while len(found) < count:
+        more = connection.recv(65536)
+        expect(more, f"the connection ended behind {len(found)} frames")
+        data += more
+        while True:
+            if framing == "stx" and b"\x03" in data:
+                expect(data[:1] == b"\x02", "a frame begins with 0x02")
+                one, _, data = data[1:].partition(b"\x03")
+            elif framing != "stx" and len(data) >= (size := int(framing[6:])) and len(data) >= size + int.from_bytes(data[:size], "big"):
+                end = size + int.from_bytes(data[:size], "big")
+                one, data = data[size:end], data[end:]
+            else:
+                break
+            found.append(one)
+    return found
+
+
+class Answer(NamedTuple):
+    """What a caller was told."""
+
+    status: int
+    headers: http.client.HTTPMessage
+    body: bytes
+
+    @property
+    def text(self):
+        return self.body.decode()
+
+    @property
+    def json(self):
+        return json.loads(self.body)
+
+
+class Caller:
+    """Whoever has a token. `seen` is what was told so far: method, path, answer."""
+
+    def __init__(self, front, token, seen):
+        self._front, self.token, self.seen = front, token, seen
+        self._tls = ssl.create_default_context(cafile=str(front.folder / "ca.pem"))
+
+    def _connected(self):
+        return http.client.HTTPSConnection("127.0.0.1", self._front.port, timeout=60, context=self._tls)
+
+    def call(self, method, path, status=200, body=None, **headers):
+        """What the front answers; it has to have this status."""
+        connection = self._connected()
+        connection.request(method, path, body, {"Authorization": f"Bearer {self.token}", **headers})
+        answer = connection.getresponse()
+        found = Answer(answer.status, answer.headers, answer.read())
+        connection.close()
+        self.seen.add((method.lower(), path.partition("?")[0], str(found.status), found.headers.get_content_type(), found.body))
+        expect(found.status == status, f"{method} {path}: {found.status} in the place of {status}: {found.body[:300]}")
+        return found
+
+    def get(self, path, status=200):
+        return self.call("GET", path, status)
+
+    def post(self, message, path="/pharmacies/ph1/claims", key=None, wait=None, status=None, kind=None, accept=None):
+        """Sends a message: bytes, or fields as JSON."""
+        kind = kind or ("application/json" if isinstance(message, (dict, list)) else "application/vnd.ncpdp")
+        body = json.dumps(message).encode() if isinstance(message, (dict, list)) else message
+        headers = {"Content-Type": kind} | ({"Idempotency-Key": key} if key else {}) | ({"Accept": accept} if accept else {})
+        path += f"?wait={wait}" if wait is not None else ""
+        return self.call("POST", path, status or (200 if wait else 202), body, **headers)
+
+    def send(self, message, key, wait):
+        """The same, whatever becomes of it; None where the front is not there."""
+        try:
+            connection = self._connected()
+            headers = {"Authorization": f"Bearer {self.token}", "Content-Type": "application/vnd.ncpdp", "Idempotency-Key": key}
+            connection.request("POST", f"/pharmacies/ph1/claims?wait={wait}", message, headers)
+            answer = connection.getresponse()
+            return Answer(answer.status, answer.headers, answer.read())
+        except (OSError, http.client.HTTPException):
+            return None
+
+    def listen(self, path):
+        """An answer that goes on."""
+        connection = self._connected()
+        connection.request("GET", path, headers={"Authorization": f"Bearer {self.token}"})
+        answer = connection.getresponse()
+        expect(answer.headers.get_content_type() == "text/event-stream", "no events are told")
+        self.seen.add(("get", path, "200", "text/event-stream", b""))
+        return answer
+
+    def conforms(self):
+        """Each answer has to be told by /openapi.json, with its media type and its form, and each that it tells has to have been seen; how many."""
+        document = self.get("/openapi.json").json
+        told = {
+            (path, method, status): answer
+            for path, item in document["paths"].items()
+            for method, operation in item.items() if method in ("get", "post")
+            for status, answer in operation["responses"].items()
+        }  # fmt: skip
+        ways = [(path, re.compile(re.sub(r"\\\{\w+\\\}", "[^/]+", re.escape(path)))) for path in document["paths"]]
+        found = set()
+        for method, path, status, kind, body in self.seen:
+            template = next((name for name, way in ways if way.fullmatch(path)), None)
+            if template is None or (status == "405" and method not in document["paths"][template]):
+                expect(
+                    status in ("404", "405") and kind == "application/problem+json",
+                    f"{method} {path}: {status} is nowhere in /openapi.json",
+                )
+                continue
+            answer = told.get((template, method, status))
+            expect(answer is not None and kind in answer["content"], f"{method} {path}: {status} {kind} is not in /openapi.json")
+            if kind.endswith("json"):
+                fits(json.loads(body), answer["content"][kind]["schema"], document, f"{method} {path} {status}")
+            found.add((template, method, status))
+        lacking = sorted(set(told) - found - set(NOT_SEEN))
+        expect(not lacking, f"/openapi.json tells what nobody was told: {lacking}")
+        return len(found)
+
+
+TYPES = {"object": dict, "array": list, "string": str, "integer": int, "number": (int, float), "boolean": bool}
+
+
+def fits(value, schema, document, where):
+    """A value has to have the form that a schema tells."""
+    while "$ref" in schema:
+        schema = document["components"]["schemas"][schema["$ref"].rpartition("/")[2]]
+    if value is None and schema.get("nullable"):
+        return
+    if "type" in schema:
+        expect(isinstance(value, TYPES[schema["type"]]), f"{where}: {value!r} is no {schema['type']}")
+    expect(value in schema.get("enum", [value]), f"{where}: {value!r} is none of {schema.get('enum')}")
+    for name in schema.get("required", []):
+        expect(name in value, f"{where}: {name} is lacking")
+    for name, inner in schema.get("properties", {}).items():
+        if isinstance(value, dict) and name in value:
+            fits(value[name], inner, document, f"{where}/{name}")
+    for place, one in enumerate(value if isinstance(value, list) else []):
+        fits(one, schema.get("items", {}), document, f"{where}/{place}")
