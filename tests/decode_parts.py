@@ -70,12 +70,12 @@ class Cases:
 
     def __init__(self):
         self.names = {}
-        self.take("claims.texts", bare=True)
+        self.take("crates/rows/data/claims.texts", bare=True)
 
     def take(self, name, bare=False):
         """The rows of a file: word, argument as bytes, outcome."""
         known, rows = dict(self.names), []
-        for line in open(f"{repository}/cases/messages/{name}", encoding="ascii").read().splitlines():
+        for line in open(f"{repository}/{name}", encoding="ascii").read().splitlines():
             if not line or line.startswith("#"):
                 continue
             if bare or line.startswith("let "):
@@ -155,7 +155,7 @@ def main():
         ("framing.rows", "framing", None), ("orders.rows", "orders", "request"), ("reversals.rows", "orders", "request"),
         ("answers.rows", "answers", "answer"), ("envelopes.rows", "", "packet"), ("headers.rows", "", "request"),
     ):
-        for word, argument, outcome in cases.take(name):
+        for word, argument, outcome in cases.take(f"cases/messages/{name}"):
             if argument is None or len(argument) > 1_000_000:
                 continue
             asked = form or {"request": "request", "response": "answer"}.get(word, "request")
