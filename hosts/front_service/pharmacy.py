@@ -44,6 +44,8 @@ class Pharmacy:
         self._host_waits = True
         self._writes: set[asyncio.Task[None]] = set()
         self.last_number = 0
+        # All numbers up to this one are known.
+        self._looked = 0
         self.listeners: set[asyncio.Queue[int]] = set()
 
     @property
@@ -98,15 +100,23 @@ class Pharmacy:
             await asyncio.sleep(LOOK_SECONDS)
 
     async def _look_beyond(self) -> None:
-        is_there = self.is_connected
-        while is_there:
-            asked = range(self.last_number + 1, self.last_number + 1 + LOOK_AT_ONCE)
+        """Notes entries that came by another way, also those below numbers that the front has: a node numbers without gaps."""
+        text = "SELECT number FROM claims WHERE pharmacy = ? AND number > ? AND number <= ?"
+        while self.is_connected:
+            upto = self._looked + LOOK_AT_ONCE
+            known = {row[0] for row in await self._receipts.rows(text, self.name, self._looked, upto)}
+            asked = [it for it in range(self._looked + 1, upto + 1) if it not in known]
             replies = await asyncio.gather(*(self._ask(b"answer %d" % it, REPLY_SECONDS) for it in asked))
+            absent = []
             for number, reply in zip(asked, replies):
-                is_there = is_there and (reply == b"open" or reply.startswith(b"answer "))
-                if is_there:
+                if reply == b"open" or reply.startswith(b"answer "):
                     self.last_number = max(self.last_number, number)
                     await self._note(number, reply)
+                else:
+                    absent.append(number)
+            self._looked = absent[0] - 1 if absent else upto
+            if absent:
+                return
 
     async def _look_at_open(self, after: int) -> int:
         """Asks about some open entries behind a number; the number behind which others stand."""
