@@ -230,7 +230,7 @@ class Host:
             await asyncio.sleep(0.005)
 
 
-KNOWN = (b"submit ", b"answer ", b"take ", b"plan ", b"tick", b"stop", b"start")
+KNOWN = (b"submit ", b"answer ", b"open ", b"take ", b"plan ", b"count", b"tick", b"stop", b"start")
 
 
 class Run:

@@ -45,6 +45,8 @@ SCRIPTS = (
     Part('cases', ('cases/run',), PRODUCTS),
     Part('refuse-memory', ('tests/refuse-memory', '--every', REFUSALS), ('claimswitch', 'claimdump', 'claimaudit', 'claimnode', 'rows')),
     Part('library', ('tests/library',), ('library', 'claimnode')),
+    Part('killed', ('tests/killed',), ('claimnode', 'claimaudit')),
+    Part('killed-lie', ('tests/killed', '--lie', '--each', '7'), ('claimnode', 'claimaudit')),
     Part('audit', ('tests/audit',), ('claimdump', 'claimaudit', 'claimswitch')),
     Part('package', ('tests/package',), (*PRODUCTS, 'library'), timed=True),
     Part('documents', ('tests/documents',), PRODUCTS),

@@ -80,7 +80,9 @@ class Journal(Steps):
             pharmacy, number, text = argument.split(b' ', 2)
             kind = REQUEST if word == 'hear-request' else ANSWER
             return self.node.ask(f'take sw1 {printed(packet_of(kind, int(pharmacy), int(number), text))}').last
-        return {'submit': self.submit, 'send': self.send, 'tick': self.tick, 'held': self.held}[word](argument)
+        if word == 'count':
+            return self.node.ask('count').last.removeprefix('count ')
+        return {'submit': self.submit, 'send': self.send, 'tick': self.tick, 'held': self.held, 'open-of': self.open_of}[word](argument)
 
     def submit(self, text: bytes) -> str:
         return self.node.ask(f'submit {printed(text)}').last.removeprefix('number ')
@@ -91,6 +93,10 @@ class Journal(Steps):
 
     def tick(self, _: bytes) -> str:
         return ' '.join(f'switch={to[2:]} bytes={len(packet)}' for to, packet in self.node.ask('tick').sent) or 'nothing'
+
+    def open_of(self, argument: bytes) -> str:
+        said = self.node.ask(f'open {argument.decode()}')
+        return ' '.join([*said.entries, said.last])
 
     def held(self, number: bytes) -> str:
         last = self.node.ask(f'answer {int(number)}').last

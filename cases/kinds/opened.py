@@ -1,4 +1,5 @@
-"""How a node opens from the bytes of its log: what a start says, and that a file which is refused stays as it was."""
+"""How a node opens from the bytes of its log: what a start says, that a file which is refused stays as it was, and what is kept beside it."""
+import os
 import struct
 
 from suite.case import Case, Group, rows_apart
@@ -15,23 +16,43 @@ HEAD = head_of('ph1', SETTINGS)
 # A tick of a pharmacy that has no entry sends nothing; its record has 33 bytes.
 QUIET = Call(TICK, b'', ())
 TICKS = 3
+MOST_SETTINGS = 1 << 24
 RECORD = 33
 
 
-def start(octets: bytes, settings: bytes = SETTINGS) -> str:
+def start(octets: bytes, settings: bytes = SETTINGS, *words: str) -> str:
     """What a start of pharmacy 1 from these bytes says, and how many bytes the file has behind it."""
     with room() as folder:
         paths = f'{folder}/settings.toml', f'{folder}/ph1.log'
         for path, given in zip(paths, (settings, octets)):
             with open(path, 'wb') as file:
                 file.write(given)
-        ran = run('claimnode', paths[0], 'ph1', paths[1], given=b'')
+        ran = run('claimnode', paths[0], 'ph1', paths[1], *words, given=b'')
         with open(paths[1], 'rb') as file:
             left = file.read()
     if ran.status == 0:
         return f'{ran.out.decode().strip()} kept={len(left)}'
     said = ran.err.decode().strip().removeprefix('claimnode: ')
     return said if left == octets and not ran.out else f'{said} kept={len(left)} said={ran.out!r}'
+
+
+def beside(octets: bytes, starts: int) -> str:
+    """What stands beside a log whose end is torn off again before each of so many starts: the files' endings, and how much of the end each has."""
+    with room() as folder:
+        settings, log = f'{folder}/settings.toml', f'{folder}/ph1.log'
+        with open(settings, 'wb') as file:
+            file.write(SETTINGS)
+        for _ in range(starts):
+            with open(log, 'wb') as file:
+                file.write(octets)
+            run('claimnode', settings, 'ph1', log, given=b'')
+        told = []
+        for name in sorted(os.listdir(folder)):
+            if name.startswith('ph1.log.'):
+                with open(f'{folder}/{name}', 'rb') as file:
+                    kept = file.read()
+                told.append(f'{name[7:]}={len(kept)}' if octets.endswith(kept) else f'{name[7:]} has other bytes')
+        return ' '.join(told) or 'nothing'
 
 
 def ticks(*calls: Call) -> bytes:
@@ -62,6 +83,16 @@ def tell(word: str, argument: bytes) -> str:
     if word == 'plan':
         other = Call(DROP, text(b'00093721410'), ())
         return start(ticks(*[other if at == count else QUIET for at in range(1, TICKS + 1)]))
+    if word == 'at-least':
+        return start(whole, SETTINGS, '--at-least', str(count))
+    if word == 'beside':
+        return beside(whole[:count], 1)
+    if word == 'beside-twice':
+        return beside(whole[:count], 2)
+    if word == 'long-settings':
+        return start(whole, b'#' * (MOST_SETTINGS + count)).split('/')[-1]
+    if word == 'again':
+        return start(whole, SETTINGS.replace(b'again = 1', b'again = %d' % count))
     if word == 'of-switch':
         return start(head_of('sw1', SETTINGS))
     if word == 'of-other-settings':

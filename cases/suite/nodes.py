@@ -31,9 +31,10 @@ def clear_rooms() -> None:
 
 
 class Answer(NamedTuple):
-    """What a node says to a line: the packets that it sends, each with its receiver, and its last line."""
+    """What a node says to a line: the packets that it sends, each with its receiver, its last line, and before it the open entries."""
     sent: list[tuple[str, bytes]]
     last: str
+    entries: tuple[str, ...] = ()
 
     @property
     def refused(self) -> str | None:
@@ -71,11 +72,14 @@ class Served:
 
     def answer(self) -> Answer:
         """What it says to the next line that it was given."""
-        sent = []
+        sent, entries = [], []
         while True:
             told = self.line()
+            if told.startswith('entry '):
+                entries.append(told.removeprefix('entry '))
+                continue
             if not told.startswith('send '):
-                return Answer(sent, told)
+                return Answer(sent, told, tuple(entries))
             _, to, text = told.split(' ', 2)
             sent.append((to, octets_of(text)))
 

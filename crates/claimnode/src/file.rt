@@ -3,13 +3,16 @@
 use crate::finding::Finding;
 use command_line::End;
 use std::fs::{File, OpenOptions, TryLockError};
+use std::os::unix::fs::OpenOptionsExt;
 
-/// Opens the file, or makes it, and takes it for this process. Its name is on disk then, whoever made it.
+/// Opens the file, or makes it, and takes it for this process. Its name is on disk then, whoever made it. A file that is made
+/// nobody else may read: it has what was claimed for whom.
 pub(crate) fn open_log(rt: &HostRuntime, path: &str) -> Result<File, End<Finding>> {
     let file = match OpenOptions::new()
         .read(true)
         .append(true)
         .create(true)
+        .mode(0o600)
         .open(rt, path)
     {
         Ok(file) => file,

@@ -18,6 +18,15 @@ pub(crate) enum Finding {
     /// More turns than can be counted.
     #[error("too many turns")]
     TooManyTurns,
+    /// A word that is to be a number of calls is none.
+    #[error("--at-least wants a number")]
+    Number,
+    /// The settings are refused: what is wrong in them.
+    #[error("settings refused: {0}")]
+    Settings(String),
+    /// The log has fewer calls than it was known to have: so many.
+    #[error("the log has {0} calls, fewer than it is known to have")]
+    FewCalls(u64),
     /// The settings, the node or its log are refused.
     #[error("{0}")]
     Service(ServiceFault),

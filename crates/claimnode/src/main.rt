@@ -9,11 +9,13 @@ mod words;
 use crate::file::open_log;
 use crate::finding::Finding;
 use crate::words::{Words, words_of};
-use command_line::{End, given_words, read_file};
-use node_process::{Host, Unserved, serve_all};
-use node_service::Service;
+use command_line::{End, given_words, read_settings_file};
+use node_process::{Host, Owner, Unserved, serve_all};
+use node_service::{Service, ServiceFault};
 use payer_book::HashKeys;
+use std::alloc::Global;
 use std::process::ExitCode;
+use world_settings::settings_fault;
 
 fn main(rt: HostRuntime) -> ExitCode {
     match run(&rt) {
@@ -27,7 +29,7 @@ fn run(rt: &HostRuntime) -> Result<(), End<Finding>> {
     let alloc = rt.alloc();
     let given = given_words(rt)?;
     let words = words_of(alloc, given.as_slice())?;
-    let text = read_file(rt, words.settings)?;
+    let text = read_settings_file(rt, words.settings)?;
     run_node(rt, &words, text.as_slice())
 }
 
@@ -35,7 +37,16 @@ fn run(rt: &HostRuntime) -> Result<(), End<Finding>> {
 fn check_settings(rt: &HostRuntime, words: &Words<'_>, text: &[u8]) -> Result<(), End<Finding>> {
     match Service::open(rt.alloc(), &HashKeys::fixed(), text, words.node, b"") {
         Ok(_) => Ok(()),
+        Err(ServiceFault::Settings) => Err(End::Own(why_refused(rt.alloc(), text)?)),
         Err(fault) => Err(End::Own(Finding::Service(fault))),
+    }
+}
+
+/// What is wrong in settings that are refused.
+fn why_refused(alloc: Global, text: &[u8]) -> Result<Finding, End<Finding>> {
+    match settings_fault(alloc, text)? {
+        Some(why) => Ok(Finding::Settings(why)),
+        None => Ok(Finding::Service(ServiceFault::Settings)),
     }
 }
 
@@ -43,11 +54,17 @@ fn check_settings(rt: &HostRuntime, words: &Words<'_>, text: &[u8]) -> Result<()
 fn run_node(rt: &HostRuntime, words: &Words<'_>, text: &[u8]) -> Result<(), End<Finding>> {
     check_settings(rt, words, text)?;
     let log = open_log(rt, words.log)?;
-    let mut host = Host::new(log, rt.stdin(), rt.stdout());
-    match serve_all(rt.alloc(), &hash_keys(rt), text, words.node, &mut host) {
+    let mut host = Host::new(rt, words.log, log, rt.stdin(), rt.stdout());
+    let owner = Owner {
+        settings: text,
+        node: words.node,
+        least: words.least,
+    };
+    match serve_all(rt.alloc(), &hash_keys(rt), &owner, &mut host) {
         Ok(()) => Ok(()),
         Err(Unserved::OutOfMemory) => Err(End::OutOfMemory),
         Err(Unserved::Refused(fault)) => Err(End::Own(Finding::Service(fault))),
+        Err(Unserved::FewCalls(calls)) => Err(End::Own(Finding::FewCalls(calls))),
         Err(Unserved::LongLine) => Err(End::Own(Finding::LongLine)),
         Err(Unserved::TooManyTurns) => Err(End::Own(Finding::TooManyTurns)),
         Err(Unserved::Io(error)) => Err(End::Io(error)),

@@ -3,9 +3,13 @@
 use crate::finding::Finding;
 use clap::{Arg, ArgAction, Command};
 use command_line::{End, VERSION};
+use input_text::read_decimal;
 use node_service::node_in;
 use std::alloc::Global;
 use world_setup::Node;
+
+/// The most digits of a count of calls (own).
+const MOST_DIGITS: usize = 18;
 
 /// What the command line names.
 #[derive(Drop)]
@@ -16,6 +20,8 @@ pub(crate) struct Words<'a> {
     pub(crate) node: Node,
     /// The file of the node's log.
     pub(crate) log: &'a str,
+    /// How many calls the log is known to have.
+    pub(crate) least: u64,
 }
 
 /// What the command line names; its first word is the program's own name.
@@ -31,7 +37,8 @@ pub(crate) fn words_of<'a>(alloc: Global, given: &'a [String]) -> Result<Words<'
             alloc,
             "LOG",
             "the node's log, which is made where it is not there",
-        ))?;
+        ))?
+        .arg(least(alloc))?;
     let matches = command.try_get_matches_from(given)?;
     match (
         matches.get_str("SETTINGS"),
@@ -43,10 +50,31 @@ pub(crate) fn words_of<'a>(alloc: Global, given: &'a [String]) -> Result<Words<'
                 settings,
                 node,
                 log,
+                least: least_of(matches.get_str("at-least"))?,
             }),
             None => Err(End::Own(Finding::Node)),
         },
         _ => Err(End::Own(Finding::Node)),
+    }
+}
+
+/// How many calls the log is known to have.
+fn least<'a>(alloc: Global) -> Arg<'a> {
+    Arg::new(alloc, "at-least")
+        .long("at-least")
+        .value_name("CALLS")
+        .action(ArgAction::Set)
+        .help("refuse a log of fewer calls, such as an older copy")
+}
+
+/// The number behind `--at-least`; 0 where it is not said.
+fn least_of(word: Option<&str>) -> Result<u64, End<Finding>> {
+    match word {
+        None => Ok(0),
+        Some(word) => match read_decimal(word.as_bytes(), MOST_DIGITS) {
+            Some(number) => Ok(number),
+            None => Err(End::Own(Finding::Number)),
+        },
     }
 }
 

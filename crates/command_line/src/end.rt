@@ -18,6 +18,8 @@ pub enum End<F: Drop> {
     Io(io::Error),
     /// The file of this name is not read, opened or written.
     File(String, io::Error),
+    /// The settings of this name have more bytes than are read.
+    LongSettings(String),
     /// What this program alone can find wrong.
     Own(F),
 }
@@ -31,14 +33,23 @@ impl<F: Display + Drop> End<F> {
         }
     }
 
+    /// That the settings of this name are too long.
+    pub fn of_long_settings(alloc: Global, name: &str) -> End<F> {
+        match String::from_str(alloc, name) {
+            Ok(name) => End::LongSettings(name),
+            Err(_) => End::OutOfMemory,
+        }
+    }
+
     /// Says on standard error, behind the name of the program, why it ends, and gives the status: this one. Where the words
-    /// ask for help or for the version, that is printed, and the status is 0; where they are wrong, it is 2.
+    /// ask for help or for the version, that is printed, and the status is 0, or 1 where it cannot be written; where they are
+    /// wrong, it is 2.
     pub fn told<R: Print + Eprint>(&self, rt: &R, program: &str, status: u8) -> ExitCode {
         match self {
-            End::Words(error) => {
-                let _ = error.print(rt);
-                ExitCode::from(if error.use_stderr() { 2 } else { 0 })
-            }
+            End::Words(error) => match error.print(rt) {
+                Ok(()) => ExitCode::from(if error.use_stderr() { 2 } else { 0 }),
+                Err(_) => ExitCode::from(if error.use_stderr() { 2 } else { 1 }),
+            },
             end => {
                 let _ = eprintln!(rt; "{program}: {end}");
                 ExitCode::from(status)
@@ -54,6 +65,7 @@ impl<F: Display + Drop> Display for End<F> {
             End::OutOfMemory => f.write_str("out of memory"),
             End::Io(error) => write!(f, "{error}"),
             End::File(name, error) => write!(f, "{name}: {error}"),
+            End::LongSettings(name) => write!(f, "{name}: settings have 16 MiB at most"),
             End::Own(found) => write!(f, "{found}"),
         }
     }

@@ -6,7 +6,7 @@ mod end;
 mod reading;
 
 pub use end::End;
-pub use reading::{given_words, read_file};
+pub use reading::{given_words, read_file, read_settings_file};
 
 /// The version that `-V` tells: that of the repository's change log.
 pub const VERSION: &str = "0.7.0";

@@ -1,13 +1,12 @@
 -- Each act of a process, from a moment that is safe to the next.
-use Rattle.std.proofs.Common.{◌≡◌, ℕ, zero, suc, Bool, true, false, not, ◌&&◌, cond, List, [], ◌∷◌, ◌++◌, take, length, Result, Ok, Err, OnOk, is_ok, ◌==◌, refl, sym, ap, ◌∙◌, subst, ◌⊎◌, inl, inr, append_assoc, append-nil, arith}
+use Rattle.std.proofs.Common.{◌≡◌, ◌≤◌, ℕ, zero, suc, Bool, true, false, not, ◌&&◌, cond, List, [], ◌∷◌, ◌++◌, take, length, Result, Ok, Err, OnOk, is_ok, ◌==◌, refl, sym, ap, ◌∙◌, subst, ◌⊎◌, inl, inr, append_assoc, append-nil, arith}
 use Rattle.std.proofs.lemmas.Bool.Decides.{nat_tests}
-use Rattle.claim_model.specs.Node.{Node}
 use Rattle.node_service.specs.Serving.{Serving, cleared}
 use Rattle.node_service.specs.Lines.{after_lines}
 use Rattle.node_service.specs.Opened.{IsOpened}
 use Rattle.node_process.specs.Acts.{Act, Found, Cut, Append, Sync, Say, Hear, found, file, has_failed, kept, said, heard}
 use Rattle.node_process.specs.Heard.{whole_lines, begun_line}
-use Rattle.node_process.specs.Safe.{IsStartOf, ready_line, asked, log_of, words_of, IsCovered, IsWholeFile, IsSafe, AtEachMoment, IsRun, IsRunDone, IsServed, IsLogged, IsOpening, Reads, Trims, Heads, Begins, Serves, Logs}
+use Rattle.node_process.specs.Safe.{Whose, IsStartOf, ready_line, asked, log_of, words_of, IsCovered, IsWholeFile, IsSafe, AtEachMoment, IsRun, IsRunDone, IsServed, IsLogged, IsOpening, Reads, Trims, Heads, Begins, Serves, Logs}
 use Rattle.node_service.proofs.Lines.{new_or_whole}
 use Rattle.node_process.proofs.Asking.{asked_more}
 
@@ -216,9 +215,9 @@ module _ (start : Serving) (base : List ℕ) where
       }
 
 -- a run of the node of the log that was found
-pub runs : (text : List ℕ) (node : Node) (t : List Act) (start : Serving) (whole : ℕ) → IsOpened text node (found t) whole start → AtEachMoment start (take whole (found t)) t → IsRun text node t
-runs text node t start whole opened each =
-    record { start = start; whole = whole; opened = opened; safe = λ later earlier e. throughout start (take whole (found t)) later t earlier each e }
+pub runs : (whose : Whose) (t : List Act) (start : Serving) (whole : ℕ) → IsOpened whose.settings whose.node (found t) whole start → whose.least ≤ start.calls → AtEachMoment start (take whole (found t)) t → IsRun whose t
+runs whose t start whole opened enough each =
+    record { start = start; whole = whole; opened = opened; enough = enough; safe = λ later earlier e. throughout start (take whole (found t)) later t earlier each e }
 
 -- what holds where a call was done
 pub when_done : {T E : Type 0} (r : Result T E) (P : Bool → Type 0) → P true → OnOk r (P (is_ok r))
@@ -227,55 +226,56 @@ when_done (Err e) P p = tt
 
 -- ---- in the words of the clauses
 
-pub reads_runs : (text : List ℕ) (node : Node) (t : List Act) (whole size : ℕ) (s : Serving) → Reads text node t whole size s → IsRun text node t
-reads_runs text node t whole size s r = subst (IsRun text node) (sym r.is) (runs text node (Found r.bytes ∷ []) s whole r.opened (found_each s (take whole r.bytes) r.bytes))
+pub reads_runs : (whose : Whose) (t : List Act) (whole size : ℕ) (s : Serving) → Reads whose t whole size s → IsRun whose t
+reads_runs whose t whole size s r = subst (IsRun whose) (sym r.is) (runs whose (Found r.bytes ∷ []) s whole r.opened r.enough (found_each s (take whole r.bytes) r.bytes))
 
 cut_each : (s : Serving) (whole : ℕ) (bytes : List ℕ) (done : Bool) → AtEachMoment s (take whole bytes) (Cut whole done ∷ Found bytes ∷ [])
 cut_each s whole bytes done = (record { order = refl; covered = inl refl; whole = inr (inl refl) }, found_each s (take whole bytes) bytes)
 
-pub cut_runs : (text : List ℕ) (node : Node) (t : List Act) (whole size : ℕ) (s : Serving) (done : Bool) → Reads text node t whole size s → IsRun text node (Cut whole done ∷ t)
-cut_runs text node t whole size s done r =
-    subst (λ (acts : List Act). IsRun text node (Cut whole done ∷ acts)) (sym r.is) (runs text node (Cut whole done ∷ Found r.bytes ∷ []) s whole r.opened (cut_each s whole r.bytes done))
+pub cut_runs : (whose : Whose) (t : List Act) (whole size : ℕ) (s : Serving) (done : Bool) → Reads whose t whole size s → IsRun whose (Cut whole done ∷ t)
+cut_runs whose t whole size s done r =
+    subst (λ (acts : List Act). IsRun whose (Cut whole done ∷ acts)) (sym r.is) (runs whose (Cut whole done ∷ Found r.bytes ∷ []) s whole r.opened r.enough (cut_each s whole r.bytes done))
 
 take_none : (whole : ℕ) → take {A = ℕ} whole [] ≡ []
 take_none zero = refl
 take_none (suc whole) = refl
 
-pub cut_trims : (text : List ℕ) (node : Node) (t : List Act) (whole size : ℕ) (s : Serving) → Reads text node t whole size s → Trims text node (Cut whole true ∷ t) whole s
-cut_trims text node t whole size s r =
-    subst (λ (acts : List Act). Trims text node (Cut whole true ∷ acts) whole s) (sym r.is)
-    (record { opened = r.opened; opening = record { each = cut_each s whole r.bytes true; well = refl; silent = refl; deaf = refl; is = refl }; unsynced = take_none whole })
+pub cut_trims : (whose : Whose) (t : List Act) (whole size : ℕ) (s : Serving) → Reads whose t whole size s → Trims whose (Cut whole true ∷ t) whole s
+cut_trims whose t whole size s r =
+    subst (λ (acts : List Act). Trims whose (Cut whole true ∷ acts) whole s) (sym r.is)
+    (record { opened = r.opened; enough = r.enough; opening = record { each = cut_each s whole r.bytes true; well = refl; silent = refl; deaf = refl; is = refl }; unsynced = take_none whole })
 
-pub whole_trims : (text : List ℕ) (node : Node) (t : List Act) (whole size : ℕ) (s : Serving) → Reads text node t whole size s → whole ≡ size → Trims text node t whole s
-whole_trims text node t whole size s r same =
+pub whole_trims : (whose : Whose) (t : List Act) (whole size : ℕ) (s : Serving) → Reads whose t whole size s → whole ≡ size → Trims whose t whole s
+whole_trims whose t whole size s r same =
     let all : take whole r.bytes ≡ r.bytes = ap (λ (n : ℕ). take n r.bytes) (same ∙ r.count) ∙ take_whole r.bytes in
-    subst (λ (acts : List Act). Trims text node acts whole s) (sym r.is)
-    (record { opened = r.opened; opening = record { each = found_each s (take whole r.bytes) r.bytes; well = refl; silent = refl; deaf = refl; is = sym all }; unsynced = refl })
+    subst (λ (acts : List Act). Trims whose acts whole s) (sym r.is)
+    (record { opened = r.opened; enough = r.enough; opening = record { each = found_each s (take whole r.bytes) r.bytes; well = refl; silent = refl; deaf = refl; is = sym all }; unsynced = refl })
   where
     take_whole : (bytes : List ℕ) → take (length bytes) bytes ≡ bytes
     take_whole [] = refl
     take_whole (b ∷ bytes) = ap (λ (x : List ℕ). b ∷ x) (take_whole bytes)
 
-pub trims_runs : (text : List ℕ) (node : Node) (t : List Act) (whole : ℕ) (s : Serving) → Trims text node t whole s → IsRun text node t
-trims_runs text node t whole s h = runs text node t s whole h.opened h.opening.each
+pub trims_runs : (whose : Whose) (t : List Act) (whole : ℕ) (s : Serving) → Trims whose t whole s → IsRun whose t
+trims_runs whose t whole s h = runs whose t s whole h.opened h.enough h.opening.each
 
 -- a head is appended to an empty file alone
-empty_base : (text : List ℕ) (node : Node) (t : List Act) (whole : ℕ) (s : Serving) → Trims text node t whole s → (s.records ≡ [] → ⊥) → kept t ≡ file t
-empty_base text node t whole s h some =
-    elim (new_or_whole text node (found t) whole s h.opened) [
+empty_base : (whose : Whose) (t : List Act) (whole : ℕ) (s : Serving) → Trims whose t whole s → (s.records ≡ [] → ⊥) → kept t ≡ file t
+empty_base whose t whole s h some =
+    elim (new_or_whole whose.settings whose.node (found t) whole s h.opened) [
       | inl none ↦ absurd (some none)
       | inr zero_kept ↦ h.unsynced ∙ sym (h.opening.is ∙ ap (λ (n : ℕ). take n (found t)) zero_kept)
     ]
 
-pub head_runs : (text : List ℕ) (node : Node) (t : List Act) (whole : ℕ) (s : Serving) (done : Bool) → Trims text node t whole s → (s.records ≡ [] → ⊥) → IsRun text node (Append s.records done ∷ t)
-head_runs text node t whole s done h some = runs text node (Append s.records done ∷ t) s whole h.opened (head_each s (take whole (found t)) t done h.opening (empty_base text node t whole s h some))
+pub head_runs : (whose : Whose) (t : List Act) (whole : ℕ) (s : Serving) (done : Bool) → Trims whose t whole s → (s.records ≡ [] → ⊥) → IsRun whose (Append s.records done ∷ t)
+head_runs whose t whole s done h some = runs whose (Append s.records done ∷ t) s whole h.opened h.enough (head_each s (take whole (found t)) t done h.opening (empty_base whose t whole s h some))
 
-pub head_heads : (text : List ℕ) (node : Node) (t : List Act) (whole : ℕ) (s : Serving) → Trims text node t whole s → (s.records ≡ [] → ⊥) → Heads text node (Append s.records true ∷ t) whole s
-head_heads text node t whole s h some =
+pub head_heads : (whose : Whose) (t : List Act) (whole : ℕ) (s : Serving) → Trims whose t whole s → (s.records ≡ [] → ⊥) → Heads whose (Append s.records true ∷ t) whole s
+head_heads whose t whole s h some =
     record {
       opened = h.opened;
+      enough = h.enough;
       opening = record {
-        each = head_each s (take whole (found t)) t true h.opening (empty_base text node t whole s h some);
+        each = head_each s (take whole (found t)) t true h.opening (empty_base whose t whole s h some);
         well = h.opening.well;
         silent = h.opening.silent;
         deaf = h.opening.deaf;
@@ -283,10 +283,11 @@ head_heads text node t whole s h some =
       };
     }
 
-pub no_head : (text : List ℕ) (node : Node) (t : List Act) (whole : ℕ) (s : Serving) → Trims text node t whole s → s.records ≡ [] → Heads text node t whole s
-no_head text node t whole s h none =
+pub no_head : (whose : Whose) (t : List Act) (whole : ℕ) (s : Serving) → Trims whose t whole s → s.records ≡ [] → Heads whose t whole s
+no_head whose t whole s h none =
     record {
       opened = h.opened;
+      enough = h.enough;
       opening = record {
         each = h.opening.each;
         well = h.opening.well;
@@ -296,60 +297,62 @@ no_head text node t whole s h none =
       };
     }
 
-pub settle_runs : (text : List ℕ) (node : Node) (t : List Act) (whole : ℕ) (s : Serving) (done : Bool) → Heads text node t whole s → IsRun text node (Sync done ∷ t)
-settle_runs text node t whole s done h = runs text node (Sync done ∷ t) s whole h.opened (settle_each s (take whole (found t)) t done h.opening)
+pub settle_runs : (whose : Whose) (t : List Act) (whole : ℕ) (s : Serving) (done : Bool) → Heads whose t whole s → IsRun whose (Sync done ∷ t)
+settle_runs whose t whole s done h = runs whose (Sync done ∷ t) s whole h.opened h.enough (settle_each s (take whole (found t)) t done h.opening)
 
-pub settle_begins : (text : List ℕ) (node : Node) (t : List Act) (whole : ℕ) (s : Serving) → Heads text node t whole s → Begins text node (Sync true ∷ t) whole s
-settle_begins text node t whole s h =
+pub settle_begins : (whose : Whose) (t : List Act) (whole : ℕ) (s : Serving) → Heads whose t whole s → Begins whose (Sync true ∷ t) whole s
+settle_begins whose t whole s h =
     record {
       opened = h.opened;
+      enough = h.enough;
       opening = record { each = settle_each s (take whole (found t)) t true h.opening; well = h.opening.well; silent = h.opening.silent; deaf = h.opening.deaf; is = h.opening.is };
       synced = ap (λ b. cond (true && not b) (file t) (kept t)) h.opening.well;
     }
 
-pub greet_runs : (text : List ℕ) (node : Node) (t : List Act) (whole : ℕ) (s : Serving) (done : Bool) → Begins text node t whole s → IsRun text node (Say (ready_line s.calls) done ∷ t)
-greet_runs text node t whole s done b = runs text node (Say (ready_line s.calls) done ∷ t) s whole b.opened (greet_each s (take whole (found t)) t done b.opening b.synced)
+pub greet_runs : (whose : Whose) (t : List Act) (whole : ℕ) (s : Serving) (done : Bool) → Begins whose t whole s → IsRun whose (Say (ready_line s.calls) done ∷ t)
+greet_runs whose t whole s done b = runs whose (Say (ready_line s.calls) done ∷ t) s whole b.opened b.enough (greet_each s (take whole (found t)) t done b.opening b.synced)
 
-pub greet_all : (text : List ℕ) (node : Node) (t : List Act) (whole : ℕ) (s : Serving) → Begins text node t whole s → Serves text node (Say (ready_line s.calls) true ∷ t) (cleared s)
-greet_all text node t whole s b =
-    record { start = s; whole = whole; opened = b.opened; served = greet_serves s (take whole (found t)) t b.opened.silent b.opening b.synced }
+pub greet_all : (whose : Whose) (t : List Act) (whole : ℕ) (s : Serving) → Begins whose t whole s → Serves whose (Say (ready_line s.calls) true ∷ t) (cleared s)
+greet_all whose t whole s b =
+    record { start = s; whole = whole; opened = b.opened; enough = b.enough; served = greet_serves s (take whole (found t)) t b.opened.silent b.opening b.synced }
 
-pub serves_runs : (text : List ℕ) (node : Node) (t : List Act) (s : Serving) → Serves text node t s → IsRun text node t
-serves_runs text node t s v = runs text node t v.start v.whole v.opened v.served.on.each
+pub serves_runs : (whose : Whose) (t : List Act) (s : Serving) → Serves whose t s → IsRun whose t
+serves_runs whose t s v = runs whose t v.start v.whole v.opened v.enough v.served.on.each
 
-pub append_runs : (text : List ℕ) (node : Node) (t : List Act) (s : Serving) (done : Bool) → Serves text node t s → IsRun text node (Append s.records done ∷ t)
-append_runs text node t s done v = runs text node (Append s.records done ∷ t) v.start v.whole v.opened (append_each v.start (take v.whole (found t)) t s done v.served)
+pub append_runs : (whose : Whose) (t : List Act) (s : Serving) (done : Bool) → Serves whose t s → IsRun whose (Append s.records done ∷ t)
+append_runs whose t s done v = runs whose (Append s.records done ∷ t) v.start v.whole v.opened v.enough (append_each v.start (take v.whole (found t)) t s done v.served)
 
-pub sync_runs : (text : List ℕ) (node : Node) (t : List Act) (s : Serving) (done : Bool) → Serves text node t s → IsRun text node (Sync done ∷ Append s.records true ∷ t)
-sync_runs text node t s done v = runs text node (Sync done ∷ Append s.records true ∷ t) v.start v.whole v.opened (sync_each v.start (take v.whole (found t)) t s done v.served)
+pub sync_runs : (whose : Whose) (t : List Act) (s : Serving) (done : Bool) → Serves whose t s → IsRun whose (Sync done ∷ Append s.records true ∷ t)
+sync_runs whose t s done v = runs whose (Sync done ∷ Append s.records true ∷ t) v.start v.whole v.opened v.enough (sync_each v.start (take v.whole (found t)) t s done v.served)
 
-pub sync_logs : (text : List ℕ) (node : Node) (t : List Act) (s : Serving) → Serves text node t s → Logs text node (Sync true ∷ Append s.records true ∷ t) s
-sync_logs text node t s v = record { start = v.start; whole = v.whole; opened = v.opened; logged = synced_logged v.start (take v.whole (found t)) t s v.served }
+pub sync_logs : (whose : Whose) (t : List Act) (s : Serving) → Serves whose t s → Logs whose (Sync true ∷ Append s.records true ∷ t) s
+sync_logs whose t s v = record { start = v.start; whole = v.whole; opened = v.opened; enough = v.enough; logged = synced_logged v.start (take v.whole (found t)) t s v.served }
 
-pub nothing_logs : (text : List ℕ) (node : Node) (t : List Act) (s : Serving) → Serves text node t s → s.records ≡ [] → Logs text node t s
-nothing_logs text node t s v none = record { start = v.start; whole = v.whole; opened = v.opened; logged = no_records v.start (take v.whole (found t)) t s none v.served }
+pub nothing_logs : (whose : Whose) (t : List Act) (s : Serving) → Serves whose t s → s.records ≡ [] → Logs whose t s
+nothing_logs whose t s v none = record { start = v.start; whole = v.whole; opened = v.opened; enough = v.enough; logged = no_records v.start (take v.whole (found t)) t s none v.served }
 
-pub say_runs : (text : List ℕ) (node : Node) (t : List Act) (s : Serving) (done : Bool) → Logs text node t s → IsRun text node (Say s.out done ∷ t)
-say_runs text node t s done v = runs text node (Say s.out done ∷ t) v.start v.whole v.opened (say_each v.start (take v.whole (found t)) t s done v.logged)
+pub say_runs : (whose : Whose) (t : List Act) (s : Serving) (done : Bool) → Logs whose t s → IsRun whose (Say s.out done ∷ t)
+say_runs whose t s done v = runs whose (Say s.out done ∷ t) v.start v.whole v.opened v.enough (say_each v.start (take v.whole (found t)) t s done v.logged)
 
-pub say_serves : (text : List ℕ) (node : Node) (t : List Act) (s : Serving) → Logs text node t s → Serves text node (Say s.out true ∷ t) (cleared s)
-say_serves text node t s v = record { start = v.start; whole = v.whole; opened = v.opened; served = said_served v.start (take v.whole (found t)) t s v.logged }
+pub say_serves : (whose : Whose) (t : List Act) (s : Serving) → Logs whose t s → Serves whose (Say s.out true ∷ t) (cleared s)
+say_serves whose t s v = record { start = v.start; whole = v.whole; opened = v.opened; enough = v.enough; served = said_served v.start (take v.whole (found t)) t s v.logged }
 
-pub hear_runs : (text : List ℕ) (node : Node) (t : List Act) (s : Serving) (bytes : List ℕ) → Serves text node t s → IsRun text node (Hear bytes ∷ t)
-hear_runs text node t s bytes v = runs text node (Hear bytes ∷ t) v.start v.whole v.opened (hear_each v.start (take v.whole (found t)) t s bytes v.served)
+pub hear_runs : (whose : Whose) (t : List Act) (s : Serving) (bytes : List ℕ) → Serves whose t s → IsRun whose (Hear bytes ∷ t)
+hear_runs whose t s bytes v = runs whose (Hear bytes ∷ t) v.start v.whole v.opened v.enough (hear_each v.start (take v.whole (found t)) t s bytes v.served)
 
-pub hear_serves : (text : List ℕ) (node : Node) (t : List Act) (s : Serving) (bytes : List ℕ) → Serves text node t s → Serves text node (Hear bytes ∷ t) (after_lines s (whole_lines (begun_line (heard t) ++ bytes)))
-hear_serves text node t s bytes v = record { start = v.start; whole = v.whole; opened = v.opened; served = heard_served v.start (take v.whole (found t)) t s bytes v.served }
+pub hear_serves : (whose : Whose) (t : List Act) (s : Serving) (bytes : List ℕ) → Serves whose t s → Serves whose (Hear bytes ∷ t) (after_lines s (whole_lines (begun_line (heard t) ++ bytes)))
+hear_serves whose t s bytes v = record { start = v.start; whole = v.whole; opened = v.opened; enough = v.enough; served = heard_served v.start (take v.whole (found t)) t s bytes v.served }
 
 -- the input has ended, and nothing is left to be said
-pub ends_done : (text : List ℕ) (node : Node) (t : List Act) (s : Serving) → Serves text node t s → s.records ≡ [] → s.out ≡ [] → IsRunDone text node (Hear [] ∷ t)
-ends_done text node t s v no_records no_words =
+pub ends_done : (whose : Whose) (t : List Act) (s : Serving) → Serves whose t s → s.records ≡ [] → s.out ≡ [] → IsRunDone whose (Hear [] ∷ t)
+ends_done whose t s v no_records no_words =
     let base = take v.whole (found t) in
     let same : heard t ++ [] ≡ heard t = append-nil (heard t) in
     record {
       start = v.start;
       whole = v.whole;
       opened = v.opened;
+      enough = v.enough;
       done = record {
         well = v.served.on.well;
         logged =

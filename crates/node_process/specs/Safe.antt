@@ -1,6 +1,8 @@
 -- What is safe at each moment of a process: what was said is on the disk.
-use Rattle.std.specs.Prelude.{◌≡◌, ◌⊎◌, ⊤, ℕ, length, false, List, [], ◌∷◌, ◌++◌, codes, decimal, take}
+use Rattle.std.specs.Prelude.{◌≡◌, ◌≤◌, ◌⊎◌, ⊤, ℕ, length, false, List, [], ◌∷◌, ◌++◌, codes, decimal, take}
 use Rattle.claim_model.specs.Node.{Node}
+use Rattle.world_setup.specs.Seen.{node_seen}
+use Rattle.node_process.specs.declared.opening.Owner.{Owner}
 use Rattle.node_service.specs.Serving.{Serving, cleared}
 use Rattle.node_service.specs.Lines.{after_lines}
 use Rattle.node_service.specs.Opened.{IsOpened}
@@ -70,11 +72,22 @@ AtEachMoment start base (act ∷ before) = IsSafe start base (act ∷ before) ×
 abbrev pub IsUnopened : List Act → Type 0
 IsUnopened acts = (acts ≡ []) ⊎ ((bytes : List ℕ) × (acts ≡ Found bytes ∷ []))
 
+-- whose process it is: the text of the settings, the node, and how many calls its log has at least
+pub record Whose : Type 0 where
+  pub settings : List ℕ
+  pub node : Node
+  pub least : ℕ
+
+-- the same, of the code's value
+abbrev pub owner_seen : Owner → Whose
+owner_seen o = record { settings = o.settings.now; node = node_seen o.node; least = o.least }
+
 -- the node of the log that was found was served, and stopped at any moment it was safe
-pub record IsRun (text : List ℕ) (node : Node) (acts : List Act) : Type 0 where
+pub record IsRun (whose : Whose) (acts : List Act) : Type 0 where
   pub start : Serving
   pub whole : ℕ
-  pub opened : IsOpened text node (found acts) whole start
+  pub opened : IsOpened whose.settings whose.node (found acts) whole start
+  pub enough : whose.least ≤ start.calls
   pub safe : (later earlier : List Act) → acts ≡ later ++ earlier → IsSafe start (take whole (found acts)) earlier
 
 -- all whole lines that came are on the disk, and their words were said
@@ -84,10 +97,11 @@ pub record IsDone (start : Serving) (base : List ℕ) (acts : List Act) : Type 0
   pub words : said acts ≡ words_of start (heard acts)
 
 -- the same of the node of the log that was found
-pub record IsRunDone (text : List ℕ) (node : Node) (acts : List Act) : Type 0 where
+pub record IsRunDone (whose : Whose) (acts : List Act) : Type 0 where
   pub start : Serving
   pub whole : ℕ
-  pub opened : IsOpened text node (found acts) whole start
+  pub opened : IsOpened whose.settings whose.node (found acts) whole start
+  pub enough : whose.least ≤ start.calls
   pub done : IsDone start (take whole (found acts)) acts
   -- the input has ended
   pub ended : heard_last acts ≡ []
@@ -121,46 +135,52 @@ pub record IsOpening (start : Serving) (base : List ℕ) (acts : List Act) (text
   pub is : file acts ≡ text
 
 -- the log was read, and opens this node; so many of its bytes stay
-pub record Reads (text : List ℕ) (node : Node) (acts : List Act) (whole size : ℕ) (s : Serving) : Type 0 where
+pub record Reads (whose : Whose) (acts : List Act) (whole size : ℕ) (s : Serving) : Type 0 where
   pub bytes : List ℕ
   pub is : acts ≡ Found bytes ∷ []
   pub count : size ≡ length bytes
-  pub opened : IsOpened text node bytes whole s
+  pub opened : IsOpened whose.settings whose.node bytes whole s
+  pub enough : whose.least ≤ s.calls
 
 -- what is behind its whole records is cut off
-pub record Trims (text : List ℕ) (node : Node) (acts : List Act) (whole : ℕ) (s : Serving) : Type 0 where
-  pub opened : IsOpened text node (found acts) whole s
+pub record Trims (whose : Whose) (acts : List Act) (whole : ℕ) (s : Serving) : Type 0 where
+  pub opened : IsOpened whose.settings whose.node (found acts) whole s
+  pub enough : whose.least ≤ s.calls
   pub opening : IsOpening s (take whole (found acts)) acts (take whole (found acts))
   pub unsynced : kept acts ≡ []
 
 -- the head of a new log stands in the file
-pub record Heads (text : List ℕ) (node : Node) (acts : List Act) (whole : ℕ) (s : Serving) : Type 0 where
-  pub opened : IsOpened text node (found acts) whole s
+pub record Heads (whose : Whose) (acts : List Act) (whole : ℕ) (s : Serving) : Type 0 where
+  pub opened : IsOpened whose.settings whose.node (found acts) whole s
+  pub enough : whose.least ≤ s.calls
   pub opening : IsOpening s (take whole (found acts)) acts (take whole (found acts) ++ s.records)
 
 -- the log is on the disk
-pub record Begins (text : List ℕ) (node : Node) (acts : List Act) (whole : ℕ) (s : Serving) : Type 0 where
-  pub opened : IsOpened text node (found acts) whole s
+pub record Begins (whose : Whose) (acts : List Act) (whole : ℕ) (s : Serving) : Type 0 where
+  pub opened : IsOpened whose.settings whose.node (found acts) whole s
+  pub enough : whose.least ≤ s.calls
   pub opening : IsOpening s (take whole (found acts)) acts (take whole (found acts) ++ s.records)
   pub synced : kept acts ≡ file acts
 
 -- all that came was served, by the node of the log that was found
-pub record Serves (text : List ℕ) (node : Node) (acts : List Act) (s : Serving) : Type 0 where
+pub record Serves (whose : Whose) (acts : List Act) (s : Serving) : Type 0 where
   pub start : Serving
   pub whole : ℕ
-  pub opened : IsOpened text node (found acts) whole start
+  pub opened : IsOpened whose.settings whose.node (found acts) whole start
+  pub enough : whose.least ≤ start.calls
   pub served : IsServed start (take whole (found acts)) acts s
 
 -- the same, and its records are on the disk
-pub record Logs (text : List ℕ) (node : Node) (acts : List Act) (s : Serving) : Type 0 where
+pub record Logs (whose : Whose) (acts : List Act) (s : Serving) : Type 0 where
   pub start : Serving
   pub whole : ℕ
-  pub opened : IsOpened text node (found acts) whole start
+  pub opened : IsOpened whose.settings whose.node (found acts) whole start
+  pub enough : whose.least ≤ start.calls
   pub logged : IsLogged start (take whole (found acts)) acts s
 
 -- all that came was served and said, but what has begun of a line
-pub record IsTurn (text : List ℕ) (node : Node) (acts : List Act) (s : Serving) (pending : List ℕ) : Type 0 where
-  pub serves : Serves text node acts s
+pub record IsTurn (whose : Whose) (acts : List Act) (s : Serving) (pending : List ℕ) : Type 0 where
+  pub serves : Serves whose acts s
   pub begun : pending ≡ begun_line (heard acts)
   pub none : NoNewline pending
   pub no_records : s.records ≡ []

@@ -3,6 +3,7 @@
 ghost use Rattle.std.specs.Prelude.{◌≡◌, ◌≤◌, []};
 ghost use Rattle.std.specs.Prelude.{length, IfOk};
 
+use crate::beside::keep_end;
 use crate::machine::Machine;
 use crate::noted::Noted;
 use std::alloc::Global;
@@ -23,21 +24,32 @@ const SAID: u64 = 4;
 
 const HEARD: u64 = 5;
 
-/// A file that is read from its beginning and appended to, an input and an output.
+/// A log's file that is read from its beginning and appended to, an input and an output. What is cut off the file is kept in
+/// another one beside it.
 #[derive(Drop)]
-pub struct Host<I: Read + Drop, O: Write + Drop> {
+pub struct Host<'a, I: Read + Drop, O: Write + Drop> {
+    rt: &'a HostRuntime,
+    path: &'a str,
     file: File,
     input: I,
     output: O,
     noted: Noted,
 }
 
-impl<I: Read + Drop, O: Write + Drop> Host<I, O> {
-    /// Over a file that was opened to read and to append.
-    pub fn new(file: File, input: I, output: O) -> Host<I, O>
+impl<'a, I: Read + Drop, O: Write + Drop> Host<'a, I, O> {
+    /// Over a file of this name that was opened to read and to append.
+    pub fn new(
+        rt: &'a HostRuntime,
+        path: &'a str,
+        file: File,
+        input: I,
+        output: O,
+    ) -> Host<'a, I, O>
         ensures { result.noted.acts ≡ [] }
     {
         Host {
+            rt,
+            path,
             file,
             input,
             output,
@@ -46,7 +58,7 @@ impl<I: Read + Drop, O: Write + Drop> Host<I, O> {
     }
 }
 
-impl<I: Read + Drop, O: Write + Drop> Machine for Host<I, O> {
+impl<'a, I: Read + Drop, O: Write + Drop> Machine for Host<'a, I, O> {
     ghost acts = { λ host. host.noted.acts };
 
     fn read(&mut self, alloc: Global) -> io::Result<Vec<u8>> {
@@ -57,7 +69,7 @@ impl<I: Read + Drop, O: Write + Drop> Machine for Host<I, O> {
     }
 
     fn cut(&mut self, size: usize) -> io::Result<()> {
-        let answer = self.file.set_len(size as u64);
+        let answer = cut_off(self.rt, self.path, &self.file, size);
         self.noted
             .note(&[CUT, u64::from(answer.is_ok()), size as u64], &[]);
         answer
@@ -89,6 +101,12 @@ impl<I: Read + Drop, O: Write + Drop> Machine for Host<I, O> {
         self.noted.note(&[HEARD, 1, 0], &buffer[..count]);
         Ok(count)
     }
+}
+
+/// Cuts a file behind so many bytes, once what stands there is kept beside it.
+fn cut_off(rt: &HostRuntime, path: &str, file: &File, size: usize) -> io::Result<()> {
+    keep_end(rt, path, size)?;
+    file.set_len(size as u64)
 }
 
 /// Writes all bytes, and has them leave.

@@ -5,6 +5,7 @@
 //! (`Machine`). `Host` is the system over a real file.
 #![tactic(auto)]
 
+mod beside;
 mod host;
 mod machine;
 mod noted;
@@ -15,5 +16,6 @@ mod unserved;
 
 pub use host::Host;
 pub use machine::Machine;
+pub use opening::Owner;
 pub use serving::serve_all;
 pub use unserved::Unserved;

@@ -1,10 +1,9 @@
 //! From the file of a log to a node that is served.
 
 ghost use Rattle.std.specs.Prelude.{◌≡◌, ◌⊎◌, [], IfOk, OnOk};
-ghost use Rattle.world_setup.specs.Seen.{node_seen};
 ghost use Rattle.node_service.specs.Serving.{cleared};
 ghost use Rattle.node_process.specs.Acts.{heard};
-ghost use Rattle.node_process.specs.Safe.{IsRun, IsUnopened, Serves, Begins, Heads, Reads, Trims, ready_line};
+ghost use Rattle.node_process.specs.Safe.{IsRun, IsUnopened, Serves, Begins, Heads, Reads, Trims, ready_line, owner_seen};
 
 use crate::machine::Machine;
 use crate::unserved::Unserved;
@@ -15,11 +14,15 @@ use std::alloc::{AllocError, Global};
 use std::io;
 use world_setup::Node;
 
-/// Whose process it is: the text of the settings, and the node.
+/// Whose process it is.
 #[derive(Clone, Copy)]
-pub(crate) struct Owner<'a> {
-    pub(crate) settings: &'a [u8],
-    pub(crate) node: Node,
+pub struct Owner<'a> {
+    /// The text of the settings.
+    pub settings: &'a [u8],
+    /// The node.
+    pub node: Node,
+    /// How many calls its log is known to have: a log of fewer is an older copy, or was cut, and is not served.
+    pub least: u64,
 }
 
 /// Reads the log, opens its node, and has on disk what stays of the log before a word is said: then how many calls it has.
@@ -31,15 +34,20 @@ pub(crate) fn open<M: Machine>(
 ) -> Result<Service, Unserved>
     requires { M.acts machine.old ≡ [] }
     ensures each { IsUnopened (M.acts machine.new)
-        ⊎ IsRun owner.now.settings.now (node_seen owner.now.node) (M.acts machine.new) }
+        ⊎ IsRun (owner_seen owner.now) (M.acts machine.new) }
     ensures served { IfOk result (λ s.
-        Serves owner.now.settings.now (node_seen owner.now.node) (M.acts machine.new) s) }
+        Serves (owner_seen owner.now) (M.acts machine.new) s) }
     ensures deaf { OnOk result (heard (M.acts machine.new) ≡ []) }
     ensures quiet { IfOk result (λ s. (s.records ≡ []) × (s.out ≡ [])) }
 {
     let bytes = machine.read(alloc)?;
     match Service::open(alloc, keys, owner.settings, owner.node, bytes.as_slice()) {
-        Ok((service, whole)) => begin(alloc, owner, machine, service, whole, bytes.len()),
+        Ok((service, whole)) => {
+            if service.calls() < owner.least {
+                return Err(Unserved::FewCalls(service.calls()));
+            }
+            begin(alloc, owner, machine, service, whole, bytes.len())
+        }
         Err(why) => Err(Unserved::Refused(why)),
     }
 }
@@ -53,10 +61,10 @@ fn begin<M: Machine>(
     whole: usize,
     size: usize,
 ) -> Result<Service, Unserved>
-    requires { Reads owner.now.settings.now (node_seen owner.now.node) (M.acts machine.old) whole size service }
-    ensures each { IsRun owner.now.settings.now (node_seen owner.now.node) (M.acts machine.new) }
+    requires { Reads (owner_seen owner.now) (M.acts machine.old) whole size service }
+    ensures each { IsRun (owner_seen owner.now) (M.acts machine.new) }
     ensures served { IfOk result (λ s.
-        Serves owner.now.settings.now (node_seen owner.now.node) (M.acts machine.new) s) }
+        Serves (owner_seen owner.now) (M.acts machine.new) s) }
     ensures deaf { OnOk result (heard (M.acts machine.new) ≡ []) }
     ensures quiet { IfOk result (λ s. (s.records ≡ []) × (s.out ≡ [])) }
 {
@@ -76,10 +84,10 @@ fn trim<M: Machine>(
     whole: usize,
     size: usize,
 ) -> io::Result<()>
-    requires { Reads owner.now.settings.now (node_seen owner.now.node) (M.acts machine.old) whole size service.now }
-    ensures each { IsRun owner.now.settings.now (node_seen owner.now.node) (M.acts machine.new) }
+    requires { Reads (owner_seen owner.now) (M.acts machine.old) whole size service.now }
+    ensures each { IsRun (owner_seen owner.now) (M.acts machine.new) }
     ensures trimmed { OnOk result
-        (Trims owner.now.settings.now (node_seen owner.now.node) (M.acts machine.new) whole service.now) }
+        (Trims (owner_seen owner.now) (M.acts machine.new) whole service.now) }
 {
     if whole == size {
         return Ok(());
@@ -94,10 +102,10 @@ fn append_head<M: Machine>(
     service: &Service,
     whole: usize,
 ) -> io::Result<()>
-    requires { Trims owner.now.settings.now (node_seen owner.now.node) (M.acts machine.old) whole service.now }
-    ensures each { IsRun owner.now.settings.now (node_seen owner.now.node) (M.acts machine.new) }
+    requires { Trims (owner_seen owner.now) (M.acts machine.old) whole service.now }
+    ensures each { IsRun (owner_seen owner.now) (M.acts machine.new) }
     ensures headed { OnOk result
-        (Heads owner.now.settings.now (node_seen owner.now.node) (M.acts machine.new) whole service.now) }
+        (Heads (owner_seen owner.now) (M.acts machine.new) whole service.now) }
 {
     if service.records().is_empty() {
         return Ok(());
@@ -112,10 +120,10 @@ fn settle<M: Machine>(
     service: &Service,
     whole: usize,
 ) -> io::Result<()>
-    requires { Heads owner.now.settings.now (node_seen owner.now.node) (M.acts machine.old) whole service.now }
-    ensures each { IsRun owner.now.settings.now (node_seen owner.now.node) (M.acts machine.new) }
+    requires { Heads (owner_seen owner.now) (M.acts machine.old) whole service.now }
+    ensures each { IsRun (owner_seen owner.now) (M.acts machine.new) }
     ensures begun { OnOk result
-        (Begins owner.now.settings.now (node_seen owner.now.node) (M.acts machine.new) whole service.now) }
+        (Begins (owner_seen owner.now) (M.acts machine.new) whole service.now) }
 {
     machine.sync()
 }
@@ -128,11 +136,11 @@ fn greet<M: Machine>(
     whole: usize,
     ready: &[u8],
 ) -> io::Result<()>
-    requires begun { Begins owner.now.settings.now (node_seen owner.now.node) (M.acts machine.old) whole service.now }
+    requires begun { Begins (owner_seen owner.now) (M.acts machine.old) whole service.now }
     requires ready { ready.now ≡ ready_line service.now.calls }
-    ensures each { IsRun owner.now.settings.now (node_seen owner.now.node) (M.acts machine.new) }
+    ensures each { IsRun (owner_seen owner.now) (M.acts machine.new) }
     ensures served { OnOk result
-        (Serves owner.now.settings.now (node_seen owner.now.node) (M.acts machine.new) (cleared service.now)) }
+        (Serves (owner_seen owner.now) (M.acts machine.new) (cleared service.now)) }
     ensures deaf { OnOk result (heard (M.acts machine.new) ≡ []) }
 {
     machine.say(ready)

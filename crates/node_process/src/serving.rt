@@ -1,9 +1,8 @@
 //! Lines served in turns.
 
 ghost use Rattle.std.specs.Prelude.{◌≡◌, ◌⊎◌, [], OnOk};
-ghost use Rattle.world_setup.specs.Seen.{node_seen};
 ghost use Rattle.node_process.specs.Acts.{heard};
-ghost use Rattle.node_process.specs.Safe.{IsRun, IsRunDone, IsUnopened, Logs, Serves};
+ghost use Rattle.node_process.specs.Safe.{IsRun, IsRunDone, IsUnopened, Logs, Serves, owner_seen};
 
 use crate::machine::Machine;
 use crate::opening::{Owner, open};
@@ -13,33 +12,31 @@ use node_service::Service;
 use payer_book::HashKeys;
 use std::alloc::Global;
 use std::io;
-use world_setup::Node;
 
 /// The most bytes that are read at once. All lines that wait in them are served, and synced once.
 const CHUNK: usize = 65_536;
 
-/// Serves the node of this name from its log, under the settings that a text spells, until the input ends: a turn takes what
-/// waits, appends what it records and syncs it, and then says what came of it.
+/// Serves the owner's node from its log until the input ends: a turn takes what waits, appends what it records and syncs it,
+/// and then says what came of it.
 ///
 /// # Errors
-/// What refuses the node, a line that is too long, or the first call of the system that failed: nothing is done behind it.
+/// What refuses the node, a log of fewer calls than it is known to have, a line that is too long, or the first call of the
+/// system that failed: nothing is done behind it.
 pub fn serve_all<M: Machine>(
     alloc: Global,
     keys: &HashKeys,
-    settings: &[u8],
-    node: Node,
+    owner: &Owner<'_>,
     machine: &mut M,
 ) -> Result<(), Unserved>
     requires { M.acts machine.old ≡ [] }
-    // Stopped at any moment, it was safe: at `Ok`, and at every error.
-    ensures each { IsUnopened (M.acts machine.new) ⊎ IsRun settings.now (node_seen node) (M.acts machine.new) }
+    // Stopped at any moment, it was safe: at `Ok`, and at every error; and nothing was said from a log of fewer calls.
+    ensures each { IsUnopened (M.acts machine.new) ⊎ IsRun (owner_seen owner.now) (M.acts machine.new) }
     // At `Ok` the input has ended, and all whole lines of it are on disk and were answered.
-    ensures done { OnOk result (IsRunDone settings.now (node_seen node) (M.acts machine.new)) }
+    ensures done { OnOk result (IsRunDone (owner_seen owner.now) (M.acts machine.new)) }
 {
-    let owner = Owner { settings, node };
     let mut buffer = Vec::from_elem(alloc, 0u8, CHUNK)?;
-    let mut service = open(alloc, keys, &owner, machine)?;
-    serve(alloc, &owner, machine, &mut service, buffer.as_mut_slice())
+    let mut service = open(alloc, keys, owner, machine)?;
+    serve(alloc, owner, machine, &mut service, buffer.as_mut_slice())
 }
 
 /// Serves turns until the input ends.
@@ -50,11 +47,11 @@ fn serve<M: Machine>(
     service: &mut Service,
     buffer: &mut [u8],
 ) -> Result<(), Unserved>
-    requires served { Serves owner.now.settings.now (node_seen owner.now.node) (M.acts machine.old) service.old }
+    requires served { Serves (owner_seen owner.now) (M.acts machine.old) service.old }
     requires deaf { heard (M.acts machine.old) ≡ [] }
     requires quiet { (service.old.records ≡ []) × (service.old.out ≡ []) }
-    ensures each { IsRun owner.now.settings.now (node_seen owner.now.node) (M.acts machine.new) }
-    ensures done { OnOk result (IsRunDone owner.now.settings.now (node_seen owner.now.node) (M.acts machine.new)) }
+    ensures each { IsRun (owner_seen owner.now) (M.acts machine.new) }
+    ensures done { OnOk result (IsRunDone (owner_seen owner.now) (M.acts machine.new)) }
 {
     let mut pending = Vec::new(alloc);
     for _ in 0..u64::MAX {
@@ -71,11 +68,11 @@ fn serve<M: Machine>(
 
 /// Appends the records of a turn and syncs them, where there are any.
 fn keep_records<M: Machine>(owner: &Owner<'_>, machine: &mut M, service: &Service) -> io::Result<()>
-    requires { Serves owner.now.settings.now (node_seen owner.now.node) (M.acts machine.old) service.now }
-    ensures each { IsRun owner.now.settings.now (node_seen owner.now.node) (M.acts machine.new) }
+    requires { Serves (owner_seen owner.now) (M.acts machine.old) service.now }
+    ensures each { IsRun (owner_seen owner.now) (M.acts machine.new) }
     ensures heard { heard (M.acts machine.new) ≡ heard (M.acts machine.old) }
     ensures logged { OnOk result
-        (Logs owner.now.settings.now (node_seen owner.now.node) (M.acts machine.new) service.now) }
+        (Logs (owner_seen owner.now) (M.acts machine.new) service.now) }
 {
     if service.records().is_empty() {
         return Ok(());
@@ -86,11 +83,11 @@ fn keep_records<M: Machine>(owner: &Owner<'_>, machine: &mut M, service: &Servic
 
 /// Says what came of a turn, whose records are on disk.
 fn say<M: Machine>(owner: &Owner<'_>, machine: &mut M, service: &mut Service) -> io::Result<()>
-    requires { Logs owner.now.settings.now (node_seen owner.now.node) (M.acts machine.old) service.old }
-    ensures each { IsRun owner.now.settings.now (node_seen owner.now.node) (M.acts machine.new) }
+    requires { Logs (owner_seen owner.now) (M.acts machine.old) service.old }
+    ensures each { IsRun (owner_seen owner.now) (M.acts machine.new) }
     ensures heard { heard (M.acts machine.new) ≡ heard (M.acts machine.old) }
     ensures served { OnOk result
-        (Serves owner.now.settings.now (node_seen owner.now.node) (M.acts machine.new) service.new) }
+        (Serves (owner_seen owner.now) (M.acts machine.new) service.new) }
     ensures quiet { OnOk result ((service.new.records ≡ []) × (service.new.out ≡ [])) }
 {
     machine.say(service.written())?;

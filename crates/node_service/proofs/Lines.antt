@@ -24,9 +24,9 @@ use Rattle.kept_logs.specs.Frames.{frame_text}
 use Rattle.kept_logs.specs.Logs.{Reading, log_text, log_in}
 use Rattle.kept_logs.specs.Fits.{FitsLogged}
 use Rattle.kept_logs.proofs.LogsBack.{one_more, reads_whole}
-use Rattle.node_service.specs.Asking.{Asked, Calls, AnswerTo, asked_of}
+use Rattle.node_service.specs.Asking.{Asked, Calls, Tells, asked_of}
 use Rattle.node_service.specs.Answering.{refused_line}
-use Rattle.node_service.specs.Serving.{Serving, saying, after_call, answer_of, cleared, after_asked, after_line}
+use Rattle.node_service.specs.Serving.{Serving, saying, after_call, told_of, cleared, after_asked, after_line}
 use Rattle.node_service.specs.Opened.{IsBegun, IsOpened, MakesAll}
 use Rattle.node_service.specs.Lines.{joined, after_lines, logged_of, logged_asked, line_calls, lines_calls, with_calls, IsServing, IsSame}
 
@@ -43,7 +43,7 @@ called s call (Refused why) = said s (refused_line (refusal_name why))
 asked : (s : Serving) (a : Option Asked) → after_asked s a ≡ joined s (after_asked (cleared s) a)
 asked s None = said s (refused_line (codes "Line"))
 asked s (Some (Calls call)) = called s (call_seen call) (node_step (context_of s.settings) s.state (call_seen call))
-asked s (Some (AnswerTo number)) = said s (answer_of (context_of s.settings) s.state s.node number)
+asked s (Some (Tells question)) = said s (told_of (context_of s.settings) s.state s.node question)
 
 pub adds : (s : Serving) (line : List ℕ) → after_line s line ≡ joined s (after_line (cleared s) line)
 unfolding after_line
@@ -119,7 +119,7 @@ by_outcome digest file log s call (Refused why) e i fits = spoken digest file lo
 by_asked : (digest file : List ℕ) (log : NodeLog) (s : Serving) (a : Option Asked) → IsServing digest file log s → AllByRecursion FitsLogged (logged_asked s a) → IsServing digest file (with_calls log (logged_asked s a)) (after_asked s a)
 by_asked digest file log s None i fits = spoken digest file log s (refused_line (codes "Line")) i
 by_asked digest file log s (Some (Calls call)) i fits = by_outcome digest file log s (call_seen call) (node_step (context_of s.settings) s.state (call_seen call)) refl i fits
-by_asked digest file log s (Some (AnswerTo number)) i fits = spoken digest file log s (answer_of (context_of s.settings) s.state s.node number) i
+by_asked digest file log s (Some (Tells question)) i fits = spoken digest file log s (told_of (context_of s.settings) s.state s.node question) i
 
 pub line_serves : (digest file : List ℕ) (log : NodeLog) (s : Serving) (line : List ℕ) → IsServing digest file log s → AllByRecursion FitsLogged (line_calls s line) → IsServing digest file (with_calls log (line_calls s line)) (after_line s line)
 unfolding after_line

@@ -12,6 +12,8 @@ use Rattle.world_setup.specs.declared.call.Call.TheVariants.{Submit, Tick, Take,
 use Rattle.node_service.specs.Names.{node_in}
 use Rattle.node_service.specs.declared.asking.Asked as value
 use Rattle.node_service.specs.declared.asking.Asked.TheVariants as asked
+use Rattle.node_service.specs.declared.asking.Question.{Question}
+use Rattle.node_service.specs.declared.asking.Question.TheVariants.{Answer, Count, Open}
 
 -- a request in printed bytes, which may be empty
 abbrev pub submission : List ℕ → Option Call
@@ -55,25 +57,46 @@ call_parted line None = plain_call line
 unfoldable pub call_of : List ℕ → Option Call
 call_of line = call_parted line (split_word line)
 
--- what a line asks: a call on the node, or the answer to one of a pharmacy's numbers
+-- what a line asks: a call on the node, or something to be told that changes nothing
 pub data Asked : Type 0 where
   Calls : Call → Asked
-  AnswerTo : ℕ → Asked
+  Tells : Question → Asked
 
 -- what the code's value says
 abbrev pub asked_seen : value.Asked → Asked
 asked_seen (asked.Call call) = Calls call
-asked_seen (asked.Answer number) = AnswerTo number
+asked_seen (asked.Tell question) = Tells question
 
--- a number of 1 to 18 digits behind `answer`
-abbrev pub answer_to : List ℕ → List ℕ → Option Asked
-answer_to word rest = if bytes_eq word (codes "answer") then option_map AnswerTo (decimal_number 18 rest) else None
+-- from which number on, and how many, each in 1 to 18 digits
+unfoldable pub open_question : List ℕ → Option Question
+open_question rest = do
+  parts ← split_word rest
+  number ← decimal_number 18 parts.0
+  count ← decimal_number 18 parts.1
+  Some (Open number count)
 
-abbrev pub or_answer : Option (List ℕ × List ℕ) → Option Call → Option Asked
-or_answer parts (Some call) = Some (Calls call)
-or_answer None None = None
-or_answer (Some parts) None = answer_to parts.0 parts.1
+-- the question of a word and what stands behind it
+abbrev pub question_with : List ℕ → List ℕ → Option Question
+question_with word rest =
+    if bytes_eq word (codes "answer") then option_map Answer (decimal_number 18 rest) else
+    if bytes_eq word (codes "open") then open_question rest else None
+
+-- the question that is one word
+abbrev pub plain_question : List ℕ → Option Question
+plain_question line = if bytes_eq line (codes "count") then Some Count else None
+
+abbrev pub question_parted : List ℕ → Option (List ℕ × List ℕ) → Option Question
+question_parted line (Some parts) = question_with parts.0 parts.1
+question_parted line None = plain_question line
+
+-- the question that a line spells
+unfoldable pub question_of : List ℕ → Option Question
+question_of line = question_parted line (split_word line)
+
+abbrev pub or_question : List ℕ → Option Call → Option Asked
+or_question line (Some call) = Some (Calls call)
+or_question line None = option_map Tells (question_of line)
 
 -- what a line spells
 unfoldable pub asked_of : List ℕ → Option Asked
-asked_of line = or_answer (split_word line) (call_of line)
+asked_of line = or_question line (call_of line)

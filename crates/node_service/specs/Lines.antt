@@ -10,7 +10,7 @@ use Rattle.run_merge.specs.Merged.{replayed}
 use Rattle.node_logged.specs.Setting.{context_of}
 use Rattle.kept_logs.specs.Logs.{log_text, log_in}
 use Rattle.kept_logs.specs.Fits.{FitsLog}
-use Rattle.node_service.specs.Asking.{Asked, Calls, AnswerTo, asked_of}
+use Rattle.node_service.specs.Asking.{Asked, Calls, Tells, asked_of}
 use Rattle.node_service.specs.Serving.{Serving, after_line}
 use Rattle.node_service.specs.Opened.{IsOpened, MakesAll}
 
@@ -31,7 +31,7 @@ logged_of call (Refused why) = []
 abbrev pub logged_asked : Serving → Option Asked → List Logged
 logged_asked s None = []
 logged_asked s (Some (Calls call)) = logged_of (call_seen call) (node_step (context_of s.settings) s.state (call_seen call))
-logged_asked s (Some (AnswerTo number)) = []
+logged_asked s (Some (Tells question)) = []
 
 -- the calls that a line adds to the log: one, or none
 abbrev pub line_calls : Serving → List ℕ → List Logged

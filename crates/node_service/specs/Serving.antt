@@ -10,8 +10,11 @@ use Rattle.world_setup.specs.declared.settings.WorldSettings.{WorldSettings}
 use Rattle.node_logged.specs.Setting.{context_of}
 use Rattle.kept_logs.specs.Records.{logged_text}
 use Rattle.kept_logs.specs.Frames.{frame_text}
-use Rattle.node_service.specs.Asking.{Asked, Calls, AnswerTo, asked_of}
+use Rattle.node_service.specs.declared.asking.Question.{Question}
+use Rattle.node_service.specs.declared.asking.Question.TheVariants.{Answer, Count, Open}
+use Rattle.node_service.specs.Asking.{Asked, Calls, Tells, asked_of}
 use Rattle.node_service.specs.Answering.{sent_lines, done_line, number_line, refused_line, answer_line}
+use Rattle.node_service.specs.Listing.{count_text, open_text}
 
 -- a node, how many calls its log has, the records that are to be appended to the log, and what is to be written once they are synced
 pub record Serving : Type 0 where
@@ -68,9 +71,15 @@ answer_of ctx state (Pharmacy pharmacy) number =
 answer_of ctx state (Switch switch) number = codes "none\n"
 answer_of ctx state (Payer payer) number = codes "none\n"
 
--- the answer to a number is said
-abbrev pub answering : Serving → ℕ → Serving
-answering s number = saying s (answer_of (context_of s.settings) s.state s.node number)
+-- what is told at a question, which changes nothing
+abbrev pub told_of : Context → AnyNode → Node → Question → List ℕ
+told_of ctx state node (Answer number) = answer_of ctx state node number
+told_of ctx state node Count = count_text state
+told_of ctx state node (Open number count) = open_text number count state
+
+-- what is asked is said
+abbrev pub telling : Serving → Question → Serving
+telling s question = saying s (told_of (context_of s.settings) s.state s.node question)
 
 -- the records are on disk, and what was to be written was written
 abbrev pub cleared : Serving → Serving
@@ -79,7 +88,7 @@ cleared s = record { settings = s.settings; node = s.node; state = s.state; call
 abbrev pub after_asked : Serving → Option Asked → Serving
 after_asked s None = saying s (refused_line (codes "Line"))
 after_asked s (Some (Calls call)) = making s (call_seen call)
-after_asked s (Some (AnswerTo number)) = answering s number
+after_asked s (Some (Tells question)) = telling s question
 
 -- what a line makes of it
 unfoldable pub after_line : Serving → List ℕ → Serving

@@ -1,8 +1,8 @@
-//! The call that a line asks of a node.
+//! What a line asks of a node: a call, or something to be told.
 
 ghost use Rattle.std.specs.Prelude.{◌≡◌, IfOk};
 ghost use Rattle.std.specs.Option.{option_map};
-ghost use Rattle.node_service.specs.Asking.{answer_to, asked_of, asked_seen, call_of, call_with, plain_call, plan_change, submission, taking};
+ghost use Rattle.node_service.specs.Asking.{asked_of, asked_seen, call_of, call_with, open_question, plain_call, plain_question, plan_change, question_of, question_with, submission, taking};
 
 use crate::names::node_in;
 use input_text::{PrintedFault, read_decimal, split_word, unprint};
@@ -11,7 +11,7 @@ use schedule::{price_in, product_in};
 use std::alloc::{AllocError, Global};
 use world_setup::Call;
 
-/// The most digits of an entry's number (own).
+/// The most digits of an entry's number, or of a count (own).
 const MOST_NUMBER_DIGITS: usize = 18;
 
 /// What a line asks of a node.
@@ -19,14 +19,25 @@ const MOST_NUMBER_DIGITS: usize = 18;
 pub(crate) enum Asked {
     /// A call on the node.
     Call(Call),
+    /// Something to be told, which changes nothing.
+    Tell(Question),
+}
+
+/// What is to be told of a node.
+#[derive(Clone, Copy, PartialEq, Eq)]
+pub(crate) enum Question {
     /// The answer to this number of a pharmacy.
     Answer(u64),
+    /// How many entries, slots or rows the node has.
+    Count,
+    /// The entries of a pharmacy without an answer, the oldest first: from this number on, so many at most.
+    Open(u64, u64),
 }
 
 /// What a line asks; `None` where it spells nothing.
 ///
-/// The lines: `submit TEXT`, `tick`, `take FROM TEXT`, `stop`, `start`, `plan PRODUCT PRICE`, `answer NUMBER`. Texts are
-/// printed bytes.
+/// The lines: `submit TEXT`, `tick`, `take FROM TEXT`, `stop`, `start`, `plan PRODUCT PRICE`, and those that change nothing,
+/// `answer NUMBER`, `open NUMBER COUNT`, `count`. Texts are printed bytes.
 ///
 /// # Errors
 /// Memory was refused.
@@ -37,21 +48,56 @@ pub(crate) fn asked_of(alloc: Global, line: &[u8]) -> Result<Option<Asked>, Allo
     if let Some(call) = call_of(alloc, line)? {
         return Ok(Some(Asked::Call(call)));
     }
-    match split_word(line) {
-        Some((word, rest)) => Ok(answer_to(word, rest)),
+    match question_of(line) {
+        Some(question) => Ok(Some(Asked::Tell(question))),
         None => Ok(None),
     }
 }
 
-/// A number behind the word `answer`.
-fn answer_to(word: &[u8], rest: &[u8]) -> Option<Asked>
-    ensures { option_map asked_seen result ≡ answer_to word.now rest.now }
+/// What a line asks to be told.
+#[tactic(auto, unfolding(crate::specs::Asking::question_of))]
+fn question_of(line: &[u8]) -> Option<Question>
+    ensures { result ≡ question_of line.now }
 {
-    if word != b"answer".as_slice() {
-        return None;
+    match split_word(line) {
+        Some((word, rest)) => question_with(word, rest),
+        None => plain_question(line),
     }
-    let number = read_decimal(rest, MOST_NUMBER_DIGITS)?;
-    Some(Asked::Answer(number))
+}
+
+/// The question of a word and what stands behind it.
+fn question_with(word: &[u8], rest: &[u8]) -> Option<Question>
+    ensures { result ≡ question_with word.now rest.now }
+{
+    if word == b"answer".as_slice() {
+        let number = read_decimal(rest, MOST_NUMBER_DIGITS)?;
+        return Some(Question::Answer(number));
+    }
+    if word == b"open".as_slice() {
+        return open_question(rest);
+    }
+    None
+}
+
+/// The question that is one word.
+fn plain_question(line: &[u8]) -> Option<Question>
+    ensures { result ≡ plain_question line.now }
+{
+    if line == b"count".as_slice() {
+        return Some(Question::Count);
+    }
+    None
+}
+
+/// From which entry on, and how many.
+#[tactic(auto, unfolding(crate::specs::Asking::open_question))]
+fn open_question(rest: &[u8]) -> Option<Question>
+    ensures { result ≡ open_question rest.now }
+{
+    let (first, behind) = split_word(rest)?;
+    let number = read_decimal(first, MOST_NUMBER_DIGITS)?;
+    let count = read_decimal(behind, MOST_NUMBER_DIGITS)?;
+    Some(Question::Open(number, count))
 }
 
 /// The call that a line spells; `None` where it spells none.

@@ -9,6 +9,7 @@ mod answering;
 mod asking;
 mod fault;
 mod laws;
+mod listing;
 mod names;
 mod opening;
 mod service;

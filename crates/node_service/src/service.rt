@@ -9,11 +9,11 @@ ghost use Rattle.node_service.specs.Answering.{refused_line};
 ghost use Rattle.node_logged.specs.Setting.{context_of};
 ghost use Rattle.kept_logs.specs.Fits.{FitsLogged};
 ghost use Rattle.node_service.specs.Lines.{line_calls, logged_of};
-ghost use Rattle.node_service.specs.Serving.{after_call, after_line, answering, cleared, making, saying};
+ghost use Rattle.node_service.specs.Serving.{after_call, after_line, cleared, making, saying, telling};
 
 use crate::answering::put_refused;
-use crate::asking::{Asked, asked_of};
-use crate::telling::{put_answer_to, put_made};
+use crate::asking::{Asked, Question, asked_of};
+use crate::telling::{put_made, put_told};
 use kept_logs::record_bytes;
 use node_logged::Shared;
 use node_state::NodeState;
@@ -65,16 +65,16 @@ impl Service {
     {
         match asked_of(alloc, line)? {
             Some(Asked::Call(call)) => self.make(alloc, call),
-            Some(Asked::Answer(number)) => self.answer(alloc, number),
+            Some(Asked::Tell(question)) => self.tell(alloc, question),
             None => self.refuse_line(),
         }
     }
 
-    /// Says the answer to a number.
-    fn answer(&mut self, alloc: Global, number: u64) -> Result<(), AllocError>
-        ensures { OnOk result (self.new ≡ answering self.old number) }
+    /// Tells what a question asks.
+    fn tell(&mut self, alloc: Global, question: Question) -> Result<(), AllocError>
+        ensures { OnOk result (self.new ≡ telling self.old question) }
     {
-        put_answer_to(alloc, &mut self.out, &self.state, self.name, number)
+        put_told(alloc, &mut self.out, &self.state, self.name, question)
     }
 
     /// Says that a line spells nothing.

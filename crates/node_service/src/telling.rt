@@ -1,13 +1,16 @@
-//! What is written of calls that were made, and of answers.
+//! What is written of calls that were made, and of questions.
 
 ghost use Rattle.std.specs.Prelude.{◌≡◌, ◌++◌, OnOk};
 ghost use Rattle.bin_routes.specs.Table.{RouteMaps};
 ghost use Rattle.claim_model.specs.Bytes.{bytes_with};
 ghost use Rattle.claim_model.specs.Node.{Pharmacy};
 ghost use Rattle.world_setup.specs.Seen.{call_seen, node_seen};
-ghost use Rattle.node_service.specs.Serving.{answer_of, answer_text, last_line, made_lines};
+ghost use Rattle.node_service.specs.Listing.{open_text};
+ghost use Rattle.node_service.specs.Serving.{answer_of, answer_text, last_line, made_lines, told_of};
 
 use crate::answering::{put_answer, put_done, put_number, put_sent};
+use crate::asking::Question;
+use crate::listing::{put_count, put_end, put_open};
 use envelope::TxnId;
 use node_state::NodeState;
 use octets::Octets;
@@ -47,8 +50,42 @@ fn put_last(
     }
 }
 
+/// Appends what is told at a question.
+pub(crate) fn put_told(
+    alloc: Global,
+    out: &mut Vec<u8>,
+    state: &NodeState,
+    name: Node,
+    question: Question,
+) -> Result<(), AllocError>
+    ensures { (routes : RouteMaps) → OnOk result (out.new.items
+        ≡ out.old.items ++ told_of (bytes_with routes) state.now (node_seen name) question) }
+{
+    match question {
+        Question::Answer(number) => put_answer_to(alloc, out, state, name, number),
+        Question::Count => put_count(out, state.size(alloc)? as u64),
+        Question::Open(number, count) => put_open_of(alloc, out, state, number, count),
+    }
+}
+
+/// Appends the open entries of a pharmacy; another node has none.
+fn put_open_of(
+    alloc: Global,
+    out: &mut Vec<u8>,
+    state: &NodeState,
+    number: u64,
+    count: u64,
+) -> Result<(), AllocError>
+    ensures { OnOk result (out.new.items ≡ out.old.items ++ open_text number count state.now) }
+{
+    match state.journal(alloc)? {
+        Some(journal) => put_open(out, &journal, number, count),
+        None => put_end(out),
+    }
+}
+
 /// Appends the answer to a number of this pharmacy; of another node there is none.
-pub(crate) fn put_answer_to(
+fn put_answer_to(
     alloc: Global,
     out: &mut Vec<u8>,
     state: &NodeState,

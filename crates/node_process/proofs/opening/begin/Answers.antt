@@ -1,6 +1,6 @@
-use Rattle.world_setup.specs.Seen.{node_seen}
+use Rattle.node_process.specs.Safe.{owner_seen}
 use Rattle.node_process.proofs.Moments.{reads_runs}
 use Rattle.node_process.proofs.opening.begin.Goals as goal
 
 pub returns-in_err-ready-clause-each : goal.returns-in_err-ready-clause-each
-returns-in_err-ready-clause-each g c = reads_runs c.args.owner.now.settings.now (node_seen c.args.owner.now.node) (g.M.Machine.acts c.args.machine.now) c.args.whole c.args.size c.args.service c.requires
+returns-in_err-ready-clause-each g c = reads_runs (owner_seen c.args.owner.now) (g.M.Machine.acts c.args.machine.now) c.args.whole c.args.size c.args.service c.requires

@@ -1,13 +1,13 @@
 use Rattle.std.proofs.Common.{is_ok}
-use Rattle.world_setup.specs.Seen.{node_seen}
+use Rattle.node_process.specs.Safe.{owner_seen}
 use Rattle.node_process.proofs.Moments.{say_runs, say_serves}
 use Rattle.node_process.proofs.serving.say.Goals as goal
 
 pub returns-in_err-say-clause-each : goal.returns-in_err-say-clause-each
-returns-in_err-say-clause-each g c = rw (c.say.ensures, c.written.ensures) (say_runs c.args.owner.now.settings.now (node_seen c.args.owner.now.node) (g.M.Machine.acts c.args.machine.now) c.args.service.now (is_ok c.say.result) c.requires)
+returns-in_err-say-clause-each g c = rw (c.say.ensures, c.written.ensures) (say_runs (owner_seen c.args.owner.now) (g.M.Machine.acts c.args.machine.now) c.args.service.now (is_ok c.say.result) c.requires)
 
 pub returns-clause-each : goal.returns-clause-each
-returns-clause-each g c = rw (c.say.ensures, c.written.ensures) (say_runs c.args.owner.now.settings.now (node_seen c.args.owner.now.node) (g.M.Machine.acts c.args.machine.now) c.args.service.now (is_ok c.say.result) c.requires)
+returns-clause-each g c = rw (c.say.ensures, c.written.ensures) (say_runs (owner_seen c.args.owner.now) (g.M.Machine.acts c.args.machine.now) c.args.service.now (is_ok c.say.result) c.requires)
 
 pub returns-clause-served : goal.returns-clause-served
-returns-clause-served g c = rw (c.clear.ensures, c.say.ensures, c.written.ensures, c.in_ok-say.was) (say_serves c.args.owner.now.settings.now (node_seen c.args.owner.now.node) (g.M.Machine.acts c.args.machine.now) c.args.service.now c.requires)
+returns-clause-served g c = rw (c.clear.ensures, c.say.ensures, c.written.ensures, c.in_ok-say.was) (say_serves (owner_seen c.args.owner.now) (g.M.Machine.acts c.args.machine.now) c.args.service.now c.requires)
