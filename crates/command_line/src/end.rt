@@ -34,7 +34,7 @@ impl<F: Display + Drop> End<F> {
     }
 
     /// That the settings of this name are too long.
-    pub fn of_long_settings(alloc: Global, name: &str) -> End<F> {
+    pub(crate) fn of_long_settings(alloc: Global, name: &str) -> End<F> {
         match String::from_str(alloc, name) {
             Ok(name) => End::LongSettings(name),
             Err(_) => End::OutOfMemory,

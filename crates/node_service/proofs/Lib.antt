@@ -2,3 +2,4 @@ pub mod Loops
 pub mod Lines
 pub mod Crashes
 pub mod Refusals
+pub mod OpenEntries
