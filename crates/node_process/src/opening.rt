@@ -1,6 +1,6 @@
 //! From the file of a log to a node that is served.
 
-ghost use Rattle.std.specs.Prelude.{◌≡◌, ◌⊎◌, [], IfOk, OnOk};
+ghost use Rattle.std.specs.Prelude.{◌≡◌, ◌⊎◌, ◌++◌, [], IfOk, OnOk};
 ghost use Rattle.node_service.specs.Serving.{cleared};
 ghost use Rattle.node_process.specs.Acts.{heard};
 ghost use Rattle.node_process.specs.Safe.{IsRun, IsUnopened, Serves, Begins, Heads, Reads, Trims, ready_line, owner_seen};
@@ -160,8 +160,15 @@ fn ready_of(alloc: Global, calls: u64) -> Result<Vec<u8>, AllocError>
     ensures { IfOk result (λ line. line.items ≡ ready_line calls) }
 {
     let mut line = Vec::new(alloc);
-    line.extend_from_slice(b"ready ")?;
-    put_decimal(&mut line, calls)?;
-    line.extend_from_slice(b"\n")?;
+    put_ready(&mut line, calls)?;
     Ok(line)
+}
+
+/// Appends the line that says how many calls a log has.
+fn put_ready(out: &mut Vec<u8>, calls: u64) -> Result<(), AllocError>
+    ensures { OnOk result (out.new.items ≡ out.old.items ++ ready_line calls) }
+{
+    out.extend_from_slice(b"ready ")?;
+    put_decimal(out, calls)?;
+    out.extend_from_slice(b"\n")
 }
