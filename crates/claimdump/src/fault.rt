@@ -8,14 +8,14 @@ use thiserror::Error;
 use world_setup::WorldFault;
 
 /// Why there is nothing to be dumped.
-#[derive(Clone, Copy, Debug, PartialEq, Eq, Error)]
+#[derive(Debug, Drop, Error)]
 pub(crate) enum DumpFault {
     /// Memory was refused.
     #[error("out of memory")]
     OutOfMemory,
-    /// The settings spell none.
-    #[error("settings refused")]
-    Settings,
+    /// The settings spell none: what is wrong in them.
+    #[error("settings refused: {0}")]
+    Settings(String),
     /// No world takes the settings.
     #[error("settings refused: {0}")]
     World(WorldFault),
