@@ -63,6 +63,7 @@ SCRIPTS = (
     Part('watched-c', ('tests/watched', 'c'), ('library', 'claimnode', 'claimaudit')),
     Part('retries', ('tests/retries',), ('claimnode', 'claimaudit'), timed=True),
     Part('retries-c', ('tests/retries', 'c'), ('library', 'claimnode', 'claimaudit'), timed=True),
+    Part('replicated', ('tests/replicated',), ('library', 'claimnode', 'claimaudit'), timed=True),
     Part('operating', ('tests/operating',), ('claimnode', 'claimaudit'), timed=True),
     Part('container', ('tests/container',), ('claimnode', 'claimaudit')),
     Part('units', ('tests/units',), (*PRODUCTS, 'library'), timed=True),
