@@ -17,7 +17,7 @@ import subjects
 
 HEAD_BYTES = 46
 # What a server that knows no leader says before the one in charge has answered; and what the one in charge says.
-NO_LEADER, NO_MESSAGE, WRONG_LAST = 10008, 10037, 10071
+NO_LEADER, NO_PLACE, NO_MESSAGE, WRONG_LAST = 10008, 10005, 10037, 10071
 ASK_SECONDS = 2.0
 # How long the servers may say nothing.
 MOST_SECONDS = 60.0
@@ -75,7 +75,8 @@ class Log:
         """The servers' word on what is asked or appended: the same again until there is one."""
         end = time.monotonic() + MOST_SECONDS
         while time.monotonic() < end:
-            word = await self._connection.request(subject, payload, ASK_SECONDS, headers, lambda it: error_of(it) != NO_LEADER)
+            # Servers that have just come know no leader, or not one another.
+            word = await self._connection.request(subject, payload, ASK_SECONDS, headers, lambda it: error_of(it) not in (NO_LEADER, NO_PLACE))
             if word is not None:
                 return word
         raise Fault(f"{self.name}: the servers say nothing for {MOST_SECONDS:.0f} s")

@@ -61,6 +61,7 @@ class Candidate:
     def words(self):
         words = [self.run.host, str(self.run.settings), self.name, str(self.log), "--log", "stream", "--machine", self.machine]
         words += ["--nats", self.run.servers.url, "--tick", str(TICK_SECONDS)]
+        words += ["--copies", str(self.run.given.copies)]
         return words + ["--part", str(PART_BYTES)] * (self.machine == MACHINES[-1])
 
     async def live(self):

@@ -1,7 +1,7 @@
 /* Who has a node's log: what hosts say to one another on claims.NODE.owner. It is for speed alone; the servers decide who has the log. */
 #include "stream.h"
 
-static const char *const word_of[] = { "has", "follows", "leaves", "vouches" };
+static const char *const word_of[] = { "has", "wants", "follows", "leaves", "vouches" };
 
 /* Notes what another host, or an operator, says: OWNER SEQUENCE WORD. */
 static void heard(natsConnection *connection, natsSubscription *subscription, natsMsg *message, void *closure) {
@@ -14,13 +14,10 @@ static void heard(natsConnection *connection, natsSubscription *subscription, na
     natsMsg_Destroy(message);
     if (!is_one) return;
     pthread_mutex_lock(&beats->lock);
-    bool has = strcmp(word, word_of[BEAT_HAS]) == 0, leaves = strcmp(word, word_of[BEAT_LEAVES]) == 0;
-    if (has || leaves) {
-        beats->has.sequence = sequence;
-        beats->has.heard = now();
-        beats->has.leaves = leaves;
-        beats->has.is_new = true;
-    }
+    bool wants = strcmp(word, word_of[BEAT_WANTS]) == 0, leaves = strcmp(word, word_of[BEAT_LEAVES]) == 0;
+    if (wants || leaves || strcmp(word, word_of[BEAT_HAS]) == 0)
+        beats->has = (struct heard){ .sequence = sequence, .heard = now(), .leaves = leaves, .wants = wants, .is_new = true };
+    if (strcmp(word, word_of[BEAT_FOLLOWS]) == 0 && sequence > beats->copied) beats->copied = sequence;
     beats->is_vouched = true;
     if (sequence > beats->vouched) beats->vouched = sequence;
     pthread_cond_signal(&beats->came);
@@ -61,14 +58,33 @@ bool beats_vouch(struct beats *beats, uint64_t sequence) {
     return is_vouched;
 }
 
-void beats_wait(struct beats *beats, double seconds) {
+bool beats_copied(struct beats *beats, uint64_t sequence) {
+    pthread_mutex_lock(&beats->lock);
+    bool is_copied = beats->copied >= sequence;
+    pthread_mutex_unlock(&beats->lock);
+    return is_copied;
+}
+
+static struct timespec time_in(double seconds) {
     struct timespec until;
     clock_gettime(CLOCK_MONOTONIC, &until);
     until.tv_nsec += (long)(seconds * 1e9);
     until.tv_sec += until.tv_nsec / 1000000000L;
     until.tv_nsec %= 1000000000L;
+    return until;
+}
+
+void beats_wait(struct beats *beats, double seconds) {
+    struct timespec until = time_in(seconds);
     pthread_mutex_lock(&beats->lock);
     if (!beats->has.is_new) pthread_cond_timedwait(&beats->came, &beats->lock, &until);
+    pthread_mutex_unlock(&beats->lock);
+}
+
+void beats_wait_copied(struct beats *beats, uint64_t sequence, double seconds) {
+    struct timespec until = time_in(seconds);
+    pthread_mutex_lock(&beats->lock);
+    if (beats->copied < sequence) pthread_cond_timedwait(&beats->came, &beats->lock, &until);
     pthread_mutex_unlock(&beats->lock);
 }
 

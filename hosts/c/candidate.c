@@ -11,6 +11,8 @@
 /* How long a host that is told to end waits for a word on what it has made. */
 #define END_SECONDS 10.0
 #define HEADER_BYTES 1024
+/* After how long without a copy it is said that there is none. */
+#define SAY_SECONDS 5.0
 
 static void tell_service(struct candidate *it) {
     if (now() < it->next_word) return;
@@ -22,11 +24,33 @@ static void tell_service(struct candidate *it) {
 /* What is done while a word of the servers is awaited. */
 static bool waits(void *closure) {
     struct candidate *it = closure;
-    if (it->owns) beats_say(&it->beats, BEAT_HAS, it->stream.last, BEAT_SECONDS);
+    if (it->owns) beats_say(&it->beats, it->has_copies ? BEAT_WANTS : BEAT_HAS, it->stream.last, BEAT_SECONDS);
     tell_service(it);
     if (!*it->is_stopping) return true;
     if (it->stopping == 0) it->stopping = now();
     return it->owns && now() - it->stopping < END_SECONDS;
+}
+
+/* Asks the others for their copies, as soon as the servers have what was appended. */
+static void is_taken(void *closure) {
+    struct candidate *it = closure;
+    if (it->has_copies) beats_say(&it->beats, BEAT_WANTS, it->stream.last, 0);
+}
+
+/* Waits until another host has on its disk what this one has. */
+static void is_kept(void *closure) {
+    struct candidate *it = closure;
+    double started = now();
+    bool is_told = false;
+    while (it->has_copies && !beats_copied(&it->beats, it->stream.last)) {
+        struct heard has = beats_heard(&it->beats);
+        if (has.is_new && has.sequence > it->stream.last) end_refused(&it->stream, REFUSED_LATER);
+        if (!waits(it)) end_refused(&it->stream, NOT_SENT);
+        if (!is_told && now() - started > SAY_SECONDS) say("warning", "no other host has a copy, so nothing is said", it->stream.name);
+        is_told = is_told || now() - started > SAY_SECONDS;
+        beats_say(&it->beats, BEAT_WANTS, it->stream.last, BEAT_SECONDS);
+        beats_wait_copied(&it->beats, it->stream.last, LOOK_SECONDS);
+    }
 }
 
 /* Asks for a message until there is a word on it; NO_WORD where the host is told to end before. */
@@ -58,12 +82,12 @@ static void check_stream(struct candidate *it) {
     entry_free(&entry);
 }
 
-/* Reads what is new; whether that was all that there is. */
-static bool read_on(struct candidate *it) {
+/* Reads what is new, up to a sequence that was told, or to the end; whether that was all that there is. */
+static bool read_on(struct candidate *it, uint64_t told) {
     struct entry entry;
-    enum found found = NO_WORD;
+    enum found found = NOT_THERE;
     uint64_t before = it->stream.last;
-    while (!*it->is_stopping && (found = stream_read(&it->stream, it->stream.last + 1, &entry)) == FOUND) {
+    while (!*it->is_stopping && it->stream.last < told && (found = stream_read(&it->stream, it->stream.last + 1, &entry)) == FOUND) {
         copy_take(&it->copy, &entry);
         entry_free(&entry);
         tell_service(it);
@@ -72,7 +96,7 @@ static bool read_on(struct candidate *it) {
         copy_sync(&it->copy);
         it->level = now();
     }
-    return found == NOT_THERE;
+    return it->stream.last >= told || found == NOT_THERE;
 }
 
 /* Notes that this machine knows the log's end, once another host or an operator has told where it is. */
@@ -121,6 +145,10 @@ bool candidate_open(struct candidate *it, const struct given *given, struct log 
     it->stream.waits = waits;
     it->stream.closure = it;
     copy_open(&it->copy, log, &it->stream);
+    it->has_copies = given->copies == 2;
+    it->copy.is_taken = is_taken;
+    it->copy.is_kept = is_kept;
+    it->copy.closure = it;
     if (!engine_open(&it->stream.engine, given->name, &given->access, is_stopping)) return false;
     /* The server takes so many bytes, and headers are among them. */
     size_t most = (size_t)natsConnection_GetMaxPayload(it->stream.engine.connection) - HEADER_BYTES;
@@ -142,7 +170,8 @@ bool candidate_own(struct candidate *it) {
         bool is_alone = now() - has.heard > it->patience || has.leaves;
         bool is_due = now() - looked <= it->patience;
         looked = now();
-        if (!is_end || is_alone || has.sequence > it->stream.last) is_end = read_on(it);
+        if (!is_end || is_alone) is_end = read_on(it, UINT64_MAX);
+        else if (has.sequence > it->stream.last) is_end = read_on(it, has.sequence);
         vouch(it);
         if (is_end && is_alone && is_due && may_claim(it) && is_level(it)) {
             if (claim(it)) return true;
@@ -150,7 +179,8 @@ bool candidate_own(struct candidate *it) {
             is_end = false;
             looked = now();
         }
-        if (it->copy.seen.vouched) beats_say(&it->beats, BEAT_FOLLOWS, it->stream.last, FOLLOW_SECONDS);
+        bool is_asked = has.is_new && has.wants && it->stream.last >= has.sequence;
+        if (it->copy.seen.vouched) beats_say(&it->beats, BEAT_FOLLOWS, it->stream.last, is_asked ? 0 : FOLLOW_SECONDS);
         tell_service(it);
         beats_wait(&it->beats, LOOK_SECONDS);
     }
@@ -161,6 +191,9 @@ void candidate_look(struct candidate *it) {
     struct heard has = beats_heard(&it->beats);
     bool was_away = now() - it->looked > it->patience;
     it->looked = now();
+#ifdef WRONG_UNFENCED
+    return;
+#endif
     if (has.is_new && has.sequence > it->stream.last) end_refused(&it->stream, REFUSED_LATER);
     /* Who was stopped, or hears another who knows as much, has the servers say who has the log before anything is said. */
     if (was_away || (has.is_new && has.sequence == it->stream.last)) copy_append(&it->copy, "", 0);

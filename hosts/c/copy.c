@@ -132,6 +132,7 @@ void end_refused(const struct stream *stream, enum appended became) {
 void copy_append(struct copy *copy, const char *records, size_t size) {
     enum appended became = stream_append(copy->stream, &copy->whole, records, size);
     if (became != TAKEN) end_refused(copy->stream, became);
+    copy->is_taken(copy->closure);
     torment(NULL);
     if (size > 0) {
         log_write(copy->log, copy->stream->node, records, size);
@@ -141,4 +142,5 @@ void copy_append(struct copy *copy, const char *records, size_t size) {
     }
     copy_note(copy, copy->stream->last);
     seen_write(copy->seen_file, &copy->seen);
+    copy->is_kept(copy->closure);
 }

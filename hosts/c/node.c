@@ -2,7 +2,8 @@
 ** One node of the network as one process over NATS: the library keeps the node, this host its log and its carrier.
 **
 **     node SETTINGS NODE LOG [--nats URL[,URL..]] [--ca FILE] [--creds FILE] [--login FILE] [--tick SECONDS] [--watch ADDRESS:PORT]
-**          [--hold-back MS] [--ping SECONDS] [-v] [--log file|stream] [--machine NAME] [--patience SECONDS] [--part BYTES]
+**          [--hold-back MS] [--ping SECONDS] [-v] [--log file|stream] [--copies 1|2] [--machine NAME]
+**          [--patience SECONDS] [--part BYTES]
 **
 ** The subjects are those of hosts/node.py, so hosts of both kinds can serve nodes of one network: packets come on
 ** `claims.NODE.from.SENDER`, in printed bytes; callers' lines, `submit` and `answer`, on `claims.NODE.call`; an operator's, any line but
@@ -16,8 +17,9 @@
 ** With `--log stream` the log is in a stream that several servers keep, and LOG is this machine's copy: records are appended to the stream,
 ** behind the last message that this host knows and nowhere else; once the servers have said that they are there they are written and
 ** synced here; and only then anything is said. Any number of hosts may be started for a node, on as many machines: one has the log, the
-** others follow it, and one of them takes over where it is silent for --patience seconds. MACHINE names this one, --part how many bytes
-** one message carries at most.
+** others follow it, and one of them takes over where it is silent for --patience seconds. With `--copies 2` one of the others has the same
+** bytes on its disk before anything is said; without such another nothing is. --machine names this one, --part is how many bytes one
+** message carries at most.
 **
 ** Status 0: it was told to end; 1: a next try may go better; 75: another host has the node; 78: settings, name or log are refused, the
 ** servers have lost what was seen, or a sync has failed.

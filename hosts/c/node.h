@@ -179,7 +179,7 @@ void held_forget(const char *text, size_t size);
 struct given {
     const char *settings, *name, *log, *watch, *kept, *machine;
     struct access access;
-    double tick, hold_back, patience, part;
+    double tick, hold_back, patience, part, copies;
     bool says, is_stream;
 };
 

@@ -126,6 +126,10 @@ struct copy {
     struct bytes pending;
     uint64_t file_size;
     bool is_unsynced;
+    /* Called once the servers have what was appended, and once this machine has it; there others' copies are asked for, and waited for. */
+    void (*is_taken)(void *closure);
+    void (*is_kept)(void *closure);
+    void *closure;
 };
 
 /* Looks at the file and at what was seen; ends the process where the file is not what it was. */
@@ -146,11 +150,12 @@ _Noreturn void end_refused(const struct stream *stream, enum appended became);
 struct heard {
     uint64_t sequence;
     double heard;
-    bool leaves, is_new;
+    bool leaves, wants, is_new;
 };
 
-/* What hosts say of a log, and a stand-by: it has it; it follows it, and knows its end; it leaves it; an operator vouches for its end. */
-enum beat { BEAT_HAS, BEAT_FOLLOWS, BEAT_LEAVES, BEAT_VOUCHES };
+/* What hosts say of a log: this one has it; it has it, and wants to hear who follows; it follows it, has so much on its disk, and knows its
+   end; it leaves it. And an operator: its end is here. */
+enum beat { BEAT_HAS, BEAT_WANTS, BEAT_FOLLOWS, BEAT_LEAVES, BEAT_VOUCHES };
 
 /* What others say of a log, and what this host says. */
 struct beats {
@@ -162,7 +167,7 @@ struct beats {
     char subject[32];
     struct heard has;
     bool is_vouched;
-    uint64_t vouched;
+    uint64_t vouched, copied;
     double said;
 };
 
@@ -172,8 +177,12 @@ struct heard beats_heard(struct beats *beats);
 void beats_forget(struct beats *beats);
 /* Whether somebody has told of the log's end, and it is not behind this sequence. */
 bool beats_vouch(struct beats *beats, uint64_t sequence);
+/* Whether another host has on its disk what stands up to this sequence. */
+bool beats_copied(struct beats *beats, uint64_t sequence);
 /* Waits until something is heard, or so many seconds. */
 void beats_wait(struct beats *beats, double seconds);
+/* Waits until something is heard, or so many seconds, unless another host has so much on its disk. */
+void beats_wait_copied(struct beats *beats, uint64_t sequence, double seconds);
 /* Says something, unless that was done less than so many seconds ago. */
 void beats_say(struct beats *beats, enum beat beat, uint64_t sequence, double every);
 void beats_close(struct beats *beats);
@@ -185,7 +194,7 @@ struct candidate {
     struct beats beats;
     volatile sig_atomic_t *is_stopping;
     double patience, looked, level, next_word, stopping;
-    bool owns, is_told;
+    bool owns, is_told, has_copies;
 };
 
 /* Connects, and looks at what this machine has; false where the host is told to end before that is done. */
