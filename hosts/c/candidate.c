@@ -11,6 +11,7 @@
 /* How long a host that is told to end waits for a word on what it has made. */
 #define END_SECONDS 10.0
 #define HEADER_BYTES 1024
+#define MOST_UNMADE (1u << 20)
 /* After how long without a copy it is said that there is none. */
 #define SAY_SECONDS 5.0
 
@@ -90,6 +91,8 @@ static bool read_on(struct candidate *it, uint64_t told) {
     while (!*it->is_stopping && it->stream.last < told && (found = stream_read(&it->stream, it->stream.last + 1, &entry)) == FOUND) {
         copy_take(&it->copy, &entry);
         entry_free(&entry);
+        /* What comes in a few messages is on disk before the node makes it; a long log is made as it comes. */
+        if (it->copy.unmade.size > MOST_UNMADE) copy_make(&it->copy);
         tell_service(it);
     }
     if (it->stream.last > before) {
@@ -167,12 +170,14 @@ bool candidate_own(struct candidate *it) {
         struct heard has = beats_heard(&it->beats);
         /* A host that was stopped has heard nobody meanwhile: it looks again before it takes a log that is well kept. */
         if (now() - looked > it->patience) beats_forget(&it->beats);
-        bool is_alone = now() - has.heard > it->patience || has.leaves;
+        /* A log that was just made is nobody's. */
+        bool is_alone = now() - has.heard > it->patience || has.leaves || (is_end && it->stream.last == 1);
         bool is_due = now() - looked <= it->patience;
         looked = now();
         if (!is_end || is_alone) is_end = read_on(it, UINT64_MAX);
         else if (has.sequence > it->stream.last) is_end = read_on(it, has.sequence);
         vouch(it);
+        if (is_alone) copy_make(&it->copy);
         if (is_end && is_alone && is_due && may_claim(it) && is_level(it)) {
             if (claim(it)) return true;
             beats_forget(&it->beats);
@@ -181,6 +186,7 @@ bool candidate_own(struct candidate *it) {
         }
         bool is_asked = has.is_new && has.wants && it->stream.last >= has.sequence;
         if (it->copy.seen.vouched) beats_say(&it->beats, BEAT_FOLLOWS, it->stream.last, is_asked ? 0 : FOLLOW_SECONDS);
+        copy_make(&it->copy);
         tell_service(it);
         beats_wait(&it->beats, LOOK_SECONDS);
     }

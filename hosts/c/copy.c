@@ -38,17 +38,44 @@ static bool has_already(const struct copy *copy, const char *bytes, size_t size)
     return true;
 }
 
-/* Takes the head of a log, or a record, that has come whole. */
-static void take_unit(struct copy *copy, const char *bytes, size_t size) {
+/* Takes whole records, with a log's head before them where it begins; the node makes them anew later. */
+static void take_units(struct copy *copy, const char *bytes, size_t size) {
+    if (size == 0) return;
     if (!has_already(copy, bytes, size)) {
         if (copy->file_size > copy->whole.size) refuse(copy, "it has records that the servers lack: see `vogctl log restore`");
         log_write(copy->log, copy->stream->node, bytes, size);
         copy->file_size += size;
     }
     copy->is_unsynced = true;
-    if (copy->node != NULL) node_make(copy->node, bytes, size);
+    add(&copy->unmade, bytes, size);
     digest_add(&copy->whole.digest, bytes, size);
     copy->whole.size += size;
+}
+
+/* Takes what has come whole; of a file that has more than that already each record is compared. */
+static void take_pending(struct copy *copy) {
+    size_t from = 0, to = 0;
+    bool is_none;
+    for (size_t size; (size = unit_of(copy->whole.size + to - from, copy->pending.at + to, copy->pending.size - to, &is_none)) > 0;) {
+        to += size;
+        if (copy->file_size == copy->whole.size) continue;
+        take_units(copy, copy->pending.at + from, to - from);
+        from = to;
+    }
+    take_units(copy, copy->pending.at + from, to - from);
+    if (is_none) refuse(copy, "the stream has something else than records");
+    memmove(copy->pending.at, copy->pending.at + to, copy->pending.size - to);
+    copy->pending.size -= to;
+}
+
+void copy_make(struct copy *copy) {
+    const struct bytes *unmade = &copy->unmade;
+    bool is_none;
+    for (size_t from = 0, size; from < unmade->size; from += size) {
+        size = unit_of(unmade->at[from] == 'P' ? 0 : 1, unmade->at + from, unmade->size - from, &is_none);
+        node_make(copy->node, unmade->at + from, size);
+    }
+    copy->unmade.size = 0;
 }
 
 /* Cuts what a crash of this machine has left of a write, and keeps it beside the log. */
@@ -106,13 +133,7 @@ void copy_note(struct copy *copy, uint64_t sequence) {
 void copy_take(struct copy *copy, const struct entry *entry) {
     check_entry(copy, entry);
     add(&copy->pending, entry->bytes.at, entry->bytes.size);
-    size_t from = 0;
-    bool is_none;
-    for (size_t size; (size = unit_of(copy->whole.size, copy->pending.at + from, copy->pending.size - from, &is_none)) > 0; from += size)
-        take_unit(copy, copy->pending.at + from, size);
-    if (is_none) refuse(copy, "the stream has something else than records");
-    memmove(copy->pending.at, copy->pending.at + from, copy->pending.size - from);
-    copy->pending.size -= from;
+    take_pending(copy);
     copy->stream->last = entry->sequence;
     copy_note(copy, entry->sequence);
 }

@@ -3,13 +3,16 @@
 
 /* The value of a digit of base64, or -1. */
 static int digit_of(char digit) {
-    static const char digits[] = "ABCDEFGHIJKLMNOPQRSTUVWXYZabcdefghijklmnopqrstuvwxyz0123456789+/";
-    const char *at = digit == '\0' ? NULL : strchr(digits, digit);
-    return at == NULL ? -1 : (int)(at - digits);
+    if (digit >= 'A' && digit <= 'Z') return digit - 'A';
+    if (digit >= 'a' && digit <= 'z') return digit - 'a' + 26;
+    if (digit >= '0' && digit <= '9') return digit - '0' + 52;
+    return digit == '+' ? 62 : digit == '/' ? 63 : -1;
 }
 
 /* Adds the bytes that a text of base64 spells, up to where it ends. */
 static void add_decoded(struct bytes *bytes, const char *text) {
+    char part[3072];
+    size_t size = 0;
     uint32_t held = 0;
     int bits = 0;
     for (int digit; (digit = digit_of(*text)) >= 0; text++) {
@@ -17,9 +20,12 @@ static void add_decoded(struct bytes *bytes, const char *text) {
         bits += 6;
         if (bits < 8) continue;
         bits -= 8;
-        unsigned char byte = (unsigned char)(held >> bits);
-        add(bytes, &byte, 1);
+        part[size++] = (char)(held >> bits);
+        if (size < sizeof part) continue;
+        add(bytes, part, size);
+        size = 0;
     }
+    add(bytes, part, size);
 }
 
 /* The bytes behind a key of a reply; none where it is not there. */

@@ -117,8 +117,9 @@ void seen_write(int file, const struct seen *seen);
 struct copy {
     struct stream *stream;
     struct log *log;
-    /* Where the node's records are made anew as they come; NULL until there is one. */
+    /* The node whose records are made anew once they are on disk, and those that it has not made. */
     struct served *node;
+    struct bytes unmade;
     int seen_file;
     struct seen seen;
     /* Behind the last whole record; then what has come of the next one; and how many bytes the file has. */
@@ -138,6 +139,8 @@ void copy_open(struct copy *copy, struct log *log, struct stream *stream);
 void copy_take(struct copy *copy, const struct entry *entry);
 /* Has on disk what was taken, and notes how far that is. */
 void copy_sync(struct copy *copy);
+/* Has the node make the records that were taken. */
+void copy_make(struct copy *copy);
 /* Appends records to the stream, and then to the file: one that returns has them on the servers and on this machine's disk. It ends the
    process where another host has the log. Without records it shows that this host has the log still. */
 void copy_append(struct copy *copy, const char *records, size_t size);
