@@ -170,13 +170,14 @@ bool candidate_own(struct candidate *it) {
         struct heard has = beats_heard(&it->beats);
         /* A host that was stopped has heard nobody meanwhile: it looks again before it takes a log that is well kept. */
         if (now() - looked > it->patience) beats_forget(&it->beats);
-        /* A log that was just made is nobody's. */
-        bool is_alone = now() - has.heard > it->patience || has.leaves || (is_end && it->stream.last == 1);
+        bool is_alone = now() - has.heard > it->patience || has.leaves;
         bool is_due = now() - looked <= it->patience;
         looked = now();
         if (!is_end || is_alone) is_end = read_on(it, UINT64_MAX);
         else if (has.sequence > it->stream.last) is_end = read_on(it, has.sequence);
         vouch(it);
+        /* A log that was just made is nobody's. */
+        is_alone = is_alone || it->stream.last == 1;
         if (is_alone) copy_make(&it->copy);
         if (is_end && is_alone && is_due && may_claim(it) && is_level(it)) {
             if (claim(it)) return true;
