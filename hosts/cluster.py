@@ -2,13 +2,15 @@
 """A node each of a settings file, over NATS, on this machine.
 
     hosts/cluster.py SETTINGS FOLDER [--server] [--access FOLDER] [--nats URL[,URL..]] [--ca FILE] [--jetstream] [--tick SECONDS]
-                     [--watch PORT] [--hold-back MS] [--ping SECONDS] [--program PATH] [--host PATH] [-v]
+                     [--watch PORT] [--hold-back MS] [--ping SECONDS] [--program PATH] [--host PATH [--log stream] [--copies 2]
+                     [--candidates N]] [-v]
 
 SETTINGS is a file of settings alone, as examples/six-nodes.toml. Logs go to FOLDER, one a node. A host that dies is started
 again, at first at once, then ever later; one whose log or settings are refused (status 78) is not. With --server a server is started
 too; its program is `nats-server` (Debian: apt-get install nats-server). --access is a folder that hosts/permissions has written: each
 node comes as a user of its own, and the server is the one of its server.conf. Without it, anybody who reaches the server can speak
-as any node. Ends by Ctrl-C or SIGTERM: its nodes finish what they have taken, and end.
+as any node. With --log stream logs are in streams, which `vogctl log make` has made, and each node has N hosts, whose folders are
+FOLDER/a, FOLDER/b ..: as on as many machines. Ends by Ctrl-C or SIGTERM: its nodes finish what they have taken, and end.
 """
 
 import argparse
@@ -142,9 +144,12 @@ class Cluster:
         words = [sys.executable, str(HERE / "streams"), self._given.settings, *self._login("streams")]
         return Keeper("streams", words + ["-v"] * self._given.v, self._say)
 
-    def node(self, place: int, name: str, program: str) -> Keeper:
+    def node(self, place: int, name: str, program: str, machine: str = "") -> Keeper:
         given = self._given
-        words = [given.settings, name, str(self._folder / f"{name}.log"), *self._login(name), "--tick", given.tick]
+        folder = self._folder / machine
+        folder.mkdir(mode=0o700, exist_ok=True)
+        words = [given.settings, name, str(folder / f"{name}.log"), *self._login(name), "--tick", given.tick]
+        words += ["--log", "stream", "--machine", machine, "--copies", given.copies] if machine else []
         words += ["--watch", f"127.0.0.1:{given.watch + place}"] if given.watch else []
         words += ["--hold-back", given.hold_back] if given.hold_back else []
         words += ["--ping", given.ping] if given.ping else []
@@ -162,7 +167,9 @@ class Cluster:
         program = given.host or program_of(given.program)
         servers = [self.server()] if given.server else []
         servers += [self.streams()] if given.jetstream else []
-        nodes = [self.node(place, name, program) for place, name in enumerate(names)]
+        machines = [chr(ord("a") + it) for it in range(given.candidates)] if given.log == "stream" else [""]
+        places = [(machine, name) for machine in machines for name in names]
+        nodes = [self.node(place, name, program, machine) for place, (machine, name) in enumerate(places)]
         stop = asyncio.Event()
         for number in (signal.SIGINT, signal.SIGTERM):
             asyncio.get_running_loop().add_signal_handler(number, stop.set)
@@ -193,8 +200,13 @@ def words() -> argparse.Namespace:
     parser.add_argument("--ping", metavar="SECONDS", help="how long a server may be silent before it is asked whether it is there")
     parser.add_argument("--program", metavar="PATH", help="where claimnode is, for nodes of hosts/node.py")
     parser.add_argument("--host", metavar="PATH", help="the program of hosts/c, in the place of hosts/node.py")
+    parser.add_argument("--log", choices=("file", "stream"), default="file", help="where logs are, with --host")
+    parser.add_argument("--copies", default="1", choices=("1", "2"), help="on how many disks a log is before anything is said, with --log stream")
+    parser.add_argument("--candidates", type=int, default=2, choices=range(1, 6), metavar="N", help="hosts of each node, with --log stream")
     parser.add_argument("-v", action="store_true", help="words for people on standard error")
     given = parser.parse_args()
+    if given.log == "stream" and not given.host:
+        parser.error("--log stream is for the host in C: --host")
     if given.host and given.jetstream:
         parser.error("the host in C takes packets of plain NATS alone")
     return given

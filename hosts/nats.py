@@ -113,7 +113,7 @@ class Connection:
         self._subscriptions: dict[int, tuple[str, Callable[[Message], None]]] = {}
         self._numbers = itertools.count(1)
         self._writer: asyncio.StreamWriter | None = None
-        self._replies: dict[str, asyncio.Future[bytes]] = {}
+        self._replies: dict[str, tuple[asyncio.Future[bytes], Callable[[bytes], bool]]] = {}
         self._pongs: collections.deque[asyncio.Future[bool]] = collections.deque()
         # Nobody else's replies come here, and nobody can guess where they come.
         self._inbox = f"{subjects.inbox(access.user or name)}.{secrets.token_hex(8)}"
@@ -173,21 +173,32 @@ class Connection:
         if self.is_open.is_set():
             await make()
 
-    def publish(self, subject: str, payload: bytes, reply: str = "") -> None:
+    def publish(self, subject: str, payload: bytes, reply: str = "", headers: dict[str, str] | None = None) -> None:
         """Sends a message. Without a connection, or where the server does not read, it is lost, as a packet may be."""
-        head = f"PUB {subject} {reply} {len(payload)}\r\n" if reply else f"PUB {subject} {len(payload)}\r\n"
-        self._send(head.encode() + payload + b"\r\n")
+        to = f"{subject} {reply}" if reply else subject
+        if headers is None:
+            self._send(f"PUB {to} {len(payload)}\r\n".encode() + payload + b"\r\n")
+            return
+        text = "".join(["NATS/1.0\r\n", *(f"{name}: {value}\r\n" for name, value in headers.items()), "\r\n"]).encode()
+        self._send(f"HPUB {to} {len(text)} {len(text) + len(payload)}\r\n".encode() + text + payload + b"\r\n")
 
-    async def request(self, subject: str, payload: bytes, seconds: float) -> bytes | None:
-        """The first reply to a message, or None where none comes in time."""
+    async def request(
+        self,
+        subject: str,
+        payload: bytes,
+        seconds: float,
+        headers: dict[str, str] | None = None,
+        is_word: Callable[[bytes], bool] = lambda _: True,
+    ) -> bytes | None:
+        """The first reply to a message that is a word on it, or None where none comes in time."""
         if not self._inbox_is_open:
             self._inbox_is_open = True
             self.subscribe(f"{self._inbox}.*", self._replied)
         reply = f"{self._inbox}.{next(self._numbers)}"
         waiting = asyncio.get_running_loop().create_future()
-        self._replies[reply] = waiting
+        self._replies[reply] = (waiting, is_word)
         try:
-            self.publish(subject, payload, reply)
+            self.publish(subject, payload, reply, headers)
             return await asyncio.wait_for(waiting, seconds)
         except TimeoutError:
             return None
@@ -207,8 +218,8 @@ class Connection:
             return False
 
     def _replied(self, message: Message) -> None:
-        waiting = self._replies.get(message.subject)
-        if waiting and not waiting.done():
+        waiting, is_word = self._replies.get(message.subject, (None, None))
+        if waiting and not waiting.done() and is_word(message.payload):
             waiting.set_result(message.payload)
 
     def _send(self, data: bytes) -> None:
@@ -270,7 +281,7 @@ class Connection:
         elif told.get("tls_required"):
             raise Broken("the server demands TLS: say tls://, or give --ca; nothing was sent in the clear")
         hello = {"verbose": False, "pedantic": False, "name": self._name, "lang": "python", "version": "1", "protocol": 1}
-        hello["tls_required"] = server.is_tls
+        hello |= {"tls_required": server.is_tls, "headers": bool(told.get("headers"))}
         if self._access.user:
             hello |= {"user": self._access.user, "pass": self._access.password}
         writer.write(f"CONNECT {json.dumps(hello)}\r\nPING\r\n".encode())
@@ -317,8 +328,8 @@ class Connection:
             line = await reader.readuntil(b"\n")
             self._heard = loop.time()
             word, _, rest = line.strip().partition(b" ")
-            if word == b"MSG":
-                await self._message(reader, rest.split())
+            if word in (b"MSG", b"HMSG"):
+                await self._message(reader, rest.split(), word == b"HMSG")
             elif word == b"PING":
                 writer.write(b"PONG\r\n")
             elif word == b"PONG":
@@ -332,15 +343,17 @@ class Connection:
         self.errors.append(what)
         self.say(f"the server says {what}")
 
-    async def _message(self, reader: asyncio.StreamReader, words: list[bytes]) -> None:
+    async def _message(self, reader: asyncio.StreamReader, words: list[bytes], has_headers: bool) -> None:
+        """Takes a message; its headers, if it has some, are passed over."""
         try:
             subject, number, size = words[0].decode(), int(words[1]), int(words[-1])
+            head = int(words.pop(-2)) if has_headers else 0
             reply = words[2].decode() if len(words) == 4 else ""
         except (ValueError, IndexError):
             raise Broken("it says a message as no NATS server does") from None
-        if not 0 <= size <= MOST_PAYLOAD_BYTES:
+        if not 0 <= head <= size <= MOST_PAYLOAD_BYTES:
             raise Broken(f"a message of {size} bytes")
         payload = await reader.readexactly(size + 2)
         _, handler = self._subscriptions.get(number, ("", None))
         if handler is not None:
-            handler(Message(subject, reply, payload[:-2]))
+            handler(Message(subject, reply, payload[head:-2]))

@@ -3,6 +3,8 @@
     claims.sw1.from.ph1     a packet of ph1 for sw1, in printed bytes; the server lets nobody but ph1 publish here
     claims.ph1.call         a caller's line for ph1: `submit`, `answer` or `wait`
     claims.ph1.operate      an operator's line for a node: any but `take`
+    claims.ph1.owner        what hosts of ph1 whose log is in a stream say to one another, and operators who vouch for its end
+    log.ph1                 what is appended to the log of ph1, where that is in a stream
     deliver.ph1             where JetStream hands over what it keeps for ph1; the server's own, nobody publishes here
     _INBOX.USER.>           the replies to one user, which no other may read
 """
@@ -38,6 +40,19 @@ def calls(node: str) -> str:
 
 def operations(node: str) -> str:
     return f"claims.{node}.operate"
+
+
+def owners(node: str) -> str:
+    return f"claims.{node}.owner"
+
+
+def log(node: str) -> str:
+    return f"log.{node}"
+
+
+def log_stream(node: str) -> str:
+    """The name of the stream that a node's log is in."""
+    return f"LOG_{node}"
 
 
 def delivered(node: str) -> str:

@@ -1,15 +1,12 @@
 /* NATS: what comes waits in a list until the node's thread takes it; what is sent may be lost, as a packet may be. */
 #include <ctype.h>
-#include <fcntl.h>
 #include <math.h>
-#include <unistd.h>
 
 #include "node.h"
 
 /* What may wait for the node at most; what comes beyond it is refused, or lost, as a packet may be. */
 #define MOST_WAITING 4096
 #define MOST_WAITING_BYTES (16u << 20)
-#define MOST_SERVERS 16
 #define STOP_MS 5000
 
 static void check(const char *what, natsStatus status) {
@@ -109,58 +106,8 @@ static void erred(natsConnection *connection, natsSubscription *subscription, na
     say("warning", natsStatus_GetText(status), why);
 }
 
-/* Parts URLs at commas. */
-static int parted(char *urls, const char *part[MOST_SERVERS]) {
-    int count = 0;
-    char *rest = NULL;
-    for (char *at = strtok_r(urls, ", ", &rest); at != NULL && count < MOST_SERVERS; at = strtok_r(NULL, ", ", &rest)) part[count++] = at;
-    return count;
-}
-
-/* Sets who comes, from a file with one line, USER:PASSWORD. */
-static void set_login(natsOptions *options, const char *path) {
-    int file = open(path, O_RDONLY);
-    if (file < 0) fail(path, "not there");
-    struct bytes login = whole(file, path, 4096);
-    close(file);
-    char *end = strpbrk(login.at, "\r\n"), *password;
-    if (end != NULL) *end = '\0';
-    password = strchr(login.at, ':');
-    if (password == NULL) fail(path, "one line is wanted, USER:PASSWORD");
-    *password++ = '\0';
-    check(path, natsOptions_SetUserInfo(options, login.at, password));
-    free(login.at);
-}
-
-static void set_access(natsOptions *options, const struct access *access) {
-    const char *part[MOST_SERVERS];
-    char *urls = strdup(access->urls);
-    if (urls == NULL) fail("memory", "refused");
-    bool is_tls = strstr(urls, "tls://") != NULL || access->authorities != NULL;
-    int count = parted(urls, part);
-    if (count == 0) fail("servers", "none is named");
-    check("the URLs of servers", natsOptions_SetServers(options, part, count));
-    free(urls);
-    if (is_tls) check("tls", natsOptions_SetSecure(options, true));
-    if (access->authorities != NULL) check(access->authorities, natsOptions_LoadCATrustedCertificates(options, access->authorities));
-    const char *credentials = access->credentials;
-    if (credentials != NULL) check(credentials, natsOptions_SetUserCredentialsFromFiles(options, credentials, NULL));
-    if (access->login != NULL) set_login(options, access->login);
-}
-
-/* Options of a connection that comes again by itself for as long as the process runs, and leaves a server that is silent. */
 static natsOptions *options_of(struct carrier *carrier, const struct access *access) {
-    natsOptions *options = NULL;
-    check("options", natsOptions_Create(&options));
-    set_access(options, access);
-    check("options", natsOptions_SetName(options, carrier->name));
-    check("options", natsOptions_SetTimeout(options, 5000));
-    check("options", natsOptions_SetMaxReconnect(options, -1));
-    check("options", natsOptions_SetReconnectWait(options, 200));
-    check("options", natsOptions_SetReconnectJitter(options, 200, 500));
-    check("options", natsOptions_SetReconnectBufSize(options, 1 << 20));
-    check("options", natsOptions_SetPingInterval(options, (int64_t)(access->ping * 1000)));
-    check("options", natsOptions_SetMaxPingsOut(options, 2));
+    natsOptions *options = access_options(access, carrier->name);
     check("options", natsOptions_SetReconnectedCB(options, came_again, carrier));
     check("options", natsOptions_SetDisconnectedCB(options, went, carrier));
     check("options", natsOptions_SetClosedCB(options, closed, carrier));
@@ -175,11 +122,6 @@ static void subscribe(struct carrier *carrier, int place, const char *ending, na
     check(subject, natsSubscription_SetPendingLimits(carrier->subscriptions[place], MOST_WAITING, MOST_WAITING_BYTES));
 }
 
-/* Whether a server may be there at the next try. */
-static bool may_come(natsStatus status) {
-    return status == NATS_NO_SERVER || status == NATS_TIMEOUT || status == NATS_IO_ERROR || status == NATS_CONNECTION_CLOSED;
-}
-
 struct carrier *carrier_open(const char *name, const struct access *access, volatile sig_atomic_t *is_stopping) {
     struct carrier *carrier = calloc(1, sizeof *carrier);
     if (carrier == NULL) fail("memory", "refused");
@@ -191,16 +133,9 @@ struct carrier *carrier_open(const char *name, const struct access *access, vola
     pthread_condattr_setclock(&kind, CLOCK_MONOTONIC);
     pthread_cond_init(&carrier->came, &kind);
     natsOptions *options = options_of(carrier, access);
-    bool is_told = false;
-    natsStatus status = NATS_OK;
-    while (!*is_stopping && may_come(status = natsConnection_Connect(&carrier->connection, options))) {
-        if (!is_told) say("warning", "no server, trying again", natsStatus_GetText(status));
-        is_told = true;
-        nats_Sleep(200);
-    }
+    carrier->connection = access_connect(options, is_stopping);
     natsOptions_Destroy(options);
-    if (*is_stopping) return carrier;
-    check("the server", status);
+    if (carrier->connection == NULL) return carrier;
     counts_connected(true);
     subscribe(carrier, 0, ".from.*", taken);
     subscribe(carrier, 1, ".operate", operated);
@@ -230,7 +165,7 @@ struct message *take_all(struct carrier *carrier, double seconds) {
 void send_packet(struct carrier *carrier, const char *to, size_t to_size, const char *text, size_t size) {
     char subject[64];
     snprintf(subject, sizeof subject, "claims.%.*s.from.%s", (int)to_size, to, carrier->name);
-    natsConnection_Publish(carrier->connection, subject, text, (int)size);
+    if (!torment_packet(carrier->connection, subject, text, size)) natsConnection_Publish(carrier->connection, subject, text, (int)size);
     counts_sent(to, to_size);
 }
 
@@ -253,5 +188,4 @@ void carrier_close(struct carrier *carrier) {
     for (int place = 0; place < 3; place++) natsSubscription_Destroy(carrier->subscriptions[place]);
     natsConnection_FlushTimeout(carrier->connection, 1000);
     natsConnection_Destroy(carrier->connection);
-    nats_Close();
 }

@@ -142,6 +142,12 @@ void counts_node(uint64_t calls, uint64_t at_start, uint64_t rows, size_t waitin
     unlocked();
 }
 
+void counts_heard(void) {
+    locked();
+    seen.heard = now();
+    unlocked();
+}
+
 bool counts_lives(void) {
     locked();
     bool lives = now() - seen.heard < LIVES_SECONDS;

@@ -1,6 +1,7 @@
 /*
-** The rooms of the host: bytes (bytes.c), what it says (said.c), the node with its log (log.c), the carrier (carrier.c), packets that are
-** held back or go out later (packets.c), what it has seen (counts.c), and who asks for that (watch.c).
+** The rooms of the host: bytes (bytes.c), what it says (said.c), the file of a log (file.c), the node with its log (log.c), the way to
+** servers (access.c), the carrier (carrier.c), packets that are held back or go out later (packets.c), turns (turn.c), what it has seen
+** (counts.c), who asks for that (watch.c), and what a command line asks for (words.c). stream.h has those of a log in a stream.
 */
 #ifndef NODE_H
 #define NODE_H
@@ -47,18 +48,51 @@ void say(const char *level, const char *what, const char *more);
 _Noreturn void fail_with(int status, const char *what, const char *why);
 _Noreturn void fail(const char *what, const char *why);
 
-/* A node with the file of its log. */
-struct served {
-    const char *name, *path;
-    vogrilas_node node;
-    int log;
-    uint64_t syncs, at_start;
+/* The file of a log, and how often it was synced. */
+struct log {
+    const char *path;
+    int file;
+    uint64_t syncs;
 };
 
-struct served node_open(const char *settings, const char *name, const char *log);
+/* Opens the file for this process alone, unless a sync of it has failed. */
+struct log log_open(const char *path);
+struct bytes log_bytes(const struct log *log);
+/* Cuts what a crash has left of a record, and keeps it beside the log; `bytes` are all that the file has. */
+void log_cut(const struct log *log, const struct bytes *bytes, size_t kept);
+void log_write(const struct log *log, const char *name, const char *bytes, size_t size);
+/* Has on disk what was written; the file and its name, where it may be new. Both end the process where that fails. */
+void log_sync(struct log *log);
+void log_sync_all(const struct log *log);
+/* The name of a file beside a log. */
+char *beside(const char *path, const char *ending);
+/* Draws bytes that nobody can guess. */
+void draw(void *to, size_t size);
+
+/* A node with its log; `copy` is NULL where the log is a file alone, and not in a stream. */
+struct served {
+    const char *name;
+    vogrilas_node node;
+    struct log log;
+    struct copy *copy;
+    uint64_t at_start;
+};
+
+struct bytes settings_of(const char *settings);
+/* Opens the node over the bytes of its log; how many of them stand whole. Ends the process where they are refused. */
+size_t node_open(struct served *node, const struct bytes *settings, const struct bytes *log);
+/* A node whose log is a file alone. */
+struct served node_of_file(const char *settings, const char *name, const char *log);
 void node_serve(struct served *node, const char *line, size_t size);
-/* Appends the records to the log and syncs it. Only then may be used what was written. */
-void node_keep(struct served *node);
+/* Makes the call of a record, or of a log's head, anew: the node's own record has to be this one. For a stand-by, which keeps a copy. */
+void node_make(struct served *node, const char *record, size_t size);
+/* Has the records where they have to be. Only then may be used what was written. `speaks`: something is to be said even if there are no
+   records, so the owner of a log in a stream first shows that it has it still. */
+void node_keep(struct served *node, bool speaks);
+/* Notes that so many bytes of records stand where they have to: the one place behind each way in which they come there, that of an owner,
+   of its log in a file or in a stream, and that of a stand-by. */
+void node_kept(struct served *node, size_t size);
+struct bytes node_records(struct served *node);
 struct bytes node_written(struct served *node);
 void node_clear(struct served *node);
 uint64_t node_calls(struct served *node);
@@ -106,6 +140,11 @@ struct carrier {
     volatile bool is_closing, is_closed;
 };
 
+/* Options of a connection that comes again by itself for as long as the process runs, and leaves a server that is silent. */
+natsOptions *access_options(const struct access *access, const char *name);
+/* Connects as soon as there is a server; NULL where the host is told to end before. */
+natsConnection *access_connect(natsOptions *options, volatile sig_atomic_t *is_stopping);
+
 struct carrier *carrier_open(const char *name, const struct access *access, volatile sig_atomic_t *is_stopping);
 /* All messages that wait; where there is none, those that come within so many seconds, or none. */
 struct message *take_all(struct carrier *carrier, double seconds);
@@ -136,6 +175,32 @@ bool held_is(double seconds, const char *sender, const char *text, size_t size);
 void held_went(double seconds, const char *sender, const char *text, size_t size);
 void held_forget(const char *text, size_t size);
 
+/* What a command line asks for. `kept` says where the log is kept: in a file alone, or in a stream as well. */
+struct given {
+    const char *settings, *name, *log, *watch, *kept, *machine;
+    struct access access;
+    double tick, hold_back, patience, part, copies;
+    bool says, is_stream;
+};
+
+/* Ends the process where the words are none. */
+struct given words(int count, char **word);
+
+/* A node among its carrier and its times; who may come to have its log, where that is in a stream. */
+struct host {
+    struct given given;
+    struct served node;
+    struct carrier *carrier;
+    struct candidate *candidate;
+    volatile sig_atomic_t *is_stopping;
+    struct bytes line;
+    struct later later;
+    double next_tick, next_word;
+};
+
+/* One turn: all that waits, one sync, and then what came of it. Ticks come last, since they have no message. */
+void turn(struct host *host, struct message *batch, bool is_tick);
+
 /* What the host has seen since it started. Each call may come from any thread. */
 enum call { CALL_SUBMIT, CALL_ANSWER, CALL_TAKE, CALL_TICK, CALL_PLAN, CALL_STOP, CALL_START, CALL_OTHER, CALLS };
 enum why { NOT_A_PACKET, HELD_BACK, FULL, NO_INBOX, WHYS };
@@ -152,11 +217,24 @@ void counts_entered(uint64_t number);
 void counts_settled(uint64_t number);
 /* What the node's own thread knows, told in each turn: it lives. */
 void counts_node(uint64_t calls, uint64_t at_start, uint64_t rows, size_t waiting, bool is_ready);
+/* The node's thread lives, and waits for others' word. */
+void counts_heard(void);
 /* The metrics of a node as Prometheus reads them. */
 struct bytes counts_text(const char *node, const char *log);
 /* Why the node does not serve, or NULL; and whether its thread was heard of lately. */
 const char *counts_unready(void);
 bool counts_lives(void);
+
+/* What hosts/torture builds in: a death, behind what was said on a connection or NULL; packets that are taken from the way, or late. */
+#ifdef TORMENTED
+void torment(natsConnection *said);
+void torment_late(natsConnection *connection);
+bool torment_packet(natsConnection *connection, const char *subject, const char *text, size_t size);
+#else
+#define torment(said) ((void)0)
+#define torment_late(connection) ((void)0)
+#define torment_packet(connection, subject, text, size) false
+#endif
 
 /* Serves /metrics, /healthz and /readyz at ADDRESS:PORT, by a thread of its own. */
 void watch_start(const char *at, const char *node, const char *log);

@@ -1,0 +1,155 @@
+/* Turns: what waits is served, what it recorded is kept, and then what came of it is sent and replied. */
+#include <unistd.h>
+
+#include "node.h"
+
+/* The part of a tick's time over which its packets go out. */
+#define SPREAD 0.8
+
+/* The line that a message asks for; false where who sends it may not ask so. A line end in it would make it two lines. */
+static bool line_of(const struct host *host, const struct message *one, struct bytes *line) {
+    const char *text = natsMsg_GetData(one->text);
+    size_t size = (size_t)natsMsg_GetDataLength(one->text);
+    char sender[9];
+    if (size > 0 && memchr(text, '\n', size) != NULL) return false;
+    line->size = 0;
+    switch (one->from) {
+    case FROM_NODE:
+        if (!sender_of(host->given.name, natsMsg_GetSubject(one->text), sender)) return false;
+        add_form(line, "take %s ", sender);
+        break;
+    case FROM_CALLER:
+        if (!begins(text, size, "submit ") && !begins(text, size, "answer ")) return false;
+        break;
+    case FROM_OPERATOR:
+        if (begins(text, size, "take")) return false;
+        break;
+    }
+    add(line, text, size);
+    return true;
+}
+
+/* Whether a packet is one that its switch lost on purpose, since the same went out a moment ago. */
+static bool is_held_back(const struct host *host, const struct message *one) {
+    char sender[9];
+    if (one->from != FROM_NODE || !begins(host->given.name, 2, "sw")) return false;
+    return sender_of(host->given.name, natsMsg_GetSubject(one->text), sender) &&
+           held_is(host->given.hold_back / 1000, sender, natsMsg_GetData(one->text), (size_t)natsMsg_GetDataLength(one->text));
+}
+
+/* Serves a message, or refuses it; where it was served, the next last line is for it. */
+static void serve(struct host *host, struct message *one) {
+    const char *text = natsMsg_GetData(one->text);
+    char sender[9];
+    if (one->from == FROM_OPERATOR && natsMsg_GetDataLength(one->text) == 4 && memcmp(text, "kill", 4) == 0) {
+        reply(host->carrier, one->text, "ok", 2);
+        natsConnection_FlushTimeout(host->carrier->connection, 500);
+        raise(SIGKILL);
+    }
+    if (is_held_back(host, one)) {
+        counts_dropped(HELD_BACK);
+    } else if (line_of(host, one, &host->line)) {
+        counts_call(host->line.at, host->line.size);
+        if (one->from == FROM_NODE && sender_of(host->given.name, natsMsg_GetSubject(one->text), sender)) {
+            counts_taken(sender);
+            if (begins(host->given.name, 2, "sw"))
+                held_went(host->given.hold_back / 1000, sender, text, (size_t)natsMsg_GetDataLength(one->text));
+        }
+        node_serve(&host->node, host->line.at, host->line.size);
+        one->is_served = true;
+    } else {
+        counts_refusal("Line", 4);
+        reply(host->carrier, one->text, "refused Line", 12);
+    }
+}
+
+/* Notes what the last line of a message says of entries, and of what went out. */
+static void note(const struct host *host, const struct message *one, const char *line, size_t size, bool has_sent) {
+    const char *text = natsMsg_GetData(one->text);
+    size_t text_size = (size_t)natsMsg_GetDataLength(one->text);
+    bool is_pharmacy = begins(host->given.name, 2, "ph");
+    struct head head;
+    if (begins(line, size, "number ")) counts_entered(strtoull(line + 7, NULL, 10));
+    if (one->from != FROM_NODE) return;
+    if (is_pharmacy && begins(line, size, "ok") && head_of(text, text_size, &head)) counts_settled(head.number);
+    if (!has_sent) held_forget(text, text_size);
+}
+
+/* Sends a packet that a line of the node has: now, or where a tick sent it, later. */
+static void send_line(struct host *host, const char *line, size_t size, bool later) {
+    const char *text = memchr(line + 5, ' ', size - 5);
+    if (text == NULL) fail(host->given.name, "a packet without a text");
+    size_t to_size = (size_t)(text - line - 5), text_size = (size_t)(line + size - text - 1);
+    if (later) later_add(&host->later, line + 5, to_size, text + 1, text_size);
+    else send_packet(host->carrier, line + 5, to_size, text + 1, text_size);
+}
+
+/*
+** Sends and replies what the node has written: `send TO TEXT` lines, and behind those of a call its last line, which is for the next
+** message that was served. A tick has no message, and comes last.
+*/
+static void tell(struct host *host, struct message *batch) {
+    struct bytes written = node_written(&host->node);
+    char *line = written.at, *end = written.at + written.size;
+    bool has_sent = false;
+    uint64_t again = 0;
+    while (batch != NULL && !batch->is_served) batch = batch->next;
+    while (line < end) {
+        char *stop_at = memchr(line, '\n', (size_t)(end - line));
+        if (stop_at == NULL) fail(host->given.name, "a line without an end");
+        size_t size = (size_t)(stop_at - line);
+        if (begins(line, size, "send ")) {
+            send_line(host, line, size, batch == NULL);
+            again += batch == NULL;
+            has_sent = true;
+        } else {
+            if (begins(line, size, "refused ")) counts_refusal(line + 8, size - 8);
+            if (batch != NULL) {
+                note(host, batch, line, size, has_sent);
+                reply(host->carrier, batch->text, line, size);
+                do batch = batch->next;
+                while (batch != NULL && !batch->is_served);
+            }
+            has_sent = false;
+        }
+        line = stop_at + 1;
+    }
+    counts_again(again);
+    free(written.at);
+}
+
+void turn(struct host *host, struct message *batch, bool is_tick) {
+    size_t waiting = 0;
+    bool speaks = false;
+    for (struct message *one = batch; one != NULL; one = one->next, waiting++) {
+        serve(host, one);
+        speaks = speaks || (one->is_served && natsMsg_GetReply(one->text) != NULL);
+    }
+    if (is_tick) {
+        later_send(&host->later, host->carrier, true);
+        counts_call("tick", 4);
+        node_serve(&host->node, "tick", 4);
+    }
+#ifdef WRONG_SAID_EARLY
+    tell(host, batch);
+    torment(host->carrier->connection);
+    node_keep(&host->node, speaks);
+#else
+#ifdef WRONG_UNFENCED
+    speaks = false;
+#endif
+    node_keep(&host->node, speaks);
+    tell(host, batch);
+    torment(host->carrier->connection);
+#endif
+    torment_late(host->carrier->connection);
+    node_clear(&host->node);
+    if (is_tick) later_begin(&host->later, host->given.tick * SPREAD);
+    while (batch != NULL) {
+        struct message *next = batch->next;
+        natsMsg_Destroy(batch->text);
+        free(batch);
+        batch = next;
+    }
+    counts_node(node_calls(&host->node), host->node.at_start, node_count(&host->node), waiting, !*host->is_stopping);
+}

@@ -1,0 +1,75 @@
+/* What a command line asks for. */
+#include "node.h"
+
+/* How many bytes of a log one message carries at most, where --part says nothing else and the server takes as many. */
+#define MOST_PART 524288
+#define UNSAID (-1)
+
+static _Noreturn void usage(int status) {
+    fputs("usage: node SETTINGS NODE LOG [--nats URL[,URL..]] [--ca FILE] [--creds FILE] [--login FILE] [--tick SECONDS]\n"
+          "            [--watch ADDRESS:PORT] [--hold-back MS] [--ping SECONDS] [-v]\n"
+          "            [--log file|stream] [--copies 1|2] [--machine NAME] [--patience SECONDS] [--part BYTES]\n",
+          status == 0 ? stdout : stderr);
+    exit(status);
+}
+
+/* Where the word behind another one goes; NULL where it takes none. */
+static const char **text_of(struct given *given, const char *word) {
+    if (strcmp(word, "--nats") == 0) return &given->access.urls;
+    if (strcmp(word, "--ca") == 0) return &given->access.authorities;
+    if (strcmp(word, "--creds") == 0) return &given->access.credentials;
+    if (strcmp(word, "--login") == 0) return &given->access.login;
+    if (strcmp(word, "--watch") == 0) return &given->watch;
+    if (strcmp(word, "--log") == 0) return &given->kept;
+    if (strcmp(word, "--machine") == 0) return &given->machine;
+    return NULL;
+}
+
+static double *number_of(struct given *given, const char *word) {
+    if (strcmp(word, "--tick") == 0) return &given->tick;
+    if (strcmp(word, "--hold-back") == 0) return &given->hold_back;
+    if (strcmp(word, "--ping") == 0) return &given->access.ping;
+    if (strcmp(word, "--patience") == 0) return &given->patience;
+    if (strcmp(word, "--part") == 0) return &given->part;
+    if (strcmp(word, "--copies") == 0) return &given->copies;
+    return NULL;
+}
+
+/* Sees whether the words fit one another, and takes from the environment what they leave out. */
+static void complete(struct given *given) {
+    bool is_file = given->kept == NULL || strcmp(given->kept, "file") == 0;
+    if (!(given->tick > 0) || !(given->hold_back >= 0) || !(given->patience > 0) || !(given->part >= 1)) usage(2);
+    if (given->copies != 1 && (given->copies != 2 || is_file)) usage(2);
+    given->is_stream = !is_file;
+    if (!is_file && strcmp(given->kept, "stream") != 0) usage(2);
+    /* A server that is silent is left sooner where a word of it is waited for. */
+    if (given->access.ping == UNSAID) given->access.ping = is_file ? 5 : 1;
+    if (!(given->access.ping > 0)) usage(2);
+    const char *at = given->access.urls == NULL ? NULL : strchr(given->access.urls, '@');
+    if (at != NULL) {
+        fputs("a password on a command line stands in `ps`: give it in NATS_URL, or in a file by --login\n", stderr);
+        exit(2);
+    }
+    if (given->access.urls == NULL) given->access.urls = getenv("NATS_URL");
+    if (given->access.urls == NULL) given->access.urls = "nats://127.0.0.1:4222";
+    if (given->access.login == NULL) given->access.login = getenv("NATS_LOGIN");
+}
+
+struct given words(int count, char **word) {
+    struct given given = { .tick = 1, .patience = 0.8, .part = MOST_PART, .copies = 1, .access = { .ping = UNSAID } };
+    const char **plain[] = { &given.settings, &given.name, &given.log };
+    size_t found = 0;
+    for (int at = 1; at < count; at++) {
+        const char **text = text_of(&given, word[at]);
+        double *number = number_of(&given, word[at]);
+        if (strcmp(word[at], "-h") == 0 || strcmp(word[at], "--help") == 0) usage(0);
+        if (strcmp(word[at], "-v") == 0) given.says = true;
+        else if (text != NULL && at + 1 < count) *text = word[++at];
+        else if (number != NULL && at + 1 < count) *number = strtod(word[++at], NULL);
+        else if (word[at][0] != '-' && found < 3) *plain[found++] = word[at];
+        else usage(2);
+    }
+    if (found < 3) usage(2);
+    complete(&given);
+    return given;
+}

@@ -1,0 +1,105 @@
+"""Servers of one cluster with JetStream on this machine, each a process with a folder: for tries, and for tests that kill them."""
+
+import json
+import os
+import pathlib
+import random
+import shutil
+import signal
+import socket
+import subprocess
+import sys
+import time
+
+OPEN_SECONDS = 20.0
+LOOK_SECONDS = 0.2
+
+
+def is_open(port: int) -> bool:
+    with socket.socket() as other:
+        return other.connect_ex(("127.0.0.1", port)) == 0
+
+
+def free_ports(count: int) -> int:
+    """The first of so many ports that nobody has, below those that the kernel gives to whoever connects."""
+    while True:
+        port = random.randint(12_000, 30_000)
+        if not any(is_open(port + it) for it in range(count)):
+            return port
+
+
+class Servers:
+    """The servers of a cluster, each a process with a folder."""
+
+    def __init__(self, folder: str | pathlib.Path, count: int = 3, port: int = 0, access: str | None = None) -> None:
+        self.folder, self.count, self._access = pathlib.Path(folder), count, access
+        self.port = port or free_ports(2 * count)
+        # Routes between servers are for this machine alone.
+        self._route = self.port + count if not port else free_ports(count)
+        self.processes: dict[int, subprocess.Popen[bytes]] = {}
+        # A new disk wants a server of a new name.
+        self.names = [f"s{place + 1}" for place in range(count)]
+        self.folder.mkdir(mode=0o700, parents=True, exist_ok=True)
+
+    @property
+    def url(self) -> str:
+        return ",".join(f"127.0.0.1:{self.port + place}" for place in range(self.count))
+
+    def store(self, place: int) -> pathlib.Path:
+        return self.folder / f"store{place + 1}"
+
+    def _settings(self, place: int) -> pathlib.Path:
+        routes = ", ".join(f'"nats://127.0.0.1:{self._route + other}"' for other in range(self.count) if other != place)
+        lines = [
+            f'server_name: "{self.names[place]}"',
+            f'listen: "127.0.0.1:{self.port + place}"',
+            "max_payload: 1MB",
+            'ping_interval: "2s"',
+            "ping_max: 2",
+            f"jetstream {{ store_dir: {json.dumps(str(self.store(place)))}, max_memory_store: 0, max_file_store: 100GB }}",
+        ]
+        if self.count > 1:
+            lines.append(f'cluster {{ name: "tries", listen: "127.0.0.1:{self._route + place}", routes: [{routes}], no_advertise: true }}')
+        if self._access:
+            lines.append(f"include {json.dumps(os.path.relpath(pathlib.Path(self._access) / 'users.conf', self.folder))}")
+        path = self.folder / f"server{place + 1}.conf"
+        path.write_text("\n".join([*lines, ""]), encoding="utf-8")
+        return path
+
+    def start(self, place: int) -> None:
+        """Starts a server; it may take some seconds until it has found the others."""
+        words = ["nats-server", "-c", str(self._settings(place)), "-l", str(self.folder / f"server{place + 1}.txt")]
+        self.processes[place] = subprocess.Popen(words, start_new_session=True)
+
+    def start_all(self) -> None:
+        """Starts all, and waits until they are there."""
+        for place in range(self.count):
+            if is_open(self.port + place):
+                sys.exit(f"servers: 127.0.0.1:{self.port + place} has a server already")
+            self.start(place)
+        end = time.monotonic() + OPEN_SECONDS
+        while not all(is_open(self.port + place) for place in range(self.count)):
+            if time.monotonic() > end or any(it.poll() is not None for it in self.processes.values()):
+                self.end()
+                sys.exit(f"servers: they do not come; see {self.folder}/server1.txt")
+            time.sleep(LOOK_SECONDS)
+
+    def send(self, place: int, number: int) -> None:
+        """Sends a signal to a server that runs."""
+        if self.processes[place].poll() is None:
+            self.processes[place].send_signal(number)
+
+    def kill(self, place: int) -> None:
+        """Kills a server, stopped or not."""
+        self.send(place, signal.SIGKILL)
+        self.processes[place].wait()
+
+    def wipe(self, place: int, name: str | None = None) -> None:
+        """Takes the disk of a server that was killed."""
+        shutil.rmtree(self.store(place), ignore_errors=True)
+        self.names[place] = name or self.names[place]
+
+    def end(self) -> None:
+        """Kills all."""
+        for place in self.processes:
+            self.kill(place)

@@ -1,0 +1,310 @@
+"""hosts/torture --replicated: nodes whose logs are in streams of three servers, with two candidates each, all of them tormented.
+
+Hosts are killed, stopped, and woken; they die by themselves behind the servers' word, behind the file, behind what was said, and between
+the parts of a record; packets are lost, doubled and late; machines lose their disks while another has the log; servers are killed, one or all
+at once, stopped, and lose their stores while the other two are current. In the end nothing dies any more, and all has to settle. A
+host that refuses its log fails the run, and so does a log that cannot be read to its end."""
+
+import asyncio
+import contextlib
+import json
+import os
+import pathlib
+import random
+import re
+import shutil
+import signal
+import subprocess
+import sys
+import tempfile
+
+import engine
+import logs
+import nats
+from judged import NODES, SETTINGS, TOP, Caller, Failed, Operator, judge
+
+MACHINES = ("a", "b")
+REFUSED, OVERTAKEN = 78, 75
+SETTLE_SECONDS = 240
+TICK_SECONDS = 0.2
+# Of a thousand moments at which a host may die it dies at so many.
+DEATHS = 3
+# One machine sends its records in parts of so many bytes.
+PART_BYTES = 200
+
+
+class Watchful(Caller):
+    """A caller who also minds that what was told is never taken back."""
+
+    async def ask(self):
+        if not self.told:
+            return
+        number = self._run.dice.choice(list(self.told))
+        had_answer = number in self.answers
+        reply = await self._connection.request(f"claims.ph{self._pharmacy}.call", b"answer %d" % number, 1)
+        if reply == b"none" or (reply == b"open" and had_answer):
+            raise Failed(f"pharmacy {self._pharmacy} had told of {number}, and says {reply.decode()}")
+        if reply and reply.startswith(b"answer ") and self.answers.setdefault(number, reply) != reply:
+            raise Failed(f"pharmacy {self._pharmacy} told two answers to {number}")
+
+
+class Candidate:
+    """A host of a node on a machine, through all of its lives."""
+
+    def __init__(self, run, name, machine):
+        self.run, self.name, self.machine = run, name, machine
+        self.folder = run.folder / machine / name
+        self.folder.mkdir(parents=True)
+        self.log, self.said = self.folder / f"{name}.log", run.folder / f"{machine}.{name}.said"
+        self.process, self.is_stopped, self.loses_disk = None, False, False
+
+    def words(self):
+        words = [self.run.host, str(self.run.settings), self.name, str(self.log), "--log", "stream", "--machine", self.machine]
+        words += ["--nats", self.run.servers.url, "--tick", str(TICK_SECONDS)]
+        words += ["--copies", str(self.run.given.copies)]
+        return words + ["--part", str(PART_BYTES)] * (self.machine == MACHINES[-1])
+
+    async def live(self):
+        """Starts the host again and again."""
+        environment = os.environ | {"TORMENT": str(DEATHS), "TORMENT_CALM": str(self.run.calm_file)}
+        while not self.run.over:
+            if self.loses_disk:
+                shutil.rmtree(self.folder)
+                self.folder.mkdir()
+                self.loses_disk = False
+            with open(self.said, "ab") as said:
+                self.process = await asyncio.create_subprocess_exec(*self.words(), stdout=said, stderr=said, env=environment)
+            status = await self.process.wait()
+            if status == REFUSED:
+                raise Failed(f"{self.name} on {self.machine} is refused: {self.last_word()}")
+            self.run.count({OVERTAKEN: "overtaken", -9: "deaths"}.get(status, f"status {status}"))
+            await asyncio.sleep(0.05)
+
+    def last_word(self):
+        return self.said.read_text(errors="replace").strip().rpartition("\n")[2]
+
+    def is_vouched(self):
+        """Whether this machine knows the log's end, so that another may lose its disk."""
+        try:
+            return (self.folder / f"{self.name}.log.seen").read_text().split()[-1] == "1"
+        except (OSError, IndexError):
+            return False
+
+    def send(self, number):
+        if self.process and self.process.returncode is None:
+            with contextlib.suppress(ProcessLookupError):
+                self.process.send_signal(number)
+
+    def kill(self):
+        self.run.count("kills")
+        self.send(signal.SIGKILL)
+
+    async def pause(self, seconds):
+        """Stops the host, and wakes it up."""
+        self.run.count("stops")
+        self.is_stopped = True
+        self.send(signal.SIGSTOP)
+        await asyncio.sleep(seconds)
+        self.send(signal.SIGCONT)
+        self.is_stopped = False
+
+
+class Cluster:
+    """The servers, and what becomes of them: one at a time, but for moments at which all are killed."""
+
+    def __init__(self, run, servers):
+        self.run, self.servers = run, servers
+
+    async def torment(self):
+        dice = self.run.dice
+        while not self.run.calm:
+            await asyncio.sleep(dice.expovariate(0.25))
+            place, kind = dice.randrange(3), dice.random()
+            if kind < 0.45:
+                await self.restart([place])
+            elif kind < 0.75:
+                await self.pause(place, dice.choice([0.3, 3]))
+            elif kind < 0.9:
+                await self.lose(place)
+            else:
+                await self.restart([0, 1, 2])
+
+    async def restart(self, places):
+        self.run.count("kills of a server" if len(places) == 1 else "kills of all servers")
+        for place in places:
+            self.servers.kill(place)
+        await asyncio.sleep(self.run.dice.random() * 2)
+        for place in places:
+            self.servers.start(place)
+
+    async def pause(self, place, seconds):
+        self.run.count("stops of a server")
+        self.servers.send(place, signal.SIGSTOP)
+        await asyncio.sleep(self.run.dice.random() * seconds)
+        self.servers.send(place, signal.SIGCONT)
+
+    async def lose(self, place):
+        """A server loses its store: never while another lacks something that was acknowledged."""
+        if not await self.are_current(3):
+            return
+        self.servers.kill(place)
+        if await self.are_current(2):
+            self.servers.wipe(place)
+            self.run.count("stores lost")
+        self.servers.start(place)
+        while not self.run.calm and not await self.are_current(3):
+            await asyncio.sleep(0.2)
+
+    async def are_current(self, count):
+        """Whether so many servers have all of each log, as its leader says, twice."""
+        for _ in range(2):
+            for name in NODES:
+                reply = await self.run.connection.request(f"$JS.API.STREAM.INFO.LOG_{name}", b"", 1, is_word=lambda it: b'"error"' not in it)
+                cluster = json.loads(reply).get("cluster", {}) if reply else {}
+                current = [it for it in cluster.get("replicas") or [] if it.get("current") and not it.get("lag") and not it.get("offline")]
+                if not cluster.get("leader") or len(current) < count - 1:
+                    return False
+            await asyncio.sleep(0.2)
+        return True
+
+
+class Run:
+    """What hosts, servers and callers share."""
+
+    def __init__(self, given, folder):
+        self.given, self.folder, self.dice = given, pathlib.Path(folder), random.Random(given.seed)
+        self.settings = self.folder / "settings.toml"
+        shutil.copyfile(SETTINGS, self.settings)
+        self.calm_file = self.folder / "calm"
+        self.calm = self.over = False
+        self.fills, self.counts = 0, {}
+        self.host = self.connection = None
+        self.servers = engine.Servers(self.folder / "servers")
+        self.candidates = [Candidate(self, name, machine) for name in NODES for machine in MACHINES]
+
+    def count(self, what, more=1):
+        self.counts[what] = self.counts.get(what, 0) + more
+
+    async def torment(self, seconds):
+        """Kills hosts, stops them, and takes machines' disks; then all is left alone."""
+        dice, loop = self.dice, asyncio.get_running_loop()
+        end, pauses = loop.time() + seconds, set()
+        while loop.time() < end:
+            await asyncio.sleep(dice.expovariate(4))
+            one, kind = dice.choice(self.candidates), dice.random()
+            other = next(it for it in self.candidates if it.name == one.name and it is not one)
+            if kind < 0.4:
+                one.kill()
+            elif kind < 0.9 and not one.is_stopped:
+                pause = asyncio.create_task(one.pause(dice.random() * 0.3 if kind < 0.6 else 1.4 + 3 * dice.random()))
+                pauses.add(pause)
+                pause.add_done_callback(pauses.discard)
+            elif kind >= 0.9 and other.is_vouched() and not other.loses_disk:
+                self.count("disks lost")
+                one.loses_disk = True
+                one.kill()
+        self.calm = True
+        self.calm_file.touch()
+        await asyncio.gather(*pauses)
+
+    async def go(self):
+        """The whole run; the callers, by pharmacy, and how many entries each has."""
+        asyncio.get_running_loop().set_exception_handler(lambda *_: None)
+        self.servers.start_all()
+        access = nats.Access(self.servers.url)
+        tasks = []
+        connections = [nats.Connection(access, name, ping=1) for name in ("caller1", "caller2", "operator", "watcher")]
+        try:
+            await asyncio.wait_for(asyncio.gather(*(it.start() for it in connections)), SETTLE_SECONDS)
+            self.connection = connections[3]
+            await asyncio.gather(*(logs.Log(self.connection, name).make(3) for name in NODES))
+            tasks += [asyncio.create_task(it.live()) for it in self.candidates]
+            return await self.among(tasks, connections)
+        finally:
+            self.over = True
+            for one in self.candidates:
+                one.send(signal.SIGCONT)
+                one.send(signal.SIGKILL)
+            await asyncio.sleep(0.2)
+            for task in tasks:
+                task.cancel()
+            self.servers.end()
+
+    async def among(self, tasks, connections):
+        callers = [Watchful(self, number, connections[number - 1]) for number in (1, 2)]
+        operator, cluster = Operator(self, connections[2]), Cluster(self, self.servers)
+        await first(tasks, asyncio.wait_for(operator.settle(), SETTLE_SECONDS))
+        work = [self.torment(self.given.seconds), cluster.torment(), operator.go(), *(it.go() for it in callers)]
+        await first(tasks, asyncio.gather(*work))
+        await first(tasks, asyncio.wait_for(operator.settle(), SETTLE_SECONDS))
+        entries = await first(tasks, asyncio.wait_for(asyncio.gather(*(it.settle() for it in callers)), SETTLE_SECONDS))
+        self.over = True
+        for one in self.candidates:
+            one.send(signal.SIGTERM)
+        await asyncio.wait_for(asyncio.gather(*tasks), SETTLE_SECONDS)
+        await self.export()
+        return callers, entries
+
+    async def export(self):
+        """Reads each log to its end; each machine's file has to be its beginning."""
+        for name in NODES:
+            data, messages = await logs.Log(self.connection, name).read()
+            (self.folder / f"{name}.log").write_bytes(data)
+            self.count("messages", messages)
+            for one in self.candidates:
+                has = one.log.read_bytes() if one.name == name and one.log.exists() else b""
+                if not data.startswith(has):
+                    raise Failed(f"the file of {name} on {one.machine} is no beginning of its log")
+
+
+async def first(tasks, work):
+    """The result of work, or the fault of a task that ends before it with one."""
+    work = asyncio.ensure_future(work)
+    waited = {work, *tasks}
+    while not work.done():
+        done, waited = await asyncio.wait(waited, return_when=asyncio.FIRST_COMPLETED)
+        for task in done:
+            task.result()
+    return await work
+
+
+def built(folder, wrong):
+    """The host in C with its torments, or a wrong one; None where it cannot be built."""
+    if not shutil.which("cc") or not pathlib.Path("/usr/include/nats/nats.h").exists():
+        return None
+    if subprocess.run([TOP / "bindings" / "make", f"{folder}/library"], stdout=subprocess.DEVNULL, stderr=subprocess.DEVNULL, check=False).returncode:
+        return None
+    flags = f"-O2 -g -DTORMENTED {f'-DWRONG_{wrong}' if wrong else ''}"
+    subprocess.run(["make", "-s", "-C", TOP / "hosts" / "c", f"LIBRARY={folder}/library", f"OUT={folder}", f"CFLAGS={flags}"], check=True)
+    return f"{folder}/node"
+
+
+def takeovers(run):
+    said = [one.said.read_text(errors="replace") for one in run.candidates if one.said.exists()]
+    return sum(len(re.findall('has the log"', it)) for it in said)
+
+
+def main(given, faults):
+    """Runs it; the status. `faults` are what else says that something is otherwise than it has to be."""
+    with tempfile.TemporaryDirectory() as folder:
+        run = Run(given, folder)
+        run.host = given.host or built(folder, given.wrong)
+        if run.host is None:
+            print("torture: not run, since the host in C cannot be built")
+            return 3
+        try:
+            callers, entries = asyncio.run(run.go())
+            found, fault = judge(run, callers, entries), None
+        except (Failed, logs.Fault, asyncio.TimeoutError, *faults) as it:
+            found, fault = {}, it
+        counts = ", ".join(f"{what} {count}" for what, count in {"takeovers": takeovers(run), **run.counts, **found}.items())
+        if given.keep:
+            shutil.copytree(folder, given.keep, dirs_exist_ok=True)
+    if fault is None and not given.wrong:
+        print(f"torture: one legal run, no promise broken: {counts}")
+    elif fault is None:
+        print(f"torture: a wrong host, {given.wrong}, and nothing was found: {counts}")
+    else:
+        print(f"torture: {'found, as it must be' if given.wrong else 'FAILED'}: {fault!r}: {counts}")
+    sys.stdout.flush()
+    return int((fault is None) == bool(given.wrong))
