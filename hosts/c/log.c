@@ -134,11 +134,10 @@ struct served node_open(const char *settings, const char *name, const char *path
     }
     if (code != VOGRILAS_OK) fail_with(code == VOGRILAS_NO_MEMORY ? 1 : REFUSED, path, vogrilas_code_text(code));
     if (kept < log.size) cut(node.log, path, &log, kept);
-    node_keep(&node);
-    node_clear(&node);
     /* An earlier life may have ended between a write and its sync, or before its folder was synced. */
     if (fsync(node.log) != 0) fail_synced(path, "the log is not synced");
     if (!sync_folder_of(path)) fail_synced(path, "the folder of the log is not synced");
+    node_keep(&node);
     node.at_start = node_calls(&node);
     free(text.at);
     free(log.at);
@@ -174,6 +173,8 @@ void node_keep(struct served *node) {
         check_name(node);
         node->syncs++;
     }
+    vogrilas_code code = vogrilas_kept(&node->node, records.size);
+    if (code != VOGRILAS_OK) fail(node->name, vogrilas_code_text(code));
     free(records.at);
 }
 
