@@ -2,36 +2,41 @@
 ** One node of the network in your own process: a pharmacy, a switch or a payer, with its log.
 **
 ** The library keeps the node and does what lines ask of it. It reads and writes no file, opens no socket, starts no thread and
-** never waits: your program has the log's file and whatever carries the packets. A node is its log: a node that is opened from
-** the bytes of its log is the one that wrote them.
+** never waits: your program has the log's file and whatever carries the packets. A node is its log: one that is opened from the
+** bytes of a log has made every call of it anew, and sent every byte that the log has as sent.
 **
 ** A turn of a host:
 **
 **     vogrilas_serve(&node, line, size);      as often as lines are there
 **     vogrilas_records(&node, ..);            append these bytes to the log's file, and sync it
-**     vogrilas_written(&node, ..);            and only then send and answer what stands here
+**     vogrilas_kept(&node, size);             say that so many bytes are on disk
+**     vogrilas_written(&node, ..);            send and answer what stands here
 **     vogrilas_clear(&node);
 **
-** Whoever uses what was written before the records are on disk loses the promises of the network with the next crash.
-** docs/DEPLOYING.md says what a host owes, docs/FORMATS.md has the lines, and examples/embed a whole host. bindings/make lays
-** out the library: link lib/libvogrilas.a, or -lvogrilas.
+** What a node tells before its records are on disk, a crash takes back: two answers to one claim, or a payment that nobody has
+** made. So the node waits for your word: from vogrilas_open(), and from each call that it makes, until vogrilas_kept() has said
+** that all is on disk, every call that tells of the node says VOGRILAS_UNSYNCED and tells nothing. docs/DEPLOYING.md says what a
+** host owes, docs/FORMATS.md has the lines, and examples/embed a whole host. bindings/make lays out the library: link
+** lib/libvogrilas.a, or -lvogrilas.
 **
 ** The calls, by what they are for:
 **
-**     a node        vogrilas_open, vogrilas_serve, vogrilas_submit, vogrilas_take, vogrilas_records, vogrilas_written,
-**                   vogrilas_clear, vogrilas_close
+**     a node        vogrilas_open, vogrilas_serve, vogrilas_submit, vogrilas_take, vogrilas_records, vogrilas_kept,
+**                   vogrilas_written, vogrilas_clear, vogrilas_close
 **     what it has   vogrilas_calls, vogrilas_count, vogrilas_request, vogrilas_answer, vogrilas_payments
 **     no node       vogrilas_print, vogrilas_unprint, vogrilas_describe, vogrilas_audit, vogrilas_version
 **
 ** All memory is the caller's, apart from a node's own, which vogrilas_close() gives back: what a call tells it copies into a
 ** buffer that is lent for the call alone. Where the buffer is too short, it says VOGRILAS_SHORT_BUFFER and how much is wanted.
 **
-** What is proved, of the code that the library is compiled from: each call does what stands here of its results, for every
-** settings, log and line, and is safe: it never reads or writes outside what it is lent, never frees twice, and returns. What
-** is not: which refusal vogrilas_open() tells (that a refused one changes nothing is), what vogrilas_describe() and
-** vogrilas_audit() write, the compiler, that this header says the same as the exports of crates/vogrilas_c (tests/library
-** compares them), and what the caller owes:
+** What is proved, of the code that the library is compiled from: each call says a code for the cause that stands here, and makes
+** of the node and of what it is lent what stands here beside that code, for every settings, log, line and message; and it is safe:
+** it never reads or writes outside what it is lent, never frees twice, and returns. Where something is tested and not proved, the
+** call's own words say so. Not proved is the compiler, nor that this header says the same as the exports of crates/vogrilas_c
+** (tests/library compares names, parameters, codes and layouts), nor what the caller owes:
 **
+**   - What vogrilas_kept() is told is true: the bytes stand at the end of the log's file, whole and in order, and a sync of the
+**     file has succeeded since; of a new file also a sync of its folder. Nobody else writes the file.
 **   - A node begins as VOGRILAS_NODE_INIT (zeros), and from then on only the library changes it. It may be moved to another
 **     place by copying its bytes, if the old place is not used again.
 **   - One call at a time for each node. Different nodes may be in calls of different threads at the same time, and a node may
@@ -53,7 +58,7 @@ extern "C" {
 #endif
 
 /* The version of this header, as vogrilas_version() tells that of the library. */
-#define VOGRILAS_VERSION 7000
+#define VOGRILAS_VERSION 8000
 
 /*
 ** What a call says: VOGRILAS_OK, or why it was not made. A call that was not made has changed nothing, apart from what its
@@ -81,7 +86,9 @@ enum {
     VOGRILAS_BAD_TEXT = 16,       /* a text spells no bytes; the place is told */
     VOGRILAS_UNANSWERED = 17,     /* the entry is open: it has no answer yet */
     VOGRILAS_NOT_FOUND = 18,      /* there is no such entry, slot or row */
-    VOGRILAS_NO_RUN = 19          /* the logs are those of no legal run */
+    VOGRILAS_NO_RUN = 19,         /* the logs are those of no legal run */
+    VOGRILAS_UNSYNCED = 20,       /* the host has not said that all is on disk: nothing is told */
+    VOGRILAS_TOO_MANY = 21        /* more bytes are said to be on disk than there are records */
 };
 
 /* The words for a code, for people. */
@@ -107,6 +114,8 @@ static inline const char *vogrilas_code_text(vogrilas_code code) {
     case VOGRILAS_UNANSWERED: return "the entry has no answer yet";
     case VOGRILAS_NOT_FOUND: return "there is no such entry";
     case VOGRILAS_NO_RUN: return "no legal run";
+    case VOGRILAS_UNSYNCED: return "not all is on disk";
+    case VOGRILAS_TOO_MANY: return "more bytes than there are records";
     default: return "no code of this version";
     }
 }
@@ -129,15 +138,21 @@ uint32_t vogrilas_version(void);
 /*
 ** Opens a node: `settings` are the bytes of a settings file, `name` is as "ph1", `log` has all bytes of the log's file, none
 ** where there is no file yet. `seed` has 16 bytes that nobody can guess, as getentropy() draws them: the maps of a payer hash
-** with them, so that nobody can choose prescription numbers that make it slow. No answer hangs on them. Of fewer bytes, or
-** none, the hashes are the same in every process.
+** with them, so that nobody can choose prescription numbers that make it slow. Of fewer bytes the rest count as zeros, and of
+** more the first 16 count. It is proved that no code, no answer and no record hangs on the seed; what the hashes are is not.
 **
 ** VOGRILAS_OK: the node made each call of the log anew, and sent every byte that the log has. *kept is how many bytes of the
 ** log stay: behind them stand zeros, or a record that a crash has cut off, so cut the file there. vogrilas_records() has the
-** head of a log that begins; append it before anything else. Nothing is to be written.
+** head of a log that begins, and nothing of another: append it before anything else. Nothing is to be written. An earlier process
+** may have ended before its last sync, so sync the file and its folder, then call vogrilas_kept(), also where there is no head:
+** until then the node is VOGRILAS_UNSYNCED.
 **
-** Any other code: the handle is as it was. *kept is the place of the faulty record at VOGRILAS_DAMAGED and
-** VOGRILAS_BAD_RECORD, and unchanged at the others. A damaged log is never cut: set it aside, and look at it.
+** Any other code: the handle is as it was. The first cause that stands is told, in this order: VOGRILAS_OPEN; VOGRILAS_NAME;
+** VOGRILAS_SETTINGS; VOGRILAS_NO_SUCH_NODE; what is wrong with the log's bytes, the first from their start (VOGRILAS_NOT_A_LOG,
+** VOGRILAS_LOG_VERSION, VOGRILAS_DAMAGED_HEAD, VOGRILAS_NO_KIND, VOGRILAS_OTHER_SETTINGS, VOGRILAS_DAMAGED,
+** VOGRILAS_BAD_RECORD); VOGRILAS_OTHER_NODE; VOGRILAS_BAD_RECORD where the node does not make the log. *kept is the place of the
+** faulty record at VOGRILAS_DAMAGED and VOGRILAS_BAD_RECORD, from 0, and unchanged at the others. A damaged log is never cut: set
+** it aside, and look at it.
 */
 vogrilas_code vogrilas_open(vogrilas_node *node, const void *settings, size_t settings_size, const void *name,
                             size_t name_size, const void *log, size_t log_size, const void *seed, size_t seed_size,
@@ -175,25 +190,40 @@ vogrilas_code vogrilas_submit(vogrilas_node *node, const void *request, size_t r
 vogrilas_code vogrilas_take(vogrilas_node *node, const void *from, size_t from_size, const void *packet, size_t packet_size);
 
 /*
-** Copies what is to be appended to the log, and synced, before what was written may be used. It stays until
-** vogrilas_clear().
+** Copies what is to be appended to the log, and synced: the records that vogrilas_kept() has not said to be on disk.
 **
 ** VOGRILAS_OK: the bytes stand at the start of the buffer, and *size is how many they are. VOGRILAS_SHORT_BUFFER: *size is
-** how many they are, and the buffer is unchanged; ask again with more room. VOGRILAS_CLOSED: there is no node.
+** how many they are, and the buffer is unchanged; ask again with more room. VOGRILAS_CLOSED: there is no node, and buffer and
+** *size are as they were.
 */
 vogrilas_code vogrilas_records(vogrilas_node *node, void *buffer, size_t room, size_t *size);
 
-/* Copies what came of the lines, in the same way. */
+/*
+** Says that so many bytes of the records are on disk: appended to the log's file, the first of what vogrilas_records() copies, and
+** synced with all that stands in the file before them. The node never asks; whatever it promises of crashes stands on this word.
+**
+** VOGRILAS_OK: vogrilas_records() has what is left, and where nothing is, the node tells again what it has. A host that appends in
+** pieces says each piece; one that has no records says 0, which is what a node wants that was just opened. VOGRILAS_TOO_MANY: there
+** are fewer records. VOGRILAS_CLOSED: there is no node. Nothing has changed at both.
+*/
+vogrilas_code vogrilas_kept(vogrilas_node *node, size_t size);
+
+/*
+** Copies what came of the lines. Codes, buffer and *size are as of vogrilas_records(), and VOGRILAS_UNSYNCED: not all is on disk,
+** as far as vogrilas_kept() has said, and buffer and *size are as they were.
+*/
 vogrilas_code vogrilas_written(vogrilas_node *node, void *buffer, size_t room, size_t *size);
 
-/* Tells how many calls the node's log has, those included that are to be appended. */
+/*
+** Tells how many calls the node's log has. VOGRILAS_OK: *calls is told. VOGRILAS_UNSYNCED, VOGRILAS_CLOSED: it is as it was.
+*/
 vogrilas_code vogrilas_calls(vogrilas_node *node, uint64_t *calls);
 
 /*
 ** Tells how many entries the journal of a pharmacy has (their numbers go from 1 to this), how many slots the table of a switch,
 ** or how many rows the book of a payer. A stopped pharmacy or payer has what it keeps, a stopped switch none.
 **
-** VOGRILAS_OK: *count is told. VOGRILAS_CLOSED, VOGRILAS_NO_MEMORY: *count is as it was, and the node too.
+** VOGRILAS_OK: *count is told. VOGRILAS_UNSYNCED, VOGRILAS_CLOSED, VOGRILAS_NO_MEMORY: *count is as it was, and the node too.
 */
 vogrilas_code vogrilas_count(vogrilas_node *node, uint64_t *count);
 
@@ -201,7 +231,8 @@ vogrilas_code vogrilas_count(vogrilas_node *node, uint64_t *count);
 ** Copies the request of a pharmacy's entry, by its number from 1: the bytes that were submitted.
 **
 ** VOGRILAS_OK and VOGRILAS_SHORT_BUFFER are as of vogrilas_records(). VOGRILAS_NOT_FOUND: the node has no such entry, or is no
-** pharmacy. VOGRILAS_CLOSED, VOGRILAS_NO_MEMORY. Buffer and *size are as they were at these three, and the node at each code.
+** pharmacy. VOGRILAS_UNSYNCED, VOGRILAS_CLOSED, VOGRILAS_NO_MEMORY. Buffer and *size are as they were at these four, and the
+** node at each code.
 */
 vogrilas_code vogrilas_request(vogrilas_node *node, uint64_t number, void *buffer, size_t room, size_t *size);
 
@@ -211,8 +242,8 @@ vogrilas_code vogrilas_request(vogrilas_node *node, uint64_t number, void *buffe
 **
 ** VOGRILAS_OK: the entry is settled, and the answer's bytes stand in the buffer; VOGRILAS_SHORT_BUFFER as of
 ** vogrilas_records(). VOGRILAS_UNANSWERED: it is an open entry of this pharmacy. VOGRILAS_NOT_FOUND: this node has no answer
-** for it, and no entry. VOGRILAS_CLOSED, VOGRILAS_NO_MEMORY. Buffer and *size are as they were at these four, and the node at
-** each code. So with no room the code alone says whether an entry is settled (VOGRILAS_SHORT_BUFFER), open, or not there.
+** for it, and no entry. VOGRILAS_UNSYNCED, VOGRILAS_CLOSED, VOGRILAS_NO_MEMORY. Buffer and *size are as they were at these five,
+** and the node at each code. So with no room the code alone says whether an entry is settled (VOGRILAS_SHORT_BUFFER), open, or not there.
 */
 vogrilas_code vogrilas_answer(vogrilas_node *node, uint16_t pharmacy, uint64_t number, void *buffer, size_t room, size_t *size);
 
@@ -246,11 +277,15 @@ typedef struct vogrilas_payment {
 ** makes no call. `room` is how many payments the array holds.
 **
 ** VOGRILAS_OK: they stand at the start of the array, and *count is how many. VOGRILAS_SHORT_BUFFER: *count is how many there
-** are, and the array is unchanged. VOGRILAS_CLOSED, VOGRILAS_NO_MEMORY: both are as they were. The node is as it was at each.
+** are, and the array is unchanged. VOGRILAS_UNSYNCED, VOGRILAS_CLOSED, VOGRILAS_NO_MEMORY: both are as they were. The node is as
+** it was at each.
 */
 vogrilas_code vogrilas_payments(vogrilas_node *node, vogrilas_payment *payments, size_t room, size_t *count);
 
-/* Notes that the records are on disk and the rest was used: both are empty from here on. */
+/*
+** Notes that what was written was used: from here on nothing is to be written, until there are lines again. VOGRILAS_UNSYNCED: not
+** all is on disk. VOGRILAS_CLOSED: there is no node. Nothing has changed at both.
+*/
 vogrilas_code vogrilas_clear(vogrilas_node *node);
 
 /* Lets the node go, with what is not on disk. A handle without a node stays as it is, so a second close does nothing. */

@@ -38,6 +38,7 @@ PARAMETERS = {
     "u16": ["uint16_t"],
     "u32": ["uint32_t"],
     "u64": ["uint64_t"],
+    "usize": ["size_t"],
 }
 # The size of a type, and to how much it is aligned.
 TYPES = {"u8": (1, 1), "bool": (1, 1), "u16": (2, 2), "u32": (4, 4), "u64": (8, 8), "*mut u8": (8, 8), "Part": (8, 8)}

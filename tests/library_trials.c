@@ -76,6 +76,7 @@ static bool is_closed(vogrilas_node *node) {
     vogrilas_payment payment;
     memset(&payment, 'x', sizeof payment);
     return vogrilas_serve(node, "tick", 4) == VOGRILAS_CLOSED && vogrilas_records(node, &byte, 1, &size) == VOGRILAS_CLOSED &&
+           vogrilas_kept(node, 0) == VOGRILAS_CLOSED && vogrilas_kept(node, 1) == VOGRILAS_CLOSED &&
            vogrilas_written(node, &byte, 1, &size) == VOGRILAS_CLOSED && vogrilas_calls(node, &calls) == VOGRILAS_CLOSED &&
            vogrilas_count(node, &calls) == VOGRILAS_CLOSED && vogrilas_request(node, 1, &byte, 1, &size) == VOGRILAS_CLOSED &&
            vogrilas_answer(node, 1, 1, &byte, 1, &size) == VOGRILAS_CLOSED &&
@@ -83,9 +84,27 @@ static bool is_closed(vogrilas_node *node) {
            vogrilas_clear(node) == VOGRILAS_CLOSED && size == 77 && calls == 77 && byte == 'x' && !node->held;
 }
 
-/* Takes what is handed out, appends the records to the log, and clears. */
+/* Whether no call tells of a node, and none writes anything: not all is on disk. The records are told, so many bytes. */
+static bool is_unsynced(vogrilas_node *node, size_t records) {
+    size_t size = 77;
+    uint64_t calls = 77;
+    char byte = 'x';
+    vogrilas_payment payment;
+    memset(&payment, 'x', sizeof payment);
+    bool is_silent = vogrilas_written(node, &byte, 1, &size) == VOGRILAS_UNSYNCED && vogrilas_calls(node, &calls) == VOGRILAS_UNSYNCED &&
+           vogrilas_count(node, &calls) == VOGRILAS_UNSYNCED && vogrilas_request(node, 1, &byte, 1, &size) == VOGRILAS_UNSYNCED &&
+           vogrilas_answer(node, 1, 1, &byte, 1, &size) == VOGRILAS_UNSYNCED && vogrilas_answer(node, 0, 0, &byte, 1, &size) == VOGRILAS_UNSYNCED &&
+           vogrilas_payments(node, &payment, 1, &size) == VOGRILAS_UNSYNCED && payment.fill_number == 'x' &&
+           vogrilas_clear(node) == VOGRILAS_UNSYNCED && vogrilas_kept(node, records + 1) == VOGRILAS_TOO_MANY &&
+           vogrilas_kept(node, SIZE_MAX) == VOGRILAS_TOO_MANY && size == 77 && calls == 77 && byte == 'x';
+    vogrilas_code code = vogrilas_records(node, &byte, 0, &size);
+    return is_silent && size == records && code == (records == 0 ? VOGRILAS_OK : VOGRILAS_SHORT_BUFFER);
+}
+
+/* Takes what is handed out, appends the records to the log, says so, and clears. */
 static void settle(vogrilas_node *node) {
     check(vogrilas_records(node, record, MOST, &record_size) == VOGRILAS_OK, "records");
+    check(vogrilas_kept(node, record_size) == VOGRILAS_OK, "the records are kept");
     check(vogrilas_written(node, said, MOST, &said_size) == VOGRILAS_OK, "what was written");
     memcpy(log_bytes + log_size, record, record_size);
     log_size += record_size;
@@ -106,6 +125,7 @@ static void try_handles(void) {
     check(open_as(&node, "ph1", "", 0, &kept) == VOGRILAS_OK && kept == 0, "a log that begins");
     kept = 77;
     check(open_as(&node, "ph1", "", 0, &kept) == VOGRILAS_OPEN && kept == 77, "open twice");
+    check(is_unsynced(&node, 46), "a head that is not on disk");
     settle(&node);
     check(record_size == 46 && said_size == 0, "a head, and nothing said");
     vogrilas_node moved = node;
@@ -127,14 +147,41 @@ static void try_buffers(void) {
         check(vogrilas_records(&node, record, room, &again) == VOGRILAS_SHORT_BUFFER && again == size && record[0] == 'x',
               "less room than is wanted");
     check(vogrilas_records(&node, record, size, &again) == VOGRILAS_OK && again == size && record[size] == 'x', "room enough");
-    check(vogrilas_written(&node, said, size - 1, &again) == VOGRILAS_SHORT_BUFFER || again < size, "what was written");
+    check(is_unsynced(&node, size), "a record that is not on disk");
     settle(&node);
     check(record_size == size && memcmp(said, "send sw1 ", 9) == 0, "the same again");
     check(strstr(said, "\nnumber 1\n") != NULL, "the number of the entry");
     check(vogrilas_records(&node, record, 0, &again) == VOGRILAS_OK && again == 0, "nothing behind clear");
+    check(vogrilas_kept(&node, 0) == VOGRILAS_OK && vogrilas_kept(&node, 1) == VOGRILAS_TOO_MANY, "no records");
     check(vogrilas_serve(&node, "nonsense", 8) == VOGRILAS_OK, "a line that asks nothing");
     settle(&node);
     check(record_size == 0 && said_size == 13 && memcmp(said, "refused Line\n", 13) == 0, "a refusal has no record");
+    vogrilas_close(&node);
+}
+
+/* Records are kept byte by byte: what is left is told, and nothing else until none is. Further lines make them more. */
+static void try_kept(void) {
+    vogrilas_node node = VOGRILAS_NODE_INIT;
+    static char all[MOST], rest[MOST];
+    size_t kept, size = 0, more = 0, again = 0;
+    uint64_t calls = 77;
+    check(open_as(&node, "ph1", log_bytes, log_size, &kept) == VOGRILAS_OK && kept == log_size, "a log that goes on");
+    check(is_unsynced(&node, 0), "a log that may not be on disk");
+    check(vogrilas_kept(&node, 0) == VOGRILAS_OK, "the log is on disk");
+    check(vogrilas_calls(&node, &calls) == VOGRILAS_OK && calls == 1, "its call is told of");
+    check(vogrilas_serve(&node, "tick", 4) == VOGRILAS_OK, "a call");
+    check(vogrilas_records(&node, all, MOST, &size) == VOGRILAS_OK && size > 2, "its record");
+    check(vogrilas_kept(&node, 2) == VOGRILAS_OK && is_unsynced(&node, size - 2), "two bytes of it");
+    check(vogrilas_records(&node, rest, MOST, &again) == VOGRILAS_OK && again == size - 2 && memcmp(rest, all + 2, again) == 0, "what is left");
+    check(vogrilas_serve(&node, "tick", 4) == VOGRILAS_OK, "another call");
+    check(vogrilas_records(&node, rest, MOST, &more) == VOGRILAS_OK && more > again && memcmp(rest, all + 2, again) == 0, "both records");
+    for (size_t left = more; left > 0; left--) check(is_unsynced(&node, left) && vogrilas_kept(&node, 1) == VOGRILAS_OK, "byte by byte");
+    check(vogrilas_calls(&node, &calls) == VOGRILAS_OK && calls == 3, "both calls are told of");
+    check(vogrilas_written(&node, said, MOST, &size) == VOGRILAS_OK && memmem_text(said, size, "ok\n"), "so is what was written");
+    check(vogrilas_serve(&node, "tick", 4) == VOGRILAS_OK && vogrilas_written(&node, said, MOST, &again) == VOGRILAS_UNSYNCED, "not behind a call");
+    check(vogrilas_records(&node, rest, MOST, &more) == VOGRILAS_OK && vogrilas_kept(&node, more) == VOGRILAS_OK, "its record is on disk");
+    check(vogrilas_written(&node, said, MOST, &again) == VOGRILAS_OK && again > size, "words stay until they are cleared");
+    check(vogrilas_clear(&node) == VOGRILAS_OK && vogrilas_written(&node, said, MOST, &again) == VOGRILAS_OK && again == 0, "and then go");
     vogrilas_close(&node);
 }
 
@@ -212,8 +259,8 @@ static void try_typed(void) {
     size_t kept, size = 0, again = 0;
     check(is_closed(&by_line) && vogrilas_submit(&by_bytes, "x", 1) == VOGRILAS_CLOSED, "a closed handle takes no request");
     check(vogrilas_take(&by_bytes, "sw1", 3, "x", 1) == VOGRILAS_CLOSED, "a closed handle takes no packet");
-    check(open_as(&by_line, "ph1", log_bytes, 46, &kept) == VOGRILAS_OK, "open for lines");
-    check(open_as(&by_bytes, "ph1", log_bytes, 46, &kept) == VOGRILAS_OK, "open for bytes");
+    check(open_as(&by_line, "ph1", log_bytes, 46, &kept) == VOGRILAS_OK && vogrilas_kept(&by_line, 0) == VOGRILAS_OK, "open for lines");
+    check(open_as(&by_bytes, "ph1", log_bytes, 46, &kept) == VOGRILAS_OK && vogrilas_kept(&by_bytes, 0) == VOGRILAS_OK, "open for bytes");
     check(vogrilas_unprint(line + 7, line_size - 7, bytes, MOST, &size) == VOGRILAS_OK, "the bytes of the request");
     check(vogrilas_serve(&by_line, line, line_size) == VOGRILAS_OK, "a submission by a line");
     check(vogrilas_submit(&by_bytes, bytes, size) == VOGRILAS_OK, "a submission by bytes");
@@ -223,6 +270,7 @@ static void try_typed(void) {
     check(vogrilas_records(&by_line, record, MOST, &size) == VOGRILAS_OK && size > 0, "the records by lines");
     check(vogrilas_records(&by_bytes, bytes, MOST, &again) == VOGRILAS_OK && again == size, "the records by bytes");
     check(memcmp(record, bytes, size) == 0, "the same records");
+    check(vogrilas_kept(&by_line, size) == VOGRILAS_OK && vogrilas_kept(&by_bytes, size) == VOGRILAS_OK, "the records are kept");
     check(vogrilas_written(&by_line, said, MOST, &size) == VOGRILAS_OK && size > 0, "what is written by lines");
     check(vogrilas_written(&by_bytes, other, 1024, &again) == VOGRILAS_OK && again == size, "what is written by bytes");
     check(memcmp(said, other, size) == 0, "the same is written");
@@ -248,6 +296,7 @@ static const char *kept(struct one *one) {
     size_t size = 0;
     check(vogrilas_records(&one->node, one->log + one->size, MOST - one->size, &size) == VOGRILAS_OK, "records");
     one->size += size;
+    check(vogrilas_kept(&one->node, size) == VOGRILAS_OK, "the records are kept");
     check(vogrilas_written(&one->node, said, MOST - 1, &said_size) == VOGRILAS_OK, "what was written");
     said[said_size] = '\0';
     check(vogrilas_clear(&one->node) == VOGRILAS_OK, "clear");
@@ -356,12 +405,13 @@ static void try_readers(void) {
     }
     check(vogrilas_unprint(line + 7, line_size - 7, bytes, MOST, &size) == VOGRILAS_OK, "the bytes of the request");
     check(vogrilas_submit(&pharmacy->node, bytes, size) == VOGRILAS_OK, "a submission");
+    check(vogrilas_request(&pharmacy->node, 1, copy, MOST, &again) == VOGRILAS_UNSYNCED, "no request before it is on disk");
+    const char *written = kept(pharmacy);
+    memcpy(text, written, said_size + 1);
     check(vogrilas_request(&pharmacy->node, 1, copy, MOST, &again) == VOGRILAS_OK && again == size && memcmp(copy, bytes, size) == 0, "the request");
     memset(copy, 'x', MOST);
     for (size_t room = 0; room < size; room++)
         check(vogrilas_request(&pharmacy->node, 1, copy, room, &again) == VOGRILAS_SHORT_BUFFER && again == size && copy[0] == 'x', "a request too long");
-    const char *written = kept(pharmacy);
-    memcpy(text, written, said_size + 1);
     check(counted(pharmacy) == 1, "an entry");
     check(strcmp(asked(pharmacy, "answer 1"), "open\n") == 0, "an open entry by a line");
     try_nothing(pharmacy, 1, 1, VOGRILAS_UNANSWERED);
@@ -514,6 +564,7 @@ int main(int count, char **words) {
     lent = 0;
     try_handles();
     try_buffers();
+    try_kept();
     try_logs();
     try_texts();
     try_typed();
@@ -525,7 +576,7 @@ int main(int count, char **words) {
     check(lent == 0, "all memory is given back");
     try_descriptions();
     try_memory();
-    for (vogrilas_code code = 0; code <= VOGRILAS_NO_RUN; code++)
+    for (vogrilas_code code = 0; code <= VOGRILAS_TOO_MANY; code++)
         check(strcmp(vogrilas_code_text(code), vogrilas_code_text(99)) != 0, "a code has words");
     printf("%d trials of the library, %d faults\n", tried, faults);
     return faults != 0;

@@ -244,6 +244,40 @@ class Trials(unittest.TestCase):
         self.assertEqual(done.returncode, 0)
         self.assertEqual(self.opened("ph1").calls, 1)
 
+    def test_synced_before_told(self):
+        node = Node(SETTINGS, "ph1")
+        telling = [node.written, node.clear, node.payments, lambda: node.calls, lambda: node.count, lambda: node.request(1), lambda: node.answer(1, 1)]
+
+        def silent():
+            for call in telling:
+                self.assertEqual(str(self.fails(Code.UNSYNCED, call)), "unsynced")
+
+        silent()
+        head = node.records()
+        self.fails(Code.TOO_MANY, node.synced, len(head) + 1)
+        self.fails(Code.TOO_MANY, node.synced, -1)
+        self.fails(Code.TOO_MANY, node.synced, 1 << 64)
+        for wrong in ("1", None, 1.0, True):
+            with self.assertRaises(TypeError):
+                node.synced(wrong)
+        node.synced(len(head) - 1)
+        self.assertEqual(node.records(), head[-1:])
+        silent()
+        node.synced(1)
+        self.assertEqual((node.written(), node.calls), (b"", 0))
+        node.submit(REQUEST)
+        silent()
+        record = node.records()
+        node.synced(len(record))
+        self.assertEqual((node.calls, node.count, node.request(1), node.answer(1, 1)), (1, 1, REQUEST, None))
+        self.assertTrue(node.written().endswith(b"number 1\n"))
+        node.clear()
+        node.close()
+        again = Node(SETTINGS, "ph1", head + record)
+        self.fails(Code.UNSYNCED, lambda: again.count)
+        again.synced(0)
+        self.assertEqual(again.count, 1)
+
     def test_closed(self):
         node = Node(SETTINGS, "ph1")
         node.close()
@@ -251,6 +285,7 @@ class Trials(unittest.TestCase):
         self.fails(Code.CLOSED, node.serve, b"tick")
         self.fails(Code.CLOSED, node.records)
         self.fails(Code.CLOSED, node.clear)
+        self.fails(Code.CLOSED, node.synced, 0)
         self.fails(Code.CLOSED, node.request, 1)
         self.fails(Code.CLOSED, node.answer, 1, 1)
         self.fails(Code.CLOSED, node.payments)

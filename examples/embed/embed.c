@@ -94,7 +94,7 @@ static struct bytes handed(struct served *one, vogrilas_code (*call)(vogrilas_no
     return bytes;
 }
 
-/* Appends the records to the log and syncs it. Only then may be used what was written. */
+/* Appends the records to the log, syncs it, and says so. Only then the node tells what was written. */
 static void keep(struct served *one) {
     struct bytes records = handed(one, vogrilas_records);
     size_t done = 0;
@@ -104,13 +104,16 @@ static void keep(struct served *one) {
         done += (size_t)count;
     }
     if (records.size > 0 && fsync(one->log) != 0) fail(one->name, "the log is not synced");
+    vogrilas_code code = vogrilas_kept(&one->node, records.size);
+    if (code != VOGRILAS_OK) fail(one->name, vogrilas_code_text(code));
     free(records.at);
 }
 
-/* Has the name of a new file on disk. */
-static void sync_folder(const char *path) {
-    int folder = open(path, O_RDONLY);
-    if (folder < 0 || fsync(folder) != 0) fail(path, "not synced");
+/* Has a file and its name on disk: an earlier process may have ended before it had. */
+static void sync_found(int file, const char *path, const char *folder_path) {
+    int folder = open(folder_path, O_RDONLY);
+    if (fsync(file) != 0) fail(path, "not synced");
+    if (folder < 0 || fsync(folder) != 0) fail(folder_path, "not synced");
     close(folder);
 }
 
@@ -135,10 +138,9 @@ static void open_node(struct served *one, struct bytes settings, const char *fol
     vogrilas_code code = vogrilas_open(&one->node, settings.at, settings.size, one->name, strlen(one->name), log.at, log.size,
                                        seed, sizeof seed, &kept);
     if (code != VOGRILAS_OK) fail(path, vogrilas_code_text(code));
-    if (kept < log.size && (ftruncate(one->log, (off_t)kept) != 0 || fsync(one->log) != 0)) fail(path, "not cut");
+    if (kept < log.size && ftruncate(one->log, (off_t)kept) != 0) fail(path, "not cut");
+    sync_found(one->log, path, folder);
     keep(one);
-    vogrilas_clear(&one->node);
-    if (kept == 0) sync_folder(folder);
     free(log.at);
 }
 

@@ -52,7 +52,6 @@ size_t node_open(struct served *node, const struct bytes *settings, const struct
         fail_with(REFUSED, node->log.path, why.at);
     }
     if (code != VOGRILAS_OK) fail_with(code == VOGRILAS_NO_MEMORY ? 1 : REFUSED, node->log.path, vogrilas_code_text(code));
-    node->at_start = node_calls(node);
     return kept;
 }
 
@@ -63,10 +62,10 @@ struct served node_of_file(const char *settings, const char *name, const char *p
     struct bytes log = log_bytes(&node.log);
     size_t kept = node_open(&node, &text, &log);
     if (kept < log.size) log_cut(&node.log, &log, kept);
-    node_keep(&node, false);
-    node_clear(&node);
     /* An earlier life may have ended between a write and its sync, or before its folder was synced. */
     log_sync_all(&node.log);
+    node_keep(&node, false);
+    node.at_start = node_calls(&node);
     free(text.at);
     free(log.at);
     return node;
@@ -78,7 +77,8 @@ void node_serve(struct served *node, const char *line, size_t size) {
 }
 
 void node_kept(struct served *node, size_t size) {
-    (void)node, (void)size;
+    vogrilas_code code = vogrilas_kept(&node->node, size);
+    if (code != VOGRILAS_OK) fail(node->name, vogrilas_code_text(code));
 }
 
 void node_keep(struct served *node, bool speaks) {

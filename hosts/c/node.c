@@ -117,7 +117,7 @@ static bool open_node(struct host *host) {
 static bool own(struct host *host) {
     if (!candidate_own(host->candidate)) return false;
     node_keep(&host->node, false);
-    node_clear(&host->node);
+    host->node.at_start = node_calls(&host->node);
     host->candidate->looked = now();
     count_rows(host);
     say("info", "has the log", host->candidate->stream.owner);

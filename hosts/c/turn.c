@@ -84,13 +84,24 @@ static void send_line(struct host *host, const char *line, size_t size, bool lat
     else send_packet(host->carrier, line + 5, to_size, text + 1, text_size);
 }
 
+/* Replies to a message with the last line of what it asked for, or with a list and its end; the next message that was served. */
+static struct message *answered(struct host *host, struct message *one, const char *line, size_t size, bool has_sent) {
+    if (begins(line, size, "refused ")) counts_refusal(line + 8, size - 8);
+    if (one == NULL) return NULL;
+    note(host, one, line, size, has_sent);
+    reply(host->carrier, one->text, line, size);
+    do one = one->next;
+    while (one != NULL && !one->is_served);
+    return one;
+}
+
 /*
-** Sends and replies what the node has written: `send TO TEXT` lines, and behind those of a call its last line, which is for the next
-** message that was served. A tick has no message, and comes last.
+** Sends and replies what the node has written: `send TO TEXT` lines, and behind those of a call its last line, or the `entry` lines of a
+** list and its end, which are for the next message that was served. A tick has no message, and comes last.
 */
 static void tell(struct host *host, struct message *batch) {
     struct bytes written = node_written(&host->node);
-    char *line = written.at, *end = written.at + written.size;
+    char *line = written.at, *end = written.at + written.size, *list = NULL;
     bool has_sent = false;
     uint64_t again = 0;
     while (batch != NULL && !batch->is_served) batch = batch->next;
@@ -102,14 +113,12 @@ static void tell(struct host *host, struct message *batch) {
             send_line(host, line, size, batch == NULL);
             again += batch == NULL;
             has_sent = true;
+        } else if (begins(line, size, "entry ")) {
+            if (list == NULL) list = line;
         } else {
-            if (begins(line, size, "refused ")) counts_refusal(line + 8, size - 8);
-            if (batch != NULL) {
-                note(host, batch, line, size, has_sent);
-                reply(host->carrier, batch->text, line, size);
-                do batch = batch->next;
-                while (batch != NULL && !batch->is_served);
-            }
+            const char *from = list == NULL ? line : list;
+            batch = answered(host, batch, from, (size_t)(stop_at - from), has_sent);
+            list = NULL;
             has_sent = false;
         }
         line = stop_at + 1;

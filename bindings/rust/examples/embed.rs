@@ -30,15 +30,23 @@ impl FileNode {
             file.set_len(kept as u64)?;
         }
         let mut opened = FileNode { name, node, file };
-        opened.settle()?;
         File::open(folder)?.sync_all()?;
+        opened.keep()?;
         Ok(opened)
+    }
+
+    /// Has the records on disk, and says so.
+    fn keep(&mut self) -> Result<(), Box<dyn Error>> {
+        let records = self.node.records()?;
+        self.file.write_all(&records)?;
+        self.file.sync_data()?;
+        self.node.synced(records.len())?;
+        Ok(())
     }
 
     /// Has the records on disk, and only then gives what was written.
     fn settle(&mut self) -> Result<String, Box<dyn Error>> {
-        self.file.write_all(&self.node.records()?)?;
-        self.file.sync_data()?;
+        self.keep()?;
         let written = String::from_utf8(self.node.written()?)?;
         self.node.clear()?;
         Ok(written)

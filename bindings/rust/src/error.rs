@@ -45,10 +45,14 @@ pub enum Code {
     NotFound = 18,
     /// The logs are those of no legal run.
     NoRun = 19,
+    /// The host has not said that all is on disk: nothing is told.
+    Unsynced = 20,
+    /// More bytes are said to be on disk than there are records.
+    TooMany = 21,
 }
 
 /// Each code, at the place of its number less one.
-const CODES: [Code; 19] = [
+const CODES: [Code; 21] = [
     Code::NoMemory,
     Code::Closed,
     Code::Open,
@@ -68,6 +72,8 @@ const CODES: [Code; 19] = [
     Code::Unanswered,
     Code::NotFound,
     Code::NoRun,
+    Code::Unsynced,
+    Code::TooMany,
 ];
 
 /// A call that was not made, and why.
@@ -128,6 +134,8 @@ impl fmt::Display for Error {
             Code::Unanswered => "the entry has no answer yet",
             Code::NotFound => "there is no such entry",
             Code::NoRun => "no legal run",
+            Code::Unsynced => "not all is on disk",
+            Code::TooMany => "more bytes than there are records",
         })?;
         if let Some(place) = self.place {
             write!(to, ", at byte {place}")?;

@@ -21,7 +21,9 @@ impl Kept {
     }
 
     fn settle(&mut self) -> String {
-        self.log.extend(self.node.records().unwrap());
+        let records = self.node.records().unwrap();
+        self.node.synced(records.len()).unwrap();
+        self.log.extend(records);
         let written = self.node.written().unwrap();
         self.node.clear().unwrap();
         String::from_utf8(written).unwrap()
@@ -115,6 +117,38 @@ fn what_nodes_have_is_read() {
     let fault = audited(SETTINGS, &logs, Style::Lines).unwrap_err();
     assert_eq!(fault, Error { code: Code::Damaged, place: None, log: Some(1) });
     assert_eq!(fault.to_string(), "a record of the log is damaged, log 1");
+}
+
+#[test]
+fn nothing_is_told_before_it_is_synced() {
+    let Opened { mut node, .. } = Node::open(SETTINGS, "ph1", b"").unwrap();
+    let unsynced = Error { code: Code::Unsynced, place: None, log: None };
+    let too_many = Error { code: Code::TooMany, place: None, log: None };
+    assert_eq!(unsynced.to_string(), "not all is on disk");
+    let silent = |node: &mut Node| {
+        assert_eq!((node.written(), node.clear()), (Err(unsynced), Err(unsynced)));
+        assert_eq!((node.calls(), node.count()), (Err(unsynced), Err(unsynced)));
+        assert_eq!((node.request(1), node.answer(1, 1)), (Err(unsynced), Err(unsynced)));
+        assert_eq!(node.payments(), Err(unsynced));
+    };
+    silent(&mut node);
+    let head = node.records().unwrap();
+    assert_eq!((node.synced(head.len() + 1), node.synced(usize::MAX)), (Err(too_many), Err(too_many)));
+    node.synced(head.len() - 1).unwrap();
+    assert_eq!(node.records().unwrap(), head[head.len() - 1..]);
+    silent(&mut node);
+    node.synced(1).unwrap();
+    assert_eq!((node.written(), node.calls()), (Ok(Vec::new()), Ok(0)));
+    node.serve(&submission()).unwrap();
+    silent(&mut node);
+    let record = node.records().unwrap();
+    node.synced(record.len()).unwrap();
+    assert_eq!((node.calls(), node.answer(1, 1)), (Ok(1), Ok(None)));
+    assert!(node.written().unwrap().ends_with(b"number 1\n"));
+    let mut again = Node::open(SETTINGS, "ph1", &[head, record].concat()).unwrap().node;
+    assert_eq!(again.count(), Err(unsynced));
+    again.synced(0).unwrap();
+    assert_eq!(again.count(), Ok(1));
 }
 
 #[test]

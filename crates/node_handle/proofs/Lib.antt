@@ -5,3 +5,4 @@ pub mod Lines
 pub mod Appending
 pub mod Pieces
 pub mod Verdicts
+pub mod Hostings

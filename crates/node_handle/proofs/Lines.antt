@@ -17,8 +17,9 @@ use Rattle.world_setup.specs.declared.node.Node.TheVariants.{Pharmacy, Switch, P
 use Rattle.world_setup.specs.declared.call.Call.TheVariants.{Submit, Take}
 use Rattle.node_service.specs.Names.{node_in, node_with, number_in}
 use Rattle.node_service.specs.Asking.{Calls, asked_of, call_of, taking}
-use Rattle.node_service.specs.Serving.{Serving}
-use Rattle.node_handle.specs.Calls.{Said, Serves}
+use Rattle.node_handle.specs.Saying.{Said}
+use Rattle.node_handle.specs.Hosting.{Hosting}
+use Rattle.node_handle.specs.Calls.{Serves}
 use Rattle.node_handle.specs.Typed.{Takes, submit_line, take_line}
 
 -- a byte that is no space
@@ -119,6 +120,6 @@ asks_packet from node packet named back =
     rw (parted (codes "take") (from ++ 32 ∷ printed packet) refl) (rw (parted from (printed packet) (name_inner from node named)) (rw (named, back) refl))
 
 -- what a call on a packet says, where its name is a node's
-pub takes_named : (old : Option Serving) (from packet : List ℕ) (said : Said) (new : Option Serving) → IsSome (node_in from) → Serves old (take_line from packet) said new → Takes old from packet said new
+pub takes_named : (old : Option Hosting) (from packet : List ℕ) (said : Said) (new : Option Hosting) → IsSome (node_in from) → Serves old (take_line from packet) said new → Takes old from packet said new
 takes_named old from packet (Ok made) new named serves = (named, serves)
 takes_named old from packet (Err why) new named serves = inr serves

@@ -1,6 +1,6 @@
 -- What is said of logs, by what was found of them.
 use Rattle.std.proofs.Common.{◌≡◌, ℕ, List, Bool, Ok, Err, inl, inr, subst}
-use Rattle.node_handle.specs.Calls.{Said}
+use Rattle.node_handle.specs.Saying.{Said}
 use Rattle.node_handle.specs.Audits.{Audits, IsJudged, JudgedAs}
 
 -- the verdict on logs that were judged

@@ -8,15 +8,21 @@ use Rattle.node_logged.specs.Setting.{context_of}
 use Rattle.node_service.specs.Serving.{Serving}
 use Rattle.node_handle.specs.declared.refusal.Refusal.{Refusal}
 use Rattle.node_handle.specs.declared.refusal.Refusal.TheVariants.{OutOfMemory, Closed, ShortBuffer, Unanswered, NotFound}
-use Rattle.node_handle.specs.Calls.{Said, Stands, Lacks}
+use Rattle.node_handle.specs.Saying.{Said}
+use Rattle.node_handle.specs.Hosting.{Hosting, Settled}
+use Rattle.node_handle.specs.Calls.{Stands, Lacks}
 
 abbrev pub size_in : Serving → ℕ
 size_in s = size_of s.state
 
 -- how many entries, slots or rows a node has is told; where memory was refused, or there is no node, nothing changes
-abbrev pub Sizes : Option Serving → Said → ℕ → ℕ → Type 0
-Sizes node (Ok made) before after = option_map size_in node ≡ Some after
-Sizes node (Err why) before after = (after ≡ before) × ((why ≡ OutOfMemory) ⊎ ((why ≡ Closed) × (node ≡ None)))
+abbrev pub TellsSize : Option Serving → Said → ℕ → ℕ → Type 0
+TellsSize node (Ok made) before after = option_map size_in node ≡ Some after
+TellsSize node (Err why) before after = (after ≡ before) × ((why ≡ OutOfMemory) ⊎ ((why ≡ Closed) × (node ≡ None)))
+
+-- so where all is on disk
+abbrev pub Sizes : Option Hosting → Said → ℕ → ℕ → Type 0
+Sizes node said before after = Settled node (after ≡ before) (λ s out. TellsSize s out before after) said
 
 abbrev pub request_by : Option (List ℕ) → Result (List ℕ) Refusal
 request_by (Some request) = Ok request
@@ -60,9 +66,11 @@ Gives given (Err why) buffer after before size =
     ((why ≡ ShortBuffer) × ((bytes : List ℕ) × ((given ≡ Some (Ok bytes)) × Lacks bytes buffer after size)))
     ⊎ (((after ≡ buffer) × (size ≡ before)) × ((why ≡ OutOfMemory) ⊎ (((why ≡ Closed) × (given ≡ None)) ⊎ (given ≡ Some (Err why)))))
 
--- so is a request, or an answer
-abbrev pub GivesRequest : ℕ → Option Serving → Said → List ℕ → List ℕ → ℕ → ℕ → Type 0
-GivesRequest number node said buffer after before size = Gives (option_map (request_in number) node) said buffer after before size
+-- so is a request, or an answer, where all is on disk
+abbrev pub GivesRequest : ℕ → Option Hosting → Said → List ℕ → List ℕ → ℕ → ℕ → Type 0
+GivesRequest number node said buffer after before size =
+    Settled node ((after ≡ buffer) × (size ≡ before)) (λ s out. Gives (option_map (request_in number) s) out buffer after before size) said
 
-abbrev pub GivesAnswer : ℕ → ℕ → Option Serving → Said → List ℕ → List ℕ → ℕ → ℕ → Type 0
-GivesAnswer pharmacy number node said buffer after before size = Gives (option_map (answer_in pharmacy number) node) said buffer after before size
+abbrev pub GivesAnswer : ℕ → ℕ → Option Hosting → Said → List ℕ → List ℕ → ℕ → ℕ → Type 0
+GivesAnswer pharmacy number node said buffer after before size =
+    Settled node ((after ≡ buffer) × (size ≡ before)) (λ s out. Gives (option_map (answer_in pharmacy number) s) out buffer after before size) said

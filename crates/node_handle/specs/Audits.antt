@@ -7,7 +7,7 @@ use Rattle.world_setup.specs.declared.settings.WorldSettings.{WorldSettings}
 use Rattle.log_audit.specs.Judged.{IsTold}
 use Rattle.log_audit.specs.Given.{IsRead}
 use Rattle.node_handle.specs.declared.refusal.Refusal.TheVariants.{NoRun}
-use Rattle.node_handle.specs.Calls.{Said}
+use Rattle.node_handle.specs.Saying.{Said}
 
 -- bytes cut into pieces of these sizes, where the sizes are those of all bytes
 abbrev pub cut_at : List ℕ → List ℕ → Option (List (List ℕ))

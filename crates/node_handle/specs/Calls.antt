@@ -1,20 +1,18 @@
 -- What a call on a handle makes of its node, and of what the caller lends.
-use Rattle.std.specs.Prelude.{◌≡◌, ◌⊎◌, ℕ, ◌<◌, List, ◌++◌, length, drop, Result, Ok, Err, Option, Some, None, IsSome}
+use Rattle.std.specs.Prelude.{◌≡◌, ◌⊎◌, ℕ, ◌<◌, ◌≤◌, true, false, List, ◌++◌, length, drop, Ok, Err, Option, Some, None, IsSome}
 use Rattle.std.specs.Option.{option_map}
 use Rattle.world_setup.specs.Seen.{node_seen}
 use Rattle.world_setup.specs.declared.node.Node.{Node}
 use Rattle.node_service.specs.Names.{node_in}
-use Rattle.node_service.specs.Serving.{Serving, after_line, cleared}
+use Rattle.node_service.specs.Serving.{Serving}
 use Rattle.node_service.specs.declared.fault.ServiceFault.{ServiceFault}
 use Rattle.node_service.specs.Opened.{IsOpened}
 use Rattle.node_service.specs.Refused.{IsRefused}
 use Rattle.node_handle.specs.declared.refusal.Refusal.{Refusal}
-use Rattle.node_handle.specs.declared.refusal.Refusal.TheVariants.{OutOfMemory, Closed, Open, ShortBuffer, Name}
+use Rattle.node_handle.specs.declared.refusal.Refusal.TheVariants.{OutOfMemory, Closed, Open, ShortBuffer, Name, TooMany, Unsynced}
 use Rattle.node_handle.specs.Refusals.{refusal_of, place_in}
-
--- what a call says: that it was made, or why not
-abbrev pub Said : Type 0
-Said = Result (Unit {0}) Refusal
+use Rattle.node_handle.specs.Saying.{Said}
+use Rattle.node_handle.specs.Hosting.{Hosting, Settled, bytes_kept, is_settled, just_opened, line_served, words_cleared}
 
 -- a node is refused for a true cause, and the place of the record that it is about is told
 pub record HasCause (settings name log : List ℕ) (why : Refusal) (before kept : ℕ) : Type 0 where
@@ -31,38 +29,55 @@ RefusesNode settings name log why before kept =
     ((why ≡ OutOfMemory) × (kept ≡ before)) ⊎ (((why ≡ Name) × ((node_in name ≡ None) × (kept ≡ before))) ⊎ HasCause settings name log why before kept)
 
 -- the handle has a node already, or the node is refused
-abbrev pub RefusesOpening : Option Serving → List ℕ → List ℕ → List ℕ → Refusal → ℕ → ℕ → Type 0
+abbrev pub RefusesOpening : Option Hosting → List ℕ → List ℕ → List ℕ → Refusal → ℕ → ℕ → Type 0
 RefusesOpening old settings name log why before kept =
     ((why ≡ Open) × (IsSome old × (kept ≡ before))) ⊎ RefusesNode settings name log why before kept
 
 -- opened, the node is that of the settings, the name and the log, and so many bytes of the log stay; refused, the handle is as it was, and why and
 -- where is told
-abbrev pub Opens : Option Serving → List ℕ → List ℕ → List ℕ → Said → ℕ → ℕ → Option Serving → Type 0
+abbrev pub Opens : Option Hosting → List ℕ → List ℕ → List ℕ → Said → ℕ → ℕ → Option Hosting → Type 0
 Opens old settings name log (Ok made) before kept new =
-    (s : Serving) × (node : Node) × ((old ≡ None) × ((new ≡ Some s) × ((node_in name ≡ Some node) × IsOpened settings (node_seen node) log kept s)))
+    (s : Serving) × (node : Node) × ((old ≡ None) × ((new ≡ Some (just_opened s)) × ((node_in name ≡ Some node) × IsOpened settings (node_seen node) log kept s)))
 Opens old settings name log (Err why) before kept new = (new ≡ old) × RefusesOpening old settings name log why before kept
 
 -- a line that was served made of the node what a line makes of it. Where memory was refused there is no node any more: it may have made the call
 -- and have no record of it
-abbrev pub Serves : Option Serving → List ℕ → Said → Option Serving → Type 0
-Serves old line (Ok made) new = IsSome old × (new ≡ option_map (λ s. after_line s line) old)
+abbrev pub Serves : Option Hosting → List ℕ → Said → Option Hosting → Type 0
+Serves old line (Ok made) new = IsSome old × (new ≡ option_map (λ h. line_served h line) old)
 Serves old line (Err why) new = ((why ≡ OutOfMemory) × (new ≡ None)) ⊎ ((why ≡ Closed) × ((old ≡ None) × (new ≡ None)))
 
--- what was handed out is forgotten
-abbrev pub Clears : Option Serving → Said → Option Serving → Type 0
-Clears old (Ok made) new = IsSome old × (new ≡ option_map cleared old)
-Clears old (Err why) new = (why ≡ Closed) × ((old ≡ None) × (new ≡ None))
+-- so many bytes of the records are on disk; where there are fewer, nothing is taken to be
+abbrev pub KeepsBytes : Hosting → ℕ → Said → Hosting → Type 0
+KeepsBytes h size said new =
+    ((size ≤ length h.serving.records) × ((said ≡ Ok tt) × (new ≡ bytes_kept size h))) ⊎ ((length h.serving.records < size) × ((said ≡ Err TooMany) × (new ≡ h)))
+
+abbrev pub Keeps : Option Hosting → ℕ → Said → Option Hosting → Type 0
+Keeps None size said new = (said ≡ Err Closed) × (new ≡ None)
+Keeps (Some h) size said new = (kept : Hosting) × ((new ≡ Some kept) × KeepsBytes h size said kept)
+
+-- what was written is forgotten, where all is on disk; else nothing is
+abbrev pub ClearsWords : Hosting → Said → Hosting → Type 0
+ClearsWords h said new =
+    ((is_settled h ≡ true) × ((said ≡ Ok tt) × (new ≡ words_cleared h))) ⊎ ((is_settled h ≡ false) × ((said ≡ Err Unsynced) × (new ≡ h)))
+
+abbrev pub Clears : Option Hosting → Said → Option Hosting → Type 0
+Clears None said new = (said ≡ Err Closed) × (new ≡ None)
+Clears (Some h) said new = (left : Hosting) × ((new ≡ Some left) × ClearsWords h said left)
 
 abbrev pub calls_of : Serving → ℕ
 calls_of s = s.calls
 
--- how many calls the node's log has is told
-abbrev pub Counts : Option Serving → Said → ℕ → ℕ → Type 0
-Counts node (Ok made) before after = option_map calls_of node ≡ Some after
-Counts node (Err why) before after = (why ≡ Closed) × ((node ≡ None) × (after ≡ before))
+-- a number is told, or there is no node
+abbrev pub TellsCalls : Option Serving → Said → ℕ → ℕ → Type 0
+TellsCalls node (Ok made) before after = option_map calls_of node ≡ Some after
+TellsCalls node (Err why) before after = (why ≡ Closed) × ((node ≡ None) × (after ≡ before))
 
-abbrev pub records_of : Serving → List ℕ
-records_of s = s.records
+-- how many calls the node's log has is told, where all is on disk
+abbrev pub Counts : Option Hosting → Said → ℕ → ℕ → Type 0
+Counts node said before after = Settled node (after ≡ before) (λ s out. TellsCalls s out before after) said
+
+abbrev pub records_of : Hosting → List ℕ
+records_of h = h.serving.records
 
 abbrev pub written_of : Serving → List ℕ
 written_of s = s.out
@@ -81,9 +96,11 @@ Copies given (Ok made) buffer after before size = (bytes : List ℕ) × ((given 
 Copies given (Err why) buffer after before size =
     ((why ≡ Closed) × ((given ≡ None) × ((after ≡ buffer) × (size ≡ before)))) ⊎ ((why ≡ ShortBuffer) × ((bytes : List ℕ) × ((given ≡ Some bytes) × Lacks bytes buffer after size)))
 
--- so are what is to be appended to the log, and what is to be written
-abbrev pub CopiesRecords : Option Serving → Said → List ℕ → List ℕ → ℕ → ℕ → Type 0
+-- so is what is to be appended to the log: what the host has not said to be on disk
+abbrev pub CopiesRecords : Option Hosting → Said → List ℕ → List ℕ → ℕ → ℕ → Type 0
 CopiesRecords node said buffer after before size = Copies (option_map records_of node) said buffer after before size
 
-abbrev pub CopiesWritten : Option Serving → Said → List ℕ → List ℕ → ℕ → ℕ → Type 0
-CopiesWritten node said buffer after before size = Copies (option_map written_of node) said buffer after before size
+-- so is what is to be written, where all is on disk
+abbrev pub CopiesWritten : Option Hosting → Said → List ℕ → List ℕ → ℕ → ℕ → Type 0
+CopiesWritten node said buffer after before size =
+    Settled node ((after ≡ buffer) × (size ≡ before)) (λ s out. Copies (option_map written_of s) out buffer after before size) said

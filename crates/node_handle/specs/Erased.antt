@@ -6,7 +6,7 @@ use Rattle.std.specs.contracts.impls.GlobalAllocator.TheImpl.{ghosts}
 use Rattle.std.specs.declared.option.Option.{Option}
 use Rattle.std.specs.declared.option.Option.TheVariants.{None, Some}
 use Rattle.std_alloc.specs.Box.Ownership.{box_owns}
-use Rattle.node_service.specs.contracts.Service.{the_row}
+use Rattle.node_handle.specs.contracts.hosted.Hosted.{the_row}
 
 -- the process's heap, which is one
 abbrev pub heap : Global

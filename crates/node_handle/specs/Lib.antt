@@ -1,6 +1,8 @@
 pub mod Erased
 pub mod Numbers
 pub mod Refusals
+pub mod Saying
+pub mod Hosting
 pub mod Calls
 pub mod Texts
 pub mod Typed

@@ -1,7 +1,7 @@
 -- The numbers of what calls say.
 use Rattle.std.specs.Prelude.{◌≡◌, ℕ, Result, Ok, Err}
 use Rattle.node_handle.specs.declared.refusal.Refusal.{Refusal}
-use Rattle.node_handle.specs.declared.refusal.Refusal.TheVariants.{OutOfMemory, Closed, Open, ShortBuffer, Name, Settings, NoSuchNode, OtherNode, NotALog, LogVersion, DamagedHead, NoKind, OtherSettings, Damaged, BadRecord, BadText, Unanswered, NotFound, NoRun}
+use Rattle.node_handle.specs.declared.refusal.Refusal.TheVariants.{OutOfMemory, Closed, Open, ShortBuffer, Name, Settings, NoSuchNode, OtherNode, NotALog, LogVersion, DamagedHead, NoKind, OtherSettings, Damaged, BadRecord, BadText, Unanswered, NotFound, NoRun, Unsynced, TooMany}
 
 -- the number of what a call says: 0 of one that was made
 abbrev pub number_of : Result (Unit {0}) Refusal → ℕ
@@ -25,6 +25,8 @@ number_of (Err BadText) = 16
 number_of (Err Unanswered) = 17
 number_of (Err NotFound) = 18
 number_of (Err NoRun) = 19
+number_of (Err Unsynced) = 20
+number_of (Err TooMany) = 21
 
 -- a number is that of a call's outcome, of which this holds
 abbrev pub Says : ℕ → (Result (Unit {0}) Refusal → Type 0) → Type 0

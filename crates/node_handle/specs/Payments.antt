@@ -15,7 +15,9 @@ use Rattle.node_logged.specs.Setting.{context_of}
 use Rattle.node_service.specs.Serving.{Serving}
 use Rattle.node_handle.specs.declared.payments.PlainPayment.{PlainPayment}
 use Rattle.node_handle.specs.declared.refusal.Refusal.TheVariants.{OutOfMemory, Closed, ShortBuffer}
-use Rattle.node_handle.specs.Calls.{Said, Stands, Lacks}
+use Rattle.node_handle.specs.Saying.{Said}
+use Rattle.node_handle.specs.Hosting.{Hosting, Settled}
+use Rattle.node_handle.specs.Calls.{Stands, Lacks}
 
 abbrev pub pharmacy_by : Option TxnId → ℕ
 pharmacy_by None = 0
@@ -86,6 +88,7 @@ Lists given (Err why) room after before count =
     ((why ≡ ShortBuffer) × ((list : List PlainPayment) × ((given ≡ Some list) × Lacks list room after count)))
     ⊎ (((after ≡ room) × (count ≡ before)) × ((why ≡ OutOfMemory) ⊎ ((why ≡ Closed) × (given ≡ None))))
 
--- so of its payments
-abbrev pub ListsPayments : Option Serving → Said → List PlainPayment → List PlainPayment → ℕ → ℕ → Type 0
-ListsPayments node said room after before count = Lists (option_map payments_in node) said room after before count
+-- so of its payments, where all is on disk
+abbrev pub ListsPayments : Option Hosting → Said → List PlainPayment → List PlainPayment → ℕ → ℕ → Type 0
+ListsPayments node said room after before count =
+    Settled node ((after ≡ room) × (count ≡ before)) (λ s out. Lists (option_map payments_in s) out room after before count) said

@@ -2,7 +2,8 @@
 use Rattle.std.specs.Prelude.{◌≡◌, ◌⊎◌, ℕ, List, Ok, Err}
 use Rattle.input_text.specs.Printing.{printed, unprinted}
 use Rattle.node_handle.specs.declared.refusal.Refusal.TheVariants.{OutOfMemory, ShortBuffer, BadText}
-use Rattle.node_handle.specs.Calls.{Said, Stands, Lacks}
+use Rattle.node_handle.specs.Saying.{Said}
+use Rattle.node_handle.specs.Calls.{Stands, Lacks}
 
 -- the text of bytes is copied into a buffer
 abbrev pub Prints : List ℕ → Said → List ℕ → List ℕ → ℕ → ℕ → Type 0

@@ -2,9 +2,10 @@
 use Rattle.std.specs.Prelude.{◌≡◌, ◌⊎◌, ℕ, List, ◌++◌, codes, Ok, Err, Option, None, IsSome}
 use Rattle.input_text.specs.Printing.{printed}
 use Rattle.node_service.specs.Names.{node_in}
-use Rattle.node_service.specs.Serving.{Serving}
 use Rattle.node_handle.specs.declared.refusal.Refusal.TheVariants.{Name}
-use Rattle.node_handle.specs.Calls.{Said, Serves}
+use Rattle.node_handle.specs.Saying.{Said}
+use Rattle.node_handle.specs.Hosting.{Hosting}
+use Rattle.node_handle.specs.Calls.{Serves}
 
 -- the line that enters a request
 abbrev pub submit_line : List ℕ → List ℕ
@@ -15,6 +16,6 @@ abbrev pub take_line : List ℕ → List ℕ → List ℕ
 take_line from packet = codes "take " ++ (from ++ (codes " " ++ printed packet))
 
 -- a packet was taken as its line says; where the name is no node's, nothing changes
-abbrev pub Takes : Option Serving → List ℕ → List ℕ → Said → Option Serving → Type 0
+abbrev pub Takes : Option Hosting → List ℕ → List ℕ → Said → Option Hosting → Type 0
 Takes old from packet (Ok made) new = IsSome (node_in from) × Serves old (take_line from packet) (Ok made) new
 Takes old from packet (Err why) new = ((why ≡ Name) × ((node_in from ≡ None) × (new ≡ old))) ⊎ Serves old (take_line from packet) (Err why) new

@@ -5,9 +5,10 @@ ghost use Rattle.world_setup.specs.Seen.{node_seen};
 ghost use Rattle.node_state.specs.Nodes.{held_of};
 ghost use Rattle.node_logged.specs.Setting.{context_of};
 ghost use Rattle.node_handle.specs.declared.refusal.Refusal.TheVariants.{OutOfMemory};
-ghost use Rattle.node_handle.specs.Asked.{Gives, GivesAnswer, GivesRequest, Sizes, answer_for, answer_in, is_pharmacy, lacking_in, request_in};
+ghost use Rattle.node_handle.specs.Asked.{Gives, GivesAnswer, GivesRequest, Sizes, answer_for, answer_in, TellsSize, is_pharmacy, lacking_in, request_in};
 
 use crate::handle::NodeHandle;
+use crate::hosted::Hosted;
 use crate::reading::copy_out;
 use crate::refusal::Refusal;
 use envelope::TxnId;
@@ -20,7 +21,7 @@ impl NodeHandle {
     /// How many entries a pharmacy's journal has, slots a switch's table, or rows a payer's book.
     ///
     /// # Errors
-    /// `Closed` where there is no node, or `OutOfMemory`. Then nothing changes.
+    /// `Closed` where there is no node, `Unsynced` where not all is on disk, or `OutOfMemory`. Then nothing changes.
     pub fn count(&mut self, alloc: Global, count: &mut u64) -> Result<(), Refusal>
         ensures kept { self.new.part.node ≡ self.old.part.node }
         ensures count { Sizes self.old.part.node result count.old count.new }
@@ -29,7 +30,7 @@ impl NodeHandle {
             return Err(Refusal::Closed);
         }
         let node = self.take(alloc);
-        let told = tell_size(alloc, &*node, count);
+        let told = settled_size(alloc, &*node, count);
         self.put(node);
         told
     }
@@ -37,7 +38,8 @@ impl NodeHandle {
     /// Copies the request of a pharmacy's entry, numbered from 1.
     ///
     /// # Errors
-    /// `NotFound` where the node has no such entry, `ShortBuffer`, `Closed`, or `OutOfMemory`. Then the buffer is as it was.
+    /// `NotFound` where the node has no such entry, `ShortBuffer`, `Closed`, `Unsynced` where not all is on disk, or
+    /// `OutOfMemory`. Then the buffer is as it was.
     pub fn request(
         &mut self,
         alloc: Global,
@@ -52,7 +54,7 @@ impl NodeHandle {
             return Err(Refusal::Closed);
         }
         let node = self.take(alloc);
-        let told = give_request(alloc, &*node, number, buffer, size);
+        let told = settled_request(alloc, &*node, number, buffer, size);
         self.put(node);
         told
     }
@@ -60,8 +62,8 @@ impl NodeHandle {
     /// Copies the answer that the node holds for an id: in its journal, for its own ids only, in its table or in its book.
     ///
     /// # Errors
-    /// `Unanswered` where it is an open entry of the pharmacy, `NotFound` where there is nothing, `ShortBuffer`, `Closed`, or
-    /// `OutOfMemory`. Then the buffer is as it was.
+    /// `Unanswered` where it is an open entry of the pharmacy, `NotFound` where there is nothing, `ShortBuffer`, `Closed`,
+    /// `Unsynced` where not all is on disk, or `OutOfMemory`. Then the buffer is as it was.
     pub fn answer(
         &mut self,
         alloc: Global,
@@ -77,15 +79,58 @@ impl NodeHandle {
             return Err(Refusal::Closed);
         }
         let node = self.take(alloc);
-        let told = give_answer(alloc, &*node, pharmacy, number, buffer, size);
+        let told = settled_answer(alloc, &*node, pharmacy, number, buffer, size);
         self.put(node);
         told
     }
 }
 
+/// Tells how many entries, slots or rows a node has, where all is on disk.
+fn settled_size(alloc: Global, node: &Hosted, count: &mut u64) -> Result<(), Refusal>
+    ensures { Sizes (Some node.now) result count.old count.new }
+{
+    match node.settled() {
+        Ok(service) => tell_size(alloc, service, count),
+        Err(why) => Err(why),
+    }
+}
+
+/// Copies the request of an entry, where all is on disk.
+fn settled_request(
+    alloc: Global,
+    node: &Hosted,
+    number: u64,
+    buffer: &mut [u8],
+    size: &mut usize,
+) -> Result<(), Refusal>
+    ensures { GivesRequest number (Some node.now) result buffer.old buffer.new size.old size.new }
+{
+    match node.settled() {
+        Ok(service) => give_request(alloc, service, number, buffer, size),
+        Err(why) => Err(why),
+    }
+}
+
+/// Copies the answer for an id by its two numbers, where all is on disk.
+fn settled_answer(
+    alloc: Global,
+    node: &Hosted,
+    pharmacy: u16,
+    number: u64,
+    buffer: &mut [u8],
+    size: &mut usize,
+) -> Result<(), Refusal>
+    ensures { GivesAnswer pharmacy number (Some node.now) result buffer.old buffer.new size.old size.new }
+{
+    match node.settled() {
+        Ok(service) => give_answer(alloc, service, pharmacy, number, buffer, size),
+        Err(why) => Err(why),
+    }
+}
+
 /// Tells how many entries, slots or rows a node has.
 fn tell_size(alloc: Global, node: &Service, count: &mut u64) -> Result<(), Refusal>
-    ensures { Sizes (Some node.now) result count.old count.new }
+    ensures { TellsSize (Some node.now) result count.old count.new }
 {
     match node.state().size(alloc) {
         Ok(size) => {

@@ -5,11 +5,14 @@ ghost use Rattle.std.specs.declared.option.Option.TheVariants.{None, Some};
 ghost use Rattle.world_setup.specs.Seen.{node_seen};
 ghost use Rattle.node_service.specs.Names.{node_in};
 ghost use Rattle.node_service.specs.Opened.{IsOpened};
+ghost use Rattle.node_service.specs.Serving.{Serving};
 ghost use Rattle.world_setup.specs.declared.node.Node.{Node};
 ghost use Rattle.node_handle.specs.declared.refusal.Refusal.TheVariants.{OutOfMemory};
 ghost use Rattle.node_handle.specs.Refusals.{refusal_of, place_in};
-ghost use Rattle.node_handle.specs.Calls.{Opens, RefusesNode, Serves, Clears, Counts, CopiesRecords, CopiesWritten};
+ghost use Rattle.node_handle.specs.Hosting.{just_opened};
+ghost use Rattle.node_handle.specs.Calls.{Opens, RefusesNode, Serves, Clears, Counts, CopiesRecords, CopiesWritten, Keeps};
 
+use crate::hosted::Hosted;
 use crate::loose::Loose;
 use crate::part::Part;
 use crate::reading::copy_out;
@@ -40,7 +43,7 @@ impl NodeHandle {
     }
 
     /// A handle with this node.
-    pub(crate) fn of(node: Box<Service>) -> NodeHandle
+    pub(crate) fn of(node: Box<Hosted>) -> NodeHandle
         ensures { result.part.node ≡ Some node.value }
     {
         let part = Part::from_loose(Loose::of(node));
@@ -48,7 +51,7 @@ impl NodeHandle {
     }
 
     /// The node, taken out.
-    pub(crate) fn take(&mut self, alloc: Global) -> Box<Service>
+    pub(crate) fn take(&mut self, alloc: Global) -> Box<Hosted>
         requires { IsSome self.old.part.node }
         ensures closed { self.new.part.node ≡ None }
         ensures node { self.old.part.node ≡ Some result.value }
@@ -85,7 +88,7 @@ impl NodeHandle {
     }
 
     /// Puts a node where there is none.
-    pub(crate) fn put(&mut self, node: Box<Service>)
+    pub(crate) fn put(&mut self, node: Box<Hosted>)
         requires { self.old.part.node ≡ None }
         ensures { self.new.part.node ≡ Some node.value }
     {
@@ -122,7 +125,27 @@ impl NodeHandle {
         }
     }
 
-    /// Forgets what was handed out.
+    /// Notes that so many bytes of the records are on disk, the first of what `records` copies, and all that stands in the
+    /// log's file before them.
+    ///
+    /// # Errors
+    /// `Closed` where there is no node, `TooMany` where the records are fewer. Then nothing changes.
+    pub fn keep(&mut self, alloc: Global, size: usize) -> Result<(), Refusal>
+        ensures { Keeps self.old.part.node size result self.new.part.node }
+    {
+        if !self.held {
+            return Err(Refusal::Closed);
+        }
+        let mut node = self.take(alloc);
+        let kept = node.keep(size);
+        self.put(node);
+        kept
+    }
+
+    /// Forgets what was written.
+    ///
+    /// # Errors
+    /// `Closed` where there is no node, `Unsynced` where not all is on disk. Then nothing changes.
     pub fn clear(&mut self, alloc: Global) -> Result<(), Refusal>
         ensures { Clears self.old.part.node result self.new.part.node }
     {
@@ -130,12 +153,15 @@ impl NodeHandle {
             return Err(Refusal::Closed);
         }
         let mut node = self.take(alloc);
-        node.clear();
+        let cleared = node.clear();
         self.put(node);
-        Ok(())
+        cleared
     }
 
     /// How many calls the node's log has.
+    ///
+    /// # Errors
+    /// `Closed` where there is no node, `Unsynced` where not all is on disk. Then nothing changes.
     pub fn calls(&mut self, alloc: Global, calls: &mut u64) -> Result<(), Refusal>
         ensures kept { self.new.part.node ≡ self.old.part.node }
         ensures calls { Counts self.old.part.node result calls.old calls.new }
@@ -144,12 +170,15 @@ impl NodeHandle {
             return Err(Refusal::Closed);
         }
         let node = self.take(alloc);
-        *calls = node.calls();
+        let told = tell_calls(&*node, calls);
         self.put(node);
-        Ok(())
+        told
     }
 
-    /// Copies what is to be appended to the log.
+    /// Copies what is to be appended to the log: what the host has not said to be on disk.
+    ///
+    /// # Errors
+    /// `Closed` where there is no node, `ShortBuffer`. Then the buffer is as it was.
     pub fn records(
         &mut self,
         alloc: Global,
@@ -168,7 +197,10 @@ impl NodeHandle {
         copied
     }
 
-    /// Copies what is to be written once the records are on disk.
+    /// Copies what is to be written.
+    ///
+    /// # Errors
+    /// `Closed` where there is no node, `Unsynced` where not all is on disk, `ShortBuffer`. Then the buffer is as it was.
     pub fn written(
         &mut self,
         alloc: Global,
@@ -182,9 +214,32 @@ impl NodeHandle {
             return Err(Refusal::Closed);
         }
         let node = self.take(alloc);
-        let copied = copy_out(node.written(), buffer, size);
+        let copied = give_written(&*node, buffer, size);
         self.put(node);
         copied
+    }
+}
+
+/// Tells how many calls a node's log has, where all is on disk.
+fn tell_calls(node: &Hosted, calls: &mut u64) -> Result<(), Refusal>
+    ensures { Counts (Some node.now) result calls.old calls.new }
+{
+    match node.settled() {
+        Ok(service) => {
+            *calls = service.calls();
+            Ok(())
+        }
+        Err(why) => Err(why),
+    }
+}
+
+/// Copies what a node has written, where all is on disk.
+fn give_written(node: &Hosted, buffer: &mut [u8], size: &mut usize) -> Result<(), Refusal>
+    ensures { CopiesWritten (Some node.now) result buffer.old buffer.new size.old size.new }
+{
+    match node.settled() {
+        Ok(service) => copy_out(service.written(), buffer, size),
+        Err(why) => Err(why),
     }
 }
 
@@ -196,9 +251,9 @@ fn opened(
     log: &[u8],
     seed: &[u8],
     kept: &mut usize,
-) -> Result<Box<Service>, Refusal>
-    ensures opened { IfOk result (λ o. (node : Node)
-        × ((node_in name.now ≡ Some node) × IsOpened settings.now (node_seen node) log.now kept.new o.value)) }
+) -> Result<Box<Hosted>, Refusal>
+    ensures opened { IfOk result (λ o. (node : Node) × (s : Serving) × ((o.value ≡ just_opened s)
+        × ((node_in name.now ≡ Some node) × IsOpened settings.now (node_seen node) log.now kept.new s))) }
     ensures refused { IfErr result (λ why. RefusesNode settings.now name.now log.now why kept.old kept.new) }
 {
     let Some(node) = node_in(name) else {
@@ -216,11 +271,11 @@ fn boxed(
     service: Service,
     stay: usize,
     kept: &mut usize,
-) -> Result<Box<Service>, Refusal>
-    ensures boxed { IfOk result (λ o. (o.value ≡ service) × (kept.new ≡ stay)) }
+) -> Result<Box<Hosted>, Refusal>
+    ensures boxed { IfOk result (λ o. (o.value ≡ just_opened service) × (kept.new ≡ stay)) }
     ensures refused { IfErr result (λ why. (why ≡ OutOfMemory) × (kept.new ≡ kept.old)) }
 {
-    match Box::new(alloc, service) {
+    match Box::new(alloc, Hosted::of(service)) {
         Ok(node) => {
             *kept = stay;
             Ok(node)

@@ -4,11 +4,11 @@ ghost use Rattle.std.specs.Prelude.{◌≡◌, IsSome};
 ghost use Rattle.std.specs.declared.option.Option.{Option};
 ghost use Rattle.std.specs.declared.option.Option.TheVariants.{None, Some};
 ghost use Rattle.std.specs.Coded.{coded_option};
-ghost use Rattle.node_service.specs.contracts.Service.{the_row};
+ghost use Rattle.node_handle.specs.contracts.hosted.Hosted.{the_row};
 ghost use Rattle.node_handle.specs.Erased.{owns};
 
+use crate::hosted::Hosted;
 use crate::loose::Loose;
-use node_service::Service;
 use std::alloc::Global;
 use std::marker::Model;
 use std::ptr::null_mut;
@@ -33,7 +33,7 @@ impl Part {
     }
 
     /// The node of a pointer.
-    pub(crate) fn from_loose(loose: Loose<Service, Global>) -> Part
+    pub(crate) fn from_loose(loose: Loose<Hosted, Global>) -> Part
         ensures { result.node ≡ Some loose.value }
     {
         let Loose { at, alloc: _ } = loose;
@@ -41,13 +41,13 @@ impl Part {
     }
 
     /// The pointer with its type again.
-    pub(crate) fn into_loose(self, alloc: Global) -> Loose<Service, Global>
+    pub(crate) fn into_loose(self, alloc: Global) -> Loose<Hosted, Global>
         requires { IsSome self.node }
         ensures { self.node ≡ Some result.value }
     {
         let Part { at } = self;
         Loose {
-            at: at as *mut Service,
+            at: at as *mut Hosted,
             alloc,
         }
     }

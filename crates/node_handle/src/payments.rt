@@ -9,6 +9,7 @@ ghost use Rattle.node_state.specs.Nodes.{book_of, journal_of};
 ghost use Rattle.node_handle.specs.Payments.{Lists, ListsPayments, book_payments, booked_plain, counted_plain, journal_payments, number_by, payments_by, payments_in, pharmacy_by, plain, row_payments, ruling_payment};
 
 use crate::handle::NodeHandle;
+use crate::hosted::Hosted;
 use crate::refusal::Refusal;
 use claim_profile::{Amounts, Auth, Fill, Ruling};
 use envelope::TxnId;
@@ -56,7 +57,8 @@ impl NodeHandle {
     /// Copies the payments that a pharmacy counts, or those of a payer's book with what reversed them; a switch has none.
     ///
     /// # Errors
-    /// `ShortBuffer`, with the count that is wanted; `Closed`, or `OutOfMemory`. Then the buffer is as it was.
+    /// `ShortBuffer`, with the count that is wanted; `Closed`, `Unsynced` where not all is on disk, or `OutOfMemory`. Then the
+    /// buffer is as it was.
     pub fn payments(
         &mut self,
         alloc: Global,
@@ -70,9 +72,24 @@ impl NodeHandle {
             return Err(Refusal::Closed);
         }
         let node = self.take(alloc);
-        let told = give_payments(alloc, &*node, buffer, count);
+        let told = settled_payments(alloc, &*node, buffer, count);
         self.put(node);
         told
+    }
+}
+
+/// Copies the payments of a node, where all is on disk.
+fn settled_payments(
+    alloc: Global,
+    node: &Hosted,
+    buffer: &mut [PlainPayment],
+    count: &mut usize,
+) -> Result<(), Refusal>
+    ensures { ListsPayments (Some node.now) result buffer.old buffer.new count.old count.new }
+{
+    match node.settled() {
+        Ok(service) => give_payments(alloc, service, buffer, count),
+        Err(why) => Err(why),
     }
 }
 

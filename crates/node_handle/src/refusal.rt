@@ -49,6 +49,10 @@ pub enum Refusal {
     NotFound,
     /// The logs are those of no legal run. What is told of them was copied.
     NoRun,
+    /// Not all is on disk, as far as the host has said: nothing is told.
+    Unsynced,
+    /// More bytes are said to be on disk than there are records.
+    TooMany,
 }
 
 /// The number of what a call says: 0 of one that was made.
@@ -76,6 +80,8 @@ pub fn number_of(said: Result<(), Refusal>) -> u32
         Err(Refusal::Unanswered) => 17,
         Err(Refusal::NotFound) => 18,
         Err(Refusal::NoRun) => 19,
+        Err(Refusal::Unsynced) => 20,
+        Err(Refusal::TooMany) => 21,
     }
 }
 

@@ -8,7 +8,7 @@
 ghost use Rattle.std.specs.Prelude.{◌≡◌, IfErr};
 ghost use Rattle.std.specs.declared.option.Option.TheVariants.{None};
 ghost use Rattle.node_handle.specs.Numbers.{Says};
-ghost use Rattle.node_handle.specs.Calls.{Clears, CopiesRecords, CopiesWritten, Counts, Opens, Serves};
+ghost use Rattle.node_handle.specs.Calls.{Clears, CopiesRecords, CopiesWritten, Counts, Keeps, Opens, Serves};
 ghost use Rattle.node_handle.specs.Texts.{Prints, Unprints};
 ghost use Rattle.node_handle.specs.Typed.{Takes, submit_line};
 ghost use Rattle.node_handle.specs.Asked.{GivesAnswer, GivesRequest, Sizes};
@@ -19,12 +19,12 @@ use node_handle::{NodeHandle, PlainPayment, Style, audit, describe, number_of, p
 use std::alloc::Global;
 
 /// The version of the library: a million for the first number, a thousand for the second, one for the third.
-const VERSION: u32 = 7_000;
+const VERSION: u32 = 8_000;
 
 /// The version of the library.
 #[unsafe(no_mangle)]
 pub extern "C" fn vogrilas_version() -> u32
-    ensures { result ≡ 7000 }
+    ensures { result ≡ 8000 }
 {
     VERSION
 }
@@ -75,7 +75,7 @@ pub extern "C" fn vogrilas_take(
     number_of(node.receive(alloc, from, packet))
 }
 
-/// Copies what is to be appended to the log, and synced, before what was written may be used.
+/// Copies what is to be appended to the log, and synced: the records that the host has not said to be on disk.
 #[unsafe(no_mangle)]
 pub extern "C" fn vogrilas_records(
     alloc: Global,
@@ -90,7 +90,7 @@ pub extern "C" fn vogrilas_records(
     number_of(node.records(alloc, buffer, size))
 }
 
-/// Copies what came of the lines.
+/// Copies what came of the lines, once the host has said that all is on disk.
 #[unsafe(no_mangle)]
 pub extern "C" fn vogrilas_written(
     alloc: Global,
@@ -171,7 +171,15 @@ pub extern "C" fn vogrilas_payments(
     number_of(node.payments(alloc, payments, count))
 }
 
-/// Notes that the records are on disk and the rest was used: both are empty from here on.
+/// Notes that so many bytes of the records are on disk, and what stands in the log's file before them.
+#[unsafe(no_mangle)]
+pub extern "C" fn vogrilas_kept(alloc: Global, node: &mut NodeHandle, size: usize) -> u32
+    ensures { Says result (λ said. Keeps node.old.part.node size said node.new.part.node) }
+{
+    number_of(node.keep(alloc, size))
+}
+
+/// Forgets what was written, once it was used.
 #[unsafe(no_mangle)]
 pub extern "C" fn vogrilas_clear(alloc: Global, node: &mut NodeHandle) -> u32
     ensures { Says result (λ said. Clears node.old.part.node said node.new.part.node) }

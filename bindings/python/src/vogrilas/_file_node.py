@@ -41,10 +41,7 @@ class FileNode:
             self._node = Node(settings, name, log)
             if self._node.kept < len(log):
                 self._cut(log, self._node.kept)
-            self._settle()
-            # An earlier life may have ended between a write and its sync, or before its folder was synced.
-            self._sync()
-            _sync_folder(self._path)
+            self._begin()
         except BaseException:
             self.close()
             raise
@@ -163,6 +160,16 @@ class FileNode:
                 self.close()
                 raise
 
+    def _begin(self) -> None:
+        """Has on disk what the log has. An earlier life may have ended between a write and its sync, or before its folder was
+        synced."""
+        node = self._open_node()
+        head = node.records()
+        _write_all(self._file, head)
+        self._sync()
+        _sync_folder(self._path)
+        node.synced(len(head))
+
     def _settle(self) -> bytes:
         node = self._open_node()
         records = node.records()
@@ -170,6 +177,7 @@ class FileNode:
             _write_all(self._file, records)
             self._sync()
             self._check_name()
+            node.synced(len(records))
         written = node.written()
         node.clear()
         return written

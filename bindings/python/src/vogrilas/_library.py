@@ -7,7 +7,7 @@ import ctypes.util
 import os
 import pathlib
 
-VERSION = 7000
+VERSION = 8000
 _HERE = pathlib.Path(__file__).resolve().parent
 _PLACE = ctypes.POINTER(ctypes.c_size_t)
 
@@ -49,6 +49,7 @@ _CALLS = {
     "submit": [_NODE, *_BYTES],
     "take": [_NODE, *_BYTES, *_BYTES],
     "records": [_NODE, *_BUFFER],
+    "kept": [_NODE, ctypes.c_size_t],
     "written": [_NODE, *_BUFFER],
     "calls": [_NODE, ctypes.POINTER(ctypes.c_uint64)],
     "count": [_NODE, ctypes.POINTER(ctypes.c_uint64)],

@@ -36,6 +36,8 @@ class Code(enum.IntEnum):
     UNANSWERED = 17
     NOT_FOUND = 18
     NO_RUN = 19
+    UNSYNCED = 20
+    TOO_MANY = 21
 
 
 class VogrilasError(Exception):
@@ -220,8 +222,9 @@ def _payment(raw: RawPayment) -> Payment:
 class Node:
     """A node without its file, as the library has it. FileNode has the file as well.
 
-    `kept` is how many bytes of the log stay. Behind `serve` come `records`, which are appended to the log and synced, then
-    `written`, which may only be used after that, and `clear`.
+    `kept` is how many bytes of the log stay. Behind `serve` come `records`, which are appended to the log's file and synced;
+    `synced`, which says so; `written`, and `clear`. A node that was just opened also wants to hear, by `synced`, that its log is
+    on disk. Until then each call that tells of the node raises VogrilasError with UNSYNCED.
     """
 
     def __init__(self, settings: bytes, name: str, log: bytes = b"") -> None:
@@ -255,23 +258,33 @@ class Node:
             _check(LIBRARY.vogrilas_take(ctypes.byref(self._handle), name, len(name), packet, len(packet)))
 
     def records(self) -> bytes:
-        """What is to be appended to the log, and synced, before anything that was written is used."""
+        """What is to be appended to the log, and synced: the records that `synced` has not said to be on disk."""
         with self._lock:
             return _copied(LIBRARY.vogrilas_records, ctypes.byref(self._handle))
 
+    def synced(self, size: int) -> None:
+        """Says that so many bytes of the records, the first, are on disk: appended, and synced with all that stands in the file
+        before them. Raises VogrilasError with TOO_MANY where the records are fewer."""
+        if not isinstance(size, int) or isinstance(size, bool):
+            raise TypeError(f"a size has to be an int, not {type(size).__name__}")
+        if not 0 <= size < 1 << 64:
+            raise VogrilasError(Code.TOO_MANY)
+        with self._lock:
+            _check(LIBRARY.vogrilas_kept(ctypes.byref(self._handle), size))
+
     def written(self) -> bytes:
-        """What came of the lines."""
+        """What came of the lines. Raises VogrilasError with UNSYNCED until all is on disk, as do `clear` and all that is read."""
         with self._lock:
             return _copied(LIBRARY.vogrilas_written, ctypes.byref(self._handle))
 
     def clear(self) -> None:
-        """Notes that the records are on disk and the rest was used."""
+        """Notes that what was written was used."""
         with self._lock:
             _check(LIBRARY.vogrilas_clear(ctypes.byref(self._handle)))
 
     @property
     def calls(self) -> int:
-        """How many calls the node's log has, those included that are to be appended."""
+        """How many calls the node's log has."""
         calls = ctypes.c_uint64()
         with self._lock:
             _check(LIBRARY.vogrilas_calls(ctypes.byref(self._handle), ctypes.byref(calls)))

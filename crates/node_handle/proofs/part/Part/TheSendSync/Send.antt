@@ -9,8 +9,8 @@ use Rattle.std.proofs.Crossing.{frees}
 use Rattle.std.specs.declared.option.Option.{Option}
 use Rattle.std.specs.declared.option.Option.TheVariants.{None, Some}
 use Rattle.node_handle.specs.Erased.{heap, owns}
-use Rattle.node_service.specs.contracts.Service.{the_row as service_row}
-use Rattle.node_service.proofs.Service.TheSendSync as service
+use Rattle.node_handle.specs.contracts.hosted.Hosted.{the_row as service_row}
+use Rattle.node_handle.proofs.hosted.Hosted.TheSendSync as service
 use Rattle.node_handle.specs.contracts.part.Part.{the_row}
 
 owned_keyless : (p : Ptr) (node : Option (service_row).Denot) → Keyless (owns p node)

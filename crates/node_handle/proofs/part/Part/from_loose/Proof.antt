@@ -26,7 +26,7 @@ use Rattle.std.proofs.alloc.Global.TheLaws as heap_laws
 use Rattle.std.proofs.raw_atomic.Walks.{proved_at, leaves}
 use Rattle.node_handle.proofs.LooseValues.{both, loose_good, loose_out}
 use Rattle.node_handle.proofs.PartValues.{part_val, part_own, part_made, part_typed}
-use Rattle.node_service.specs.contracts.Service.{the_row as service_row}
+use Rattle.node_handle.specs.contracts.hosted.Hosted.{the_row as service_row}
 use Rattle.node_handle.specs.contracts.part.Part.from_loose.{ended, clauses}
 use Rattle.node_handle.specs.contracts.part.Part.from_loose.Key.{name as #self}
 use Rattle.node_handle.proofs.part.Part.from_loose.Statement.{statement}

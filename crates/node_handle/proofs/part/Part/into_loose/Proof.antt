@@ -32,7 +32,7 @@ use Rattle.node_handle.proofs.LooseValues.{both, loose_good, loose_in}
 use Rattle.node_handle.specs.Erased as erased
 use Rattle.node_handle.specs.Erased.{heap}
 use Rattle.node_handle.proofs.PartValues.{part_val, part_told, part_typed, al, had}
-use Rattle.node_service.specs.contracts.Service.{the_row as service_row}
+use Rattle.node_handle.specs.contracts.hosted.Hosted.{the_row as service_row}
 use Rattle.node_handle.specs.contracts.part.Part as part
 use Rattle.node_handle.specs.contracts.part.Part.into_loose.{ended, clauses}
 use Rattle.node_handle.specs.contracts.part.Part.into_loose.Key.{name as #self}

@@ -20,7 +20,7 @@ use Rattle.std.specs.declared.option.Option.{Option}
 use Rattle.std.specs.declared.option.Option.TheVariants.{None}
 use Rattle.std.proofs.raw_atomic.Walks.{proved_at, leaves}
 use Rattle.node_handle.proofs.PartValues.{part_val, part_own, part_made, part_typed}
-use Rattle.node_service.specs.contracts.Service.{the_row as service_row}
+use Rattle.node_handle.specs.contracts.hosted.Hosted.{the_row as service_row}
 use Rattle.node_handle.specs.contracts.part.Part.of_nothing.{ended, clauses}
 use Rattle.node_handle.specs.contracts.part.Part.of_nothing.Key.{name as #self}
 use Rattle.node_handle.proofs.part.Part.of_nothing.Statement.{statement}
