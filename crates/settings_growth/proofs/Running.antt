@@ -53,7 +53,7 @@ legal ctx s logs turns one made are =
       one = one;
       accepted = r.accepted;
       same = all_from (λ (log : NodeLog). log_in ctx (opening s) (events_of turns) log.node ≡ log.calls) logs
-        (λ n log at. r.each log.node ∙ all_at (λ (x : NodeLog). turns_of turns x.node ≡ x.calls) logs n log are.same at);
+          (λ n log at. r.each log.node ∙ all_at (λ (x : NodeLog). turns_of turns x.node ≡ x.calls) logs n log are.same at);
     }
 
 -- and back
@@ -67,7 +67,7 @@ has_turns ctx s logs events i =
       turns_are = record {
         order = r.order;
         same = all_from (λ (log : NodeLog). turns_of r.turns log.node ≡ log.calls) logs
-          (λ n log at. r.each log.node ∙ all_at (λ (x : NodeLog). log_in ctx (opening s) events x.node ≡ x.calls) logs n log i.same at);
+            (λ n log at. r.each log.node ∙ all_at (λ (x : NodeLog). log_in ctx (opening s) events x.node ≡ x.calls) logs n log i.same at);
         others = λ node without. r.each node ∙ (absent_stays ctx (opening s) events node (no_log s logs node (node_at (opening s) node) i.one refl without)).0;
       };
     }
@@ -127,8 +127,8 @@ turns_with t logs more turns added are =
     record {
       order = are.order;
       same = all_append (λ (log : NodeLog). turns_of turns log.node ≡ log.calls) logs more are.same
-        (all_from (λ (log : NodeLog). turns_of turns log.node ≡ log.calls) more
-        (λ n log at. are.others log.node (apart t logs more n log added.one at) ∙ sym (all_at (λ (x : NodeLog). x.calls ≡ []) more n log added.empty at)));
+          (all_from (λ (log : NodeLog). turns_of turns log.node ≡ log.calls) more
+          (λ n log at. are.others log.node (apart t logs more n log added.one at) ∙ sym (all_at (λ (x : NodeLog). x.calls ≡ []) more n log added.empty at)));
       others = λ node without. are.others node (λ h. without (more_log logs more node h));
     }
 
@@ -140,8 +140,8 @@ runs_over ctx wider s t logs more events g stays added i =
     subst (IsInterleaving wider t (logs ++ more)) h.events_are
     (legal wider t (logs ++ more) h.turns added.one
     (all_append (IsMade wider t) logs more
-      (all_from (IsMade wider t) logs (λ n log at. made_over ctx wider s t log g (all_at (λ (x : NodeLog). RejectionsStay ctx wider x.node x.calls) logs n log stays at) (all_at (IsMade ctx s) logs n log made at)))
-      (all_from (IsMade wider t) more (λ n log at. empty_made wider t log (node_at (opening t) log.node) refl
-        (all_at (λ (l : NodeLog). IsSome (node_at (opening t) l.node)) more n log (all_right (λ (l : NodeLog). IsSome (node_at (opening t) l.node)) logs more added.one.known) at)
-        (all_at (λ (x : NodeLog). x.calls ≡ []) more n log added.empty at))))
+    (all_from (IsMade wider t) logs (λ n log at. made_over ctx wider s t log g (all_at (λ (x : NodeLog). RejectionsStay ctx wider x.node x.calls) logs n log stays at) (all_at (IsMade ctx s) logs n log made at)))
+    (all_from (IsMade wider t) more (λ n log at. empty_made wider t log (node_at (opening t) log.node) refl
+    (all_at (λ (l : NodeLog). IsSome (node_at (opening t) l.node)) more n log (all_right (λ (l : NodeLog). IsSome (node_at (opening t) l.node)) logs more added.one.known) at)
+    (all_at (λ (x : NodeLog). x.calls ≡ []) more n log added.empty at))))
     (turns_with t logs more h.turns added h.turns_are))

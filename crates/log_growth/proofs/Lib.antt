@@ -1,0 +1,5 @@
+mod Counts
+mod NodesGrown
+mod RoutesGrown
+mod GrownTo
+mod Staying

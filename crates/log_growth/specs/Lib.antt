@@ -1,0 +1,4 @@
+-- In the order in which one explains them.
+pub mod Compared
+pub mod Over
+pub mod Grown
