@@ -34,4 +34,4 @@ abbrev pub IsNoGrowth : List ℕ → List ℕ → GrowthFault → Type 0
 IsNoGrowth old new OutOfMemory = ⊤
 IsNoGrowth old new OldSettings = SpellsNone old
 IsNoGrowth old new NewSettings = SpellsNone new
-IsNoGrowth old new (NotGrown found) = HasNotGrown old new found
+IsNoGrowth old new (NotGrown found words) = HasNotGrown old new found

@@ -26,7 +26,7 @@ pub record Opens (text : List ℕ) (node : Node) (bytes : List ℕ) : Type 0 whe
 abbrev pub IsShutFor : List ℕ → Node → List ℕ → OverFault → Type 0
 IsShutFor text node bytes OutOfMemory = ⊤
 IsShutFor text node bytes (Log fault) = ⊥
-IsShutFor text node bytes (Refused why) = IsRefused text node bytes why
+IsShutFor text node bytes (Refused who why) = (node_seen who ≡ node) × IsRefused text node bytes why
 
 -- the node of this name opens from these bytes, and nothing is to be written
 abbrev pub IsOpen : List ℕ → Named → List ℕ → Gone → Type 0
@@ -62,14 +62,15 @@ IsNoLog old text bytes fault =
     ⊎ ((log_in (sha256 text) bytes ≡ Err log_fault.OtherSettings) × (log_in old bytes ≡ Err fault))
 
 -- the log is read, and its file under the new settings is refused
-pub record IsShut (old text bytes : List ℕ) (why : ServiceFault) : Type 0 where
+pub record IsShut (old text bytes : List ℕ) (node : Node) (why : ServiceFault) : Type 0 where
   pub read : Reading
+  pub own : read.log.node ≡ node
   pub file : List ℕ
   pub under : ((log_in (sha256 text) bytes ≡ Ok read) × (file ≡ bytes)) ⊎ ((log_in old bytes ≡ Ok read) × (file ≡ log_text (sha256 text) read.log))
-  pub refused : IsRefused text read.log.node file why
+  pub refused : IsRefused text node file why
 
 -- a log stays for this cause
 abbrev pub StaysFor : List ℕ → List ℕ → List ℕ → OverFault → Type 0
 StaysFor old text bytes OutOfMemory = ⊤
 StaysFor old text bytes (Log fault) = IsNoLog old text bytes fault
-StaysFor old text bytes (Refused why) = IsShut old text bytes why
+StaysFor old text bytes (Refused who why) = IsShut old text bytes (node_seen who) why

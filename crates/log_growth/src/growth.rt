@@ -7,6 +7,7 @@ ghost use Rattle.log_growth.specs.Grown.{HasGrown, IsNoGrowth, SpellsNone};
 ghost use Rattle.log_growth.specs.declared.growth.Untaken.TheVariants.{Settings};
 
 use crate::comparing::first_ungrown;
+use crate::reason::reason;
 use crate::ungrown::Ungrown;
 use std::alloc::Global;
 use thiserror::Error;
@@ -26,9 +27,9 @@ pub enum GrowthFault {
     /// The text of the new settings spells none, or such as open no world.
     #[error("the new settings are refused")]
     NewSettings,
-    /// This of the old settings has not grown to what it is in the new ones.
-    #[error("{0}")]
-    NotGrown(Ungrown),
+    /// This of the old settings has not grown to what it is in the new ones, for what the words say.
+    #[error("{0} {1}")]
+    NotGrown(Ungrown, &'static str),
 }
 
 /// Whether the settings that the first text spells have grown to those of the second: all that a node did under the first it
@@ -51,7 +52,7 @@ pub fn grows(alloc: Global, old: &[u8], new: &[u8]) -> Result<(), GrowthFault>
         Err(Untaken::Settings) => return Err(GrowthFault::NewSettings),
     };
     match first_ungrown(&before, &after) {
-        Some(found) => Err(GrowthFault::NotGrown(found)),
+        Some(found) => Err(GrowthFault::NotGrown(found, reason(&before, &after, found))),
         None => Ok(()),
     }
 }

@@ -7,6 +7,7 @@ mod laws;
 mod over;
 mod payers;
 mod pharmacies;
+mod reason;
 mod rows;
 mod switches;
 mod ungrown;

@@ -33,10 +33,10 @@ pub enum OverFault {
     /// The bytes are no log of the old settings, nor of the new ones.
     #[error("{0}")]
     Log(LogFault),
-    /// Its node would not be served under the new settings: as with `Service::open`, whose places are those in the log as it
-    /// would be then, and the same as those in the log as it is.
-    #[error("{0}")]
-    Refused(ServiceFault),
+    /// This node would not be served from it under the new settings, for what `Service::open` says. Places are the same in the
+    /// log as it is and as it would be.
+    #[error("{1}")]
+    Refused(Node, ServiceFault),
 }
 
 impl From<AllocError> for OverFault {
@@ -116,6 +116,6 @@ fn check_opens(alloc: Global, text: &[u8], node: Node, bytes: &[u8]) -> Result<(
     match Service::open(alloc, &HashKeys::fixed(), text, node, bytes) {
         Ok(_) => Ok(()),
         Err(ServiceFault::OutOfMemory) => Err(OverFault::OutOfMemory),
-        Err(fault) => Err(OverFault::Refused(fault)),
+        Err(fault) => Err(OverFault::Refused(node, fault)),
     }
 }
