@@ -1,0 +1,21 @@
+//! What the program alone can find wrong.
+
+use log_growth::GrowthFault;
+use thiserror::Error;
+
+/// What the program alone can find wrong.
+#[derive(Debug, Drop, Error)]
+pub(crate) enum Finding {
+    /// The words are wrong.
+    #[error("usage: claimgrow [--check] OLD NEW LOG...")]
+    Usage,
+    /// The old settings have not grown to the new ones.
+    #[error("{0}")]
+    Growth(GrowthFault),
+    /// Another process has the log of this name.
+    #[error("{0}: another process has the log")]
+    Locked(String),
+    /// Some log does not go over.
+    #[error("no log was changed, since not all go over")]
+    SomeStay,
+}

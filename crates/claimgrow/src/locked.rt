@@ -1,0 +1,40 @@
+//! The files of logs, taken for this process.
+
+use crate::Ungone;
+use crate::finding::Finding;
+use command_line::End;
+use std::fs::{File, OpenOptions, TryLockError};
+
+/// The file of a log, which no node's process has while this lives.
+#[derive(Drop)]
+pub(crate) struct Locked<'a> {
+    /// Its name.
+    pub(crate) name: &'a str,
+    /// The file as it is.
+    pub(crate) file: File,
+}
+
+/// Takes each of these files. A process that serves a node has its log, so the node is stopped then.
+pub(crate) fn lock_all<'a>(rt: &HostRuntime, names: &[&'a str]) -> Result<Vec<Locked<'a>>, Ungone> {
+    let mut locked = Vec::new(rt.alloc());
+    for name in names {
+        locked.push(lock(rt, name)?)?;
+    }
+    Ok(locked)
+}
+
+/// Takes the file of a name.
+fn lock<'a>(rt: &HostRuntime, name: &'a str) -> Result<Locked<'a>, Ungone> {
+    let file = match OpenOptions::new().read(true).open(rt, name) {
+        Ok(file) => file,
+        Err(error) => return Err(End::of_file(rt.alloc(), name, error)),
+    };
+    match file.try_lock() {
+        Ok(()) => Ok(Locked { name, file }),
+        Err(TryLockError::WouldBlock) => match String::from_str(rt.alloc(), name) {
+            Ok(name) => Err(End::Own(Finding::Locked(name))),
+            Err(_) => Err(End::OutOfMemory),
+        },
+        Err(TryLockError::Error(error)) => Err(End::of_file(rt.alloc(), name, error)),
+    }
+}

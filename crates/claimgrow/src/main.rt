@@ -1,0 +1,98 @@
+//! The program `claimgrow`: the settings of a network, ones that they have grown to, and logs of its nodes. It tells of each log
+//! whether it goes over to the new settings, and where all do, writes each of them so.
+#![tactic(auto)]
+
+mod copies;
+mod finding;
+mod locked;
+mod telling;
+mod words;
+
+use crate::copies::put_in_place;
+use crate::finding::Finding;
+use crate::locked::{Locked, lock_all};
+use crate::telling::put_line;
+use crate::words::{Words, words_of};
+use command_line::{End, given_words, read_file};
+use kept_logs::SettingsDigest;
+use log_growth::{Gone, GrowthFault, OverFault, go_over, grows};
+use std::alloc::Global;
+use std::io::Write;
+use std::process::ExitCode;
+
+/// Why the program ends before each log is one of the new settings.
+type Ungone = End<Finding>;
+
+fn main(rt: HostRuntime) -> ExitCode {
+    match run(&rt) {
+        Ok(()) => ExitCode::SUCCESS,
+        Err(end) => end.told(&rt, "claimgrow", 1),
+    }
+}
+
+/// Judges what the command line names, tells of each log, and writes those that go over, where all do.
+fn run(rt: &HostRuntime) -> Result<(), Ungone> {
+    let alloc = rt.alloc();
+    let given = given_words(rt)?;
+    let words = words_of(alloc, given.as_slice())?;
+    let old = read_file(rt, words.old)?;
+    let new = read_file(rt, words.new)?;
+    check_growth(alloc, old.as_slice(), new.as_slice())?;
+    let locked = lock_all(rt, words.logs.as_slice())?;
+    let gone = judge(rt, &words, old.as_slice(), new.as_slice())?;
+    if !words.check {
+        for (log, gone) in locked.iter().zip(gone.as_slice()) {
+            write_over(rt, log, gone)?;
+        }
+    }
+    Ok(())
+}
+
+/// Whether the old settings have grown to the new ones.
+fn check_growth(alloc: Global, old: &[u8], new: &[u8]) -> Result<(), Ungone> {
+    match grows(alloc, old, new) {
+        Ok(()) => Ok(()),
+        Err(GrowthFault::OutOfMemory) => Err(End::OutOfMemory),
+        Err(fault) => Err(End::Own(Finding::Growth(fault))),
+    }
+}
+
+/// Tells of each log what becomes of it, and gives that, where all of them go over.
+fn judge(rt: &HostRuntime, words: &Words<'_>, old: &[u8], new: &[u8]) -> Result<Vec<Gone>, Ungone> {
+    let alloc = rt.alloc();
+    let digest = SettingsDigest::of(old);
+    let mut gone = Vec::new(alloc);
+    let mut lines = Vec::new(alloc);
+    for name in &words.logs {
+        let bytes = read_file(rt, name)?;
+        let becomes = go_over(alloc, &digest, new, bytes.as_slice());
+        put_line(alloc, &mut lines, name, &becomes)?;
+        match becomes {
+            Ok(one) => gone.push(one)?,
+            Err(OverFault::OutOfMemory) => return Err(End::OutOfMemory),
+            Err(_) => {}
+        }
+    }
+    write_out(rt, lines.as_slice())?;
+    if gone.len() == words.logs.len() {
+        Ok(gone)
+    } else {
+        Err(End::Own(Finding::SomeStay))
+    }
+}
+
+/// Writes to standard output.
+fn write_out(rt: &HostRuntime, text: &[u8]) -> Result<(), Ungone> {
+    let mut writer = rt.stdout();
+    writer.write_all(text)?;
+    writer.flush()?;
+    Ok(())
+}
+
+/// Writes a log as it is under the new settings, where it is not one of theirs already.
+fn write_over(rt: &HostRuntime, log: &Locked<'_>, gone: &Gone) -> Result<(), Ungone> {
+    match gone {
+        Gone::Already(_) => Ok(()),
+        Gone::Over(_, bytes) => put_in_place(rt, log, bytes.as_slice()),
+    }
+}

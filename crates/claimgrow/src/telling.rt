@@ -1,0 +1,58 @@
+//! What is told of a log.
+
+use log_growth::{Gone, OverFault};
+use node_service::ServiceFault;
+use std::alloc::{AllocError, Global};
+use world_setup::Node;
+
+/// Appends the line of a log of this name: its node, and what becomes of it or why it stays.
+pub(crate) fn put_line(
+    alloc: Global,
+    lines: &mut Vec<u8>,
+    name: &str,
+    becomes: &Result<Gone, OverFault>,
+) -> Result<(), AllocError> {
+    let line = match becomes {
+        Ok(Gone::Over(node, _)) => over(alloc, name, *node, "goes over")?,
+        Ok(Gone::Already(node)) => over(alloc, name, *node, "is under the new settings already")?,
+        Err(OverFault::Refused(node, fault)) => refused(alloc, name, *node, fault)?,
+        Err(fault) => stays(alloc, name, fault)?,
+    };
+    lines.extend_from_slice(line.as_bytes())
+}
+
+/// The line of a log that is read, and of which this is true.
+fn over(alloc: Global, name: &str, node: Node, what: &str) -> Result<String, AllocError> {
+    let (kind, number) = named(node);
+    format!(in alloc; "{name}: {kind} {number} {what}\n")
+}
+
+/// The line of a log that its node does not make under the new settings.
+fn refused(
+    alloc: Global,
+    name: &str,
+    node: Node,
+    fault: &ServiceFault,
+) -> Result<String, AllocError> {
+    let (kind, number) = named(node);
+    let hint = match (node, fault) {
+        (Node::Switch(_), ServiceFault::NotMade(_)) =>
+            ": a request that it rejected has a route now",
+        _ => "",
+    };
+    format!(in alloc; "{name}: {kind} {number} does not go over: {fault}{hint}\n")
+}
+
+/// The line of a log that is not read.
+fn stays(alloc: Global, name: &str, fault: &OverFault) -> Result<String, AllocError> {
+    format!(in alloc; "{name}: does not go over: {fault}\n")
+}
+
+/// A node by its kind and its number.
+fn named(node: Node) -> (&'static str, u16) {
+    match node {
+        Node::Pharmacy(number) => ("pharmacy", number),
+        Node::Switch(number) => ("switch", number),
+        Node::Payer(number) => ("payer", number),
+    }
+}

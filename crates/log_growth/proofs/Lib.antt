@@ -1,0 +1,6 @@
+mod Counts
+mod NodesGrown
+mod RoutesGrown
+mod GrownTo
+mod Staying
+mod MadeOver

@@ -1,0 +1,85 @@
+-- Settings beside those that they are to have grown to: the first thing that is neither as it was nor grown.
+use Rattle.std.specs.Prelude.{◌≡◌, ℕ, ◌+◌, Bool, true, false, cond, ◌&&◌, ◌==◌, not, nat_le, List, [], ◌∷◌, Option, Some, None, bytes_eq}
+use Rattle.std.specs.List.{list_any, position_from}
+use Rattle.std.specs.Option.{option_or, option_map}
+use Rattle.bin_routes.specs.Row.{Row, same_key}
+use Rattle.bin_routes.specs.Table.{routes_of}
+use Rattle.claim_model.specs.Context.{Context}
+use Rattle.claim_model.specs.Bytes.{bytes_with}
+use Rattle.claim_model.specs.Journal.{PharmacySettings}
+use Rattle.claim_model.specs.Settings.{PayerSettings, WorldSettings}
+use Rattle.world_setup.specs.Seen.{settings_seen}
+use Rattle.world_setup.specs.declared.settings.WorldSettings.{WorldSettings as Opened}
+use Rattle.settings_growth.specs.Growth.{PharmacyGrows, PayerGrows, Extends, Grows}
+use Rattle.log_growth.specs.declared.ungrown.Ungrown.{Ungrown}
+use Rattle.log_growth.specs.declared.ungrown.Ungrown.TheVariants as ungrown
+
+-- the same pharmacy, whose journal may have as many entries or more
+abbrev pub pharmacy_grows : PharmacySettings → PharmacySettings → Bool
+pharmacy_grows old new =
+    bytes_eq old.qualifier new.qualifier && (bytes_eq old.provider new.provider && (bytes_eq old.nodes new.nodes
+    && ((old.again == new.again) && ((old.tries == new.tries) && nat_le old.cap new.cap))))
+
+abbrev pub same_prices : List (List ℕ × ℕ) → List (List ℕ × ℕ) → Bool
+same_prices [] [] = true
+same_prices [] (q ∷ new) = false
+same_prices (p ∷ old) [] = false
+same_prices (p ∷ old) (q ∷ new) = (bytes_eq p.0 q.0 && (p.1 == q.1)) && same_prices old new
+
+-- the same payer, whose book may have as many rows or more
+abbrev pub payer_grows : PayerSettings → PayerSettings → Bool
+payer_grows old new =
+    (old.book.serial == new.book.serial) && (nat_le old.book.cap new.book.cap && ((old.plan.fee == new.plan.fee)
+    && ((old.plan.copay == new.plan.copay) && same_prices old.plan.prices new.plan.prices)))
+
+-- the number of the first node, from this one on, that is not there any more or has not grown
+abbrev pub first_other : {A : Type 0} → (A → A → Bool) → ℕ → List A → List A → Option ℕ
+first_other grows number [] new = None
+first_other grows number (a ∷ old) [] = Some number
+first_other grows number (a ∷ old) (b ∷ new) = cond (grows a b) (first_other grows (number + 1) old new) (Some number)
+
+-- the first node that is not there any more or has not grown: pharmacies, switches, payers
+abbrev pub node_ungrown : WorldSettings → WorldSettings → Option Ungrown
+node_ungrown old new =
+    option_or (option_map ungrown.Pharmacy (first_other pharmacy_grows 1 old.pharmacies new.pharmacies))
+    (option_or (option_map ungrown.Switch (first_other (λ (a b : ℕ). a == b) 1 old.switches new.switches))
+    (option_map ungrown.Payer (first_other payer_grows 1 old.payers new.payers)))
+
+-- all nodes are there, as they were or grown
+pub record NodesGrow (old new : WorldSettings) : Type 0 where
+  pub pharmacies : Extends PharmacyGrows old.pharmacies new.pharmacies
+  pub switches : Extends (λ (a b : ℕ). b ≡ a) old.switches new.switches
+  pub payers : Extends PayerGrows old.payers new.payers
+
+-- ---- routes
+
+-- the same row
+abbrev pub same_row : Row → Row → Bool
+same_row a b = same_key a b && (a.payer == b.payer)
+
+-- a row that names a processor control number takes claims from one of its BIN alone, which leads to another payer
+abbrev pub takes_by : Option (List ℕ) → Option (List ℕ) → Row → Row → Bool
+takes_by (Some pcn) None a b = bytes_eq a.bin b.bin && not (a.payer == b.payer)
+takes_by (Some pcn) (Some other) a b = false
+takes_by None other a b = false
+
+abbrev pub takes_from : Row → Row → Bool
+takes_from a b = takes_by a.pcn b.pcn a b
+
+-- the first row that is not there any more, and else the first new row that takes claims from an old one
+abbrev pub route_ungrown : List Row → List Row → Option Ungrown
+route_ungrown old new =
+    option_or (option_map ungrown.RouteGone (position_from (λ (row : Row). not (list_any (same_row row) new)) 0 old))
+    (option_map ungrown.RouteTaken (position_from (λ (row : Row). list_any (takes_from row) old) 0 new))
+
+-- the first thing that has not grown
+abbrev pub first_ungrown : Opened → Opened → Option Ungrown
+first_ungrown old new = option_or (node_ungrown (settings_seen old) (settings_seen new)) (route_ungrown old.routes.items new.routes.items)
+
+-- how nodes of these settings read bytes
+abbrev pub reading_of : Opened → Context
+reading_of s = bytes_with (routes_of s.routes.items)
+
+-- settings grow to others
+abbrev pub GrowsTo : Opened → Opened → Type 0
+GrowsTo old new = Grows (reading_of old) (reading_of new) (settings_seen old) (settings_seen new)

@@ -1,0 +1,5 @@
+-- In the order in which one explains them.
+pub mod Compared
+pub mod Over
+pub mod Grown
+pub mod Made

@@ -1,0 +1,94 @@
+//! Texts of settings, of which one has to have grown from the other.
+
+ghost use Rattle.std.specs.Prelude.{◌≡◌, ◌≢◌, IfOk, IfErr, OnOk};
+ghost use Rattle.world_setup.specs.declared.world_fault.WorldFault.TheVariants.{OutOfMemory};
+ghost use Rattle.node_service.specs.Opened.{Spells};
+ghost use Rattle.log_growth.specs.Grown.{HasGrown, IsNoGrowth, SpellsNone};
+ghost use Rattle.log_growth.specs.declared.growth.Untaken.TheVariants.{Settings};
+
+use crate::comparing::first_ungrown;
+use crate::reason::reason;
+use crate::ungrown::Ungrown;
+use std::alloc::Global;
+use thiserror::Error;
+use world_settings::{SettingsFault, read_settings};
+use world_setup::{WorldFault, WorldSettings};
+
+/// Why settings have not grown to others: the first cause in the order of this list. Want of memory may stand in place of any
+/// answer.
+#[derive(Clone, Copy, Debug, PartialEq, Eq, Error)]
+pub enum GrowthFault {
+    /// Memory was refused.
+    #[error("out of memory")]
+    OutOfMemory,
+    /// The text of the old settings spells none, or such as open no world.
+    #[error("the old settings are refused")]
+    OldSettings,
+    /// The text of the new settings spells none, or such as open no world.
+    #[error("the new settings are refused")]
+    NewSettings,
+    /// This of the old settings has not grown to what it is in the new ones, for what the words say.
+    #[error("{0} {1}")]
+    NotGrown(Ungrown, &'static str),
+}
+
+/// Whether the settings that the first text spells have grown to those of the second: all that a node did under the first it
+/// could have done under the second, as the theorems on settings that grow have it.
+///
+/// # Errors
+/// The first cause that stands, in the order of `GrowthFault`.
+pub fn grows(alloc: Global, old: &[u8], new: &[u8]) -> Result<(), GrowthFault>
+    ensures grown { OnOk result (HasGrown old.now new.now) }
+    ensures refused { IfErr result (λ why. IsNoGrowth old.now new.now why) }
+{
+    let before = match settings_of(alloc, old) {
+        Ok(settings) => settings,
+        Err(Untaken::OutOfMemory) => return Err(GrowthFault::OutOfMemory),
+        Err(Untaken::Settings) => return Err(GrowthFault::OldSettings),
+    };
+    let after = match settings_of(alloc, new) {
+        Ok(settings) => settings,
+        Err(Untaken::OutOfMemory) => return Err(GrowthFault::OutOfMemory),
+        Err(Untaken::Settings) => return Err(GrowthFault::NewSettings),
+    };
+    match first_ungrown(&before, &after) {
+        Some(found) => Err(GrowthFault::NotGrown(found, reason(&before, &after, found))),
+        None => Ok(()),
+    }
+}
+
+/// Why a text has no settings that a world takes.
+#[derive(Clone, Copy)]
+enum Untaken {
+    OutOfMemory,
+    Settings,
+}
+
+/// The settings that a text spells, where a world takes them.
+fn settings_of(alloc: Global, text: &[u8]) -> Result<WorldSettings, Untaken>
+    ensures spelled { IfOk result (λ settings. Spells text.now settings) }
+    ensures refused { IfErr result (λ why. why ≡ Settings → SpellsNone text.now) }
+{
+    let settings = match read_settings(alloc, text) {
+        Ok(settings) => settings,
+        Err(SettingsFault::OutOfMemory) => return Err(Untaken::OutOfMemory),
+        Err(SettingsFault::Settings) => return Err(Untaken::Settings),
+    };
+    match settings.checked_routes(alloc) {
+        Ok(_) => Ok(settings),
+        Err(fault) => Err(cause_of(fault)),
+    }
+}
+
+/// Why settings are not taken of which a world says this.
+fn cause_of(fault: WorldFault) -> Untaken
+    ensures { result ≡ Settings → fault ≢ OutOfMemory }
+{
+    match fault {
+        WorldFault::OutOfMemory => Untaken::OutOfMemory,
+        WorldFault::TooMany
+        | WorldFault::NoNode
+        | WorldFault::SameProvider
+        | WorldFault::BadRoute(_) => Untaken::Settings,
+    }
+}

@@ -1,0 +1,20 @@
+//! Settings that have grown, and logs that go over to them. Whether settings have grown to others is exact for pharmacies,
+//! switches and payers, and on the safe side for routes. A log goes over where its node opens from it under the new ones:
+//! the same records under a head with the new digest.
+#![tactic(auto)]
+
+mod comparing;
+mod growth;
+mod laws;
+mod over;
+mod payers;
+mod pharmacies;
+mod reason;
+mod rows;
+mod switches;
+mod ungrown;
+
+pub use growth::{GrowthFault, grows};
+pub use laws::{made_logs_go_over, nodes_are_compared_exactly};
+pub use over::{Gone, OverFault, go_over};
+pub use ungrown::Ungrown;

@@ -1,0 +1,10 @@
+-- In the order in which one explains them.
+pub mod Rerouted
+pub mod Pharmacies
+pub mod Switches
+pub mod Payers
+pub mod Opening
+pub mod Replayed
+pub mod Turns
+pub mod Running
+pub mod Growing

@@ -1,0 +1,4 @@
+-- In the order in which one explains them.
+pub mod Growth
+pub mod Orders
+pub mod GoingOver

@@ -1,0 +1,12 @@
+//! Settings that grow: more pharmacies, switches, payers and routes, and larger caps. What nodes did under the old settings
+//! they could have done under the new ones, byte for byte, so logs go over as they are, each at a moment of its own. It has
+//! definitions and theorems over the model, and no code.
+#![tactic(auto)]
+
+mod growth;
+mod logs;
+mod orders;
+
+pub use growth::growth_goes_on;
+pub use logs::{logs_go_on, logs_go_over, runs_go_over};
+pub use orders::{legal_logs_have_turns, made_logs_are_legal};
