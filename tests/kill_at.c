@@ -22,6 +22,9 @@
 #include <sys/wait.h>
 #include <unistd.h>
 
+/* The status where the program cannot be traced. */
+#define FAILED 125
+
 struct watch {
     const char *log;
     char folder[PATH_MAX];
@@ -34,7 +37,7 @@ struct watch {
 
 static void fail(const char *what) {
     perror(what);
-    exit(125);
+    exit(FAILED);
 }
 
 /* Whether an open file of the program has this name. */
@@ -101,7 +104,7 @@ static int follow(struct watch *watch, pid_t child, long last) {
 int main(int count, char **words) {
     if (count < 5) {
         fprintf(stderr, "kill_at STOP STATE LOG PROGRAM WORD..\n");
-        return 125;
+        return FAILED;
     }
     struct watch watch = {.log = words[3], .syncing = -1};
     snprintf(watch.folder, sizeof watch.folder, "%s", watch.log);
@@ -110,13 +113,14 @@ int main(int count, char **words) {
     pid_t child = fork();
     if (child < 0) fail("fork");
     if (child == 0) {
-        ptrace(PTRACE_TRACEME, 0, NULL, NULL);
+        if (ptrace(PTRACE_TRACEME, 0, NULL, NULL) != 0) _exit(FAILED);
         raise(SIGSTOP);
         execv(words[4], words + 4);
         fail(words[4]);
     }
     int status;
     if (waitpid(child, &status, 0) < 0) fail("waitpid");
+    if (!WIFSTOPPED(status)) return FAILED;
     if (ptrace(PTRACE_SETOPTIONS, child, NULL, (void *)(long)(PTRACE_O_TRACESYSGOOD | PTRACE_O_EXITKILL)) != 0) fail("ptrace");
     int ended = follow(&watch, child, atol(words[1]));
     tell(&watch, words[2]);
