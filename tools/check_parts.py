@@ -13,7 +13,7 @@ from dataclasses import dataclass
 sys.dont_write_bytecode = True
 from check_programs import TOP, programs  # noqa: E402
 
-PRODUCTS = ('claimswitch', 'claimpicture', 'claimdecode', 'claimnode', 'claimaudit', 'claimdump')
+PRODUCTS = ('claimswitch', 'claimpicture', 'claimdecode', 'claimnode', 'claimaudit', 'claimdump', 'claimgrow')
 # Each refusal of memory that is not one of so many is left to the gate.
 REFUSALS = '5'
 

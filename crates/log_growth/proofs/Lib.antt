@@ -3,3 +3,4 @@ mod NodesGrown
 mod RoutesGrown
 mod GrownTo
 mod Staying
+mod MadeOver

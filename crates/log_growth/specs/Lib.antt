@@ -2,3 +2,4 @@
 pub mod Compared
 pub mod Over
 pub mod Grown
+pub mod Made

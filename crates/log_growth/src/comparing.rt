@@ -17,7 +17,7 @@ use world_setup::WorldSettings;
 ///
 /// Of nodes the answer is exact. Of routes it is on the safe side: a new route of BIN and processor control number under an
 /// old one of the BIN alone has to lead to the same payer.
-pub fn first_ungrown(old: &WorldSettings, new: &WorldSettings) -> Option<Ungrown>
+pub(crate) fn first_ungrown(old: &WorldSettings, new: &WorldSettings) -> Option<Ungrown>
     requires { first_fault (length new.now.payers.items) new.now.routes.items ≡ None }
     ensures first { result ≡ first_ungrown old.now new.now }
     ensures grows { result ≡ None → GrowsTo old.now new.now }

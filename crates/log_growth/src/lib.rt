@@ -1,4 +1,6 @@
-//! Logs under settings that have grown.
+//! Settings that have grown, and logs that go over to them. Whether settings have grown to others is exact for pharmacies,
+//! switches and payers, and on the safe side for routes. A log goes over where its node opens from it under the new ones:
+//! the same records under a head with the new digest.
 #![tactic(auto)]
 
 mod comparing;
@@ -12,8 +14,7 @@ mod rows;
 mod switches;
 mod ungrown;
 
-pub use comparing::first_ungrown;
 pub use growth::{GrowthFault, grows};
-pub use laws::nodes_are_compared_exactly;
+pub use laws::{made_logs_go_over, nodes_are_compared_exactly};
 pub use over::{Gone, OverFault, go_over};
 pub use ungrown::Ungrown;

@@ -1,0 +1,214 @@
+"""Settings that grow: which logs claimgrow takes over to others, how these open then, and why it leaves all as they were."""
+import os
+
+from suite.case import Case, Group, rows_apart
+from suite.logs import HEAD, head_of, read_log, write_log
+from suite.nodes import Served, room
+from suite.programs import Ran, run
+from suite.rows import read_rows, shared_texts
+from suite.worlds import Dump, Settings
+
+PROGRAMS = ('claimgrow', 'claimdump', 'claimnode', 'claimaudit')
+SETTINGS = b'''again = 2
+tries = 3
+[[pharmacy]]
+qualifier = "01"
+provider = "1234567893"
+nodes = [1, 2]
+cap = 100
+[[pharmacy]]
+qualifier = "01"
+provider = "9876543217"
+nodes = [2]
+cap = 200
+[[switch]]
+cap = 64
+[[switch]]
+cap = 32
+[[payer]]
+fee = 150
+copay = 1000
+cap = 3000
+serial = 7
+[payer.prices]
+00093721410 = 18567
+[[payer]]
+fee = 250
+copay = 500
+cap = 4000
+[[route]]
+bin = "610455"
+payer = 1
+[[route]]
+bin = "700000"
+pcn = "AB"
+payer = 2
+'''
+# A claim is paid; one whose BIN has no route is rejected by switch 1, in its third record; a payer stops and starts, a pharmacy ticks.
+EVENTS = ('submit ph1 {routed}', 'deliver 1', 'deliver 2', 'deliver 3', 'deliver 4', 'submit ph1 {unrouted}', 'deliver 5', 'deliver 6', 'stop pr1',
+          'start pr1', 'tick ph2')
+
+
+def lines(text: str) -> str:
+    """A text whose lines stand apart by a semicolon and a space."""
+    return text.replace('; ', '\n')
+
+
+def day() -> bytes:
+    """The input of the replay whose logs are taken."""
+    routed = shared_texts('')['billing']
+    events = '\n'.join(EVENTS).format(routed=routed, unrouted=routed.replace('610455', '999999', 1))
+    return SETTINGS + b'---\n' + events.encode('latin-1') + b'\n'
+
+
+def edited(text: str) -> bytes:
+    """The settings with one text, which stands there once, in another's place."""
+    old, arrow, new = text.partition(' => ')
+    if not arrow or SETTINGS.decode().count(lines(old)) != 1:
+        raise ValueError(f'no edit of the settings: {text}')
+    return SETTINGS.decode().replace(lines(old), lines(new)).encode()
+
+
+def added(text: str) -> bytes:
+    """The settings with these lines behind them."""
+    return SETTINGS + lines(text).encode() + b'\n'
+
+
+class Network:
+    """The logs of a day in a folder, and the settings that they are to go over to."""
+
+    def __init__(self, folder: str, new: bytes):
+        self.dump, self.new = Dump(folder, day()), new
+        self.nodes = Settings(SETTINGS).nodes()
+        self.write('new.toml', new)
+
+    def write(self, name: str, octets: bytes) -> None:
+        with open(self.dump.path(name), 'wb') as file:
+            file.write(octets)
+
+    def paths(self, nodes: list[str]) -> list[str]:
+        return [self.dump.path(f'{node}.log') for node in nodes]
+
+    def octets(self) -> list[bytes]:
+        return [self.dump.read(f'{node}.log') for node in self.nodes]
+
+    def grow(self, *words: str, nodes: list[str] | None = None) -> Ran:
+        """What claimgrow says of the logs of nodes, or of all."""
+        return run('claimgrow', *words, self.dump.path('settings.toml'), self.dump.path('new.toml'), *self.paths(self.nodes if nodes is None else nodes))
+
+    def said(self, ran: Ran) -> str:
+        """What claimgrow said, without the folder, and with records by their numbers in place of their bytes."""
+        told = (ran.out + ran.err).decode().replace(f'{self.dump.folder}/', '').replace('claimgrow: ', '')
+        for node in self.nodes:
+            for number, place in enumerate(places(self.dump.read(f'{node}.log')), 1):
+                told = told.replace(f'{node}.log: {kind_of(node)} does not go over: the record at byte {place} ', f'{node}: record {number} ')
+        return '; '.join(told.splitlines())
+
+    def opened(self) -> None:
+        """Opens each node under the new settings, with every call of its log; a new node begins its own."""
+        for node in Settings(self.new).nodes():
+            calls = len(read_log(self.dump.read(f'{node}.log')).calls) if node in self.nodes else 0
+            with Served(self.dump.path('new.toml'), node, self.dump.path(f'{node}.log')) as served:
+                if served.ready != f'ready {calls}':
+                    raise AssertionError(f'{node} under the new settings: {served.ready}')
+
+    def audited(self) -> str:
+        """The verdict of claimaudit on all logs under the new settings."""
+        ran = run('claimaudit', self.dump.path('new.toml'), *self.paths(Settings(self.new).nodes()))
+        return next(line for line in ran.told().splitlines() if ' run' in line or 'no ' in line)
+
+
+def kind_of(node: str) -> str:
+    return f"{ {'ph': 'pharmacy', 'sw': 'switch', 'pr': 'payer'}[node[:2]] } {node[2:]}"
+
+
+def places(octets: bytes) -> list[int]:
+    """The places of the records of a log that is whole."""
+    log = read_log(octets)
+    return [len(write_log(log._replace(calls=log.calls[:count]))) for count in range(len(log.calls))]
+
+
+def gone_over(network: Network, before: list[bytes]) -> str:
+    """What is to be seen once all logs went over: heads alone are others, all open, and they are one legal run."""
+    for node, old, new in zip(network.nodes, before, network.octets()):
+        if new != head_of(node, network.new) + old[HEAD:]:
+            return f'{node} has other bytes'
+    again = network.grow()
+    if again.status or again.out.count(b' is under the new settings already\n') != len(network.nodes):
+        return f'again: {network.said(again)}'
+    if [name for name in os.listdir(network.dump.folder) if name.endswith('.grown')]:
+        return 'copies are left'
+    network.opened()
+    return f'over, {network.audited()}'
+
+
+def grown(new: bytes) -> str:
+    """What becomes of the day's logs."""
+    with room() as folder:
+        network = Network(folder, new)
+        before, checked = network.octets(), network.grow('--check')
+        if network.octets() != before:
+            return '--check wrote'
+        ran = network.grow()
+        if (ran.status, ran.out, ran.err) != (checked.status, checked.out, checked.err):
+            return f'--check said otherwise: {network.said(checked)}'
+        if ran.status == 0:
+            return gone_over(network, before)
+        stays = [line for line in network.said(ran).split('; ') if not line.endswith(' goes over')]
+        return '; '.join(stays) if network.octets() == before and ran.status == 1 else f'status {ran.status}, other bytes'
+
+
+def altered(change) -> str:
+    """What becomes of the logs where that of pharmacy 1 is altered, and a payer is new."""
+    with room() as folder:
+        network = Network(folder, edited('cap = 3000 => cap = 3001'))
+        count = len(network.dump.log('ph1').calls)
+        network.write('ph1.log', change(network.dump.read('ph1.log')))
+        before, ran = network.octets(), network.grow()
+        if ran.status:
+            stays = [line for line in network.said(ran).split('; ') if not line.endswith(' goes over')]
+            return '; '.join(stays) if network.octets() == before else 'other bytes'
+        return f'over, {len(read_log(network.dump.read("ph1.log")).calls)} of {count} records'
+
+
+def held(hold: str) -> str:
+    """What is said where some log is not free, or some are over already."""
+    with room() as folder:
+        network = Network(folder, edited('cap = 3000 => cap = 3001'))
+        if hold == 'served':
+            with Served(network.dump.path('settings.toml'), 'pr1', network.dump.path('pr1.log')):
+                return network.said(network.grow())
+        if hold == 'twice':
+            return network.said(network.grow(nodes=['ph1', 'sw1', 'ph1']))
+        if hold == 'absent':
+            return network.said(network.grow(nodes=['ph1', 'sw9']))
+        network.grow(nodes=hold.split(' '))
+        return network.said(network.grow())
+
+
+def tell(word: str, argument: bytes) -> str:
+    """What a row comes to."""
+    text = argument.decode('latin-1')
+    if word == 'edit':
+        return grown(edited(text))
+    if word == 'add':
+        return grown(added(text))
+    if word == 'cut':
+        return altered(lambda octets: octets[:len(octets) - int(text)])
+    if word == 'keep':
+        return altered(lambda octets: octets[:int(text)])
+    if word == 'turn':
+        return altered(lambda octets: octets[:int(text)] + bytes([octets[int(text)] ^ 1]) + octets[int(text) + 1:])
+    if word == 'other-head':
+        return altered(lambda octets: head_of('ph1', SETTINGS + text.encode()) + octets[HEAD:])
+    if word == 'held':
+        return held(text)
+    if word == 'words':
+        ran = run('claimgrow', *text.split(' ')) if text else run('claimgrow')
+        return f'status {ran.status}'
+    raise ValueError(f'no such word: {word}')
+
+
+def groups(path: str, name: str, kind: type[Case]) -> list[Group]:
+    """Each row by itself."""
+    return rows_apart(name, read_rows(path), tell, kind)
