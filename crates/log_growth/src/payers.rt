@@ -29,7 +29,7 @@ fn payer_grows(old: &PayerSettings, new: &PayerSettings) -> bool
     old.book.serial() == new.book.serial()
         && old.book.cap() <= new.book.cap()
         && old.plan.fee() == new.plan.fee()
-        && old.plan.copay() <= new.plan.copay()
+        && old.plan.copay() == new.plan.copay()
         && same_prices(&old.plan, &new.plan)
 }
 
