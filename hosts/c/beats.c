@@ -1,27 +1,64 @@
 /* Who has a node's log: what hosts say to one another on claims.NODE.owner. It is for speed alone; the servers decide who has the log. */
 #include "stream.h"
 
-static const char *const word_of[] = { "has", "wants", "follows", "leaves", "vouches" };
+static const char *const word_of[] = { "has", "wants", "follows", "leaves", "vouches", "moves", "ready", "served" };
 
-/* Notes what another host, or an operator, says: OWNER SEQUENCE WORD. */
+/* What was heard: OWNER SEQUENCE WORD, and whom it is for, where it is for one host; then what more there is. */
+struct word {
+    char owner[OWNER_TEXT], word[16], whom[OWNER_TEXT];
+    unsigned long long sequence;
+    int more;
+};
+
+static bool is_beat(const struct word *heard, enum beat beat) {
+    return strcmp(heard->word, word_of[beat]) == 0;
+}
+
+/* Notes who has the log. One that leaves it to somebody else has it still. */
+static void note_owner(struct beats *beats, const struct word *heard, bool is_for_me) {
+    bool leaves = is_beat(heard, BEAT_LEAVES), wants = is_beat(heard, BEAT_WANTS), moves = is_beat(heard, BEAT_MOVES);
+    if (!leaves && !wants && !moves && !is_beat(heard, BEAT_HAS)) return;
+    beats->has = (struct heard){ .sequence = heard->sequence, .heard = now(), .wants = wants, .is_new = true };
+    beats->has.leaves = leaves && (is_for_me || heard->whom[0] == '\0');
+    if (leaves && is_for_me) beats->is_handed = true;
+}
+
+/* Notes what is said for a move of the log to this host, or from it. */
+static void note_move(struct beats *beats, const struct word *heard, const char *more) {
+    if (is_beat(heard, BEAT_MOVES)) snprintf(beats->mover, sizeof beats->mover, "%s", heard->owner);
+    if (is_beat(heard, BEAT_READY)) beats->is_ready = true;
+    if (!is_beat(heard, BEAT_SERVED)) return;
+    add_text(&beats->served, more);
+    add_text(&beats->served, " ");
+}
+
+static void note(struct beats *beats, const struct word *heard, const char *text) {
+    bool is_for_me = strcmp(heard->whom, beats->self) == 0;
+    note_owner(beats, heard, is_for_me);
+    if (is_for_me) note_move(beats, heard, text + heard->more);
+    if (is_beat(heard, BEAT_FOLLOWS)) {
+        snprintf(beats->follower, sizeof beats->follower, "%s", heard->owner);
+        beats->followed = now();
+        if (heard->sequence > beats->copied) beats->copied = heard->sequence;
+    }
+    beats->is_vouched = true;
+    if (heard->sequence > beats->vouched) beats->vouched = heard->sequence;
+}
+
 static void heard(natsConnection *connection, natsSubscription *subscription, natsMsg *message, void *closure) {
     (void)connection, (void)subscription;
     struct beats *beats = closure;
-    char owner[OWNER_TEXT], word[16], form[32];
-    unsigned long long sequence;
-    snprintf(form, sizeof form, "%%%ds %%llu %%15s", OWNER_TEXT - 1);
-    bool is_one = sscanf(natsMsg_GetData(message), form, owner, &sequence, word) == 3 && strcmp(owner, beats->self) != 0;
+    struct word word = { .sequence = 0 };
+    char form[48];
+    snprintf(form, sizeof form, "%%%ds %%llu %%15s %%%ds%%n", OWNER_TEXT - 1, OWNER_TEXT - 1);
+    int count = sscanf(natsMsg_GetData(message), form, word.owner, &word.sequence, word.word, word.whom, &word.more);
+    if (count >= 3 && strcmp(word.owner, beats->self) != 0) {
+        pthread_mutex_lock(&beats->lock);
+        note(beats, &word, natsMsg_GetData(message));
+        pthread_cond_signal(&beats->came);
+        pthread_mutex_unlock(&beats->lock);
+    }
     natsMsg_Destroy(message);
-    if (!is_one) return;
-    pthread_mutex_lock(&beats->lock);
-    bool wants = strcmp(word, word_of[BEAT_WANTS]) == 0, leaves = strcmp(word, word_of[BEAT_LEAVES]) == 0;
-    if (wants || leaves || strcmp(word, word_of[BEAT_HAS]) == 0)
-        beats->has = (struct heard){ .sequence = sequence, .heard = now(), .leaves = leaves, .wants = wants, .is_new = true };
-    if (strcmp(word, word_of[BEAT_FOLLOWS]) == 0 && sequence > beats->copied) beats->copied = sequence;
-    beats->is_vouched = true;
-    if (sequence > beats->vouched) beats->vouched = sequence;
-    pthread_cond_signal(&beats->came);
-    pthread_mutex_unlock(&beats->lock);
 }
 
 void beats_open(struct beats *beats, const struct stream *stream) {
@@ -49,6 +86,13 @@ void beats_forget(struct beats *beats) {
     beats->has.heard = now();
     beats->has.leaves = false;
     pthread_mutex_unlock(&beats->lock);
+}
+
+bool beats_level(struct beats *beats, uint64_t sequence) {
+    pthread_mutex_lock(&beats->lock);
+    bool is_level = sequence >= beats->vouched;
+    pthread_mutex_unlock(&beats->lock);
+    return is_level;
 }
 
 bool beats_vouch(struct beats *beats, uint64_t sequence) {
@@ -94,6 +138,15 @@ void beats_say(struct beats *beats, enum beat beat, uint64_t sequence, double ev
     beats->said = now();
     snprintf(text, sizeof text, "%s %llu %s", beats->self, (unsigned long long)sequence, word_of[beat]);
     natsConnection_PublishString(beats->connection, beats->subject, text);
+}
+
+void beats_tell(struct beats *beats, enum beat beat, uint64_t sequence, const char *whom, const char *more) {
+    struct bytes text = { NULL, 0, 0 };
+    add_form(&text, "%s %llu %s %s ", beats->self, (unsigned long long)sequence, word_of[beat], whom);
+    add_text(&text, more);
+    natsConnection_PublishString(beats->connection, beats->subject, text.at);
+    beats->said = now();
+    free(text.at);
 }
 
 void beats_close(struct beats *beats) {

@@ -90,6 +90,8 @@ static bool read_on(struct candidate *it, uint64_t told) {
     uint64_t before = it->stream.last;
     while (!*it->is_stopping && it->stream.last < told && (found = stream_read(&it->stream, it->stream.last + 1, &entry)) == FOUND) {
         copy_take(&it->copy, &entry);
+        if (strcmp(entry.owner, it->owner) != 0) it->is_new_owner = true;
+        strcpy(it->owner, entry.owner);
         entry_free(&entry);
         /* What comes in a few messages is on disk before the node makes it; a long log is made as it comes. */
         if (it->copy.unmade.size > MOST_UNMADE) copy_make(&it->copy);
@@ -113,6 +115,8 @@ static void vouch(struct candidate *it) {
 /* Whether this machine may take over: it knows the log's end. One that was just made is vouched for by who made it. */
 static bool may_claim(struct candidate *it) {
     bool may = it->copy.seen.vouched || it->stream.last == 1;
+    /* What another host has told of, and the servers do not show, they may have lost. */
+    if (!beats_level(&it->beats, it->stream.last)) return false;
     if (!may && !it->is_told) say("warning", "nobody vouches for the end of the log: see `vogctl log vouch`", it->stream.name);
     it->is_told = it->is_told || !may;
     return may;
@@ -176,8 +180,10 @@ bool candidate_own(struct candidate *it) {
         if (!is_end || is_alone) is_end = read_on(it, UINT64_MAX);
         else if (has.sequence > it->stream.last) is_end = read_on(it, has.sequence);
         vouch(it);
-        /* A log that was just made is nobody's. */
-        is_alone = is_alone || it->stream.last == 1;
+        /* Whom another has just overtaken is not who is silent. A log that was just made is nobody's. */
+        if (it->is_new_owner) beats_forget(&it->beats);
+        is_alone = (is_alone && !it->is_new_owner) || it->stream.last == 1;
+        it->is_new_owner = false;
         if (is_alone) copy_make(&it->copy);
         if (is_end && is_alone && is_due && may_claim(it) && is_level(it)) {
             if (claim(it)) return true;
@@ -188,6 +194,7 @@ bool candidate_own(struct candidate *it) {
         bool is_asked = has.is_new && has.wants && it->stream.last >= has.sequence;
         if (it->copy.seen.vouched) beats_say(&it->beats, BEAT_FOLLOWS, it->stream.last, is_asked ? 0 : FOLLOW_SECONDS);
         copy_make(&it->copy);
+        move_look(it);
         tell_service(it);
         beats_wait(&it->beats, LOOK_SECONDS);
     }
@@ -201,6 +208,7 @@ void candidate_look(struct candidate *it) {
 #ifdef WRONG_UNFENCED
     return;
 #endif
+    move_took(it);
     if (has.is_new && has.sequence > it->stream.last) end_refused(&it->stream, REFUSED_LATER);
     /* Who was stopped, or hears another who knows as much, has the servers say who has the log before anything is said. */
     if (was_away || (has.is_new && has.sequence == it->stream.last)) copy_append(&it->copy, "", 0);

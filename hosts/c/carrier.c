@@ -49,7 +49,7 @@ static void asked(struct carrier *carrier, natsMsg *text, enum sender from) {
     bool is_line = natsMsg_GetDataLength(text) <= MOST_BYTES;
     if (is_line && put(carrier, text, from)) return;
     if (is_line) counts_dropped(FULL);
-    reply(carrier, text, is_line ? "refused Busy" : "refused Line", 12);
+    if (!carrier->is_silent) reply(carrier, text, is_line ? "refused Busy" : "refused Line", 12);
     natsMsg_Destroy(text);
 }
 

@@ -52,6 +52,36 @@ static double chance(void) {
     return (double)random() / (double)RAND_MAX;
 }
 
+/* Finishes what was taken: no more is taken, what was is served, synced and said. */
+static void drain(struct host *host) {
+    service_tell("STOPPING=1");
+    say("info", "draining", NULL);
+    carrier_stop(host->carrier);
+    for (struct message *batch; (batch = take_all(host->carrier, 0)) != NULL;) turn(host, batch, false);
+    later_send(&host->later, host->carrier, true);
+}
+
+/* Moves the log to another host, where one follows; whether it went. */
+static bool move(struct host *host) {
+    host->carrier->is_silent = true;
+    const char *whom = move_begin(host->candidate);
+    if (whom != NULL) {
+        carrier_stop(host->carrier);
+        for (struct message *batch; (batch = take_all(host->carrier, 0)) != NULL;) turn(host, batch, false);
+        later_send(&host->later, host->carrier, true);
+        natsConnection_FlushTimeout(host->carrier->connection, 1000);
+        move_end(host->candidate, whom, &host->served);
+        say("info", "moved", whom);
+    }
+    reply(host->carrier, host->mover, whom == NULL ? "refused NoStandBy" : "ok", whom == NULL ? 17 : 2);
+    natsMsg_Destroy(host->mover);
+    host->mover = NULL;
+    host->served.size = 0;
+    host->has_moved = whom != NULL;
+    host->carrier->is_silent = false;
+    return host->has_moved;
+}
+
 /* Serves until it is told to end, or the connection is closed for good. */
 static void serve_for_ever(struct host *host) {
     bool ticks = begins(host->given.name, 2, "ph");
@@ -66,6 +96,7 @@ static void serve_for_ever(struct host *host) {
         /* No two hosts tick together for long, since the time between two ticks is never quite the same. */
         if (is_tick) host->next_tick = now() + host->given.tick * (0.8 + 0.4 * chance());
         turn(host, batch, is_tick);
+        if (host->mover != NULL && move(host)) return;
         if (now() < host->next_word) continue;
         host->next_word = now() + 1;
         service_tell("WATCHDOG=1");
@@ -74,15 +105,6 @@ static void serve_for_ever(struct host *host) {
         if (host->given.says) say("info", "serves", told.at);
         free(told.at);
     }
-}
-
-/* Finishes what was taken: no more is taken, what was is served, synced and said. */
-static void drain(struct host *host) {
-    service_tell("STOPPING=1");
-    say("info", "draining", NULL);
-    carrier_stop(host->carrier);
-    for (struct message *batch; (batch = take_all(host->carrier, 0)) != NULL;) turn(host, batch, false);
-    later_send(&host->later, host->carrier, true);
 }
 
 /* Counts what the node has before it serves. */
@@ -113,9 +135,39 @@ static bool open_node(struct host *host) {
     return is_open;
 }
 
+/* Lets messages go that came while another host had the log. */
+static void let_go(struct host *host) {
+    for (struct message *batch = take_all(host->carrier, 0), *next; batch != NULL; batch = next) {
+        next = batch->next;
+        natsMsg_Destroy(batch->text);
+        free(batch);
+    }
+}
+
+/* Hears the node's callers while the log is being moved here, or no more. */
+static void hear_callers(void *closure, bool is_called) {
+    struct host *host = closure;
+    if (is_called) {
+        host->carrier = carrier_open(host->given.name, &host->given.access, &is_stopping);
+        host->carrier->is_silent = true;
+        return;
+    }
+    carrier_stop(host->carrier);
+    let_go(host);
+    carrier_close(host->carrier);
+    host->carrier = NULL;
+}
+
 /* Follows the log in its stream until this host has it, and begins one that is empty; false where it is told to end before. */
 static bool own(struct host *host) {
+    host->candidate->hears = hear_callers;
+    host->candidate->closure = host;
     if (!candidate_own(host->candidate)) return false;
+    if (host->candidate->called > 0 && !move_is_handed(host->candidate)) {
+        /* Who was to hand the log over has died: nobody knows which calls it has served. */
+        let_go(host);
+        host->candidate->called = 0;
+    }
     node_keep(&host->node, false);
     host->node.at_start = node_calls(&host->node);
     host->candidate->looked = now();
@@ -124,9 +176,10 @@ static bool own(struct host *host) {
     return true;
 }
 
-/* Serves the node of a log that this host has; 1 where the connection is closed for good. */
+/* Serves the node of a log that this host has; the status: 1 where the connection is closed for good. */
 static int serve_node(struct host *host) {
-    host->carrier = carrier_open(host->given.name, &host->given.access, &is_stopping);
+    if (host->carrier == NULL) host->carrier = carrier_open(host->given.name, &host->given.access, &is_stopping);
+    host->carrier->is_silent = false;
     if (!is_stopping) {
         say("info", "ready", NULL);
         service_tell("READY=1");
@@ -135,9 +188,9 @@ static int serve_node(struct host *host) {
         serve_for_ever(host);
     }
     bool is_lost = host->carrier->is_closed;
-    if (!is_lost) drain(host);
+    if (!is_lost && !host->has_moved) drain(host);
     carrier_close(host->carrier);
-    return is_lost;
+    return is_lost ? 1 : host->has_moved ? OVERTAKEN : 0;
 }
 
 int main(int count, char **word) {
@@ -159,7 +212,7 @@ int main(int count, char **word) {
     nats_Close();
     node_close(&host.node);
     free(host.line.at);
-    if (status != 0) fail("the server", "the connection was closed for good");
+    if (status == 1) fail("the server", "the connection was closed for good");
     say("info", "ended", NULL);
-    return 0;
+    return status;
 }

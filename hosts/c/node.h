@@ -138,6 +138,8 @@ struct carrier {
     struct message *first, **last;
     size_t waiting, waiting_bytes;
     volatile bool is_closing, is_closed;
+    /* Two hosts hear the callers: what has no room here is the other's. */
+    volatile bool is_silent;
 };
 
 /* Options of a connection that comes again by itself for as long as the process runs, and leaves a server that is silent. */
@@ -196,6 +198,10 @@ struct host {
     struct bytes line;
     struct later later;
     double next_tick, next_word;
+    /* The operator who has the log moved, and where replies of calls went since another host hears them too, each behind a space. */
+    natsMsg *mover;
+    struct bytes served;
+    bool has_moved;
 };
 
 /* One turn: all that waits, one sync, and then what came of it. Ticks come last, since they have no message. */

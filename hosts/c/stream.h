@@ -1,7 +1,8 @@
 /*
 ** A node's log in a stream of NATS JetStream, of which several servers have a copy: the engine and its replies (engine.c), appends
 ** behind a fence (stream.c), what a message of the log carries (entry.c), what this machine has seen of the log (seen.c), its own copy
-** (copy.c), who has the log (beats.c), and how a host comes to have it (candidate.c).
+** (copy.c), who has the log (beats.c), how a host comes to have it (candidate.c) or is handed it (move.c), and its node meanwhile
+** (warm.c).
 **
 ** A message carries bytes of the log, or none, and in its headers where they begin (Log-At), the SHA-256 digest of the whole log up to
 ** their end (Log-Digest), who sent it (Log-Owner), and the sequence that it stands behind (Nats-Expected-Last-Sequence): the servers
@@ -157,8 +158,9 @@ struct heard {
 };
 
 /* What hosts say of a log: this one has it; it has it, and wants to hear who follows; it follows it, has so much on its disk, and knows its
-   end; it leaves it. And an operator: its end is here. */
-enum beat { BEAT_HAS, BEAT_WANTS, BEAT_FOLLOWS, BEAT_LEAVES, BEAT_VOUCHES };
+   end; it leaves it. An operator: its end is here. And for a move to one of them: it is to have the log; it hears the node's callers; these
+   calls were served. */
+enum beat { BEAT_HAS, BEAT_WANTS, BEAT_FOLLOWS, BEAT_LEAVES, BEAT_VOUCHES, BEAT_MOVES, BEAT_READY, BEAT_SERVED };
 
 /* What others say of a log, and what this host says. */
 struct beats {
@@ -171,7 +173,12 @@ struct beats {
     struct heard has;
     bool is_vouched;
     uint64_t vouched, copied;
-    double said;
+    double said, followed;
+    /* The host that follows last; who moves the log to this one, whether that has handed it over, and where replies of calls that it
+       served went, a space before each; whether the host to which this one moves it hears the node's callers. */
+    char follower[OWNER_TEXT], mover[OWNER_TEXT];
+    struct bytes served;
+    bool is_handed, is_ready;
 };
 
 void beats_open(struct beats *beats, const struct stream *stream);
@@ -182,6 +189,10 @@ void beats_forget(struct beats *beats);
 bool beats_vouch(struct beats *beats, uint64_t sequence);
 /* Whether another host has on its disk what stands up to this sequence. */
 bool beats_copied(struct beats *beats, uint64_t sequence);
+/* Whether nobody has told of a later sequence. */
+bool beats_level(struct beats *beats, uint64_t sequence);
+/* Tells one host something, and more. */
+void beats_tell(struct beats *beats, enum beat beat, uint64_t sequence, const char *whom, const char *more);
 /* Waits until something is heard, or so many seconds. */
 void beats_wait(struct beats *beats, double seconds);
 /* Waits until something is heard, or so many seconds, unless another host has so much on its disk. */
@@ -198,6 +209,13 @@ struct candidate {
     volatile sig_atomic_t *is_stopping;
     double patience, looked, level, next_word, stopping;
     bool owns, is_told, has_copies;
+    /* Who sent the last message that was read, and whether that is another than before. */
+    char owner[OWNER_TEXT];
+    bool is_new_owner;
+    /* Called where the log is to be moved to this host: it is to hear the node's callers from then on, or no more. */
+    void (*hears)(void *closure, bool is_called);
+    void *closure;
+    double called;
 };
 
 /* Connects, and looks at what this machine has; false where the host is told to end before that is done. */
@@ -206,6 +224,21 @@ bool candidate_open(struct candidate *candidate, const struct given *given, stru
 bool candidate_own(struct candidate *candidate);
 /* Sees that this host has the log still, and says so; ends the process where another has it. */
 void candidate_look(struct candidate *candidate);
+/*
+** The log is moved to another host without a call being lost, or made twice: that host hears the node's callers first; this one hears no
+** more, serves what came, and says which calls it served since the other heard them too; then it leaves. move_begin is for the owner: the
+** host to which it moves, once that hears the callers, or NULL. move_end hands over; `served` is where the replies went.
+*/
+const char *move_begin(struct candidate *candidate);
+void move_end(struct candidate *candidate, const char *whom, const struct bytes *served);
+/* For the other host: begins to hear the callers where it is asked to, and ceases where nothing came of it. */
+void move_look(struct candidate *candidate);
+/* Whether the calls that came meanwhile are to be served, but for those that were: the log was handed over. */
+bool move_is_handed(struct candidate *candidate);
+bool move_was_served(struct candidate *candidate, const char *reply);
+/* For the other host, once it has the log: after some seconds no call comes any more that both heard. */
+void move_took(struct candidate *candidate);
+
 /* Tells others that the log is free, where this host had it. */
 void candidate_leave(struct candidate *candidate);
 

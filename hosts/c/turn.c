@@ -1,7 +1,7 @@
 /* Turns: what waits is served, what it recorded is kept, and then what came of it is sent and replied. */
 #include <unistd.h>
 
-#include "node.h"
+#include "stream.h"
 
 /* The part of a tick's time over which its packets go out. */
 #define SPREAD 0.8
@@ -37,15 +37,37 @@ static bool is_held_back(const struct host *host, const struct message *one) {
            held_is(host->given.hold_back / 1000, sender, natsMsg_GetData(one->text), (size_t)natsMsg_GetDataLength(one->text));
 }
 
-/* Serves a message, or refuses it; where it was served, the next last line is for it. */
-static void serve(struct host *host, struct message *one) {
-    const char *text = natsMsg_GetData(one->text);
-    char sender[9];
-    if (one->from == FROM_OPERATOR && natsMsg_GetDataLength(one->text) == 4 && memcmp(text, "kill", 4) == 0) {
+static bool is_word(const struct message *one, const char *word) {
+    return (size_t)natsMsg_GetDataLength(one->text) == strlen(word) && begins(natsMsg_GetData(one->text), strlen(word), word);
+}
+
+/* Whether a call is not this host's: it came while the log was moved here, and the host that had it has served it, or has died. */
+static bool is_others(const struct host *host, const struct message *one) {
+    const char *to = natsMsg_GetReply(one->text);
+    if (host->candidate == NULL || host->candidate->called == 0) return false;
+    return !move_is_handed(host->candidate) || (to != NULL && move_was_served(host->candidate, to));
+}
+
+/* Whether an operator asks something of the host and not of its node: it dies at once, or its log is moved behind this turn. */
+static bool is_deed(struct host *host, struct message *one) {
+    if (one->from != FROM_OPERATOR) return false;
+    if (is_word(one, "kill")) {
         reply(host->carrier, one->text, "ok", 2);
         natsConnection_FlushTimeout(host->carrier->connection, 500);
         raise(SIGKILL);
     }
+    if (host->candidate == NULL || host->mover != NULL || !is_word(one, "move")) return false;
+    host->mover = one->text;
+    one->text = NULL;
+    return true;
+}
+
+/* Serves a message, or refuses it; where it was served, the next last line is for it. */
+static void serve(struct host *host, struct message *one) {
+    const char *text = natsMsg_GetData(one->text);
+    char sender[9];
+    if (is_others(host, one) || is_deed(host, one)) return;
+    if (host->mover != NULL && natsMsg_GetReply(one->text) != NULL) add_form(&host->served, " %.500s", natsMsg_GetReply(one->text));
     if (is_held_back(host, one)) {
         counts_dropped(HELD_BACK);
     } else if (line_of(host, one, &host->line)) {
