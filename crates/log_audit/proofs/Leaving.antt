@@ -8,9 +8,11 @@ use Rattle.world_setup.specs.Seen.{settings_seen}
 use Rattle.world_setup.specs.declared.settings.WorldSettings.{WorldSettings}
 use Rattle.world_core.specs.Parts.{WorldParts, context_of}
 use Rattle.log_audit.specs.Senders.{senders_from}
-use Rattle.log_audit.specs.Tables.{table_csv}
+use Rattle.log_audit.specs.Ledger.{ledger_text}
+use Rattle.log_audit.specs.Tables.{table_csv, table_members}
 use Rattle.log_audit.specs.declared.tables.table.Table.{Table}
 use Rattle.log_audit.specs.Tabled.{csv_after, run_csv}
+use Rattle.log_audit.specs.Telling.{run_ledger, run_members}
 
 -- of a world that events led to from the opening of these settings, over its routes, with the senders of its packets
 pub csv_is : (s : WorldSettings) (first last : WorldParts) (events : List Event) (senders : List ℕ) (table : Table) → first ≡ record { routes = routes_of s.routes.items; world = opening (settings_seen s) }
@@ -22,3 +24,23 @@ csv_is s first last events senders table opened routes made noted =
     ∙ (ap (λ (w : World). table_csv (context_of first) w senders table) made
     ∙ (ap (λ (numbers : List ℕ). table_csv (context_of first) (run (context_of first) first.world events) numbers table) noted
     ∙ ap (λ (parts : WorldParts). csv_after (context_of parts) parts.world events table) opened))
+
+-- the same of its counts
+pub ledger_is : (s : WorldSettings) (first last : WorldParts) (events : List Event) → first ≡ record { routes = routes_of s.routes.items; world = opening (settings_seen s) }
+    → last.routes ≡ first.routes → last.world ≡ run (context_of first) first.world events → ledger_text (context_of last) last.world ≡ run_ledger s events
+unfolding run_ledger
+ledger_is s first last events opened routes made =
+    ap (λ (r : RouteMaps). ledger_text (bytes_with r) last.world) routes
+    ∙ (ap (λ (w : World). ledger_text (context_of first) w) made
+    ∙ ap (λ (parts : WorldParts). ledger_text (context_of parts) (run (context_of parts) parts.world events)) opened)
+
+-- and of all tables as members
+pub members_are : (s : WorldSettings) (first last : WorldParts) (events : List Event) (senders : List ℕ) → first ≡ record { routes = routes_of s.routes.items; world = opening (settings_seen s) }
+    → last.routes ≡ first.routes → last.world ≡ run (context_of first) first.world events → senders ≡ senders_from (context_of first) first.world 1 events
+    → table_members (context_of last) last.world senders ≡ run_members s events
+unfolding run_members
+members_are s first last events senders opened routes made noted =
+    ap (λ (r : RouteMaps). table_members (bytes_with r) last.world senders) routes
+    ∙ (ap (λ (w : World). table_members (context_of first) w senders) made
+    ∙ (ap (λ (numbers : List ℕ). table_members (context_of first) (run (context_of first) first.world events) numbers) noted
+    ∙ ap (λ (parts : WorldParts). table_members (context_of parts) (run (context_of parts) parts.world events) (senders_from (context_of parts) parts.world 1 events)) opened))

@@ -7,3 +7,9 @@ pub mod Naming
 pub mod Leaving
 pub mod Listing
 pub mod LogReading
+pub mod Going
+pub mod Counting
+pub mod Telling
+pub mod Making
+pub mod Reasoning
+pub mod Writing

@@ -1,11 +1,12 @@
 -- The settings and the logs that bytes are, before anything is judged.
-use Rattle.std.specs.Prelude.{◌≡◌, ℕ, List, [], ◌∷◌, map, Some, Ok, ⊤}
+use Rattle.std.specs.Prelude.{◌≡◌, ℕ, ◌-◌, List, [], ◌∷◌, length, map, Some, Result, Ok, Err, ⊤}
 use Rattle.std.specs.Global.{Vec}
 use Rattle.sha2.specs.Sha256.{sha256}
 use Rattle.claim_model.specs.Logs.{NodeLog}
 use Rattle.world_setup.specs.declared.settings.WorldSettings.{WorldSettings}
 use Rattle.world_settings.specs.Document.{document_seen, settings_in}
-use Rattle.kept_logs.specs.Logs.{log_in}
+use Rattle.kept_logs.specs.Logs.{Reading, log_in}
+use Rattle.kept_logs.specs.declared.fault.LogFault.{LogFault}
 
 -- the bytes of each
 abbrev pub bytes_of : List (Vec ℕ) → List (List ℕ)
@@ -27,3 +28,16 @@ AreLogs digest (bytes ∷ more) (log ∷ logs) = IsLog digest bytes log × AreLo
 pub record IsRead (text : List ℕ) (bytes : List (List ℕ)) (settings : WorldSettings) (logs : List NodeLog) : Type 0 where
   pub spelled : settings_in text ≡ Some (document_seen settings)
   pub read : AreLogs (sha256 text) bytes logs
+
+-- how many bytes stand behind the records of a log that stand whole
+abbrev pub left_behind : ℕ → Result Reading LogFault → ℕ
+left_behind size (Ok read) = size - read.whole
+left_behind size (Err fault) = 0
+
+-- how many bytes the torn end of a log has under settings of this digest
+abbrev pub torn_end : List ℕ → List ℕ → ℕ
+torn_end digest bytes = left_behind (length bytes) (log_in digest bytes)
+
+-- how many bytes the torn end of each log has
+abbrev pub torn_ends : List ℕ → List (List ℕ) → List ℕ
+torn_ends digest logs = map (torn_end digest) logs

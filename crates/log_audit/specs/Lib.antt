@@ -3,8 +3,10 @@ pub mod Seen
 pub mod Quoting
 pub mod Values
 pub mod Rows
-pub mod Adding
 pub mod Kinds
+pub mod Sentences
+pub mod SentencesSeen
+pub mod Adding
 pub mod Payments
 pub mod Rulings
 pub mod Packets
@@ -13,6 +15,13 @@ pub mod Tables
 pub mod Senders
 pub mod Judged
 pub mod Tabled
-pub mod Lacks
-pub mod Waits
+pub mod Texts
+pub mod Ledger
 pub mod Given
+pub mod Lacks
+pub mod Wrongs
+pub mod WrongsSeen
+pub mod Waits
+pub mod WaitsSeen
+pub mod Reasons
+pub mod Telling

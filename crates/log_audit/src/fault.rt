@@ -28,8 +28,8 @@ pub enum AuditFault {
         /// What is wrong with it.
         fault: LogFault,
     },
-    /// An event of the run has no line in a schedule.
-    #[error("an event of the run has no line in a schedule")]
+    /// The run has no schedule: an event has no line in one, or a line of the settings would divide it.
+    #[error("the run has no schedule")]
     NoLine,
 }
 

@@ -6,6 +6,7 @@ ghost use Rattle.claim_model.specs.Settings.{opening};
 ghost use Rattle.world_setup.specs.Seen.{event_seen, settings_seen};
 ghost use Rattle.log_audit.specs.Adding.{Adds};
 ghost use Rattle.log_audit.specs.Tabled.{run_csv};
+ghost use Rattle.log_audit.specs.Telling.{run_ledger, run_members};
 
 use crate::fault::AuditFault;
 use crate::ledger::put_ledger;
@@ -21,13 +22,14 @@ pub(crate) fn put_left_counts(
     text: &mut Vec<u8>,
     settings: WorldSettings,
     events: &[Event],
-) -> Result<(), AuditFault> {
+) -> Result<(), AuditFault>
+    ensures { OnOk result (Adds text.old text.new (run_ledger settings (map event_seen events.now))) }
+{
     let mut world = opened(alloc, settings)?;
-    if world.run(events).is_err() {
-        return Err(AuditFault::OutOfMemory);
+    match world.run(events) {
+        Ok(()) => Ok(put_ledger(alloc, text, &world)?),
+        Err(_) => Err(AuditFault::OutOfMemory),
     }
-    put_ledger(alloc, text, &world)?;
-    Ok(())
 }
 
 /// Appends a table of what a run of these events left, as CSV.
@@ -52,7 +54,9 @@ pub(crate) fn put_left_tables(
     text: &mut Vec<u8>,
     settings: WorldSettings,
     events: &[Event],
-) -> Result<(), AuditFault> {
+) -> Result<(), AuditFault>
+    ensures { OnOk result (Adds text.old text.new (run_members settings (map event_seen events.now))) }
+{
     let mut world = opened(alloc, settings)?;
     let senders = run_noting(alloc, &mut world, events)?;
     put_json(alloc, text, &world, senders.as_slice())?;

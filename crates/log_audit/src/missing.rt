@@ -1,58 +1,150 @@
 //! Logs that are not one for each node.
 
-ghost use Rattle.std.specs.Prelude.{◌≡◌};
-ghost use Rattle.world_setup.specs.Seen.{node_seen};
-ghost use Rattle.run_merge.specs.LogSeen.{logs_seen};
-ghost use Rattle.log_audit.specs.Lacks.{count_of, lack_of};
+ghost use Rattle.std.specs.Prelude.{◌≡◌, None, IfOk, OnOk};
+ghost use Rattle.claim_model.specs.Settings.{settings_fault};
+ghost use Rattle.world_setup.specs.Seen.{node_seen, settings_seen};
+ghost use Rattle.run_merge.specs.LogSeen.{log_seen, logs_seen};
+ghost use Rattle.log_audit.specs.Adding.{AddsLine, AddsLines};
+ghost use Rattle.log_audit.specs.Sentences.{told_lines};
+ghost use Rattle.log_audit.specs.Lacks.{count_of, lack_of, lack_word, line_of_lack, lack_lines, node_line, kind_node, lacks_up_to, stranger_lines, strangers, missing_lines};
 
-use crate::names::{end, put, put_node};
+use crate::sentences::{Manner, Piece, put_pieces, put_told};
 use run_merge::{NodeLog, is_there};
-use std::alloc::AllocError;
+use std::alloc::{AllocError, Global};
 use world_setup::{Node, WorldSettings};
 
-/// Tells each node without a log, each with two, and each log of a node that is not there; whether there was one.
-pub(crate) fn put_missing(
-    out: &mut Vec<u8>,
+/// The lines on each node without a log, each with two, and each log of a node that is not there.
+pub(crate) fn missing_lines(
+    alloc: Global,
+    manner: Manner,
     settings: &WorldSettings,
     logs: &[NodeLog],
-) -> Result<bool, AllocError> {
-    let before = out.len();
-    for number in 1..=settings.pharmacies.len() {
-        put_lack(out, logs, Node::Pharmacy(small(number)))?;
-    }
-    for number in 1..=settings.switches.len() {
-        put_lack(out, logs, Node::Switch(small(number)))?;
-    }
-    for number in 1..=settings.payers.len() {
-        put_lack(out, logs, Node::Payer(small(number)))?;
-    }
-    for log in logs {
-        if !is_there(settings, log.node()) {
-            put_line(out, log.node(), " is no node of these settings")?;
+) -> Result<Vec<u8>, AllocError>
+    requires { settings_fault (settings_seen settings.now) ≡ None }
+    ensures { IfOk result (λ text. text.items
+        ≡ told_lines manner (missing_lines (settings_seen settings.now) (logs_seen logs.now))) }
+{
+    let mut out = Vec::new(alloc);
+    put_missing(&mut out, manner, settings, logs)?;
+    Ok(out)
+}
+
+/// Appends these lines.
+#[tactic(auto, unfolding(crate::specs::Lacks::missing_lines))]
+fn put_missing(
+    out: &mut Vec<u8>,
+    manner: Manner,
+    settings: &WorldSettings,
+    logs: &[NodeLog],
+) -> Result<(), AllocError>
+    requires { settings_fault (settings_seen settings.now) ≡ None }
+    ensures { OnOk result (AddsLines manner out.old out.new
+        (missing_lines (settings_seen settings.now) (logs_seen logs.now))) }
+{
+    let pharmacies = settings.pharmacies.len() as u16;
+    let switches = settings.switches.len() as u16;
+    let payers = settings.payers.len() as u16;
+    put_lacks(out, manner, logs, NodeKind::Pharmacy, pharmacies)?;
+    put_lacks(out, manner, logs, NodeKind::Switch, switches)?;
+    put_lacks(out, manner, logs, NodeKind::Payer, payers)?;
+    put_strangers(out, manner, settings, logs)
+}
+
+/// A kind of node.
+#[derive(Clone, Copy, PartialEq, Eq)]
+pub(crate) enum NodeKind {
+    /// A pharmacy.
+    Pharmacy,
+    /// A switch.
+    Switch,
+    /// A payer.
+    Payer,
+}
+
+impl NodeKind {
+    /// The node of this kind and a number.
+    fn numbered(self, number: u16) -> Node
+        ensures { node_seen result ≡ kind_node self number }
+    {
+        match self {
+            NodeKind::Pharmacy => Node::Pharmacy(number),
+            NodeKind::Switch => Node::Switch(number),
+            NodeKind::Payer => Node::Payer(number),
         }
     }
-    Ok(out.len() > before)
 }
 
-/// A number of a node; that of nobody where it is none.
-fn small(number: usize) -> u16 {
-    if number < 65_536 { number as u16 } else { 0 }
+/// Appends a line on each node of a kind, of which there are so many, that has no log or more than one.
+fn put_lacks(
+    out: &mut Vec<u8>,
+    manner: Manner,
+    logs: &[NodeLog],
+    kind: NodeKind,
+    count: u16,
+) -> Result<(), AllocError>
+    ensures { OnOk result (AddsLines manner out.old out.new (lacks_up_to (logs_seen logs.now) kind count)) }
+{
+    for passed in 0..count {
+        put_lack(out, manner, logs, kind.numbered(passed + 1))?;
+    }
+    Ok(())
 }
 
-/// Tells that a node has no log, or more than one.
-fn put_lack(out: &mut Vec<u8>, logs: &[NodeLog], node: Node) -> Result<(), AllocError> {
+/// Appends a line on a node that has no log, or more than one.
+fn put_lack(
+    out: &mut Vec<u8>,
+    manner: Manner,
+    logs: &[NodeLog],
+    node: Node,
+) -> Result<(), AllocError>
+    ensures { OnOk result (AddsLines manner out.old out.new (lack_lines (logs_seen logs.now) (node_seen node))) }
+{
     match lack_of(logs, node) {
-        Some(Lack::NoLog) => put_line(out, node, " has no log"),
-        Some(Lack::SeveralLogs) => put_line(out, node, " has more than one log"),
+        Some(lack) => put_line(out, manner, node, lack.word()),
         None => Ok(()),
     }
 }
 
-/// Appends a node, and what is said of it.
-fn put_line(out: &mut Vec<u8>, node: Node, said: &str) -> Result<(), AllocError> {
-    put_node(out, node)?;
-    put(out, said)?;
-    end(out)
+/// Appends a line on each log of a node that is not there.
+fn put_strangers(
+    out: &mut Vec<u8>,
+    manner: Manner,
+    settings: &WorldSettings,
+    logs: &[NodeLog],
+) -> Result<(), AllocError>
+    ensures { OnOk result (AddsLines manner out.old out.new
+        (strangers (settings_seen settings.now) (logs_seen logs.now))) }
+{
+    for log in logs {
+        put_stranger(out, manner, settings, log)?;
+    }
+    Ok(())
+}
+
+/// Appends a line on a log of a node that is not there.
+fn put_stranger(
+    out: &mut Vec<u8>,
+    manner: Manner,
+    settings: &WorldSettings,
+    log: &NodeLog,
+) -> Result<(), AllocError>
+    ensures { OnOk result (AddsLines manner out.old out.new
+        (stranger_lines (settings_seen settings.now) (log_seen log.now))) }
+{
+    if is_there(settings, log.node()) {
+        Ok(())
+    } else {
+        put_line(out, manner, log.node(), b" is no node of these settings")
+    }
+}
+
+/// Appends what is said of a node.
+fn put_line(out: &mut Vec<u8>, manner: Manner, node: Node, said: &[u8]) -> Result<(), AllocError>
+    ensures { OnOk result (AddsLine manner out.old out.new (node_line (node_seen node) said.now)) }
+{
+    let mut line = Vec::new(*out.allocator());
+    put_pieces(&mut line, &[Piece::Named(node), Piece::Words(said)])?;
+    put_told(out, manner, line.as_slice())
 }
 
 /// What is wrong with the number of a node's logs.
@@ -62,6 +154,18 @@ pub(crate) enum Lack {
     NoLog,
     /// There is more than one.
     SeveralLogs,
+}
+
+impl Lack {
+    /// How it is said of a node.
+    fn word(self) -> &'static [u8]
+        ensures { result.now ≡ lack_word self }
+    {
+        match self {
+            Lack::NoLog => b" has no log",
+            Lack::SeveralLogs => b" has more than one log",
+        }
+    }
 }
 
 /// What is wrong with the number of a node's logs; nothing exactly where it is one.

@@ -1,93 +1,117 @@
 //! What is told of logs, as an object of JSON.
 
+ghost use Rattle.std.specs.Prelude.{◌≡◌, ◌++◌, codes, length, map, slice_index, OnOk, IfOk};
+ghost use Rattle.world_setup.specs.Seen.{event_seen};
+ghost use Rattle.run_merge.specs.LogSeen.{log_seen, logs_seen};
+ghost use Rattle.log_audit.specs.Adding.{Adds, AddsRow, AddsRows};
+ghost use Rattle.log_audit.specs.Rows.{list_text};
+ghost use Rattle.log_audit.specs.Telling.{log_row, log_rows, logs_member, count_member, run_members, run_object};
+ghost use Rattle.log_audit.specs.declared.tables.layout.Style.TheVariants.{Json};
+
 use crate::fault::AuditFault;
 use crate::left::put_left_tables;
-use crate::names::{put, put_count};
 use crate::reading::Audited;
+use crate::sentences::{Piece, put_pieces};
 use crate::tables::fields::Field;
 use crate::tables::kinds::node_field;
 use crate::tables::layout::{Style, put_list, put_row};
-use crate::tables::quoting::put_json_text;
-use input_text::Lines;
 use run_merge::NodeLog;
 use std::alloc::{AllocError, Global};
 use world_setup::Event;
 
-/// Appends the object of logs of a legal run of these events.
-pub(crate) fn put_run(
+/// The object of logs of a legal run of these events.
+#[tactic(auto, unfolding(crate::specs::Telling::run_object))]
+pub(crate) fn run_object(
     alloc: Global,
-    text: &mut Vec<u8>,
     audited: Audited,
     events: &[Event],
-) -> Result<(), AuditFault> {
-    put_logs(
-        alloc,
-        text,
-        audited.logs.as_slice(),
-        audited.torn.as_slice(),
-    )?;
-    put(text, ",\n\"legal\":true,\n")?;
-    put_count(text, "\"events\":", events.len() as u64)?;
-    put_left_tables(alloc, text, audited.settings, events)?;
-    put(text, "\n}\n")?;
+) -> Result<Vec<u8>, AuditFault>
+    ensures { IfOk result (λ text. text.items ≡ run_object audited (map event_seen events.now)) }
+{
+    let mut text = Vec::new(alloc);
+    put_logs(&mut text, audited.logs.as_slice(), audited.torn.as_slice())?;
+    put_count(&mut text, events.len() as u64)?;
+    put_left_tables(alloc, &mut text, audited.settings, events)?;
+    text.extend_from_slice(b"\n}\n")?;
+    Ok(text)
+}
+
+/// Appends that there is a legal run, and of how many events.
+fn put_count(text: &mut Vec<u8>, count: u64) -> Result<(), AllocError>
+    ensures { OnOk result (Adds text.old text.new (count_member count)) }
+{
+    let pieces = [
+        Piece::Words(b",\n\"legal\":true,\n\"events\": "),
+        Piece::Number(count),
+    ];
+    put_pieces(text, &pieces)
+}
+
+/// The object of logs of no legal run, with these members of a list of reasons.
+pub(crate) fn no_run_object(
+    alloc: Global,
+    audited: &Audited,
+    why: &[u8],
+) -> Result<Vec<u8>, AllocError>
+    ensures { IfOk result (λ text. text.items ≡ logs_member (logs_seen audited.now.logs.items) audited.now.torn.items
+        ++ (codes ",\n\"legal\":false,\n\"reasons\":" ++ (list_text why.now ++ codes "\n}\n"))) }
+{
+    let mut text = Vec::new(alloc);
+    put_logs(&mut text, audited.logs.as_slice(), audited.torn.as_slice())?;
+    put_reasons(&mut text, why)?;
+    Ok(text)
+}
+
+/// Appends that there is no legal run and these reasons, and ends the object.
+fn put_reasons(text: &mut Vec<u8>, why: &[u8]) -> Result<(), AllocError>
+    ensures { OnOk result (Adds text.old text.new
+        (codes ",\n\"legal\":false,\n\"reasons\":" ++ (list_text why.now ++ codes "\n}\n"))) }
+{
+    text.extend_from_slice(b",\n\"legal\":false,\n\"reasons\":")?;
+    put_list(text, why)?;
+    text.extend_from_slice(b"\n}\n")?;
     Ok(())
 }
 
-/// Appends the object of logs of no legal run, with these lines that say why.
-pub(crate) fn put_no_run(
-    alloc: Global,
-    text: &mut Vec<u8>,
-    audited: &Audited,
-    why: &[u8],
-) -> Result<(), AllocError> {
-    put_logs(
-        alloc,
-        text,
-        audited.logs.as_slice(),
-        audited.torn.as_slice(),
-    )?;
-    put(text, ",\n\"legal\":false,\n\"reasons\":")?;
-    put_reasons(alloc, text, why)?;
-    put(text, "\n}\n")
-}
-
 /// Appends the beginning of an object, with the list of logs.
-fn put_logs(
-    alloc: Global,
-    text: &mut Vec<u8>,
-    logs: &[NodeLog],
-    torn: &[usize],
-) -> Result<(), AllocError> {
-    let mut rows = Vec::new(alloc);
-    for (log, torn) in logs.iter().zip(torn) {
-        put_log(&mut rows, log, *torn)?;
-    }
-    put(text, "{\"logs\":")?;
+#[tactic(auto, unfolding(crate::specs::Telling::logs_member))]
+fn put_logs(text: &mut Vec<u8>, logs: &[NodeLog], torn: &[usize]) -> Result<(), AllocError>
+    ensures { OnOk result (Adds text.old text.new (logs_member (logs_seen logs.now) torn.now)) }
+{
+    let mut rows = Vec::new(*text.allocator());
+    put_rows(&mut rows, logs, torn)?;
+    text.extend_from_slice(b"{\"logs\":")?;
     put_list(text, rows.as_slice())
 }
 
+/// Appends a row for each log.
+fn put_rows(rows: &mut Vec<u8>, logs: &[NodeLog], torn: &[usize]) -> Result<(), AllocError>
+    ensures { OnOk result (AddsRows Json rows.old rows.new (log_rows (logs_seen logs.now) torn.now)) }
+{
+    for (place, log) in logs.iter().enumerate() {
+        put_log(rows, log, torn_at(torn, place))?;
+    }
+    Ok(())
+}
+
 /// Appends the row of a log.
-fn put_log(rows: &mut Vec<u8>, log: &NodeLog, torn: usize) -> Result<(), AllocError> {
+fn put_log(rows: &mut Vec<u8>, log: &NodeLog, torn: u64) -> Result<(), AllocError>
+    ensures { OnOk result (AddsRow Json rows.old rows.new (log_row (log_seen log.now) torn)) }
+{
     let fields = [
         node_field(b"node", log.node()),
         Field::number(b"calls", log.records().len() as u64),
-        Field::number(b"torn", torn as u64),
+        Field::number(b"torn", torn),
     ];
     put_row(rows, Style::Json, &fields)
 }
 
-/// Appends lines as a list of texts.
-fn put_reasons(alloc: Global, text: &mut Vec<u8>, why: &[u8]) -> Result<(), AllocError> {
-    let mut rows = Vec::new(alloc);
-    for line in Lines::new(why) {
-        put_reason(&mut rows, line.text)?;
+/// How many bytes the torn end of the log at a place has.
+pub(crate) fn torn_at(torn: &[usize], place: usize) -> u64
+    ensures { result ≡ slice_index torn.now place }
+{
+    match torn.get(place) {
+        Some(bytes) => *bytes as u64,
+        None => 0,
     }
-    put_list(text, rows.as_slice())
-}
-
-/// Appends a line as a text, on a line of its own and with a comma behind it.
-fn put_reason(rows: &mut Vec<u8>, line: &[u8]) -> Result<(), AllocError> {
-    put(rows, "\n")?;
-    put_json_text(rows, line)?;
-    put(rows, ",")
 }

@@ -1,11 +1,12 @@
 //! What is read before anything is judged: the settings, and the logs.
 
 ghost use Rattle.std.specs.Prelude.{◌≡◌, ◌++◌, ◌∷◌, [], Some, Ok, IfOk, OnOk};
+ghost use Rattle.sha2.specs.Sha256.{sha256};
 ghost use Rattle.world_settings.specs.Document.{document_seen, settings_in};
 ghost use Rattle.run_merge.specs.LogSeen.{logs_seen};
 ghost use Rattle.kept_logs.specs.Logs.{log_in};
 ghost use Rattle.kept_logs.specs.LogSeen.{reading_seen};
-ghost use Rattle.log_audit.specs.Given.{AreLogs, IsRead, bytes_of};
+ghost use Rattle.log_audit.specs.Given.{AreLogs, IsRead, bytes_of, torn_ends};
 
 use crate::fault::AuditFault;
 use kept_logs::{LogFault, ReadLog, SettingsDigest, read_log};
@@ -29,8 +30,12 @@ pub struct Audited {
 /// `Settings`, then `World`, then `Log` for the first log that is none under these settings; `OutOfMemory`.
 pub fn read_audited(alloc: Global, text: Vec<u8>, logs: &[Vec<u8>]) -> Result<Audited, AuditFault>
     // What is judged is what the text spells and the bytes are.
-    ensures { IfOk result (λ audited.
+    ensures given { IfOk result (λ audited.
         IsRead text.items (bytes_of logs.now) audited.settings (logs_seen audited.logs.items)) }
+    // The torn ends are what stands behind the records that stand whole.
+    ensures torn { IfOk result (λ audited. audited.torn.items ≡ torn_ends (sha256 text.items) (bytes_of logs.now)) }
+    // A schedule begins with the very text.
+    ensures text { IfOk result (λ audited. audited.text.items ≡ text.items) }
 {
     let settings = settings_of(alloc, text.as_slice())?;
     check_world(alloc, &settings)?;
@@ -54,7 +59,8 @@ struct ReadLogs {
 impl ReadLogs {
     /// One log more.
     fn push(&mut self, log: NodeLog, torn: usize) -> Result<(), AllocError>
-        ensures { OnOk result (self.new.logs.items ≡ self.old.logs.items ++ log ∷ []) }
+        ensures logs { OnOk result (self.new.logs.items ≡ self.old.logs.items ++ log ∷ []) }
+        ensures torn { OnOk result (self.new.torn.items ≡ self.old.torn.items ++ torn ∷ []) }
     {
         self.torn.push(torn)?;
         self.logs.push(log)?;
@@ -68,7 +74,8 @@ fn read_logs(
     digest: &SettingsDigest,
     logs: &[Vec<u8>],
 ) -> Result<ReadLogs, AuditFault>
-    ensures { IfOk result (λ read. AreLogs digest.now (bytes_of logs.now) (logs_seen read.logs.items)) }
+    ensures logs { IfOk result (λ read. AreLogs digest.now (bytes_of logs.now) (logs_seen read.logs.items)) }
+    ensures torn { IfOk result (λ read. read.torn.items ≡ torn_ends digest.now (bytes_of logs.now)) }
 {
     let mut read = ReadLogs {
         logs: Vec::new(alloc),

@@ -1,25 +1,25 @@
 //! What is told of logs.
 
-ghost use Rattle.std.specs.Prelude.{◌≡◌, true, false, map, IfOk};
+ghost use Rattle.std.specs.Prelude.{◌≡◌, ◌++◌, true, false, codes, map, IfOk, OnOk};
 ghost use Rattle.world_setup.specs.Seen.{event_seen};
-ghost use Rattle.run_merge.specs.LogSeen.{logs_seen};
+ghost use Rattle.run_merge.specs.LogSeen.{log_seen, logs_seen};
+ghost use Rattle.log_audit.specs.Adding.{Adds};
 ghost use Rattle.log_audit.specs.Judged.{IsTold};
-ghost use Rattle.log_audit.specs.Tabled.{run_csv, IsTextOf, IsUntold, IsTabled};
+ghost use Rattle.log_audit.specs.Tabled.{run_csv};
+ghost use Rattle.log_audit.specs.Telling.{log_line, log_lines, legal_line, run_lines, IsTextOf, IsNoRunLines, IsNoRunObject, IsUntold, IsWritten};
 
 use crate::fault::AuditFault;
 use crate::judging::{Verdict, judge};
 use crate::left::{put_left_counts, put_left_table};
-use crate::misfits::put_misfits;
-use crate::missing::put_missing;
-use crate::names::{end, put, put_count, put_more, put_node};
-use crate::object::{put_no_run, put_run};
+use crate::object::{no_run_object, run_object, torn_at};
 use crate::reading::Audited;
+use crate::reasons::reasons;
+use crate::scheduling::scheduled;
+use crate::sentences::{Manner, Piece, put_pieces};
 use crate::tables::table::Table;
-use crate::waiting::put_waiting;
 use run_merge::NodeLog;
-use schedule::{TextFault, events_text};
 use std::alloc::{AllocError, Global};
-use world_setup::{Event, WorldFault, WorldSettings};
+use world_setup::Event;
 
 /// What is told of logs, and whether they are those of a legal run.
 #[derive(Drop)]
@@ -46,13 +46,12 @@ pub enum Form {
 /// Judges the logs and tells what they are, in the form that is asked for.
 ///
 /// # Errors
-/// `OutOfMemory`.
+/// `OutOfMemory`; `NoLine` where a schedule is asked for and the run has none.
 pub fn report_on(alloc: Global, audited: Audited, form: Form) -> Result<Report, AuditFault>
     // It is said that there is a run exactly where some events are a legal interleaving of the logs.
     ensures told { IfOk result (λ report. IsTold audited.settings (logs_seen audited.logs.items) report.legal) }
-    // A table is that of the world which these events leave.
-    ensures table { IfOk result (λ report.
-        IsTabled audited.settings (logs_seen audited.logs.items) form report.legal report.text.items) }
+    // What is written is told of such a run and of the world that it leaves, or says why there is none.
+    ensures text { IfOk result (λ report. IsWritten audited form report.legal report.text.items) }
 {
     match judge(alloc, &audited.settings, audited.logs.as_slice())? {
         Verdict::Legal(events) => legal(alloc, audited, events.as_slice(), form),
@@ -68,40 +67,52 @@ fn legal(
     form: Form,
 ) -> Result<Report, AuditFault>
     ensures legal { IfOk result (λ report. report.legal ≡ true) }
-    ensures table { IfOk result (λ report.
-        IsTextOf audited.settings (map event_seen events.now) form report.text.items) }
+    ensures text { IfOk result (λ report. IsTextOf audited (map event_seen events.now) form report.text.items) }
+{
+    match legal_text(alloc, audited, events, form) {
+        Ok(text) => Ok(Report { text, legal: true }),
+        Err(fault) => Err(fault),
+    }
+}
+
+/// The text that is told of these events.
+fn legal_text(
+    alloc: Global,
+    audited: Audited,
+    events: &[Event],
+    form: Form,
+) -> Result<Vec<u8>, AuditFault>
+    ensures { IfOk result (λ text. IsTextOf audited (map event_seen events.now) form text.items) }
 {
     match form {
-        Form::Lines => lines_of(alloc, audited, events),
-        Form::Json => object_of(alloc, audited, events),
+        Form::Lines => run_lines(alloc, audited, events),
+        Form::Json => run_object(alloc, audited, events),
         Form::Csv(table) => table_of(alloc, audited, events, table),
-        Form::Schedule => scheduled(alloc, &audited, events),
+        Form::Schedule => scheduled(alloc, audited.text.as_slice(), events),
     }
 }
 
 /// What is told of logs of no legal run.
 fn tangled(alloc: Global, audited: &Audited, form: Form) -> Result<Report, AuditFault>
     ensures legal { IfOk result (λ report. report.legal ≡ false) }
-    ensures table { IfOk result (λ report. IsUntold form report.text.items) }
+    ensures text { IfOk result (λ report. IsUntold audited.now form report.text.items) }
 {
-    match form {
-        Form::Lines => tangled_lines(alloc, audited),
-        Form::Json => tangled_object(alloc, audited),
-        Form::Csv(_) => Ok(Report {
-            text: Vec::new(alloc),
-            legal: false,
-        }),
-        Form::Schedule => tangled_lines(alloc, audited),
+    match no_run_text(alloc, audited, form) {
+        Ok(text) => Ok(Report { text, legal: false }),
+        Err(fault) => Err(fault),
     }
 }
 
-/// The object of logs of a legal run.
-fn object_of(alloc: Global, audited: Audited, events: &[Event]) -> Result<Report, AuditFault>
-    ensures { IfOk result (λ report. report.legal ≡ true) }
+/// The text that says that there is no legal run, and why.
+fn no_run_text(alloc: Global, audited: &Audited, form: Form) -> Result<Vec<u8>, AuditFault>
+    ensures { IfOk result (λ text. IsUntold audited.now form text.items) }
 {
-    let mut text = Vec::new(alloc);
-    put_run(alloc, &mut text, audited, events)?;
-    Ok(Report { text, legal: true })
+    match form {
+        Form::Lines => no_run_lines(alloc, audited),
+        Form::Json => no_run_told(alloc, audited),
+        Form::Csv(_) => Ok(Vec::new(alloc)),
+        Form::Schedule => no_run_lines(alloc, audited),
+    }
 }
 
 /// A table of what a run of these events left.
@@ -110,99 +121,101 @@ fn table_of(
     audited: Audited,
     events: &[Event],
     table: Table,
-) -> Result<Report, AuditFault>
-    ensures legal { IfOk result (λ report. report.legal ≡ true) }
-    ensures table { IfOk result (λ report. report.text.items
-        ≡ run_csv audited.settings (map event_seen events.now) table) }
+) -> Result<Vec<u8>, AuditFault>
+    ensures { IfOk result (λ text. text.items ≡ run_csv audited.settings (map event_seen events.now) table) }
 {
     let mut text = Vec::new(alloc);
     put_left_table(alloc, &mut text, audited.settings, events, table)?;
-    Ok(Report { text, legal: true })
-}
-
-/// The object of logs of no legal run.
-fn tangled_object(alloc: Global, audited: &Audited) -> Result<Report, AuditFault>
-    ensures { IfOk result (λ report. report.legal ≡ false) }
-{
-    let mut why = Vec::new(alloc);
-    put_why(alloc, &mut why, &audited.settings, audited.logs.as_slice())?;
-    let mut text = Vec::new(alloc);
-    put_no_run(alloc, &mut text, audited, why.as_slice())?;
-    Ok(Report { text, legal: false })
-}
-
-/// The input of a replay of these events: the settings, a line `---`, and a line for each event.
-fn scheduled(alloc: Global, audited: &Audited, events: &[Event]) -> Result<Report, AuditFault>
-    ensures { IfOk result (λ report. report.legal ≡ true) }
-{
-    let lines = match events_text(alloc, events) {
-        Ok(lines) => lines,
-        Err(TextFault::OutOfMemory) => return Err(AuditFault::OutOfMemory),
-        Err(TextFault::NoLine) => return Err(AuditFault::NoLine),
-    };
-    let mut text = Vec::new(alloc);
-    text.extend_from_slice(audited.text.as_slice())?;
-    if audited.text.last() != Some(&b'\n') {
-        end(&mut text)?;
-    }
-    put(&mut text, "---\n")?;
-    text.extend_from_slice(lines.as_slice())?;
-    Ok(Report { text, legal: true })
+    Ok(text)
 }
 
 /// The lines of logs of a legal run.
-fn lines_of(alloc: Global, audited: Audited, events: &[Event]) -> Result<Report, AuditFault>
-    ensures { IfOk result (λ report. report.legal ≡ true) }
+#[tactic(auto, unfolding(crate::specs::Telling::run_lines))]
+fn run_lines(alloc: Global, audited: Audited, events: &[Event]) -> Result<Vec<u8>, AuditFault>
+    ensures { IfOk result (λ text. text.items ≡ run_lines audited (map event_seen events.now)) }
 {
     let mut text = Vec::new(alloc);
     put_logs(&mut text, audited.logs.as_slice(), audited.torn.as_slice())?;
-    put_count(&mut text, "one legal run of", events.len() as u64)?;
-    put(&mut text, " events\n")?;
+    put_legal(&mut text, events.len() as u64)?;
     put_left_counts(alloc, &mut text, audited.settings, events)?;
-    Ok(Report { text, legal: true })
+    Ok(text)
+}
+
+/// Appends that there is a legal run, and of how many events.
+fn put_legal(text: &mut Vec<u8>, count: u64) -> Result<(), AllocError>
+    ensures { OnOk result (Adds text.old text.new (legal_line count)) }
+{
+    let pieces = [
+        Piece::Words(b"one legal run of "),
+        Piece::Number(count),
+        Piece::Words(b" events\n"),
+    ];
+    put_pieces(text, &pieces)
 }
 
 /// The lines of logs of no legal run.
-fn tangled_lines(alloc: Global, audited: &Audited) -> Result<Report, AuditFault>
-    ensures { IfOk result (λ report. report.legal ≡ false) }
+fn no_run_lines(alloc: Global, audited: &Audited) -> Result<Vec<u8>, AuditFault>
+    ensures { IfOk result (λ text. IsNoRunLines audited.now text.items) }
+{
+    let why = reasons(
+        alloc,
+        Manner::Line,
+        &audited.settings,
+        audited.logs.as_slice(),
+    )?;
+    Ok(lines_with(alloc, audited, why.as_slice())?)
+}
+
+/// The lines of logs, that there is no legal run, and these lines.
+fn lines_with(alloc: Global, audited: &Audited, why: &[u8]) -> Result<Vec<u8>, AllocError>
+    ensures { IfOk result (λ text. text.items ≡ log_lines (logs_seen audited.now.logs.items) audited.now.torn.items
+        ++ (codes "no legal run\n" ++ why.now)) }
 {
     let mut text = Vec::new(alloc);
     put_logs(&mut text, audited.logs.as_slice(), audited.torn.as_slice())?;
-    put(&mut text, "no legal run\n")?;
-    put_why(alloc, &mut text, &audited.settings, audited.logs.as_slice())?;
-    Ok(Report { text, legal: false })
+    text.extend_from_slice(b"no legal run\n")?;
+    text.extend_from_slice(why)?;
+    Ok(text)
 }
 
-/// Appends why there is no run: logs that are not one for each node; else calls that nodes do not make; else calls that
-/// wait for packets which nobody sent.
-fn put_why(
-    alloc: Global,
-    text: &mut Vec<u8>,
-    settings: &WorldSettings,
-    logs: &[NodeLog],
-) -> Result<(), AuditFault> {
-    let routes = match settings.checked_routes(alloc) {
-        Ok(routes) => routes,
-        Err(WorldFault::OutOfMemory) => return Err(AuditFault::OutOfMemory),
-        Err(fault) => return Err(AuditFault::World(fault)),
-    };
-    if put_missing(text, settings, logs)? {
-        return Ok(());
-    }
-    if put_misfits(alloc, text, settings, &routes, logs)? {
-        return Ok(());
-    }
-    put_waiting(alloc, text, logs)?;
-    Ok(())
+/// The object of logs of no legal run.
+fn no_run_told(alloc: Global, audited: &Audited) -> Result<Vec<u8>, AuditFault>
+    ensures { IfOk result (λ text. IsNoRunObject audited.now text.items) }
+{
+    let why = reasons(
+        alloc,
+        Manner::Member,
+        &audited.settings,
+        audited.logs.as_slice(),
+    )?;
+    Ok(no_run_object(alloc, audited, why.as_slice())?)
 }
 
 /// Appends a line for each log: its node, how many calls it has, and how many bytes its torn end has.
-fn put_logs(text: &mut Vec<u8>, logs: &[NodeLog], torn: &[usize]) -> Result<(), AllocError> {
-    for (log, torn) in logs.iter().zip(torn) {
-        put_node(text, log.node())?;
-        put_more(text, "calls", log.records().len() as u64)?;
-        put_more(text, "torn", *torn as u64)?;
-        end(text)?;
+pub(crate) fn put_logs(
+    text: &mut Vec<u8>,
+    logs: &[NodeLog],
+    torn: &[usize],
+) -> Result<(), AllocError>
+    ensures { OnOk result (Adds text.old text.new (log_lines (logs_seen logs.now) torn.now)) }
+{
+    for (place, log) in logs.iter().enumerate() {
+        put_log(text, log, torn_at(torn, place))?;
     }
     Ok(())
+}
+
+/// Appends the line of a log.
+fn put_log(text: &mut Vec<u8>, log: &NodeLog, torn: u64) -> Result<(), AllocError>
+    ensures { OnOk result (Adds text.old text.new (log_line (log_seen log.now) torn)) }
+{
+    let pieces = [
+        Piece::Named(log.node()),
+        Piece::Words(b" calls "),
+        Piece::Number(log.records().len() as u64),
+        Piece::Words(b" torn "),
+        Piece::Number(torn),
+        Piece::Words(b"\n"),
+    ];
+    put_pieces(text, &pieces)
 }

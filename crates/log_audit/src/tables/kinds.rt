@@ -58,7 +58,7 @@ fn letters_of(node: Node) -> &'static [u8]
 }
 
 /// The number of a node.
-fn number_of(node: Node) -> u64
+pub(crate) fn number_of(node: Node) -> u64
     ensures { result ≡ number_of (node_seen node) }
 {
     match node {

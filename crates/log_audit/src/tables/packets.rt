@@ -130,7 +130,7 @@ fn carried_in(bytes: &[u8]) -> Carried
 }
 
 /// The envelope that bytes are, wherever they stand in memory.
-fn opened(bytes: &[u8]) -> Result<Envelope<'_>, EnvelopeFault>
+pub(crate) fn opened(bytes: &[u8]) -> Result<Envelope<'_>, EnvelopeFault>
     ensures { (routes : RouteMaps) → (bytes_with routes).read_envelope bytes.now ≡ envelope_in result }
 {
     envelopes_know_no_place();

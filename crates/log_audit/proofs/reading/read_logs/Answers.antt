@@ -1,8 +1,14 @@
-use Rattle.log_audit.proofs.LogReading.{reads_on}
+use Rattle.std.proofs.Common.{arith}
+use Rattle.log_audit.proofs.LogReading.{reads_on, torn_on, torn_is}
 use Rattle.log_audit.proofs.reading.read_logs.Goals as goal
 
 pub loop-place-preserved : goal.loop-place-preserved
 loop-place-preserved c =
     let read = c.in_ok-log.field-0 in
-    reads_on (λ bytes. bytes.items) c.args.digest.now c.args.logs.now c.loop-place.place c.index-logs-place.result c.loop-place.read.logs.items c.push.new.self.logs.items read.log
-    c.loop-place-test.true c.index-logs-place.is c.in_ok-push.ensures (record { whole = read.whole; reads = rw c.as_slice.ensures.value at c.in_ok-log.ensures }) c.loop-place.invariant
+    record {
+      logs = reads_on (λ bytes. bytes.items) c.args.digest.now c.args.logs.now c.loop-place.place c.index-logs-place.result c.loop-place.read.logs.items c.push.new.self.logs.items read.log
+          c.loop-place-test.true c.index-logs-place.is c.in_ok-push.ensures.logs (record { whole = read.whole; reads = rw c.as_slice.ensures.value at c.in_ok-log.ensures }) c.loop-place.invariant.logs;
+      torn = torn_on (λ bytes. bytes.items) c.args.digest.now c.args.logs.now c.loop-place.place c.index-logs-place.result c.loop-place.read.torn.items c.push.new.self.torn.items _
+          c.loop-place-test.true c.index-logs-place.is c.in_ok-push.ensures.torn
+          (torn_is c.args.digest.now _ read (rw c.as_slice.ensures.value at c.in_ok-log.ensures) _ (omega arith)) c.loop-place.invariant.torn;
+    }

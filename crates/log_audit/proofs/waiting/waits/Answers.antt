@@ -1,0 +1,10 @@
+use Rattle.std.proofs.Common.{ap, ◌∙◌}
+use Rattle.std.specs.Prelude.{not}
+use Rattle.world_setup.specs.Seen.{node_seen}
+use Rattle.log_audit.specs.Waits.{sent_before}
+use Rattle.log_audit.specs.WaitsSeen.{progress_seen}
+use Rattle.log_audit.proofs.Listing.{any_seen}
+use Rattle.log_audit.proofs.waiting.waits.Goals as goal
+
+pub returns-in-Take : goal.returns-in-Take
+returns-in-Take c = rw c.in-Take.is (ap not (c.was_sent.ensures ∙ any_seen progress_seen (sent_before (node_seen c.in-Take.from) (node_seen c.args.node) c.in-Take.bytes) c.args.lines.now))
