@@ -44,6 +44,11 @@ def error_of(reply: bytes) -> int:
     return int(json.loads(reply).get("error", {}).get("err_code", 0))
 
 
+def is_word(reply: bytes) -> bool:
+    """Whether a reply is one of the server in charge: servers that have just come know no leader, or not one another."""
+    return error_of(reply) not in (NO_LEADER, NO_PLACE)
+
+
 def unit_size(at: int, data: bytes | memoryview) -> int:
     """How many bytes a log's head, or the record that begins here, takes; 0 where it is not whole."""
     if at == 0:
@@ -75,8 +80,7 @@ class Log:
         """The servers' word on what is asked or appended: the same again until there is one."""
         end = time.monotonic() + MOST_SECONDS
         while time.monotonic() < end:
-            # Servers that have just come know no leader, or not one another.
-            word = await self._connection.request(subject, payload, ASK_SECONDS, headers, lambda it: error_of(it) not in (NO_LEADER, NO_PLACE))
+            word = await self._connection.request(subject, payload, ASK_SECONDS, headers, is_word)
             if word is not None:
                 return word
         raise Fault(f"{self.name}: the servers say nothing for {MOST_SECONDS:.0f} s")

@@ -2,7 +2,7 @@
 
 Hosts are killed, stopped, and woken; they die by themselves behind the servers' word, behind the file, behind what was said, and between
 the parts of a record; packets are lost, doubled and late; machines lose their disks while another has the log; servers are killed, one or all
-at once, stopped, and lose their stores while the other two are current. In the end nothing dies any more, and all has to settle. A
+at once, stopped, and lose their stores while the other two are current; logs are moved. In the end nothing dies any more, and all has to settle. A
 host that refuses its log fails the run, and so does a log that cannot be read to its end."""
 
 import asyncio
@@ -21,6 +21,7 @@ import tempfile
 import engine
 import logs
 import nats
+import subjects
 from judged import NODES, SETTINGS, TOP, Caller, Failed, Operator, judge
 
 MACHINES = ("a", "b")
@@ -107,6 +108,14 @@ class Candidate:
         await asyncio.sleep(seconds)
         self.send(signal.SIGCONT)
         self.is_stopped = False
+
+
+async def move(run, connection):
+    """Has logs moved to stand-bys, now and then; a move may be refused, or end half way."""
+    while not run.calm:
+        await asyncio.sleep(run.dice.expovariate(0.5))
+        reply = await connection.request(subjects.operations(run.dice.choice(NODES)), b"move", 1)
+        run.count("moves" if reply == b"ok" else "moves refused or lost")
 
 
 class Cluster:
@@ -234,7 +243,7 @@ class Run:
         callers = [Watchful(self, number, connections[number - 1]) for number in (1, 2)]
         operator, cluster = Operator(self, connections[2]), Cluster(self, self.servers)
         await first(tasks, asyncio.wait_for(operator.settle(), SETTLE_SECONDS))
-        work = [self.torment(self.given.seconds), cluster.torment(), operator.go(), *(it.go() for it in callers)]
+        work = [self.torment(self.given.seconds), cluster.torment(), operator.go(), move(self, self.connection), *(it.go() for it in callers)]
         await first(tasks, asyncio.gather(*work))
         await first(tasks, asyncio.wait_for(operator.settle(), SETTLE_SECONDS))
         entries = await first(tasks, asyncio.wait_for(asyncio.gather(*(it.settle() for it in callers)), SETTLE_SECONDS))

@@ -74,9 +74,11 @@ static void check_stream(struct candidate *it) {
         nats_Sleep(200);
         tell_service(it);
     }
-    if (!begins(entry.owner, strlen(entry.owner), "made.")) fail_with(REFUSED, it->stream.name, "its first message is not that of `vogctl log make`");
+    if (!begins(entry.owner, strlen(entry.owner), "made."))
+        fail_with(REFUSED, it->stream.name, "its first message is not that of `vogctl log make`");
     if (strcmp(seen->made, "-") == 0) strcpy(seen->made, entry.owner);
-    if (strcmp(seen->made, entry.owner) != 0) fail_with(REFUSED, it->stream.name, "the log was made anew: it is not the one that this machine knows");
+    if (strcmp(seen->made, entry.owner) != 0)
+        fail_with(REFUSED, it->stream.name, "the log was made anew: it is not the one that this machine knows");
     entry_free(&entry);
     if (seen->sequence == 0 || read_surely(it, seen->sequence, &entry) != FOUND) return;
     if (strcmp(entry.digest, seen->digest) != 0) fail_with(REFUSED, it->stream.name, "it has another log than this machine has seen");
@@ -170,6 +172,8 @@ bool candidate_own(struct candidate *it) {
     bool is_end = false;
     it->level = now();
     say("info", "follows", it->stream.name);
+    /* A stand-by is as it should be, whoever started it. */
+    service_tell("READY=1");
     while (!*it->is_stopping) {
         struct heard has = beats_heard(&it->beats);
         /* A host that was stopped has heard nobody meanwhile: it looks again before it takes a log that is well kept. */

@@ -13,7 +13,8 @@ static uint64_t number_of(const unsigned char *bytes) {
     return number;
 }
 
-/* How many bytes the head of a log, or the record that begins here, takes; 0 where it is not whole. `is_none`: what stands here begins none. */
+/* How many bytes the head of a log, or the record that begins here, takes; 0 where it is not whole. `is_none`: what stands here is the
+   beginning of neither. */
 static size_t unit_of(uint64_t place, const char *bytes, size_t left, bool *is_none) {
     const unsigned char *at = (const unsigned char *)bytes;
     *is_none = false;

@@ -124,7 +124,8 @@ static bool open_node(struct host *host) {
         return true;
     }
     struct bytes text = settings_of(given->settings);
-    host->node = (struct served){ .name = given->name, .node = VOGRILAS_NODE_INIT, .log = log_open(given->log), .copy = &host->candidate->copy };
+    host->node = (struct served){ .name = given->name, .node = VOGRILAS_NODE_INIT, .log = log_open(given->log) };
+    host->node.copy = &host->candidate->copy;
     bool is_open = candidate_open(host->candidate, given, &host->node.log, &is_stopping);
     struct bytes log = log_bytes(&host->node.log);
     log.size = (size_t)host->candidate->copy.whole.size;

@@ -35,8 +35,9 @@ static void mix(uint32_t state[8], const unsigned char *block) {
     memcpy(now, state, sizeof now);
     for (int at = 0; at < 64; at++) {
         uint32_t e = now[4], a = now[0];
-        uint32_t one = now[7] + (ROTATED(e, 6) ^ ROTATED(e, 11) ^ ROTATED(e, 25)) + ((e & now[5]) ^ (~e & now[6])) + round_word[at] + word[at];
-        uint32_t two = (ROTATED(a, 2) ^ ROTATED(a, 13) ^ ROTATED(a, 22)) + ((a & now[1]) ^ (a & now[2]) ^ (now[1] & now[2]));
+        uint32_t choice = (e & now[5]) ^ (~e & now[6]), most = (a & now[1]) ^ (a & now[2]) ^ (now[1] & now[2]);
+        uint32_t one = now[7] + (ROTATED(e, 6) ^ ROTATED(e, 11) ^ ROTATED(e, 25)) + choice + round_word[at] + word[at];
+        uint32_t two = (ROTATED(a, 2) ^ ROTATED(a, 13) ^ ROTATED(a, 22)) + most;
         memmove(now + 1, now, 7 * sizeof *now);
         now[4] += one;
         now[0] = one + two;

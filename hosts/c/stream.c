@@ -18,13 +18,14 @@
 void stream_begin(struct stream *stream, const char *node, const char *machine, size_t part) {
     unsigned char drawn[4];
     char host[32] = "machine";
-    if (machine == NULL && gethostname(host, sizeof host - 1) == 0) machine = host;
+    if (machine == NULL) gethostname(host, sizeof host - 1);
     draw(drawn, sizeof drawn);
     stream->node = node;
     stream->part = part;
     snprintf(stream->name, sizeof stream->name, "LOG_%s", node);
     snprintf(stream->subject, sizeof stream->subject, "log.%s", node);
-    snprintf(stream->owner, sizeof stream->owner, "%.32s.%02x%02x%02x%02x", machine == NULL ? host : machine, drawn[0], drawn[1], drawn[2], drawn[3]);
+    snprintf(stream->owner, sizeof stream->owner, "%.32s.%02x%02x%02x%02x", machine == NULL ? host : machine, drawn[0], drawn[1], drawn[2],
+             drawn[3]);
 }
 
 static void set_header(natsMsg *message, const char *name, const char *value) {
@@ -65,7 +66,7 @@ static bool judge(struct stream *stream, const char *reply, uint64_t at, const c
     static const char wrong[] = "wrong last sequence: ";
     uint64_t error = reply_error(reply), sequence = reply_number(reply, "seq");
     const char *told = strstr(reply, wrong);
-    if (error == 0 && sequence > 0) {
+    if (error == 0 && sequence > 0 && strstr(reply, stream->name) != NULL) {
 #ifndef WRONG_NO_EXPECTATION
         if (sequence != stream->last + 1) fail_with(REFUSED, stream->name, "the servers took a message elsewhere than it was to stand");
 #endif

@@ -162,6 +162,9 @@ void turn(struct host *host, struct message *batch, bool is_tick) {
         node_serve(&host->node, "tick", 4);
     }
 #ifdef WRONG_SAID_EARLY
+    struct bytes early = node_records(&host->node);
+    node_kept(&host->node, early.size);
+    free(early.at);
     tell(host, batch);
     torment(host->carrier->connection);
     node_keep(&host->node, speaks);

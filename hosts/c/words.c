@@ -40,6 +40,7 @@ static void complete(struct given *given) {
     bool is_file = given->kept == NULL || strcmp(given->kept, "file") == 0;
     if (!(given->tick > 0) || !(given->hold_back >= 0) || !(given->patience > 0) || !(given->part >= 1)) usage(2);
     if (given->copies != 1 && (given->copies != 2 || is_file)) usage(2);
+    if (given->machine != NULL && (*given->machine == '\0' || strpbrk(given->machine, " \t\r\n") != NULL)) usage(2);
     given->is_stream = !is_file;
     if (!is_file && strcmp(given->kept, "stream") != 0) usage(2);
     /* A server that is silent is left sooner where a word of it is waited for. */
