@@ -8,3 +8,4 @@ pub mod Replayed
 pub mod Turns
 pub mod Running
 pub mod Growing
+pub mod Sharp

@@ -8,5 +8,5 @@ mod logs;
 mod orders;
 
 pub use growth::growth_goes_on;
-pub use logs::{logs_go_on, logs_go_over, runs_go_over};
+pub use logs::{logs_go_on, logs_go_over, rejections_have_to_stay, runs_go_over};
 pub use orders::{legal_logs_have_turns, made_logs_are_legal};

@@ -35,3 +35,11 @@ pub fn runs_go_over()
         → Grows ctx wider s t → AllByRecursion (λ log. RejectionsStay ctx wider log.node log.calls) logs → Added t logs more
         → IsInterleaving ctx s logs events → IsInterleaving wider t (logs ++ more) events }
 {}
+
+/// Nothing weaker would do: where a switch makes its log under both settings, what it rejected for want of a route has none
+/// under the new ones.
+pub fn rejections_have_to_stay()
+    ensures { (ctx wider : Context) (s t : WorldSettings) (node : Node) (before after : AnyNode) (log : List Logged)
+        → Grows ctx wider s t → node_at (opening s) node ≡ Some before → node_at (opening t) node ≡ Some after
+        → Makes ctx before log → Makes wider after log → RejectionsStay ctx wider node log }
+{}
