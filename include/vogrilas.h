@@ -24,7 +24,8 @@
 **     a node        vogrilas_open, vogrilas_serve, vogrilas_submit, vogrilas_take, vogrilas_records, vogrilas_kept,
 **                   vogrilas_written, vogrilas_clear, vogrilas_close
 **     what it has   vogrilas_calls, vogrilas_count, vogrilas_request, vogrilas_answer, vogrilas_payments
-**     no node       vogrilas_print, vogrilas_unprint, vogrilas_describe, vogrilas_audit, vogrilas_version
+**     messages      vogrilas_make_billing, vogrilas_make_reversal, vogrilas_describe
+**     no node       vogrilas_print, vogrilas_unprint, vogrilas_audit, vogrilas_version
 **
 ** All memory is the caller's, apart from a node's own, which vogrilas_close() gives back: what a call tells it copies into a
 ** buffer that is lent for the call alone. Where the buffer is too short, it says VOGRILAS_SHORT_BUFFER and how much is wanted.
@@ -52,6 +53,7 @@
 #include <stdbool.h>
 #include <stddef.h>
 #include <stdint.h>
+#include <string.h>
 
 #ifdef __cplusplus
 extern "C" {
@@ -88,7 +90,13 @@ enum {
     VOGRILAS_NOT_FOUND = 18,      /* there is no such entry, slot or row */
     VOGRILAS_NO_RUN = 19,         /* the logs are those of no legal run */
     VOGRILAS_UNSYNCED = 20,       /* the host has not said that all is on disk: nothing is told */
-    VOGRILAS_TOO_MANY = 21        /* more bytes are said to be on disk than there are records */
+    VOGRILAS_TOO_MANY = 21,       /* more bytes are said to be on disk than there are records */
+    VOGRILAS_FIELD_EMPTY = 22,    /* a field has no byte; its number is told here and below */
+    VOGRILAS_FIELD_TOO_LONG = 23, /* a text has more bytes than its field, or a number more digits */
+    VOGRILAS_FIELD_SEPARATOR = 24, /* a separator of the message stands in a text */
+    VOGRILAS_FIELD_SPACE = 25,    /* a text ends in a space, which would not come back */
+    VOGRILAS_FIELD_DIGITS = 26,   /* just so many digits are wanted */
+    VOGRILAS_FIELD_DAY = 27       /* the calendar has no such day */
 };
 
 /* The words for a code, for people. */
@@ -116,6 +124,12 @@ static inline const char *vogrilas_code_text(vogrilas_code code) {
     case VOGRILAS_NO_RUN: return "no legal run";
     case VOGRILAS_UNSYNCED: return "not all is on disk";
     case VOGRILAS_TOO_MANY: return "more bytes than there are records";
+    case VOGRILAS_FIELD_EMPTY: return "the field is empty";
+    case VOGRILAS_FIELD_TOO_LONG: return "the field is too long";
+    case VOGRILAS_FIELD_SEPARATOR: return "a separator stands in the field";
+    case VOGRILAS_FIELD_SPACE: return "the field ends in a space";
+    case VOGRILAS_FIELD_DIGITS: return "the field has to be digits";
+    case VOGRILAS_FIELD_DAY: return "the field is no day";
     default: return "no code of this version";
     }
 }
@@ -183,7 +197,8 @@ vogrilas_code vogrilas_open(vogrilas_node *node, const void *settings, size_t se
 vogrilas_code vogrilas_serve(vogrilas_node *node, const void *line, size_t line_size);
 
 /*
-** Serves the line `submit TEXT` of these very bytes, or the line `take FROM TEXT`: for callers that have bytes and no text.
+** Serves the line `submit TEXT` of these very bytes, or the line `take FROM TEXT`: for callers that have bytes and no text. The
+** number of the entry is in what is written, once it is on disk: vogrilas_number_in() reads it.
 ** The codes are those of vogrilas_serve(), and VOGRILAS_NAME where `from` is no node's name; then nothing has changed.
 */
 vogrilas_code vogrilas_submit(vogrilas_node *node, const void *request, size_t request_size);
@@ -213,6 +228,27 @@ vogrilas_code vogrilas_kept(vogrilas_node *node, size_t size);
 ** as far as vogrilas_kept() has said, and buffer and *size are as they were.
 */
 vogrilas_code vogrilas_written(vogrilas_node *node, void *buffer, size_t room, size_t *size);
+
+/*
+** The number of the entry that a submission made, in what was written: of the first line from *place on that served a call, which
+** *place is behind then. 0: that call was refused, or was no submission, or no line is left. So behind one vogrilas_submit(), and
+** from place 0, it is the entry's number, and behind several it gives them one by one. Tested, not proved.
+*/
+static inline uint64_t vogrilas_number_in(const void *written, size_t size, size_t *place) {
+    const char *text = (const char *)written;
+    while (*place < size) {
+        const char *line = text + *place;
+        const char *end = (const char *)memchr(line, '\n', size - *place);
+        size_t length = end == NULL ? size - *place : (size_t)(end - line);
+        *place += length + (end != NULL);
+        if (length >= 5 && memcmp(line, "send ", 5) == 0) continue;
+        uint64_t number = 0;
+        if (length > 7 && memcmp(line, "number ", 7) == 0)
+            for (size_t at = 7; at < length; at++) number = 10 * number + (uint64_t)(line[at] - '0');
+        return number;
+    }
+    return 0;
+}
 
 /*
 ** Tells how many calls the node's log has. VOGRILAS_OK: *calls is told. VOGRILAS_UNSYNCED, VOGRILAS_CLOSED: it is as it was.
@@ -293,23 +329,70 @@ void vogrilas_close(vogrilas_node *node);
 
 /*
 ** Copies the printed text of bytes: printable ASCII characters as they are, and the others as \F, \G, \S (the separators of a
-** message), \\ or \xHH. VOGRILAS_OK and VOGRILAS_SHORT_BUFFER are as of vogrilas_records(). Four times as many bytes are
-** always room enough.
+** message), \\ or \xHH. VOGRILAS_OK and VOGRILAS_SHORT_BUFFER are as of vogrilas_records(); VOGRILAS_NO_MEMORY: buffer and *size
+** are as they were. Four times as many bytes are always room enough.
 */
 vogrilas_code vogrilas_print(const void *bytes, size_t bytes_size, void *buffer, size_t room, size_t *size);
 
 /*
-** Copies the bytes that a printed text spells. VOGRILAS_BAD_TEXT: *size is the place of the first byte that spells nothing.
-** As many bytes as the text has are always room enough.
+** Copies the bytes that a printed text spells. VOGRILAS_BAD_TEXT: *size is the place of the first byte that spells nothing, and
+** the buffer is unchanged. The other codes are as of vogrilas_print(). As many bytes as the text has are always room enough.
 */
 vogrilas_code vogrilas_unprint(const void *text, size_t text_size, void *buffer, size_t room, size_t *size);
+
+/*
+** The header of a request. A text ends at its first 0 byte, so that `.pcn = "A1"` and snprintf() write it; spaces behind it are
+** the library's, up to the width of the field. Version D0, the code and the count of one transaction are the library's too.
+*/
+typedef struct vogrilas_header {
+    char bin[7];       /* BIN number, 101-A1: six digits */
+    char pcn[11];      /* processor control number, 104-A4: at most 10 bytes */
+    char qualifier[3]; /* of the service provider, 202-B2: at most 2 */
+    char provider[16]; /* the service provider, 201-B1: at most 15 */
+    char date[9];      /* date of service, 401-D1: a day, CCYYMMDD */
+    char vendor[11];   /* software vendor and certification, 110-AK: at most 10 */
+} vogrilas_header;
+
+/* A billing (B1) of one transaction. Zeros are no billing, but a beginning of one. */
+typedef struct vogrilas_billing {
+    uint64_t prescription;  /* 402-D2: at most 12 digits */
+    uint64_t quantity;      /* quantity dispensed, 442-E7, in thousandths of a unit: at most 10 digits */
+    uint32_t cost;          /* ingredient cost submitted, 409-D9, in cents: at most 8 digits */
+    uint32_t fee;           /* dispensing fee submitted, 412-DC, in cents: at most 8 digits */
+    vogrilas_header header;
+    char cardholder[21];    /* cardholder ID, 302-C2: 1 to 20 bytes */
+    char product[20];       /* product, 407-D7, a National Drug Code: 1 to 19 bytes */
+    uint8_t fill_number;    /* 403-D3: at most 99 */
+} vogrilas_billing;
+
+/* A reversal (B2) of one transaction: the prescription, the fill and the header of its billing name what is reversed. */
+typedef struct vogrilas_reversal {
+    uint64_t prescription;
+    vogrilas_header header;
+    char product[20];
+    uint8_t fill_number;    /* VOGRILAS_NO_FILL leaves it out */
+} vogrilas_reversal;
+
+#define VOGRILAS_NO_FILL 255
+
+/*
+** Copies the message that fields say: the bytes that vogrilas_submit() takes. They read back as these fields, and as the claim or
+** the reversal that they ask for, which is proved of every message that is made.
+**
+** VOGRILAS_OK and VOGRILAS_SHORT_BUFFER are as of vogrilas_records(); 512 bytes are room for the longest. VOGRILAS_FIELD_EMPTY to
+** VOGRILAS_FIELD_DAY: a field is wrong, the first in the order of the message; *field is its number, as 302 of 302-C2, and the
+** code says why. VOGRILAS_NO_MEMORY: no field is wrong. Buffer and *size are as they were at all of these, and *field at every code
+** but those of fields.
+*/
+vogrilas_code vogrilas_make_billing(const vogrilas_billing *fields, void *buffer, size_t room, size_t *size, uint32_t *field);
+vogrilas_code vogrilas_make_reversal(const vogrilas_reversal *fields, void *buffer, size_t room, size_t *size, uint32_t *field);
 
 /*
 ** Copies a description of a message, as claimdecode writes it: each field with its place, number, name and value, and what it
 ** means; the reasons for which a request is rejected; the rulings of an answer. A request, an answer, an envelope or a record
 ** of a journal or a book is told by its first two bytes. `json` is 0 for lines for people, and anything else for one object of
-** JSON, whose members docs/FORMATS.md has. VOGRILAS_OK and VOGRILAS_SHORT_BUFFER are as of vogrilas_records(). Here it is
-** proved that nothing is written at any other code than VOGRILAS_OK; what is written is tested.
+** JSON, whose members docs/FORMATS.md has. VOGRILAS_OK and VOGRILAS_SHORT_BUFFER are as of vogrilas_records(); VOGRILAS_NO_MEMORY:
+** buffer and *size are as they were. What the description says is tested, and so is that it is the same each time.
 */
 vogrilas_code vogrilas_describe(const void *message, size_t message_size, uint32_t json, void *buffer, size_t room,
                                 size_t *size);
@@ -321,12 +404,16 @@ vogrilas_code vogrilas_describe(const void *message, size_t message_size, uint32
 ** what it left, or `no legal run` and why; `json` is 0 for these lines, and anything else for one object of JSON.
 **
 ** VOGRILAS_OK: there is such a run, VOGRILAS_NO_RUN: there is none; what is told stands in the buffer at both, *size bytes.
-** VOGRILAS_SHORT_BUFFER: *size is how many bytes are told, and nothing is said of the run; ask again with more room (64 KiB do
-** for lines of a hundred nodes). VOGRILAS_SETTINGS: the settings are none. VOGRILAS_NOT_A_LOG, VOGRILAS_LOG_VERSION,
-** VOGRILAS_DAMAGED_HEAD, VOGRILAS_NO_KIND, VOGRILAS_OTHER_SETTINGS, VOGRILAS_DAMAGED and VOGRILAS_BAD_RECORD: a log is none of
-** these settings, and *size is which one, from 0; VOGRILAS_NOT_A_LOG also where the sizes do not add up to `logs_size`, and
-** *size is `count` then. It is proved that the first two codes are right, of the settings that the text spells and the logs that
-** the bytes are, and that the buffer is unchanged at the others; what is told is tested.
+** VOGRILAS_SHORT_BUFFER: *size is how many bytes are told, the buffer is unchanged, and nothing is said of the run; ask again with
+** more room (64 KiB did for lines of a hundred nodes). VOGRILAS_NO_MEMORY; VOGRILAS_SETTINGS: the settings are none; *size is as it
+** was at both. VOGRILAS_NOT_A_LOG: the sizes do not add up to `logs_size`, and *size is `count`. That code also, or
+** VOGRILAS_LOG_VERSION, VOGRILAS_DAMAGED_HEAD, VOGRILAS_NO_KIND, VOGRILAS_OTHER_SETTINGS, VOGRILAS_DAMAGED, VOGRILAS_BAD_RECORD: a
+** log is none of these settings, and *size is which one, from 0. The buffer is unchanged at all of these.
+**
+** It is proved that the first two codes are right, of the settings that the text spells and the logs that the bytes are, and that
+** each other code comes with the buffer and *size as they stand here, but for two things that are tested: that settings and logs
+** are refused exactly where they should be, the first log that is none by its first fault, and which number it is. What is told
+** of a run is tested too.
 */
 vogrilas_code vogrilas_audit(const void *settings, size_t settings_size, const void *logs, size_t logs_size,
                              const size_t *sizes, size_t count, uint32_t json, void *buffer, size_t room, size_t *size);

@@ -21,6 +21,7 @@ SOURCES = {name: (TOP / path).read_text(encoding="utf-8") for name, path in {
     "payments": "crates/node_handle/src/payments.rt",
     "part": "crates/node_handle/src/part.rt",
     "handle": "crates/node_handle/src/handle.rt",
+    "messages": "crates/message_making/src/fields.rt",
     "rust": "bindings/rust/src/sys.rs",
     "rust codes": "bindings/rust/src/error.rs",
 }.items()}
@@ -33,6 +34,9 @@ PARAMETERS = {
     "&mut [u8]": ["void *", "size_t"],
     "&[usize]": ["const size_t *", "size_t"],
     "&mut [PlainPayment]": ["vogrilas_payment *", "size_t"],
+    "&PlainBilling": ["const vogrilas_billing *"],
+    "&PlainReversal": ["const vogrilas_reversal *"],
+    "&mut u32": ["uint32_t *"],
     "&mut usize": ["size_t *"],
     "&mut u64": ["uint64_t *"],
     "u16": ["uint16_t"],
@@ -41,7 +45,7 @@ PARAMETERS = {
     "usize": ["size_t"],
 }
 # The size of a type, and to how much it is aligned.
-TYPES = {"u8": (1, 1), "bool": (1, 1), "u16": (2, 2), "u32": (4, 4), "u64": (8, 8), "*mut u8": (8, 8), "Part": (8, 8)}
+TYPES = {"u8": (1, 1), "bool": (1, 1), "u16": (2, 2), "u32": (4, 4), "u64": (8, 8), "*mut u8": (8, 8), "Part": (8, 8), "PlainHeader": (57, 1)}
 wrong = []
 
 
@@ -141,19 +145,21 @@ def compare_codes(layout):
 def compare_structs(c_layout, rust_layout):
     layouts = {"C": c_layout}
     exported = {"vogrilas_payment": laid_out(SOURCES["payments"], "PlainPayment"), "vogrilas_node": laid_out(SOURCES["handle"], "NodeHandle")}
+    exported |= {f"vogrilas_{name.lower()}": laid_out(SOURCES["messages"], f"Plain{name}") for name in ("Header", "Billing", "Reversal")}
     python = {"vogrilas_payment": vogrilas_library.RawPayment, "vogrilas_node": vogrilas_library.Handle}
+    python |= {f"vogrilas_{name.lower()}": getattr(vogrilas_library, f"Raw{name}") for name in ("Header", "Billing", "Reversal")}
     for name, fields in structs():
         size, offsets = exported[name]
         expect(f"the size of {name}", c_layout.get(name), str(size))
         expect(f"the size of {name} in Python", c_layout.get(name), str(ctypes.sizeof(python[name])))
         expect(f"the offsets of {name}", [c_layout.get(f"{name}.{it}") for it in fields], [str(it) for it in offsets.values()])
         expect(f"the offsets of {name} in Python", [c_layout.get(f"{name}.{it}") for it in fields], [str(getattr(python[name], it).offset) for it, _ in python[name]._fields_])
-        if name == "vogrilas_payment":
-            expect("the fields of a payment", fields, list(offsets))
-            expect("the fields of a payment in Python", fields, [it for it, _ in python[name]._fields_])
+        if name != "vogrilas_node":
+            expect(f"the fields of {name}", fields, list(offsets))
+            expect(f"the fields of {name} in Python", fields, [it for it, _ in python[name]._fields_])
         if rust_layout:
             expect(f"the size of {name} in Rust", c_layout.get(name), rust_layout.get(name))
-            there = {it: c_layout[it] for it in c_layout if it.startswith(f"{name}.") and name == "vogrilas_payment"}
+            there = {it: c_layout[it] for it in c_layout if it.startswith(f"{name}.") and name != "vogrilas_node"}
             expect(f"the offsets of {name} in Rust", there, {it: rust_layout[it] for it in rust_layout if it.startswith(f"{name}.")})
     return layouts
 

@@ -226,6 +226,19 @@ static void try_texts(void) {
     check(vogrilas_print("", 0, text, 0, &size) == VOGRILAS_OK && size == 0, "no bytes");
 }
 
+/* The numbers of entries, in what was written of several calls. */
+static void try_numbers(void) {
+    const char *written = "send sw1 x\nnumber 12\nok\nsend sw1 number\nsend sw1 y\nrefused Full\nnumber 18446744073709551615\n";
+    size_t place = 0, size = strlen(written);
+    check(vogrilas_number_in(written, size, &place) == 12 && written[place] == 'o', "the number of an entry");
+    check(vogrilas_number_in(written, size, &place) == 0 && written[place] == 's', "a tick has none");
+    check(vogrilas_number_in(written, size, &place) == 0 && written[place] == 'n', "a refusal has none");
+    check(vogrilas_number_in(written, size, &place) == UINT64_MAX && place == size, "the largest number");
+    check(vogrilas_number_in(written, size, &place) == 0 && place == size, "no line is left");
+    place = 0;
+    check(vogrilas_number_in("number 7", 8, &place) == 7 && place == 8, "a line without its end");
+}
+
 /* Messages of any bytes are described, in lines and as JSON, and a buffer is enough or unchanged. */
 static void try_descriptions(void) {
     static char message[MOST], lines[MOST], again[MOST];
@@ -247,6 +260,92 @@ static void try_descriptions(void) {
         vogrilas_code code = vogrilas_describe(message, message_size, 1, again, MOST, &size);
         left = -1;
         check(code == VOGRILAS_OK || code == VOGRILAS_NO_MEMORY, "memory refused while a message is described");
+        check(lent == 0, "memory is given back");
+        if (code == VOGRILAS_OK) break;
+    }
+}
+
+/* The fields of the request of the example, and of its reversal. */
+static const vogrilas_billing a_billing = {
+    .prescription = 123456, .quantity = 30000, .cost = 6000, .fee = 200,
+    .header = { .bin = "610455", .pcn = "A1", .qualifier = "01", .provider = "1234567893", .date = "20240115", .vendor = "SW00000001" },
+    .cardholder = "987654321", .product = "00093721410"
+};
+
+static vogrilas_reversal reversal_of(const vogrilas_billing *billing) {
+    vogrilas_reversal reversal = { .prescription = billing->prescription, .header = billing->header, .fill_number = billing->fill_number };
+    memcpy(reversal.product, billing->product, sizeof reversal.product);
+    return reversal;
+}
+
+/* A billing with a wrong field is not made: the code says why, and the number which. */
+static void try_wrong(const vogrilas_billing *billing, vogrilas_code wanted, uint32_t number) {
+    char bytes[512] = "x";
+    size_t size = 77;
+    uint32_t field = 77;
+    check(vogrilas_make_billing(billing, bytes, sizeof bytes, &size, &field) == wanted && field == number, "a wrong field, and which");
+    check(bytes[0] == 'x' && size == 77, "nothing is made of a wrong field");
+    vogrilas_reversal reversal = reversal_of(billing);
+    bool is_of_both = number < 300 || number == 401 || number == 402 || number == 403 || number == 407;
+    vogrilas_code code = vogrilas_make_reversal(&reversal, bytes, sizeof bytes, &size, &field);
+    check(is_of_both ? code == wanted && field == number && bytes[0] == 'x' && size == 77 : code == VOGRILAS_OK, "the same of a reversal");
+}
+
+/* Messages are made of fields: the very bytes of the example, every shorter buffer unchanged, and each field wrong in turn. */
+static void try_messages(void) {
+    static char wanted[MOST], made[MOST];
+    size_t wanted_size = 0, size = 0, again = 0;
+    uint32_t field = 77;
+    check(vogrilas_unprint(line + 7, line_size - 7, wanted, MOST, &wanted_size) == VOGRILAS_OK, "the bytes of the request");
+    check(vogrilas_make_billing(&a_billing, made, MOST, &size, &field) == VOGRILAS_OK && field == 77, "a billing");
+    check(size == wanted_size && memcmp(made, wanted, size) == 0, "the very bytes");
+    memset(made, 'x', MOST);
+    for (size_t room = 0; room < size; room++)
+        check(vogrilas_make_billing(&a_billing, made, room, &again, &field) == VOGRILAS_SHORT_BUFFER && again == size && made[0] == 'x' && field == 77, "no room for it");
+    vogrilas_reversal reversal = reversal_of(&a_billing);
+    const char *text = "610455D0B2A1        1011234567893     20240115SW00000001\x1d\x1e\x1c" "AM07\x1c" "EM1\x1c" "D2123456\x1c" "D30\x1c" "E103\x1c" "D700093721410";
+    check(vogrilas_make_reversal(&reversal, made, MOST, &size, &field) == VOGRILAS_OK && size == strlen(text) && memcmp(made, text, size) == 0, "a reversal");
+    reversal.fill_number = VOGRILAS_NO_FILL;
+    check(vogrilas_make_reversal(&reversal, made, MOST, &again, &field) == VOGRILAS_OK && again == size - 4 && !memmem_text(made, again, "\x1c" "D30"), "one without its fill");
+    reversal.fill_number = VOGRILAS_NO_FILL - 1;
+    check(vogrilas_make_reversal(&reversal, made, MOST, &again, &field) == VOGRILAS_FIELD_TOO_LONG && field == 403, "and with none");
+    check(vogrilas_make_reversal(&reversal, made, 0, &again, &field) == VOGRILAS_FIELD_TOO_LONG && field == 403, "a wrong field before the room");
+    vogrilas_billing most = a_billing, wrong;
+    memcpy(most.header.pcn, "ABCDEFGHIJ", 11);
+    memcpy(most.header.provider, "123456789012345", 16);
+    memcpy(most.cardholder, "12345678901234567890", 21);
+    memcpy(most.product, "1234567890123456789", 20);
+    most.prescription = 999999999999, most.quantity = 9999999999, most.cost = most.fee = 99999999, most.fill_number = 99;
+    check(vogrilas_make_billing(&most, made, MOST, &size, &field) == VOGRILAS_OK && size == 184, "the longest");
+#define WRONG(change, code, number) (wrong = most, change, try_wrong(&wrong, code, number))
+    WRONG(wrong.header.bin[5] = 0, VOGRILAS_FIELD_DIGITS, 101);
+    WRONG(wrong.header.bin[6] = '1', VOGRILAS_FIELD_DIGITS, 101);
+    WRONG(wrong.header.bin[2] = 'A', VOGRILAS_FIELD_DIGITS, 101);
+    WRONG(wrong.header.pcn[10] = 'K', VOGRILAS_FIELD_TOO_LONG, 104);
+    WRONG(wrong.header.pcn[3] = 0x1c, VOGRILAS_FIELD_SEPARATOR, 104);
+    WRONG(wrong.header.qualifier[2] = '1', VOGRILAS_FIELD_TOO_LONG, 202);
+    WRONG(wrong.header.provider[0] = 0x1d, VOGRILAS_FIELD_SEPARATOR, 201);
+    WRONG(memcpy(wrong.header.date, "20240230", 9), VOGRILAS_FIELD_DAY, 401);
+    WRONG(wrong.header.date[0] = 'x', VOGRILAS_FIELD_DIGITS, 401);
+    WRONG(wrong.header.vendor[9] = 0x1e, VOGRILAS_FIELD_SEPARATOR, 110);
+    WRONG(wrong.cardholder[0] = 0, VOGRILAS_FIELD_EMPTY, 302);
+    WRONG(wrong.cardholder[20] = '1', VOGRILAS_FIELD_TOO_LONG, 302);
+    WRONG(wrong.cardholder[19] = ' ', VOGRILAS_FIELD_SPACE, 302);
+    WRONG(wrong.cardholder[7] = 0x1c, VOGRILAS_FIELD_SEPARATOR, 302);
+    WRONG(wrong.prescription++, VOGRILAS_FIELD_TOO_LONG, 402);
+    WRONG(wrong.fill_number++, VOGRILAS_FIELD_TOO_LONG, 403);
+    WRONG(wrong.product[0] = 0, VOGRILAS_FIELD_EMPTY, 407);
+    WRONG(wrong.product[19] = '1', VOGRILAS_FIELD_TOO_LONG, 407);
+    WRONG(wrong.product[18] = ' ', VOGRILAS_FIELD_SPACE, 407);
+    WRONG(wrong.quantity++, VOGRILAS_FIELD_TOO_LONG, 442);
+    WRONG(wrong.cost++, VOGRILAS_FIELD_TOO_LONG, 409);
+    WRONG(wrong.fee = UINT32_MAX, VOGRILAS_FIELD_TOO_LONG, 412);
+    WRONG((wrong.fee++, wrong.header.vendor[0] = 0x1c), VOGRILAS_FIELD_SEPARATOR, 110);
+    for (long turn = 0;; turn++) {
+        left = turn, size = 77, field = 77;
+        vogrilas_code code = vogrilas_make_billing(&a_billing, made, MOST, &size, &field);
+        left = -1;
+        check(code == VOGRILAS_OK || (code == VOGRILAS_NO_MEMORY && size == 77 && field == 77), "memory refused while a billing is made");
         check(lent == 0, "memory is given back");
         if (code == VOGRILAS_OK) break;
     }
@@ -412,6 +511,8 @@ static void try_readers(void) {
     memset(copy, 'x', MOST);
     for (size_t room = 0; room < size; room++)
         check(vogrilas_request(&pharmacy->node, 1, copy, room, &again) == VOGRILAS_SHORT_BUFFER && again == size && copy[0] == 'x', "a request too long");
+    size_t place = 0;
+    check(vogrilas_number_in(text, strlen(text), &place) == 1 && place == strlen(text), "the entry's number");
     check(counted(pharmacy) == 1, "an entry");
     check(strcmp(asked(pharmacy, "answer 1"), "open\n") == 0, "an open entry by a line");
     try_nothing(pharmacy, 1, 1, VOGRILAS_UNANSWERED);
@@ -567,6 +668,7 @@ int main(int count, char **words) {
     try_kept();
     try_logs();
     try_texts();
+    try_numbers();
     try_typed();
     lent = 0;
     try_readers();
@@ -575,8 +677,9 @@ int main(int count, char **words) {
     for (size_t one = 0; one < NODES; one++) vogrilas_close(&network[one].node);
     check(lent == 0, "all memory is given back");
     try_descriptions();
+    try_messages();
     try_memory();
-    for (vogrilas_code code = 0; code <= VOGRILAS_TOO_MANY; code++)
+    for (vogrilas_code code = 0; code <= VOGRILAS_FIELD_DAY; code++)
         check(strcmp(vogrilas_code_text(code), vogrilas_code_text(99)) != 0, "a code has words");
     printf("%d trials of the library, %d faults\n", tried, faults);
     return faults != 0;

@@ -1,8 +1,11 @@
 #!/usr/bin/env python3
 """Trials of the Python binding, for tests/library: VOGRILAS_TRIAL_SETTINGS and VOGRILAS_TRIAL_REQUEST name the files."""
 
+import datetime
 import os
 import pathlib
+import random
+import re
 import subprocess
 import sys
 import tempfile
@@ -10,10 +13,43 @@ import threading
 import unittest
 
 import vogrilas
-from vogrilas import Code, FileNode, Node, Refused, VogrilasError
+from vogrilas import Billing, Code, FileNode, Header, Node, Refused, Reversal, VogrilasError, WrongField
 
 SETTINGS = pathlib.Path(os.environ["VOGRILAS_TRIAL_SETTINGS"]).read_bytes()
 REQUEST = vogrilas.unprinted(pathlib.Path(os.environ["VOGRILAS_TRIAL_REQUEST"]).read_bytes().rstrip(b"\n"))
+CASES = pathlib.Path(__file__).resolve().parent.parent / "cases" / "messages"
+HEADER = Header(bin="610455", provider="1234567893", date=datetime.date(2024, 1, 15), pcn="A1", vendor="SW00000001")
+BILLING = Billing(HEADER, "987654321", 123456, "00093721410", quantity=30_000, cost=60_00, fee=2_00)
+
+
+def named(lines):
+    """The texts that lines `NAME = TEXT` name; <NAME> in a text is that of a name before it."""
+    words = {}
+    for line in lines:
+        name, is_one, text = line.partition(" = ")
+        if is_one and re.fullmatch(r"[a-z0-9-]+", name):
+            words[name] = spelled(text, words)
+    return words
+
+
+def spelled(text, words):
+    return re.sub(r"<([a-z0-9-]+)>", lambda found: words.get(found.group(1), found.group()), text)
+
+
+def orders():
+    """The messages of the cases, and what comes of each; None where that is not told."""
+    for text in named((CASES.parent / "requests.texts").read_text(encoding="ascii").splitlines()).values():
+        yield vogrilas.unprinted(text.encode("ascii")), None
+    for name in ("orders", "reversals"):
+        words = named((CASES.parent / "requests.texts").read_text(encoding="ascii").splitlines())
+        for line in (CASES / f"{name}.rows").read_text(encoding="ascii").splitlines():
+            word, _, rest = line.partition(" ")
+            if word == "let":
+                told, _, text = rest.partition(" = ")
+                words[told] = spelled(text, words)
+            elif word == "order":
+                text, _, outcome = rest.rpartition(" -> ")
+                yield vogrilas.unprinted(spelled(text, words).encode("ascii")), outcome
 
 
 class Trials(unittest.TestCase):
@@ -33,7 +69,7 @@ class Trials(unittest.TestCase):
         self.assertEqual(caught.exception.code, code)
         return caught.exception
 
-    def test_there_and_back(self):
+    def test_claim_goes_there_and_back(self):
         pharmacy, switch, payer = (self.opened(name) for name in ("ph1", "sw1", "pr1"))
         said = pharmacy.submit(REQUEST)
         self.assertEqual((said.number, [packet.to for packet in said.sent]), (1, ["sw1"]))
@@ -243,6 +279,86 @@ class Trials(unittest.TestCase):
         done = subprocess.run([sys.executable, "-c", script, os.environ["VOGRILAS_TRIAL_SETTINGS"], str(path)], check=False)
         self.assertEqual(done.returncode, 0)
         self.assertEqual(self.opened("ph1").calls, 1)
+
+    def test_messages_are_made(self):
+        self.assertEqual(bytes(BILLING), REQUEST)
+        reversal = REQUEST[:8] + b"B2" + REQUEST[10:56] + b"\x1d\x1e\x1cAM07\x1cEM1\x1cD2123456\x1cD30\x1cE103\x1cD700093721410"
+        self.assertEqual(bytes(BILLING.reversal()), reversal)
+        self.assertEqual(bytes(Reversal(HEADER, 123456, b"00093721410", None)), reversal.replace(b"\x1cD30", b""))
+        self.assertEqual((Billing.read(REQUEST), Reversal.read(reversal)), (BILLING, BILLING.reversal()))
+        for wrong in (lambda: Billing.read(reversal), lambda: Reversal.read(REQUEST), lambda: Billing.read(b""), lambda: Billing.read(REQUEST + b" ")):
+            with self.assertRaises(ValueError):
+                wrong()
+        self.assertEqual(self.opened("ph1").submit(BILLING).number, 1)
+
+    def test_wrong_fields(self):
+        def header(**change):
+            fields = {name: getattr(HEADER, name) for name in ("bin", "provider", "date", "pcn", "qualifier", "vendor")}
+            return Header(**{**fields, **change})
+
+        def billing(**change):
+            fields = {name: getattr(BILLING, name) for name in BILLING.__dataclass_fields__}
+            return Billing(**{**fields, **change})
+
+        wrong = [
+            ("101-A1", "DIGITS", {"header": header(bin="61045")}), ("101-A1", "DIGITS", {"header": header(bin="6104551234")}),
+            ("104-A4", "TOO_LONG", {"header": header(pcn="ABCDEFGHIJK")}), ("202-B2", "TOO_LONG", {"header": header(qualifier="0123456")}),
+            ("201-B1", "SEPARATOR", {"header": header(provider=b"1\x1c")}), ("201-B1", "SEPARATOR", {"header": header(provider=b"1\0")}),
+            ("401-D1", "DAY", {"header": header(date="20240230")}), ("401-D1", "DIGITS", {"header": header(date="2024-01-15")}),
+            ("110-AK", "TOO_LONG", {"header": header(vendor="12345678901")}), ("302-C2", "EMPTY", {"cardholder": ""}),
+            ("302-C2", "TOO_LONG", {"cardholder": b"1" * 21}), ("302-C2", "SPACE", {"cardholder": "1 "}), ("302-C2", "SEPARATOR", {"cardholder": b"\x1e"}),
+            ("402-D2", "TOO_LONG", {"prescription": 10**12}), ("402-D2", "TOO_LONG", {"prescription": 1 << 64}), ("402-D2", "DIGITS", {"prescription": -1}),
+            ("403-D3", "TOO_LONG", {"fill_number": 100}), ("403-D3", "TOO_LONG", {"fill_number": 255}), ("403-D3", "TOO_LONG", {"fill_number": 256}),
+            ("407-D7", "EMPTY", {"product": b""}), ("407-D7", "TOO_LONG", {"product": "1" * 40}), ("407-D7", "SPACE", {"product": " "}),
+            ("442-E7", "TOO_LONG", {"quantity": 10**10}), ("409-D9", "TOO_LONG", {"cost": 10**8}), ("412-DC", "TOO_LONG", {"fee": 1 << 32}),
+        ]
+        for field, why, change in wrong:
+            with self.subTest(field=field, why=why), self.assertRaises(WrongField) as caught:
+                bytes(billing(**change))
+            self.assertEqual((caught.exception.field, caught.exception.code), (field, Code[f"FIELD_{why}"]))
+        self.assertEqual(str(caught.exception), "412-DC is too long")
+        for fill in (100, 255, 256):
+            with self.assertRaises(WrongField):
+                bytes(Reversal(HEADER, 1, "1", fill))
+        for call in (
+            lambda: billing(cardholder=5), lambda: billing(prescription="1"), lambda: billing(cost=1.5), lambda: billing(fee=True),
+            lambda: billing(header="x"), lambda: billing(fill_number=None), lambda: header(bin=610455), lambda: Reversal(HEADER, 1, None),
+        ):
+            with self.assertRaises(TypeError):
+                call()
+
+    def test_cases_of_messages(self):
+        read = 0
+        for message, outcome in orders():
+            kind = Reversal if message[8:10] == b"B2" else Billing
+            try:
+                self.assertEqual(bytes(kind.read(message)), message)
+                self.assertIn(outcome, ("taken", None))
+                read += 1
+            except ValueError:
+                pass
+        self.assertGreater(read, 10)
+
+    def test_there_and_back(self):
+        draw = random.Random(7)
+
+        def text(most, least=0):
+            pool = [byte for byte in range(1, 256) if byte not in (0x1C, 0x1D, 0x1E)]
+            return bytes(draw.choice(pool) for _ in range(draw.randint(least, most)))
+
+        def filled(most):
+            return text(most - 1) + bytes([draw.choice(b"0Zz~\xff\x7f\x01\\")])
+
+        def number(digits):
+            return draw.randrange(10 ** draw.randint(0, digits))
+
+        for _ in range(400):
+            day = datetime.date.fromordinal(draw.randint(1, datetime.date.max.toordinal()))
+            header = Header(f"{draw.randrange(10**6):06}", text(15), day, text(10), text(2), text(10))
+            billing = Billing(header, filled(20), number(12), filled(19), number(10), number(8), number(8), number(2))
+            self.assertEqual(Billing.read(bytes(billing)), billing)
+            reversal = Reversal(header, number(12), filled(19), draw.choice([None, number(2)]))
+            self.assertEqual(Reversal.read(bytes(reversal)), reversal)
 
     def test_synced_before_told(self):
         node = Node(SETTINGS, "ph1")

@@ -49,10 +49,22 @@ pub enum Code {
     Unsynced = 20,
     /// More bytes are said to be on disk than there are records.
     TooMany = 21,
+    /// A field of a message has no byte.
+    FieldEmpty = 22,
+    /// A field of a message has more bytes, or digits, than it may.
+    FieldTooLong = 23,
+    /// A separator, or a zero byte, stands in a field of a message.
+    FieldSeparator = 24,
+    /// A field of a message ends in a space, which would not come back.
+    FieldSpace = 25,
+    /// A field of a message is not so many digits.
+    FieldDigits = 26,
+    /// A field of a message is no day of the calendar.
+    FieldDay = 27,
 }
 
 /// Each code, at the place of its number less one.
-const CODES: [Code; 21] = [
+const CODES: [Code; 27] = [
     Code::NoMemory,
     Code::Closed,
     Code::Open,
@@ -74,6 +86,12 @@ const CODES: [Code; 21] = [
     Code::NoRun,
     Code::Unsynced,
     Code::TooMany,
+    Code::FieldEmpty,
+    Code::FieldTooLong,
+    Code::FieldSeparator,
+    Code::FieldSpace,
+    Code::FieldDigits,
+    Code::FieldDay,
 ];
 
 /// A call that was not made, and why.
@@ -136,6 +154,12 @@ impl fmt::Display for Error {
             Code::NoRun => "no legal run",
             Code::Unsynced => "not all is on disk",
             Code::TooMany => "more bytes than there are records",
+            Code::FieldEmpty => "the field is empty",
+            Code::FieldTooLong => "the field is too long",
+            Code::FieldSeparator => "a separator stands in the field",
+            Code::FieldSpace => "the field ends in a space",
+            Code::FieldDigits => "the field has to be digits",
+            Code::FieldDay => "the field is no day",
         })?;
         if let Some(place) = self.place {
             write!(to, ", at byte {place}")?;

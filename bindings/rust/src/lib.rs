@@ -12,18 +12,30 @@
 //! node.clear()?;
 //! ```
 //!
+//! [`FileNode`] does so with the file of its log, and [`Billing`] makes what a pharmacy submits.
+//!
 //! The node is the proved library `libvogrilas`; `include/vogrilas.h` says what is proved of it and what a caller owes.
 //! This crate keeps what the caller owes, and is tested, not proved.
 #![warn(missing_docs)]
 
 mod error;
+#[cfg(unix)]
+mod file_node;
+mod message;
 mod node;
 mod payment;
+mod said;
 mod sys;
 
 pub use error::{Code, Error};
+#[cfg(unix)]
+pub use file_node::{FileError, FileNode};
+pub use message::{Billing, Header, MakingError, Reversal, WrongField};
 pub use node::{Node, Opened};
 pub use payment::Payment;
+pub use said::{Packet, Refused, Said};
+#[doc(hidden)]
+pub use sys::layout;
 
 /// The version of the library that this crate belongs to.
 pub const VERSION: u32 = 8000;

@@ -17,6 +17,68 @@ impl Handle {
     }
 }
 
+/// The fill number of a reversal that leaves it out.
+pub(crate) const NO_FILL: u8 = 255;
+
+/// The header of a message that is made; a text ends at its first zero byte.
+#[derive(Clone, Copy, Default)]
+#[repr(C)]
+pub(crate) struct RawHeader {
+    pub(crate) bin: [u8; 7],
+    pub(crate) pcn: [u8; 11],
+    pub(crate) qualifier: [u8; 3],
+    pub(crate) provider: [u8; 16],
+    pub(crate) date: [u8; 9],
+    pub(crate) vendor: [u8; 11],
+}
+
+/// A billing that is made.
+#[derive(Clone, Copy, Default)]
+#[repr(C)]
+pub(crate) struct RawBilling {
+    pub(crate) prescription: u64,
+    pub(crate) quantity: u64,
+    pub(crate) cost: u32,
+    pub(crate) fee: u32,
+    pub(crate) header: RawHeader,
+    pub(crate) cardholder: [u8; 21],
+    pub(crate) product: [u8; 20],
+    pub(crate) fill_number: u8,
+}
+
+/// A reversal that is made.
+#[derive(Clone, Copy, Default)]
+#[repr(C)]
+pub(crate) struct RawReversal {
+    pub(crate) prescription: u64,
+    pub(crate) header: RawHeader,
+    pub(crate) product: [u8; 20],
+    pub(crate) fill_number: u8,
+}
+
+macro_rules! offsets {
+    ($told:ident $value:ident $name:literal $($field:ident)*) => {
+        $told.push(($name.to_string(), std::mem::size_of_val(&$value)));
+        $($told.push((
+            format!(concat!($name, ".{}"), stringify!($field)),
+            std::ptr::addr_of!($value.$field) as usize - std::ptr::addr_of!($value) as usize,
+        ));)*
+    };
+}
+
+/// Sizes and offsets of what C shares, by their names in the header, for the test that compares them.
+pub fn layout() -> Vec<(String, usize)> {
+    let mut told = vec![("vogrilas_node".to_string(), std::mem::size_of::<Handle>())];
+    let (payment, header) = (Payment::default(), RawHeader::default());
+    let (billing, reversal) = (RawBilling::default(), RawReversal::default());
+    offsets!(told payment "vogrilas_payment" serial prescription reversed_number cost fee copay total payer reversed_pharmacy bin pcn
+        qualifier provider fill_number);
+    offsets!(told header "vogrilas_header" bin pcn qualifier provider date vendor);
+    offsets!(told billing "vogrilas_billing" prescription quantity cost fee header cardholder product fill_number);
+    offsets!(told reversal "vogrilas_reversal" prescription header product fill_number);
+    told
+}
+
 extern "C" {
     pub(crate) fn vogrilas_version() -> u32;
     pub(crate) fn vogrilas_open(
@@ -53,6 +115,20 @@ extern "C" {
     pub(crate) fn vogrilas_close(node: *mut Handle);
     pub(crate) fn vogrilas_print(bytes: *const u8, bytes_size: usize, buffer: *mut u8, room: usize, size: &mut usize) -> u32;
     pub(crate) fn vogrilas_unprint(text: *const u8, text_size: usize, buffer: *mut u8, room: usize, size: &mut usize) -> u32;
+    pub(crate) fn vogrilas_make_billing(
+        fields: *const RawBilling,
+        buffer: *mut u8,
+        room: usize,
+        size: &mut usize,
+        field: &mut u32,
+    ) -> u32;
+    pub(crate) fn vogrilas_make_reversal(
+        fields: *const RawReversal,
+        buffer: *mut u8,
+        room: usize,
+        size: &mut usize,
+        field: &mut u32,
+    ) -> u32;
     pub(crate) fn vogrilas_describe(
         message: *const u8,
         message_size: usize,

@@ -1,5 +1,5 @@
 -- Lines that are served while some bytes of the records are on disk already.
-use Rattle.std.proofs.Common.{◌≡◌, ℕ, ◌≤◌, List, ◌++◌, length, drop, ap, arith}
+use Rattle.std.proofs.Common.{◌≡◌, ℕ, ◌≤◌, List, length, drop, ap, arith}
 use Rattle.std.proofs.lemmas.List.{length-append, drop-append-le}
 use Rattle.node_service.specs.Serving.{Serving, after_line, cleared}
 use Rattle.node_service.specs.Lines.{joined}

@@ -4,5 +4,5 @@ pub mod Crosses
 pub mod Lines
 pub mod Appending
 pub mod Pieces
-pub mod Verdicts
+pub mod Rooms
 pub mod Hostings

@@ -1,12 +1,16 @@
 -- What is said of logs that stand one behind another.
-use Rattle.std.specs.Prelude.{◌≡◌, ◌≢◌, ◌⊎◌, ℕ, nat_lt, Bool, true, false, List, [], ◌∷◌, map, length, take, drop, Ok, Err, Option, Some, None, MatchOption, if◌then◌else◌}
+use Rattle.std.specs.Prelude.{◌≡◌, ◌⊎◌, ℕ, nat_lt, Bool, true, false, List, [], ◌∷◌, map, length, take, drop, Ok, Err, Option, Some, None, MatchOption, if◌then◌else◌}
 use Rattle.std.specs.Global.{Vec}
 use Rattle.std.specs.Option.{option_map}
 use Rattle.claim_model.specs.Logs.{NodeLog}
 use Rattle.world_setup.specs.declared.settings.WorldSettings.{WorldSettings}
 use Rattle.log_audit.specs.Judged.{IsTold}
 use Rattle.log_audit.specs.Given.{IsRead}
-use Rattle.node_handle.specs.declared.refusal.Refusal.TheVariants.{NoRun}
+use Rattle.kept_logs.specs.declared.fault.LogFault.{LogFault}
+use Rattle.node_handle.specs.declared.refusal.Refusal.{Refusal}
+use Rattle.node_handle.specs.declared.refusal.Refusal.TheVariants.{OutOfMemory, Settings, NotALog, NoRun, ShortBuffer}
+use Rattle.node_handle.specs.Refusals.{refusal_of_log}
+use Rattle.node_handle.specs.Calls.{Stands, Lacks}
 use Rattle.node_handle.specs.Saying.{Said}
 
 -- bytes cut into pieces of these sizes, where the sizes are those of all bytes
@@ -36,12 +40,22 @@ pub record IsJudged (text bytes sizes : List ℕ) (legal : Bool) : Type 0 where
   pub cut : cut_at sizes bytes ≡ Some pieces
   pub reported : IsReported text pieces legal
 
--- a verdict is said where all was told; else the buffer is as it was
-abbrev pub JudgedAs : Bool → Said → List ℕ → List ℕ → Type 0
-JudgedAs legal (Ok made) buffer after = legal ≡ true
-JudgedAs legal (Err why) buffer after = ((why ≡ NoRun) × (legal ≡ false)) ⊎ ((why ≢ NoRun) × (after ≡ buffer))
+-- what is told of logs is copied into a buffer, with the verdict; without room for it nothing is said of the logs
+abbrev pub Reports : List ℕ → Bool → Said → List ℕ → List ℕ → ℕ → Type 0
+Reports told legal (Ok made) buffer after size = (legal ≡ true) × Stands told buffer after size
+Reports told legal (Err why) buffer after size =
+    ((why ≡ NoRun) × ((legal ≡ false) × Stands told buffer after size)) ⊎ ((why ≡ ShortBuffer) × Lacks told buffer after size)
 
--- there is a legal run, or it is said that there is none; at any other outcome the buffer is as it was
-abbrev pub Audits : List ℕ → List ℕ → List ℕ → Said → List ℕ → List ℕ → Type 0
-Audits text bytes sizes (Ok made) buffer after = IsJudged text bytes sizes true
-Audits text bytes sizes (Err why) buffer after = ((why ≡ NoRun) × IsJudged text bytes sizes false) ⊎ ((why ≢ NoRun) × (after ≡ buffer))
+-- settings or a log are refused
+abbrev pub RefusesRead : Refusal → ℕ → ℕ → Type 0
+RefusesRead why before place = (((why ≡ OutOfMemory) ⊎ (why ≡ Settings)) × (place ≡ before)) ⊎ ((fault : LogFault) × (why ≡ refusal_of_log fault))
+
+-- nothing is judged: the sizes are not those of all bytes, or memory, settings or a log are refused
+abbrev pub IsUnjudged : List ℕ → List ℕ → Refusal → ℕ → ℕ → Type 0
+IsUnjudged bytes sizes why before place = ((why ≡ NotALog) × ((cut_at sizes bytes ≡ None) × (place ≡ length sizes))) ⊎ RefusesRead why before place
+
+-- logs are judged, and it is told what they are; or nothing is, and the buffer is as it was
+abbrev pub Audits : List ℕ → List ℕ → List ℕ → Said → List ℕ → List ℕ → ℕ → ℕ → Type 0
+Audits text bytes sizes said buffer after before size =
+    ((told : List ℕ) × ((legal : Bool) × (IsJudged text bytes sizes legal × Reports told legal said buffer after size)))
+    ⊎ ((after ≡ buffer) × ((why : Refusal) × ((said ≡ Err why) × IsUnjudged bytes sizes why before size)))

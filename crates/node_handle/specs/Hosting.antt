@@ -1,5 +1,5 @@
 -- A node in its host's hands: what it has to tell, and what the host has said to be on disk.
-use Rattle.std.specs.Prelude.{◌≡◌, ◌⊎◌, ℕ, ◌&&◌, ◌==◌, Bool, true, false, List, [], ◌++◌, length, drop, Err, Option, Some, None}
+use Rattle.std.specs.Prelude.{◌≡◌, ◌⊎◌, ℕ, ◌&&◌, ◌==◌, Bool, true, false, List, length, drop, Err, Option, Some, None}
 use Rattle.node_service.specs.Serving.{Serving, after_line, cleared}
 use Rattle.node_handle.specs.declared.refusal.Refusal.TheVariants.{Unsynced}
 use Rattle.node_handle.specs.Saying.{Said}

@@ -5,6 +5,7 @@ pub mod Saying
 pub mod Hosting
 pub mod Calls
 pub mod Texts
+pub mod Messages
 pub mod Typed
 pub mod Asked
 pub mod Payments

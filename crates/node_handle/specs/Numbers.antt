@@ -1,7 +1,7 @@
 -- The numbers of what calls say.
 use Rattle.std.specs.Prelude.{◌≡◌, ℕ, Result, Ok, Err}
 use Rattle.node_handle.specs.declared.refusal.Refusal.{Refusal}
-use Rattle.node_handle.specs.declared.refusal.Refusal.TheVariants.{OutOfMemory, Closed, Open, ShortBuffer, Name, Settings, NoSuchNode, OtherNode, NotALog, LogVersion, DamagedHead, NoKind, OtherSettings, Damaged, BadRecord, BadText, Unanswered, NotFound, NoRun, Unsynced, TooMany}
+use Rattle.node_handle.specs.declared.refusal.Refusal.TheVariants.{OutOfMemory, Closed, Open, ShortBuffer, Name, Settings, NoSuchNode, OtherNode, NotALog, LogVersion, DamagedHead, NoKind, OtherSettings, Damaged, BadRecord, BadText, Unanswered, NotFound, NoRun, Unsynced, TooMany, FieldEmpty, FieldTooLong, FieldSeparator, FieldSpace, FieldDigits, FieldDay}
 
 -- the number of what a call says: 0 of one that was made
 abbrev pub number_of : Result (Unit {0}) Refusal → ℕ
@@ -27,6 +27,12 @@ number_of (Err NotFound) = 18
 number_of (Err NoRun) = 19
 number_of (Err Unsynced) = 20
 number_of (Err TooMany) = 21
+number_of (Err FieldEmpty) = 22
+number_of (Err FieldTooLong) = 23
+number_of (Err FieldSeparator) = 24
+number_of (Err FieldSpace) = 25
+number_of (Err FieldDigits) = 26
+number_of (Err FieldDay) = 27
 
 -- a number is that of a call's outcome, of which this holds
 abbrev pub Says : ℕ → (Result (Unit {0}) Refusal → Type 0) → Type 0

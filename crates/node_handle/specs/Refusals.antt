@@ -2,6 +2,8 @@
 use Rattle.std.specs.Prelude.{ℕ}
 use Rattle.kept_logs.specs.declared.fault.LogFault.{LogFault}
 use Rattle.kept_logs.specs.declared.fault.LogFault.TheVariants as log_fault
+use Rattle.message_making.specs.declared.judging.FieldFault.{FieldFault}
+use Rattle.message_making.specs.declared.judging.FieldFault.TheVariants as field_fault
 use Rattle.node_service.specs.declared.fault.ServiceFault.{ServiceFault}
 use Rattle.node_service.specs.declared.fault.ServiceFault.TheVariants as service
 use Rattle.node_handle.specs.declared.refusal.Refusal.{Refusal}
@@ -18,6 +20,15 @@ refusal_of_log log_fault.NoNode = refusal.NoKind
 refusal_of_log log_fault.OtherSettings = refusal.OtherSettings
 refusal_of_log (log_fault.Damaged place) = refusal.Damaged
 refusal_of_log (log_fault.BadRecord place) = refusal.BadRecord
+
+-- the refusal of a field of a message
+abbrev pub refusal_of_field : FieldFault → Refusal
+refusal_of_field field_fault.Empty = refusal.FieldEmpty
+refusal_of_field field_fault.TooLong = refusal.FieldTooLong
+refusal_of_field field_fault.Separator = refusal.FieldSeparator
+refusal_of_field field_fault.TrailingSpace = refusal.FieldSpace
+refusal_of_field field_fault.NotDigits = refusal.FieldDigits
+refusal_of_field field_fault.NoDay = refusal.FieldDay
 
 -- the refusal of a node that is not opened
 abbrev pub refusal_of : ServiceFault → Refusal

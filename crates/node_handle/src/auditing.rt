@@ -1,10 +1,11 @@
 //! Whether logs are those of one legal run, as claimaudit tells it.
 
-ghost use Rattle.std.specs.Prelude.{◌≡◌, ◌≢◌, true, false, IfOk, IfErr, OnOk};
+ghost use Rattle.std.specs.Prelude.{◌≡◌, true, false, IfOk, IfErr, OnOk};
 ghost use Rattle.run_merge.specs.LogSeen.{logs_seen};
 ghost use Rattle.log_audit.specs.Given.{IsRead};
-ghost use Rattle.node_handle.specs.declared.refusal.Refusal.TheVariants.{NoRun};
-ghost use Rattle.node_handle.specs.Audits.{Audits, bytes_of, IsJudged, IsReported, JudgedAs};
+ghost use Rattle.log_audit.specs.Judged.{IsTold};
+ghost use Rattle.node_handle.specs.declared.refusal.Refusal.TheVariants.{NoRun, OutOfMemory};
+ghost use Rattle.node_handle.specs.Audits.{Audits, bytes_of, IsJudged, IsReported, IsUnjudged, RefusesRead, Reports};
 
 use crate::cutting::pieces_of;
 use crate::reading::copy_out;
@@ -29,7 +30,7 @@ pub fn audit(
     buffer: &mut [u8],
     size: &mut usize,
 ) -> Result<(), Refusal>
-    ensures { Audits settings.now logs.now sizes.now result buffer.old buffer.new }
+    ensures { Audits settings.now logs.now sizes.now result buffer.old buffer.new size.old size.new }
 {
     match report_of(alloc, style, settings, logs, sizes, size) {
         Ok(report) => give(&report, buffer, size),
@@ -39,7 +40,7 @@ pub fn audit(
 
 /// Copies what is told of logs, and says whether there is a legal run.
 fn give(report: &Report, buffer: &mut [u8], size: &mut usize) -> Result<(), Refusal>
-    ensures { JudgedAs report.now.legal result buffer.old buffer.new }
+    ensures { Reports report.now.text.items report.now.legal result buffer.old buffer.new size.new }
 {
     match copy_out(report.text.as_slice(), buffer, size) {
         Ok(()) => verdict(report.legal),
@@ -65,7 +66,7 @@ fn report_of(
     place: &mut usize,
 ) -> Result<Report, Refusal>
     ensures judged { IfOk result (λ report. IsJudged settings.now logs.now sizes.now report.legal) }
-    ensures refused { IfErr result (λ why. why ≢ NoRun) }
+    ensures refused { IfErr result (λ why. IsUnjudged logs.now sizes.now why place.old place.new) }
 {
     match pieces_of(alloc, logs, sizes) {
         Ok(Some(pieces)) => report_on_pieces(alloc, style, settings, pieces.as_slice(), place),
@@ -86,25 +87,23 @@ fn report_on_pieces(
     place: &mut usize,
 ) -> Result<Report, Refusal>
     ensures judged { IfOk result (λ report. IsReported settings.now (bytes_of logs.now) report.legal) }
-    ensures refused { IfErr result (λ why. why ≢ NoRun) }
+    ensures refused { IfErr result (λ why. RefusesRead why place.old place.new) }
 {
-    match reported(alloc, style, settings, logs) {
-        Ok(report) => Ok(report),
+    match audited(alloc, settings, logs) {
+        Ok(audited) => reported(alloc, style, audited),
         Err(fault) => Err(told(fault, place)),
     }
 }
 
-/// What is told of logs that stand each by itself.
-fn reported(
-    alloc: Global,
-    style: Style,
-    settings: &[u8],
-    logs: &[Vec<u8>],
-) -> Result<Report, AuditFault>
-    ensures { IfOk result (λ report. IsReported settings.now (bytes_of logs.now) report.legal) }
+/// What is told of logs that were read. Only memory can be wanting by now.
+fn reported(alloc: Global, style: Style, audited: Audited) -> Result<Report, Refusal>
+    ensures judged { IfOk result (λ report. IsTold audited.settings (logs_seen audited.logs.items) report.legal) }
+    ensures refused { IfErr result (λ why. why ≡ OutOfMemory) }
 {
-    let audited = audited(alloc, settings, logs)?;
-    report_on(alloc, audited, form_of(style))
+    match report_on(alloc, audited, form_of(style)) {
+        Ok(report) => Ok(report),
+        Err(_) => Err(Refusal::OutOfMemory),
+    }
 }
 
 /// The settings and the logs that bytes are.
@@ -127,7 +126,7 @@ fn form_of(style: Style) -> Form {
 
 /// The refusal of a fault, with the place of the log that it is about.
 fn told(fault: AuditFault, place: &mut usize) -> Refusal
-    ensures { result ≢ NoRun }
+    ensures { RefusesRead result place.old place.new }
 {
     match fault {
         AuditFault::OutOfMemory => Refusal::OutOfMemory,
@@ -138,6 +137,6 @@ fn told(fault: AuditFault, place: &mut usize) -> Refusal
             refusal_of_log(fault)
         }
         // No line of a schedule is asked for.
-        AuditFault::NoLine => Refusal::BadRecord,
+        AuditFault::NoLine => Refusal::OutOfMemory,
     }
 }

@@ -1,6 +1,6 @@
 //! What is in a message, as claimdecode tells it.
 
-ghost use Rattle.std.specs.Prelude.{◌≡◌, IfErr};
+ghost use Rattle.node_handle.specs.Messages.{Describes};
 
 use crate::reading::copy_out;
 use crate::refusal::Refusal;
@@ -20,7 +20,7 @@ pub fn describe(
     buffer: &mut [u8],
     size: &mut usize,
 ) -> Result<(), Refusal>
-    ensures { IfErr result (λ _. buffer.new ≡ buffer.old) }
+    ensures { Describes result buffer.old buffer.new size.old size.new }
 {
     let page = page_of(alloc, style, message);
     if page.is_refused() {

@@ -1,8 +1,9 @@
 //! Bytes into a buffer of the caller's.
 
-ghost use Rattle.std.specs.Prelude.{◌≡◌, Ok};
+ghost use Rattle.std.specs.Prelude.{◌≡◌, ◌*◌, ◌≤◌, ℕ, List, length, Ok};
 ghost use Rattle.std.specs.declared.option.Option.TheVariants.{Some};
 ghost use Rattle.node_handle.specs.Calls.{Copies};
+ghost use Rattle.input_text.specs.Printing.{printed, unprinted};
 ghost use Rattle.node_handle.specs.Texts.{Prints, Unprints};
 
 use crate::refusal::Refusal;
@@ -65,3 +66,10 @@ pub fn unprint(
         Err(PrintedFault::OutOfMemory) => Err(Refusal::OutOfMemory),
     }
 }
+
+/// Four times as many bytes are room for a text, and as many as the text has for what it spells.
+#[tactic(auto, using(crate::proofs::Rooms::printed_room, crate::proofs::Rooms::unprinted_room))]
+pub fn texts_have_room()
+    ensures printed { (bytes : List ℕ) → length (printed bytes) ≤ 4 * length bytes }
+    ensures unprinted { (text bytes : List ℕ) → unprinted text ≡ Ok bytes → length bytes ≤ length text }
+{}

@@ -1,11 +1,11 @@
 //! Why a call on a handle is refused, and the numbers of refusals.
 
-ghost use Rattle.std.specs.Prelude.{◌≡◌, ◌≢◌};
-ghost use Rattle.node_handle.specs.declared.refusal.Refusal.TheVariants.{NoRun};
+ghost use Rattle.std.specs.Prelude.{◌≡◌};
 ghost use Rattle.node_handle.specs.Numbers.{number_of};
-ghost use Rattle.node_handle.specs.Refusals.{refusal_of, refusal_of_log};
+ghost use Rattle.node_handle.specs.Refusals.{refusal_of, refusal_of_field, refusal_of_log};
 
 use kept_logs::LogFault;
+use message_making::FieldFault;
 use node_service::ServiceFault;
 
 /// Why a call on a handle is refused.
@@ -53,6 +53,18 @@ pub enum Refusal {
     Unsynced,
     /// More bytes are said to be on disk than there are records.
     TooMany,
+    /// A field of a message has no byte.
+    FieldEmpty,
+    /// A field of a message has more bytes, or digits, than it may.
+    FieldTooLong,
+    /// A separator stands in a field of a message.
+    FieldSeparator,
+    /// A field of a message ends in a space.
+    FieldSpace,
+    /// A field of a message is not so many digits.
+    FieldDigits,
+    /// A field of a message is no day.
+    FieldDay,
 }
 
 /// The number of what a call says: 0 of one that was made.
@@ -82,6 +94,12 @@ pub fn number_of(said: Result<(), Refusal>) -> u32
         Err(Refusal::NoRun) => 19,
         Err(Refusal::Unsynced) => 20,
         Err(Refusal::TooMany) => 21,
+        Err(Refusal::FieldEmpty) => 22,
+        Err(Refusal::FieldTooLong) => 23,
+        Err(Refusal::FieldSeparator) => 24,
+        Err(Refusal::FieldSpace) => 25,
+        Err(Refusal::FieldDigits) => 26,
+        Err(Refusal::FieldDay) => 27,
     }
 }
 
@@ -99,10 +117,23 @@ pub(crate) fn refusal_of(fault: ServiceFault) -> Refusal
     }
 }
 
+/// The refusal of a field of a message.
+pub(crate) fn refusal_of_field(why: FieldFault) -> Refusal
+    ensures { result ≡ refusal_of_field why }
+{
+    match why {
+        FieldFault::Empty => Refusal::FieldEmpty,
+        FieldFault::TooLong => Refusal::FieldTooLong,
+        FieldFault::Separator => Refusal::FieldSeparator,
+        FieldFault::TrailingSpace => Refusal::FieldSpace,
+        FieldFault::NotDigits => Refusal::FieldDigits,
+        FieldFault::NoDay => Refusal::FieldDay,
+    }
+}
+
 /// The refusal of a log.
 pub(crate) fn refusal_of_log(fault: LogFault) -> Refusal
-    ensures is { result ≡ refusal_of_log fault }
-    ensures judged { result ≢ NoRun }
+    ensures { result ≡ refusal_of_log fault }
 {
     match fault {
         LogFault::OutOfMemory => Refusal::OutOfMemory,

@@ -5,17 +5,24 @@
 //! thread, waits, or reads or writes a file.
 #![tactic(auto)]
 
-ghost use Rattle.std.specs.Prelude.{◌≡◌, IfErr};
+ghost use Rattle.std.specs.Prelude.{◌≡◌};
 ghost use Rattle.std.specs.declared.option.Option.TheVariants.{None};
 ghost use Rattle.node_handle.specs.Numbers.{Says};
 ghost use Rattle.node_handle.specs.Calls.{Clears, CopiesRecords, CopiesWritten, Counts, Keeps, Opens, Serves};
 ghost use Rattle.node_handle.specs.Texts.{Prints, Unprints};
+ghost use Rattle.node_handle.specs.Messages.{Describes, Makes};
+ghost use Rattle.claim_profile.specs.Building.{billing_text, reversal_text};
+ghost use Rattle.message_making.specs.Judged.{wrong_in_billing, wrong_in_reversal};
+ghost use Rattle.message_making.specs.Made.{billing_said, reversal_said};
 ghost use Rattle.node_handle.specs.Typed.{Takes, submit_line};
 ghost use Rattle.node_handle.specs.Asked.{GivesAnswer, GivesRequest, Sizes};
 ghost use Rattle.node_handle.specs.Payments.{ListsPayments};
 ghost use Rattle.node_handle.specs.Audits.{Audits};
 
-use node_handle::{NodeHandle, PlainPayment, Style, audit, describe, number_of, print, unprint};
+use node_handle::{
+    NodeHandle, PlainBilling, PlainPayment, PlainReversal, Style, audit, billing, describe,
+    number_of, print, reversal, unprint,
+};
 use std::alloc::Global;
 
 /// The version of the library: a million for the first number, a thousand for the second, one for the third.
@@ -221,6 +228,36 @@ pub extern "C" fn vogrilas_unprint(
     number_of(unprint(alloc, text, buffer, size))
 }
 
+/// Copies the billing that fields say, or tells the first wrong field.
+#[unsafe(no_mangle)]
+pub extern "C" fn vogrilas_make_billing(
+    alloc: Global,
+    fields: &PlainBilling,
+    buffer: &mut [u8],
+    size: &mut usize,
+    field: &mut u32,
+) -> u32
+    ensures { Says result (λ said. Makes (wrong_in_billing fields.now) (billing_text (billing_said fields.now)) said
+        buffer.old buffer.new size.old size.new field.old field.new) }
+{
+    number_of(billing(alloc, fields, buffer, size, field))
+}
+
+/// Copies the reversal that fields say, or tells the first wrong field.
+#[unsafe(no_mangle)]
+pub extern "C" fn vogrilas_make_reversal(
+    alloc: Global,
+    fields: &PlainReversal,
+    buffer: &mut [u8],
+    size: &mut usize,
+    field: &mut u32,
+) -> u32
+    ensures { Says result (λ said. Makes (wrong_in_reversal fields.now) (reversal_text (reversal_said fields.now)) said
+        buffer.old buffer.new size.old size.new field.old field.new) }
+{
+    number_of(reversal(alloc, fields, buffer, size, field))
+}
+
 /// Copies the description of a message: an object of JSON where `json` is not 0, else lines for people.
 #[unsafe(no_mangle)]
 pub extern "C" fn vogrilas_describe(
@@ -230,7 +267,7 @@ pub extern "C" fn vogrilas_describe(
     buffer: &mut [u8],
     size: &mut usize,
 ) -> u32
-    ensures { Says result (λ said. IfErr said (λ _. buffer.new ≡ buffer.old)) }
+    ensures { Says result (λ said. Describes said buffer.old buffer.new size.old size.new) }
 {
     let style = if json == 0 { Style::Lines } else { Style::Json };
     number_of(describe(alloc, style, message, buffer, size))
@@ -248,7 +285,8 @@ pub extern "C" fn vogrilas_audit(
     buffer: &mut [u8],
     size: &mut usize,
 ) -> u32
-    ensures { Says result (λ said. Audits settings.now logs.now sizes.now said buffer.old buffer.new) }
+    ensures { Says result (λ said.
+        Audits settings.now logs.now sizes.now said buffer.old buffer.new size.old size.new) }
 {
     let style = if json == 0 { Style::Lines } else { Style::Json };
     number_of(audit(alloc, style, settings, logs, sizes, buffer, size))

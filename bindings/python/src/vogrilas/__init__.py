@@ -1,9 +1,11 @@
 """One node of a claims network in your own process: a pharmacy, a switch or a payer, with its log.
 
-    from vogrilas import FileNode
+    from vogrilas import Billing, FileNode, Header
 
+    header = Header(bin="610455", provider="1234567893", date="20240115", pcn="A1")
+    billing = Billing(header, "987654321", 123456, "00093721410", quantity=30_000, cost=60_00)
     with FileNode(settings, "ph1", "ph1.log") as pharmacy:
-        said = pharmacy.submit(request)      # on disk when it returns
+        said = pharmacy.submit(billing)      # on disk when it returns; bytes do as well
         for packet in said.sent:             # packet.to, packet.data: your carrier's from here on
             ...
         pharmacy.answer(said.number)         # None until the answer has come
@@ -14,6 +16,7 @@ any thread: a lock lets one call in at a time.
 """
 
 from ._file_node import FileNode
+from ._messages import Billing, Header, Reversal, WrongField
 from ._node import (
     Audit,
     Code,
@@ -34,14 +37,18 @@ from ._node import (
 
 __all__ = [
     "Audit",
+    "Billing",
     "Code",
     "FileNode",
+    "Header",
     "Node",
     "Packet",
     "Payment",
     "Refused",
+    "Reversal",
     "Said",
     "VogrilasError",
+    "WrongField",
     "audited",
     "audited_tables",
     "decoded",

@@ -39,6 +39,47 @@ class RawPayment(ctypes.Structure):
     ]
 
 
+class RawHeader(ctypes.Structure):
+    """The header of a message that is made."""
+
+    _fields_ = [
+        ("bin", ctypes.c_char * 7),
+        ("pcn", ctypes.c_char * 11),
+        ("qualifier", ctypes.c_char * 3),
+        ("provider", ctypes.c_char * 16),
+        ("date", ctypes.c_char * 9),
+        ("vendor", ctypes.c_char * 11),
+    ]
+
+
+class RawBilling(ctypes.Structure):
+    """A billing that is made."""
+
+    _fields_ = [
+        ("prescription", ctypes.c_uint64),
+        ("quantity", ctypes.c_uint64),
+        ("cost", ctypes.c_uint32),
+        ("fee", ctypes.c_uint32),
+        ("header", RawHeader),
+        ("cardholder", ctypes.c_char * 21),
+        ("product", ctypes.c_char * 20),
+        ("fill_number", ctypes.c_uint8),
+    ]
+
+
+class RawReversal(ctypes.Structure):
+    """A reversal that is made."""
+
+    _fields_ = [
+        ("prescription", ctypes.c_uint64),
+        ("header", RawHeader),
+        ("product", ctypes.c_char * 20),
+        ("fill_number", ctypes.c_uint8),
+    ]
+
+
+# The fill number of a reversal that leaves it out.
+NO_FILL = 255
 _NODE = ctypes.POINTER(Handle)
 _BYTES = [ctypes.c_char_p, ctypes.c_size_t]
 _BUFFER = [ctypes.c_void_p, ctypes.c_size_t, _PLACE]
@@ -60,6 +101,8 @@ _CALLS = {
     "close": [_NODE],
     "print": [*_BYTES, *_BUFFER],
     "unprint": [*_BYTES, *_BUFFER],
+    "make_billing": [ctypes.POINTER(RawBilling), *_BUFFER, ctypes.POINTER(ctypes.c_uint32)],
+    "make_reversal": [ctypes.POINTER(RawReversal), *_BUFFER, ctypes.POINTER(ctypes.c_uint32)],
     "describe": [*_BYTES, ctypes.c_uint32, *_BUFFER],
     "audit": [*_BYTES, *_BYTES, _PLACE, ctypes.c_size_t, ctypes.c_uint32, *_BUFFER],
 }

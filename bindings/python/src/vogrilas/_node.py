@@ -38,6 +38,19 @@ class Code(enum.IntEnum):
     NO_RUN = 19
     UNSYNCED = 20
     TOO_MANY = 21
+    FIELD_EMPTY = 22
+    FIELD_TOO_LONG = 23
+    FIELD_SEPARATOR = 24
+    FIELD_SPACE = 25
+    FIELD_DIGITS = 26
+    FIELD_DAY = 27
+
+
+class Message:
+    """A message by its fields: `bytes(message)` makes it."""
+
+    def __bytes__(self) -> bytes:
+        raise NotImplementedError
 
 
 class VogrilasError(Exception):
@@ -105,7 +118,7 @@ class Payment:
 _PLACED = (Code.DAMAGED, Code.BAD_RECORD, Code.BAD_TEXT)
 
 
-def _check(code: int, place: Optional[int] = None) -> None:
+def check_code(code: int, place: Optional[int] = None) -> None:
     if code:
         known = Code(code)
         if known is Code.NO_MEMORY:
@@ -120,7 +133,7 @@ def _copied(call: Callable[..., int], *given: Any, room: int = 0) -> bytes:
         buffer = ctypes.create_string_buffer(max(room, 1))
         code = call(*given, buffer, room, ctypes.byref(size))
         if code != Code.SHORT_BUFFER:
-            _check(code, size.value)
+            check_code(code, size.value)
             return ctypes.string_at(buffer, size.value)
         room = size.value
 
@@ -190,10 +203,10 @@ def _described(message: bytes, style: int) -> bytes:
 
 
 def as_bytes(given: Any, what: str) -> bytes:
-    """What a caller gives as bytes. TypeError where it is something else, before any call is made with it."""
+    """What a caller gives as bytes, or makes bytes of, as a Billing does. TypeError where it is something else, before any call is made with it."""
     if isinstance(given, bytes):
         return given
-    if isinstance(given, (bytearray, memoryview)):
+    if isinstance(given, (bytearray, memoryview)) or isinstance(given, Message):
         return bytes(given)
     raise TypeError(f"{what} has to be bytes, not {type(given).__name__}")
 
@@ -235,7 +248,7 @@ class Node:
         seed = os.urandom(16)
         given = (settings, len(settings), word, len(word), log, len(log), seed, len(seed))
         code = LIBRARY.vogrilas_open(ctypes.byref(self._handle), *given, ctypes.byref(kept))
-        _check(code, kept.value)
+        check_code(code, kept.value)
         self.name = name
         self.kept: int = kept.value
 
@@ -243,19 +256,19 @@ class Node:
         """Does what a line asks. After a MemoryError the node is closed, and has to be opened again from its log."""
         line = as_bytes(line, "a line")
         with self._lock:
-            _check(LIBRARY.vogrilas_serve(ctypes.byref(self._handle), line, len(line)))
+            check_code(LIBRARY.vogrilas_serve(ctypes.byref(self._handle), line, len(line)))
 
     def submit(self, request: bytes) -> None:
         """Enters a request, of a pharmacy: the line `submit` with the text of these bytes."""
         request = as_bytes(request, "a request")
         with self._lock:
-            _check(LIBRARY.vogrilas_submit(ctypes.byref(self._handle), request, len(request)))
+            check_code(LIBRARY.vogrilas_submit(ctypes.byref(self._handle), request, len(request)))
 
     def take(self, sender: str, packet: bytes) -> None:
         """Takes a packet that has come from this node: the line `take` with the text of these bytes."""
         name, packet = as_name(sender), as_bytes(packet, "a packet")
         with self._lock:
-            _check(LIBRARY.vogrilas_take(ctypes.byref(self._handle), name, len(name), packet, len(packet)))
+            check_code(LIBRARY.vogrilas_take(ctypes.byref(self._handle), name, len(name), packet, len(packet)))
 
     def records(self) -> bytes:
         """What is to be appended to the log, and synced: the records that `synced` has not said to be on disk."""
@@ -270,7 +283,7 @@ class Node:
         if not 0 <= size < 1 << 64:
             raise VogrilasError(Code.TOO_MANY)
         with self._lock:
-            _check(LIBRARY.vogrilas_kept(ctypes.byref(self._handle), size))
+            check_code(LIBRARY.vogrilas_kept(ctypes.byref(self._handle), size))
 
     def written(self) -> bytes:
         """What came of the lines. Raises VogrilasError with UNSYNCED until all is on disk, as do `clear` and all that is read."""
@@ -280,14 +293,14 @@ class Node:
     def clear(self) -> None:
         """Notes that what was written was used."""
         with self._lock:
-            _check(LIBRARY.vogrilas_clear(ctypes.byref(self._handle)))
+            check_code(LIBRARY.vogrilas_clear(ctypes.byref(self._handle)))
 
     @property
     def calls(self) -> int:
         """How many calls the node's log has."""
         calls = ctypes.c_uint64()
         with self._lock:
-            _check(LIBRARY.vogrilas_calls(ctypes.byref(self._handle), ctypes.byref(calls)))
+            check_code(LIBRARY.vogrilas_calls(ctypes.byref(self._handle), ctypes.byref(calls)))
         return calls.value
 
     @property
@@ -295,7 +308,7 @@ class Node:
         """How many entries a pharmacy's journal has, slots a switch's table, or rows a payer's book."""
         count = ctypes.c_uint64()
         with self._lock:
-            _check(LIBRARY.vogrilas_count(ctypes.byref(self._handle), ctypes.byref(count)))
+            check_code(LIBRARY.vogrilas_count(ctypes.byref(self._handle), ctypes.byref(count)))
         return count.value
 
     def request(self, number: int) -> bytes:
@@ -327,7 +340,7 @@ class Node:
                 raw = (RawPayment * max(room, 1))()
                 code = LIBRARY.vogrilas_payments(ctypes.byref(self._handle), raw, room, ctypes.byref(count))
                 if code != Code.SHORT_BUFFER:
-                    _check(code)
+                    check_code(code)
                     return [_payment(one) for one in raw[: count.value]]
                 room = count.value
 

@@ -2,7 +2,7 @@ use Rattle.std.proofs.Common.{◌≡◌, ◌++◌, drop}
 use Rattle.std.specs.List.{flat_map}
 use Rattle.bin_routes.specs.Table.{RouteMaps}
 use Rattle.claim_model.specs.Bytes.{bytes_with}
-use Rattle.node_handle.specs.Payments.{row_payments, book_payments}
+use Rattle.node_handle.specs.Payments.{row_payments}
 use Rattle.node_handle.proofs.payments.book_payments.Given as goal
 
 -- the payments so far, and then those of the rows that are left

@@ -1,0 +1,83 @@
+//! Trials of a node with the file of its log.
+#![cfg(unix)]
+
+use std::fs;
+use std::path::PathBuf;
+use vogrilas::{unprinted, Code, Error, FileError, FileNode, Refused, Said};
+
+const SETTINGS: &[u8] = include_bytes!("../../../examples/embed/settings.toml");
+const REQUEST: &[u8] = include_bytes!("../../../examples/embed/request");
+
+/// A folder that is removed behind the trial.
+struct Folder(PathBuf);
+
+impl Folder {
+    fn new(name: &str) -> Folder {
+        let path = std::env::temp_dir().join(format!("vogrilas-{}-{name}", std::process::id()));
+        fs::create_dir(&path).unwrap();
+        Folder(path)
+    }
+
+    fn open(&self, name: &str) -> Result<FileNode, FileError> {
+        FileNode::open(SETTINGS, name, self.log(name))
+    }
+
+    fn log(&self, name: &str) -> PathBuf {
+        self.0.join(format!("{name}.log"))
+    }
+}
+
+impl Drop for Folder {
+    fn drop(&mut self) {
+        fs::remove_dir_all(&self.0).unwrap();
+    }
+}
+
+fn request() -> Vec<u8> {
+    unprinted(REQUEST.strip_suffix(b"\n").unwrap()).unwrap()
+}
+
+#[test]
+fn calls_are_on_disk() {
+    let folder = Folder::new("calls");
+    let mut pharmacy = folder.open("ph1").unwrap();
+    let said = pharmacy.submit(&request()).unwrap();
+    assert_eq!((said.number, said.sent.len(), said.sent[0].to.as_str()), (Some(1), 1, "sw1"));
+    assert_eq!((pharmacy.calls().unwrap(), pharmacy.count().unwrap(), pharmacy.answer(1).unwrap()), (1, 1, None));
+    assert_eq!(pharmacy.request(1).unwrap(), request());
+    assert!(pharmacy.payments().unwrap().is_empty() && pharmacy.cut().is_none());
+    let Err(FileError::Refused(Refused(name))) = pharmacy.submit(b"") else { panic!("an empty request is taken") };
+    assert_eq!(name, "Unreadable");
+    let Err(FileError::Library(Error { code, .. })) = pharmacy.take("sw1 ", b"") else { panic!("nobody sends") };
+    let again = pharmacy.tick().unwrap();
+    assert_eq!((code, again.number, again.sent), (Code::Name, None, said.sent));
+    let Err(FileError::Disk(_)) = folder.open("ph1") else { panic!("two have the log") };
+    drop(pharmacy);
+    let again = folder.open("ph1").unwrap();
+    assert_eq!((again.calls().unwrap(), again.answer(1).unwrap()), (2, None));
+    let mut payer = folder.open("pr1").unwrap();
+    assert_eq!(payer.plan(b"a b", Some(20_000)).unwrap(), Said::default());
+    assert_eq!((payer.plan(b"a b", None).unwrap(), payer.stop().unwrap(), payer.start().unwrap()), Default::default());
+    let Err(FileError::Library(Error { code, .. })) = payer.answer(1) else { panic!("a payer has no entries") };
+    assert_eq!(code, Code::NotFound);
+}
+
+#[test]
+fn torn_and_removed_logs_are_kept() {
+    let folder = Folder::new("torn");
+    folder.open("ph1").unwrap().submit(&request()).unwrap();
+    let path = folder.log("ph1");
+    let whole = fs::read(&path).unwrap();
+    fs::write(&path, &whole[..whole.len() - 1]).unwrap();
+    let mut pharmacy = folder.open("ph1").unwrap();
+    let cut = pharmacy.cut().unwrap().to_path_buf();
+    assert_eq!((pharmacy.calls().unwrap(), cut.file_name().unwrap()), (0, "ph1.log.cut-46".as_ref()));
+    assert_eq!((fs::read(&cut).unwrap(), fs::read(&path).unwrap()), (whole[46..whole.len() - 1].to_vec(), whole[..46].to_vec()));
+    fs::remove_file(&path).unwrap();
+    let Err(FileError::Disk(_)) = pharmacy.submit(&request()) else { panic!("a log without a name") };
+    let Err(FileError::Closed) = pharmacy.tick() else { panic!("a closed node") };
+    assert_eq!(fs::read(folder.0.join("ph1.log.removed")).unwrap(), whole);
+    fs::write(folder.0.join("ph1.log.sync-failed"), "").unwrap();
+    let Err(FileError::Disk(fault)) = folder.open("ph1") else { panic!("a failed sync") };
+    assert!(fault.to_string().starts_with("a sync of the log failed"), "{fault}");
+}

@@ -1,0 +1,5 @@
+pub mod Texts
+pub mod Judged
+pub mod Made
+pub mod Making
+pub mod ReadBack
