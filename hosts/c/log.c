@@ -52,7 +52,6 @@ size_t node_open(struct served *node, const struct bytes *settings, const struct
         fail_with(REFUSED, node->log.path, why.at);
     }
     if (code != VOGRILAS_OK) fail_with(code == VOGRILAS_NO_MEMORY ? 1 : REFUSED, node->log.path, vogrilas_code_text(code));
-    node->at_start = node_calls(node);
     return kept;
 }
 
@@ -63,10 +62,11 @@ struct served node_of_file(const char *settings, const char *name, const char *p
     struct bytes log = log_bytes(&node.log);
     size_t kept = node_open(&node, &text, &log);
     if (kept < log.size) log_cut(&node.log, &log, kept);
-    node_keep(&node, false);
-    node_clear(&node);
     /* An earlier life may have ended between a write and its sync, or before its folder was synced. */
     log_sync_all(&node.log);
+    node_keep(&node, false);
+    node_clear(&node);
+    node.at_start = node_calls(&node);
     free(text.at);
     free(log.at);
     return node;
@@ -81,14 +81,18 @@ void node_kept(struct served *node, size_t size) {
     (void)node, (void)size;
 }
 
-void node_keep(struct served *node, bool speaks) {
-    struct bytes records = node_records(node);
+void node_append(struct served *node, const struct bytes *records, bool speaks) {
     if (node->copy != NULL) {
-        if (records.size > 0 || speaks) copy_append(node->copy, records.at, records.size);
-    } else if (records.size > 0) {
-        log_write(&node->log, node->name, records.at, records.size);
+        if (records->size > 0 || speaks) copy_append(node->copy, records->at, records->size);
+    } else if (records->size > 0) {
+        log_write(&node->log, node->name, records->at, records->size);
         log_sync(&node->log);
     }
+}
+
+void node_keep(struct served *node, bool speaks) {
+    struct bytes records = node_records(node);
+    node_append(node, &records, speaks);
     node_kept(node, records.size);
     free(records.at);
 }

@@ -155,10 +155,10 @@ void turn(struct host *host, struct message *batch, bool is_tick) {
 #ifdef WRONG_SAID_EARLY
     struct bytes early = node_records(&host->node);
     node_kept(&host->node, early.size);
-    free(early.at);
     tell(host, batch);
     torment(host->carrier->connection);
-    node_keep(&host->node, speaks);
+    node_append(&host->node, &early, speaks);
+    free(early.at);
 #else
 #ifdef WRONG_UNFENCED
     speaks = false;
