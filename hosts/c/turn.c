@@ -156,7 +156,7 @@ void turn(struct host *host, struct message *batch, bool is_tick) {
     struct bytes early = node_records(&host->node);
     node_kept(&host->node, early.size);
     tell(host, batch);
-    torment(host->carrier->connection);
+    if (waiting > 0 || is_tick) torment(host->carrier->connection);
     node_append(&host->node, &early, speaks);
     free(early.at);
 #else
@@ -165,7 +165,7 @@ void turn(struct host *host, struct message *batch, bool is_tick) {
 #endif
     node_keep(&host->node, speaks);
     tell(host, batch);
-    torment(host->carrier->connection);
+    if (waiting > 0 || is_tick) torment(host->carrier->connection);
 #endif
     torment_late(host->carrier->connection);
     node_clear(&host->node);
