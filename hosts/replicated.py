@@ -28,8 +28,8 @@ MACHINES = ("a", "b")
 REFUSED, OVERTAKEN = 78, 75
 SETTLE_SECONDS = 240
 TICK_SECONDS = 0.2
-# Of a thousand moments at which a host may die it dies at so many.
-DEATHS = 3
+# Of a thousand moments at which a host may die it dies at so many; a wrong one at more, so that it is soon found on a busy machine too.
+DEATHS, DEATHS_OF_WRONG = 3, 20
 # One machine sends its records in parts of so many bytes.
 PART_BYTES = 200
 
@@ -67,7 +67,8 @@ class Candidate:
 
     async def live(self):
         """Starts the host again and again."""
-        environment = os.environ | {"TORMENT": str(DEATHS), "TORMENT_CALM": str(self.run.calm_file)}
+        deaths = DEATHS_OF_WRONG if self.run.given.wrong else DEATHS
+        environment = os.environ | {"TORMENT": str(deaths), "TORMENT_CALM": str(self.run.calm_file)}
         while not self.run.over:
             if self.loses_disk:
                 shutil.rmtree(self.folder)

@@ -116,12 +116,13 @@ static void vouch(struct candidate *it) {
 
 /* Whether this machine may take over: it knows the log's end. One that was just made is vouched for by who made it. */
 static bool may_claim(struct candidate *it) {
-    bool may = it->copy.seen.vouched || it->stream.last == 1;
-    /* What another host has told of, and the servers do not show, they may have lost. */
-    if (!beats_level(&it->beats, it->stream.last)) return false;
-    if (!may && !it->is_told) say("warning", "nobody vouches for the end of the log: see `vogctl log vouch`", it->stream.name);
-    it->is_told = it->is_told || !may;
-    return may;
+    const char *why = NULL;
+    if (!it->copy.seen.vouched && it->stream.last > 1) why = "nobody vouches for the end of the log: see `vogctl log vouch`";
+    /* They may have lost it. */
+    if (!beats_level(&it->beats, it->stream.last)) why = "the servers do not show what another host has told of";
+    if (why != NULL && !it->is_told) say("warning", why, it->stream.name);
+    it->is_told = it->is_told || why != NULL;
+    return why == NULL;
 }
 
 /* Whether the file has no more than the stream. Where it has for long, the servers have lost what was said. */

@@ -81,14 +81,18 @@ void node_kept(struct served *node, size_t size) {
     if (code != VOGRILAS_OK) fail(node->name, vogrilas_code_text(code));
 }
 
-void node_keep(struct served *node, bool speaks) {
-    struct bytes records = node_records(node);
+void node_append(struct served *node, const struct bytes *records, bool speaks) {
     if (node->copy != NULL) {
-        if (records.size > 0 || speaks) copy_append(node->copy, records.at, records.size);
-    } else if (records.size > 0) {
-        log_write(&node->log, node->name, records.at, records.size);
+        if (records->size > 0 || speaks) copy_append(node->copy, records->at, records->size);
+    } else if (records->size > 0) {
+        log_write(&node->log, node->name, records->at, records->size);
         log_sync(&node->log);
     }
+}
+
+void node_keep(struct served *node, bool speaks) {
+    struct bytes records = node_records(node);
+    node_append(node, &records, speaks);
     node_kept(node, records.size);
     free(records.at);
 }

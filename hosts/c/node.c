@@ -130,6 +130,9 @@ static bool open_node(struct host *host) {
     struct bytes log = log_bytes(&host->node.log);
     log.size = (size_t)host->candidate->copy.whole.size;
     if (is_open && node_open(&host->node, &text, &log) != log.size) fail_with(REFUSED, given->log, "it has something else than records");
+    /* The file was synced as it was opened. */
+    if (is_open) node_kept(&host->node, 0);
+    host->node.at_start = node_calls(&host->node);
     host->candidate->copy.node = &host->node;
     free(text.at);
     free(log.at);

@@ -89,6 +89,8 @@ void node_make(struct served *node, const char *record, size_t size);
 /* Has the records where they have to be. Only then may be used what was written. `speaks`: something is to be said even if there are no
    records, so the owner of a log in a stream first shows that it has it still. */
 void node_keep(struct served *node, bool speaks);
+/* The first part of it: has them there. */
+void node_append(struct served *node, const struct bytes *records, bool speaks);
 /* Notes that so many bytes of records stand where they have to: the one place behind each way in which they come there, that of an owner,
    of its log in a file or in a stream, and that of a stand-by. */
 void node_kept(struct served *node, size_t size);

@@ -164,17 +164,17 @@ void turn(struct host *host, struct message *batch, bool is_tick) {
 #ifdef WRONG_SAID_EARLY
     struct bytes early = node_records(&host->node);
     node_kept(&host->node, early.size);
-    free(early.at);
     tell(host, batch);
-    torment(host->carrier->connection);
-    node_keep(&host->node, speaks);
+    if (waiting > 0 || is_tick) torment(host->carrier->connection);
+    node_append(&host->node, &early, speaks);
+    free(early.at);
 #else
 #ifdef WRONG_UNFENCED
     speaks = false;
 #endif
     node_keep(&host->node, speaks);
     tell(host, batch);
-    torment(host->carrier->connection);
+    if (waiting > 0 || is_tick) torment(host->carrier->connection);
 #endif
     torment_late(host->carrier->connection);
     node_clear(&host->node);
