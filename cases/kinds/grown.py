@@ -158,17 +158,24 @@ def grown(new: bytes) -> str:
         return '; '.join(stays) if network.octets() == before and ran.status == 1 else f'status {ran.status}, other bytes'
 
 
-def altered(change) -> str:
-    """What becomes of the logs where that of pharmacy 1 is altered, and a payer is new."""
+def altered(change, node: str = 'ph1') -> str:
+    """What becomes of the logs where that of one node is altered, and a cap is larger."""
     with room() as folder:
         network = Network(folder, edited('cap = 3000 => cap = 3001'))
         count = len(network.dump.log('ph1').calls)
-        network.write('ph1.log', change(network.dump.read('ph1.log')))
+        network.write(f'{node}.log', change(network.dump.read(f'{node}.log')))
         before, ran = network.octets(), network.grow()
         if ran.status:
             stays = [line for line in network.said(ran).split('; ') if not line.endswith(' goes over')]
             return '; '.join(stays) if network.octets() == before else 'other bytes'
         return f'over, {len(read_log(network.dump.read("ph1.log")).calls)} of {count} records'
+
+
+def forged(octets: bytes) -> bytes:
+    """A log whose first call sent its packet to switch 2."""
+    log = read_log(octets)
+    call = log.calls[0]
+    return write_log(log._replace(calls=(call._replace(sent=tuple(it._replace(to='sw2') for it in call.sent)), *log.calls[1:])))
 
 
 def held(hold: str) -> str:
@@ -201,6 +208,8 @@ def tell(word: str, argument: bytes) -> str:
         return altered(lambda octets: octets[:int(text)] + bytes([octets[int(text)] ^ 1]) + octets[int(text) + 1:])
     if word == 'other-head':
         return altered(lambda octets: head_of('ph1', SETTINGS + text.encode()) + octets[HEAD:])
+    if word == 'forged':
+        return altered(forged, text)
     if word == 'held':
         return held(text)
     if word == 'words':

@@ -16,9 +16,11 @@ use crate::words::{Words, words_of};
 use command_line::{End, given_words, read_file};
 use kept_logs::SettingsDigest;
 use log_growth::{Gone, GrowthFault, OverFault, go_over, grows};
+use node_service::ServiceFault;
 use std::alloc::Global;
 use std::io::Write;
 use std::process::ExitCode;
+use world_setup::Node;
 
 /// Why the program ends before each log is one of the new settings.
 type Ungone = End<Finding>;
@@ -66,7 +68,8 @@ fn judge(rt: &HostRuntime, words: &Words<'_>, old: &[u8], new: &[u8]) -> Result<
     for name in &words.logs {
         let bytes = read_file(rt, name)?;
         let becomes = go_over(alloc, &digest, new, bytes.as_slice());
-        put_line(alloc, &mut lines, name, &becomes)?;
+        let routed = is_routed_now(alloc, &digest, old, bytes.as_slice(), &becomes);
+        put_line(alloc, &mut lines, name, &becomes, routed)?;
         match becomes {
             Ok(one) => gone.push(one)?,
             Err(OverFault::OutOfMemory) => return Err(End::OutOfMemory),
@@ -78,6 +81,23 @@ fn judge(rt: &HostRuntime, words: &Words<'_>, old: &[u8], new: &[u8]) -> Result<
         Ok(gone)
     } else {
         Err(End::Own(Finding::SomeStay))
+    }
+}
+
+/// Whether a switch would not be served from its log for a request that it rejected, and that has a route now. Where it makes
+/// its log under the old settings it can be for nothing else.
+fn is_routed_now(
+    alloc: Global,
+    digest: &SettingsDigest,
+    old: &[u8],
+    bytes: &[u8],
+    becomes: &Result<Gone, OverFault>,
+) -> bool {
+    match becomes {
+        Err(OverFault::Refused(Node::Switch(_), ServiceFault::NotMade(_))) => {
+            matches!(go_over(alloc, digest, old, bytes), Ok(Gone::Already(_)))
+        }
+        _ => false,
     }
 }
 

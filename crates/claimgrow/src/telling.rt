@@ -5,17 +5,19 @@ use node_service::ServiceFault;
 use std::alloc::{AllocError, Global};
 use world_setup::Node;
 
-/// Appends the line of a log of this name: its node, and what becomes of it or why it stays.
+/// Appends the line of a log of this name: its node, and what becomes of it or why it stays, which may be a request that was
+/// rejected and has a route now.
 pub(crate) fn put_line(
     alloc: Global,
     lines: &mut Vec<u8>,
     name: &str,
     becomes: &Result<Gone, OverFault>,
+    routed: bool,
 ) -> Result<(), AllocError> {
     let line = match becomes {
         Ok(Gone::Over(node, _)) => over(alloc, name, *node, "goes over")?,
         Ok(Gone::Already(node)) => over(alloc, name, *node, "is under the new settings already")?,
-        Err(OverFault::Refused(node, fault)) => refused(alloc, name, *node, fault)?,
+        Err(OverFault::Refused(node, fault)) => refused(alloc, name, *node, fault, routed)?,
         Err(fault) => stays(alloc, name, fault)?,
     };
     lines.extend_from_slice(line.as_bytes())
@@ -33,12 +35,13 @@ fn refused(
     name: &str,
     node: Node,
     fault: &ServiceFault,
+    routed: bool,
 ) -> Result<String, AllocError> {
     let (kind, number) = named(node);
-    let hint = match (node, fault) {
-        (Node::Switch(_), ServiceFault::NotMade(_)) =>
-            ": a request that it rejected has a route now",
-        _ => "",
+    let hint = if routed {
+        ": a request that it rejected has a route now"
+    } else {
+        ""
     };
     format!(in alloc; "{name}: {kind} {number} does not go over: {fault}{hint}\n")
 }
