@@ -411,9 +411,9 @@ vogrilas_code vogrilas_describe(const void *message, size_t message_size, uint32
 ** log is none of these settings, and *size is which one, from 0. The buffer is unchanged at all of these.
 **
 ** It is proved that the first two codes are right, of the settings that the text spells and the logs that the bytes are, and that
-** each other code comes with the buffer and *size as they stand here, but for two things that are tested: that settings and logs
-** are refused exactly where they should be, the first log that is none by its first fault, and which number it is. What is told
-** of a run is tested too.
+** each other code comes with the buffer and *size as they stand here, but for what is tested: that settings and logs are refused
+** exactly where they should be, the first log that is none by its first fault, and which one it is; and that *size stays where
+** memory is refused while a log is read. What is told of a run is tested too.
 */
 vogrilas_code vogrilas_audit(const void *settings, size_t settings_size, const void *logs, size_t logs_size,
                              const size_t *sizes, size_t count, uint32_t json, void *buffer, size_t room, size_t *size);

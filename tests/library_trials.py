@@ -97,11 +97,13 @@ class Trials(unittest.TestCase):
             lambda: payer.plan("00093721410", 1), lambda: payer.plan(b"00093721410", 1.5), lambda: payer.plan(b"00093721410", True),
             lambda: payer.plan(b"00093721410", "1"), lambda: pharmacy.answer("1"), lambda: pharmacy.request(None),
             lambda: FileNode("settings", "ph1", self.folder / "other.log"), lambda: FileNode(SETTINGS, b"ph1", self.folder / "other.log"),
-            lambda: vogrilas.printed("text"), lambda: vogrilas.unprinted("text"), lambda: vogrilas.described("text"), lambda: vogrilas.decoded(7),
+            lambda: vogrilas.audited("text", []), lambda: vogrilas.audited(SETTINGS, ["text"]), lambda: vogrilas.printed("text"), lambda: vogrilas.unprinted("text"), lambda: vogrilas.described("text"), lambda: vogrilas.decoded(7),
         ]
         for place, call in enumerate(wrong):
             with self.subTest(place), self.assertRaises(TypeError):
                 call()
+        with self.assertRaises(WrongField):
+            pharmacy.submit(Reversal(HEADER, 1, ""))
         # A name that no node has is refused, and closes nothing either.
         self.fails(Code.NAME, pharmacy.take, "\udc80", b"packet")
         self.assertEqual(log.read_bytes(), before)

@@ -167,9 +167,9 @@ impl FileNode {
             }
             return Err(error.into());
         }
-        let written = self.settle(&mut open)?;
+        let said = Said::read(&self.settle(&mut open)?)?;
         self.open = Some(open);
-        Said::read(&written)?.map_err(FileError::Refused)
+        said.map_err(FileError::Refused)
     }
 
     fn settle(&self, open: &mut OpenNode) -> Result<Vec<u8>, FileError> {

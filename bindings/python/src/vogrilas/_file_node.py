@@ -10,7 +10,7 @@ import threading
 import warnings
 from typing import Callable, Optional, TypeVar, Union
 
-from ._node import Code, Node, Payment, Refused, Said, VogrilasError, as_bytes, as_name, printed, read_said
+from ._node import Code, Message, Node, Payment, Refused, Said, VogrilasError, as_bytes, as_name, printed, read_said
 
 
 _Read = TypeVar("_Read")
@@ -20,10 +20,10 @@ class FileNode:
     """A node with the file of its log, which is locked for this process.
 
     Each call is on disk before it returns, so what it gives may be used at once. An argument of another type than is told is a
-    TypeError, before anything is done. Where a call fails in the middle, by want
-    of memory or of the disk, the node is closed; what the file has then decides, when it is opened again. Where a sync fails a
-    file `LOG.sync-failed` stays beside the log, and the log is not opened again until people have removed it: what the kernel shows
-    of a file whose sync failed may be on no disk. What is cut off a log, a record that a crash has torn, stays beside it as
+    TypeError, and a message with a wrong field a WrongField, before anything is done. Where a call fails in the middle, by want of
+    memory or of the disk, the node is closed; what the file has then decides, when it is opened again. Where a sync fails a file
+    `LOG.sync-failed` stays beside the log, and the log is not opened again until people have removed it: what the kernel shows of a
+    file whose sync failed may be on no disk. What is cut off a log, a record that a crash has torn, stays beside it as
     `LOG.cut-PLACE`, and a warning says so. A node belongs to the process that opened it: behind a fork the child has none.
     """
 
@@ -47,7 +47,7 @@ class FileNode:
             raise
         self.name = name
 
-    def submit(self, request: bytes) -> Said:
+    def submit(self, request: Union[bytes, Message]) -> Said:
         """Enters a request and sends it; the number of its entry is in what is said. Of a pharmacy."""
         data = as_bytes(request, "a request")
         return self._call(lambda node: node.submit(data))

@@ -8,7 +8,7 @@ import json
 import os
 import threading
 from dataclasses import dataclass
-from typing import Any, Callable, Optional, Sequence
+from typing import Any, Callable, Optional, Sequence, Union
 
 from ._library import LIBRARY, Handle, RawPayment
 
@@ -180,6 +180,7 @@ def audited_tables(settings: bytes, logs: Sequence[bytes]) -> dict[str, Any]:
 
 
 def _audited(settings: bytes, logs: Sequence[bytes], style: int) -> Audit:
+    settings, logs = as_bytes(settings, "settings"), [as_bytes(log, "a log") for log in logs]
     joined = b"".join(logs)
     sizes = (ctypes.c_size_t * max(len(logs), 1))(*map(len, logs))
     given = (settings, len(settings), joined, len(joined), sizes, len(logs), style)
@@ -258,8 +259,8 @@ class Node:
         with self._lock:
             check_code(LIBRARY.vogrilas_serve(ctypes.byref(self._handle), line, len(line)))
 
-    def submit(self, request: bytes) -> None:
-        """Enters a request, of a pharmacy: the line `submit` with the text of these bytes."""
+    def submit(self, request: Union[bytes, Message]) -> None:
+        """Enters a request, of a pharmacy: the line `submit` with the text of these bytes, or of a message's."""
         request = as_bytes(request, "a request")
         with self._lock:
             check_code(LIBRARY.vogrilas_submit(ctypes.byref(self._handle), request, len(request)))
