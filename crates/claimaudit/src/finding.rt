@@ -8,7 +8,7 @@ use thiserror::Error;
 #[derive(Debug, Drop, Error)]
 pub(crate) enum Finding {
     /// The words are wrong.
-    #[error("usage: claimaudit [--csv payments|entries|rows|packets | --json | --schedule] SETTINGS LOG...")]
+    #[error("usage: claimaudit [--alone] [--csv payments|entries|rows|packets|open | --json | --schedule] SETTINGS LOG...")]
     Usage,
     /// The file of this name is no log under the settings.
     #[error("{0}: {1}")]
