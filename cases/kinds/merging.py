@@ -121,7 +121,24 @@ def with_change(change: str, _: Day, logs: Logs) -> str:
     return over_other(logs, 'pr1', write_log(changed_at(logs.read(), place, change, Spot(0, 1, 0))[place]))
 
 
+def alone(node: str, _: Day, logs: Logs) -> str:
+    """What is told of the log of one node by itself."""
+    ran = run('claimaudit', '--alone', f'{logs.folder}/settings.toml', logs.path(node))
+    return f'{ran.status}: ' + ' | '.join(ran.out.decode('latin-1').rstrip('\n').split('\n'))
+
+
+def alone_changed(node: str, change: str, _: Day, logs: Logs) -> str:
+    """The same where its log is changed at its first call."""
+    place = logs.nodes.index(node)
+    other = f'{logs.folder}/other'
+    with open(other, 'wb') as file:
+        file.write(write_log(changed_at(logs.read(), place, change, Spot(0, 1, 0))[place]))
+    return f'{run("claimaudit", "--alone", f"{logs.folder}/settings.toml", other).status}'
+
+
 DAYS = {
+    **{f'alone-{node}': functools.partial(alone, node) for node in ('ph1', 'sw1', 'pr1')},
+    'alone-other-answer': functools.partial(alone_changed, 'pr1', 'sent'),
     'merge': over, 'copies': over_copies, 'without-calls': without_calls, 'without-payer': lambda _, logs: told(logs.merge(without=('pr1',))),
     'other-answer': functools.partial(with_change, 'sent'), 'other-order': functools.partial(with_change, 'exchanged'),
 }

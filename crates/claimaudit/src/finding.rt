@@ -8,11 +8,14 @@ use thiserror::Error;
 #[derive(Debug, Drop, Error)]
 pub(crate) enum Finding {
     /// The words are wrong.
-    #[error("usage: claimaudit [--csv payments|entries|rows|packets | --json | --schedule] SETTINGS LOG...")]
+    #[error("usage: claimaudit [--alone] [--csv payments|entries|rows|packets|open | --json | --schedule] SETTINGS LOG...")]
     Usage,
     /// The file of this name is no log under the settings.
     #[error("{0}: {1}")]
     Log(String, LogFault),
+    /// The settings are refused: what is wrong in them.
+    #[error("settings refused: {0}")]
+    Settings(String),
     /// There is nothing to be judged.
     #[error("{0}")]
     Fault(AuditFault),

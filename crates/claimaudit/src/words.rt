@@ -4,7 +4,7 @@ use crate::Unjudged;
 use crate::finding::Finding;
 use clap::{Arg, ArgAction, Command};
 use command_line::{End, VERSION};
-use log_audit::{Form, Table};
+use log_audit::{Form, LoneForm, LoneTable, Table};
 use std::alloc::Global;
 
 /// What the command line names.
@@ -14,12 +14,25 @@ pub(crate) struct Words<'a> {
     pub(crate) settings: &'a str,
     /// The files of the logs.
     pub(crate) logs: Vec<&'a str>,
-    /// How the logs are told of.
-    pub(crate) form: Form,
+    /// What is asked of the logs.
+    pub(crate) asked: Asked,
+}
+
+/// What is asked of logs.
+#[derive(Clone, Copy)]
+pub(crate) enum Asked {
+    /// Whether they are those of one legal run.
+    Together(Form),
+    /// Whether the node of each makes it, with nothing judged of other nodes.
+    Alone(LoneForm),
 }
 
 /// What the command line names; its first word is the program's own name.
 pub(crate) fn words_of<'a>(alloc: Global, given: &'a [String]) -> Result<Words<'a>, Unjudged> {
+    let alone = Arg::new(alloc, "alone")
+        .long("alone")
+        .action(ArgAction::SetTrue)
+        .help("judges each log by itself, and nothing of other nodes");
     let schedule = Arg::new(alloc, "schedule")
         .long("schedule")
         .action(ArgAction::SetTrue)
@@ -32,7 +45,9 @@ pub(crate) fn words_of<'a>(alloc: Global, given: &'a [String]) -> Result<Words<'
         .long("csv")
         .value_name("TABLE")
         .action(ArgAction::Set)
-        .help("writes a table of what the run left as CSV: payments, entries, rows or packets");
+        .help(
+            "writes a table of what the run left as CSV: payments, entries, rows or packets; alone, payments, entries, rows or open",
+        );
     let settings = Arg::new(alloc, "SETTINGS")
         .required(true)
         .action(ArgAction::Set)
@@ -47,13 +62,15 @@ pub(crate) fn words_of<'a>(alloc: Global, given: &'a [String]) -> Result<Words<'
         .about(
             "Tells whether the logs of all nodes are those of one legal run, and what that run left.",
         )
+        .arg(alone)?
         .arg(csv)?
         .arg(json)?
         .arg(schedule)?
         .arg(settings)?
         .arg(logs)?;
     let matches = command.try_get_matches_from(given)?;
-    let form = form_of(
+    let asked = asked_for(
+        matches.get_flag("alone"),
         matches.get_flag("schedule"),
         matches.get_flag("json"),
         matches.get_str("csv"),
@@ -62,13 +79,45 @@ pub(crate) fn words_of<'a>(alloc: Global, given: &'a [String]) -> Result<Words<'
         (Some(settings), Some(logs)) => Ok(Words {
             settings,
             logs: Vec::from_slice(alloc, logs)?,
-            form,
+            asked,
         }),
         _ => Err(End::Own(Finding::Usage)),
     }
 }
 
-/// How the logs are told of; one way at most is asked for.
+/// What is asked of the logs; one way at most of telling is.
+fn asked_for(
+    alone: bool,
+    schedule: bool,
+    json: bool,
+    csv: Option<&str>,
+) -> Result<Asked, Unjudged> {
+    if !alone {
+        return Ok(Asked::Together(form_of(schedule, json, csv)?));
+    }
+    match (schedule, json, csv) {
+        (false, false, None) => Ok(Asked::Alone(LoneForm::Lines)),
+        (false, true, None) => Ok(Asked::Alone(LoneForm::Json)),
+        (false, false, Some(name)) => match lone_table_named(name) {
+            Some(table) => Ok(Asked::Alone(LoneForm::Csv(table))),
+            None => Err(End::Own(Finding::Usage)),
+        },
+        _ => Err(End::Own(Finding::Usage)),
+    }
+}
+
+/// The table of nodes one by one of a name.
+fn lone_table_named(name: &str) -> Option<LoneTable> {
+    match name {
+        "payments" => Some(LoneTable::Payments),
+        "entries" => Some(LoneTable::Entries),
+        "rows" => Some(LoneTable::Rows),
+        "open" => Some(LoneTable::Open),
+        _ => None,
+    }
+}
+
+/// How the logs of a run are told of; one way at most is asked for.
 fn form_of(schedule: bool, json: bool, csv: Option<&str>) -> Result<Form, Unjudged> {
     match (schedule, json, csv) {
         (false, false, None) => Ok(Form::Lines),

@@ -21,6 +21,8 @@ pub mod Given
 pub mod Lacks
 pub mod Wrongs
 pub mod WrongsSeen
+pub mod Alone
+pub mod AloneSeen
 pub mod Waits
 pub mod WaitsSeen
 pub mod Reasons

@@ -2,10 +2,15 @@
 //! not. The words of the command line, the exit statuses and the lines for standard error stand here too.
 #![tactic(auto)]
 
+mod ages;
+mod alone;
 mod fault;
 mod judging;
 mod ledger;
 mod left;
+mod lone_lines;
+mod lone_report;
+mod lone_tables;
 mod missing;
 mod object;
 mod paid;
@@ -21,6 +26,8 @@ mod wrongs;
 
 pub use fault::AuditFault;
 pub use judging::{Verdict, judge};
+pub use lone_report::{LoneForm, LoneReport, report_alone};
+pub use lone_tables::LoneTable;
 pub use reading::{Audited, read_audited};
 pub use reasons::some_reason_is_told;
 pub use report::{Form, Report, report_on};

@@ -75,7 +75,11 @@ fn put_reasons(text: &mut Vec<u8>, why: &[u8]) -> Result<(), AllocError>
 
 /// Appends the beginning of an object, with the list of logs.
 #[tactic(auto, unfolding(crate::specs::Telling::logs_member))]
-fn put_logs(text: &mut Vec<u8>, logs: &[NodeLog], torn: &[usize]) -> Result<(), AllocError>
+pub(crate) fn put_logs(
+    text: &mut Vec<u8>,
+    logs: &[NodeLog],
+    torn: &[usize],
+) -> Result<(), AllocError>
     ensures { OnOk result (Adds text.old text.new (logs_member (logs_seen logs.now) torn.now)) }
 {
     let mut rows = Vec::new(*text.allocator());

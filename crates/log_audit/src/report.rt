@@ -206,7 +206,7 @@ pub(crate) fn put_logs(
 }
 
 /// Appends the line of a log.
-fn put_log(text: &mut Vec<u8>, log: &NodeLog, torn: u64) -> Result<(), AllocError>
+pub(crate) fn put_log(text: &mut Vec<u8>, log: &NodeLog, torn: u64) -> Result<(), AllocError>
     ensures { OnOk result (Adds text.old text.new (log_line (log_seen log.now) torn)) }
 {
     let pieces = [

@@ -94,3 +94,8 @@ pub(crate) fn put_packet_names(out: &mut Vec<u8>) -> Result<(), AllocError>
         ],
     )
 }
+
+/// Appends the names of the columns of entries without an answer.
+pub(crate) fn put_open_names(out: &mut Vec<u8>) -> Result<(), AllocError> {
+    put_head(out, &[b"pharmacy", b"number", b"kind", b"ticks"])
+}

@@ -32,7 +32,10 @@ pub(crate) fn counted_auths(
 }
 
 /// Adds the authorizations that a journal counts.
-fn take_journal(auths: &mut BTreeSet<Auth>, journal: &JournalReading<'_>) -> Result<(), AllocError>
+pub(crate) fn take_journal(
+    auths: &mut BTreeSet<Auth>,
+    journal: &JournalReading<'_>,
+) -> Result<(), AllocError>
     ensures { (routes : RouteMaps) → OnOk result
         (Joins auths.old.keys auths.new.keys (names_auth (counted (bytes_with routes) journal.now))) }
 {

@@ -1,0 +1,66 @@
+//! How old the entries of a pharmacy are, in ticks of its own.
+
+ghost use Rattle.std.specs.Prelude.{◌≡◌, ◌++◌, ◌-◌, slice_index, IfOk, OnOk};
+ghost use Rattle.world_setup.specs.Seen.{call_seen};
+ghost use Rattle.log_audit.specs.Alone.{ticked, submitted, ticks_after, submitted_at};
+
+use run_merge::Record;
+use std::alloc::{AllocError, Global};
+use world_setup::Call;
+
+/// How many ticks there were at each submission, and in all.
+#[derive(Drop)]
+pub(crate) struct Ages {
+    at: Vec<u64>,
+    ticks: u64,
+}
+
+impl Ages {
+    /// Those of the calls of a log.
+    pub(crate) fn of(alloc: Global, records: &[Record]) -> Result<Ages, AllocError>
+        ensures at { IfOk result (λ ages. ages.at.items ≡ submitted_at 0 records.now) }
+        ensures ticks { IfOk result (λ ages. ages.ticks ≡ ticks_after 0 records.now) }
+    {
+        let mut ages = Ages {
+            at: Vec::new(alloc),
+            ticks: 0,
+        };
+        for one in records {
+            ages.take(one.call())?;
+        }
+        Ok(ages)
+    }
+
+    /// One call more.
+    fn take(&mut self, call: &Call) -> Result<(), AllocError>
+        ensures at { OnOk result (self.new.at.items
+            ≡ self.old.at.items ++ submitted self.old.ticks (call_seen call.now)) }
+        ensures ticks { OnOk result (self.new.ticks ≡ ticked self.old.ticks (call_seen call.now)) }
+    {
+        match call {
+            Call::Submit(_) => {
+                self.at.push(self.ticks)?;
+                Ok(())
+            }
+            Call::Tick => {
+                self.ticks = self.ticks.saturating_add(1);
+                Ok(())
+            }
+            Call::Take { .. } => Ok(()),
+            Call::Stop => Ok(()),
+            Call::Start => Ok(()),
+            Call::Plan { .. } => Ok(()),
+        }
+    }
+
+    /// How many ticks came behind the submission of the entry of a number, from 1.
+    pub(crate) fn age(&self, number: u64) -> u64
+        ensures { result ≡ self.now.ticks - slice_index self.now.at.items (number - 1) }
+    {
+        let place = (number as usize).saturating_sub(1);
+        match self.at.get(place) {
+            Some(then) => self.ticks.saturating_sub(*then),
+            None => self.ticks,
+        }
+    }
+}

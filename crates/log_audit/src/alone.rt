@@ -1,0 +1,94 @@
+//! One log by itself: whether its node makes it, and what the node has then. Nothing is judged of other nodes.
+
+ghost use Rattle.std.specs.Prelude.{◌≡◌, None, codes, IfOk};
+ghost use Rattle.claim_model.specs.Bytes.{bytes_with};
+ghost use Rattle.claim_model.specs.Settings.{settings_fault};
+ghost use Rattle.world_setup.specs.Seen.{settings_seen, node_seen};
+ghost use Rattle.run_merge.specs.LogSeen.{log_seen};
+ghost use Rattle.log_audit.specs.Lacks.{node_line};
+ghost use Rattle.log_audit.specs.Wrongs.{wrong_line};
+ghost use Rattle.log_audit.specs.WrongsSeen.{first_seen};
+ghost use Rattle.log_audit.specs.Alone.{is_made, lone_node};
+ghost use Rattle.log_audit.specs.AloneSeen.{lone_seen};
+
+use crate::sentences::{Piece, put_pieces};
+use crate::wrongs::{FirstWrong, make_calls, put_wrong_line};
+use bin_routes::Routes;
+use node_state::NodeState;
+use run_merge::{NodeLog, is_there};
+use std::alloc::{AllocError, Global};
+use world_setup::{Node, WorldSettings};
+
+/// What a log comes to by itself.
+#[derive(Drop)]
+pub(crate) enum Lone {
+    /// Its node makes it, and is then this one.
+    Made(NodeState),
+    /// Its node does not make it; the line says why.
+    NotMade(Vec<u8>),
+}
+
+impl Lone {
+    /// Whether the node makes the log.
+    pub(crate) fn is_made(&self) -> bool
+        ensures { result ≡ is_made (lone_seen self.now) }
+    {
+        match self {
+            Lone::Made(_) => true,
+            Lone::NotMade(_) => false,
+        }
+    }
+
+    /// The node, where it makes the log.
+    pub(crate) fn node(&self) -> Option<&NodeState> {
+        match self {
+            Lone::Made(node) => Some(node),
+            Lone::NotMade(_) => None,
+        }
+    }
+}
+
+/// What a log comes to by itself.
+pub(crate) fn lone_node(
+    alloc: Global,
+    settings: &WorldSettings,
+    routes: &Routes,
+    log: &NodeLog,
+) -> Result<Lone, AllocError>
+    requires { settings_fault (settings_seen settings.now) ≡ None }
+    ensures { IfOk result (λ lone. lone_seen lone
+        ≡ lone_node (bytes_with routes.now) (settings_seen settings.now) (log_seen log.now)) }
+{
+    if !is_there(settings, log.node()) {
+        return Ok(Lone::NotMade(stranger_line(alloc, log.node())?));
+    }
+    let mut node = NodeState::opening(alloc, settings, log.node())?;
+    match make_calls(alloc, routes, &mut node, log.records())? {
+        None => Ok(Lone::Made(node)),
+        Some(first) => Ok(Lone::NotMade(wrong_line(alloc, log.node(), first)?)),
+    }
+}
+
+/// The line on a node that is not there.
+fn stranger_line(alloc: Global, node: Node) -> Result<Vec<u8>, AllocError>
+    ensures { IfOk result (λ line. line.items ≡ node_line (node_seen node) (codes " is no node of these settings")) }
+{
+    let mut line = Vec::new(alloc);
+    put_pieces(
+        &mut line,
+        &[
+            Piece::Named(node),
+            Piece::Words(b" is no node of these settings"),
+        ],
+    )?;
+    Ok(line)
+}
+
+/// The line on the first call of a node that it does not make.
+fn wrong_line(alloc: Global, node: Node, first: FirstWrong) -> Result<Vec<u8>, AllocError>
+    ensures { IfOk result (λ line. line.items ≡ wrong_line (node_seen node) (first_seen first)) }
+{
+    let mut line = Vec::new(alloc);
+    put_wrong_line(&mut line, node, first)?;
+    Ok(line)
+}
