@@ -4,9 +4,9 @@
 **     kill_at STOP STATE LOG PROGRAM WORD..
 **
 ** Each system call is two stops: before it is made, and behind it. At the stop of this number, from 1, the program is killed by SIGKILL.
-** STATE then has a line `STOPS SYNCED NAMED`: how many stops there were, how many bytes of LOG were on the disk for certain (its size when
-** the last fsync or fdatasync of it began that was seen to succeed), and 1 where its folder was synced. Where the program ends by itself
-** first, the same line is written, and the status is the program's.
+** STATE then has a line `STOPS SYNCED NAMED OPENED`: how many stops there were, how many bytes of LOG were on the disk for certain (its size
+** when the last fsync or fdatasync of it began that was seen to succeed), 1 where its folder was synced, and at which stop LOG was opened.
+** Where the program ends by itself first, the same line is written, and the status is the program's.
 */
 #define _GNU_SOURCE
 #include <limits.h>
@@ -33,6 +33,7 @@ struct watch {
     long long synced, syncing;
     bool named, naming;
     bool inside;
+    long opened;
 };
 
 static void fail(const char *what) {
@@ -73,12 +74,14 @@ static void note(struct watch *watch, pid_t child) {
     watch->inside = !watch->inside;
     if (is_sync && watch->inside) begin(watch, child, registers.rdi);
     if (is_sync && !watch->inside) end(watch, (long long)registers.rax);
+    bool is_open = registers.orig_rax == SYS_openat && !watch->inside && watch->opened == 0;
+    if (is_open && is_file(child, registers.rax, watch->log)) watch->opened = watch->stops;
 }
 
 static void tell(const struct watch *watch, const char *path) {
     FILE *file = fopen(path, "w");
     if (file == NULL) fail(path);
-    fprintf(file, "%ld %lld %d\n", watch->stops, watch->synced, watch->named);
+    fprintf(file, "%ld %lld %d %ld\n", watch->stops, watch->synced, watch->named, watch->opened);
     if (fclose(file) != 0) fail(path);
 }
 

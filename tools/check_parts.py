@@ -46,6 +46,7 @@ SCRIPTS = (
     Part('refuse-memory', ('tests/refuse-memory', '--every', REFUSALS), ('claimswitch', 'claimdump', 'claimaudit', 'claimnode', 'claimgrow', 'rows')),
     Part('library', ('tests/library',), ('library', 'claimnode')),
     Part('killed', ('tests/killed',), ('claimnode', 'claimaudit')),
+    Part('killed-library', ('tests/killed', '--library', '--each', '20'), ('library', 'claimaudit')),
     Part('killed-lie', ('tests/killed', '--lie', '--each', '7'), ('claimnode', 'claimaudit')),
     Part('audit', ('tests/audit',), ('claimdump', 'claimaudit', 'claimswitch')),
     Part('package', ('tests/package',), (*PRODUCTS, 'library'), timed=True),
