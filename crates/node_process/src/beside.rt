@@ -9,8 +9,8 @@ use std::{fs, io};
 /// The most files beside one log that were cut at one place.
 const MOST_FILES: u32 = 1_000;
 
-/// Keeps what stands in a file behind so many bytes in a new file beside it, on disk, and says so on standard error: at the
-/// name of the log with `.cut-` and the place behind it.
+/// Keeps what stands in a file behind so many bytes in a new file beside it, and says so on standard error: at the name of the
+/// log with `.cut-` and the place behind it. Its bytes are synced; its name is once a start syncs the folder.
 pub(crate) fn keep_end(rt: &HostRuntime, path: &str, size: usize) -> io::Result<()> {
     let bytes = fs::read(rt, path)?;
     let Some(end) = bytes.get(size..) else {
