@@ -17,7 +17,7 @@ PASSING = ("another process has the log", "out of memory")
 FULL = ("No space left", "Disk quota exceeded")
 MOST_LINE_BYTES = 1 << 21
 
-# The packets of a call, each as addressee and text, and its last line, behind those of the entries that it lists.
+# The packets of a call, each as addressee and text, and its last line, behind those of a list: entries, payments, the transactions of a row.
 Done = Callable[[list[tuple[str, bytes]], bytes], None]
 
 
@@ -123,21 +123,21 @@ class Node:
     async def listen(self) -> None:
         """Hands on what the program says, until it ends. A line that was cut off with it is none."""
         sent: list[tuple[str, bytes]] = []
-        entries: list[bytes] = []
+        listed: list[bytes] = []
         while (line := await self._process.stdout.readline()).endswith(b"\n"):
             line = line.rstrip(b"\n")
             if line.startswith(b"send "):
                 _, to, text = line.split(b" ", 2)
                 sent.append((to.decode(), text))
                 continue
-            if line.startswith(b"entry "):
-                entries.append(line)
+            if line.startswith((b"entry ", b"payment ")) or line[:1].isdigit():
+                listed.append(line)
                 continue
             self._check_file()
             self.calls += line == b"ok" or line.startswith(b"number ")
             self.said(line)
-            self._waiting.popleft()(sent, b"\n".join([*entries, line]))
-            sent, entries = [], []
+            self._waiting.popleft()(sent, b"\n".join([*listed, line]))
+            sent, listed = [], []
         await self._process.wait()
         await self._hearing
 

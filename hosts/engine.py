@@ -31,8 +31,8 @@ def free_ports(count: int) -> int:
 class Servers:
     """The servers of a cluster, each a process with a folder."""
 
-    def __init__(self, folder: str | pathlib.Path, count: int = 3, port: int = 0, access: str | None = None) -> None:
-        self.folder, self.count, self._access = pathlib.Path(folder), count, access
+    def __init__(self, folder: str | pathlib.Path, count: int = 3, port: int = 0, access: str | None = None, has_system: bool = False) -> None:
+        self.folder, self.count, self._access, self._has_system = pathlib.Path(folder), count, access, has_system
         self.port = port or free_ports(2 * count)
         # Routes between servers are for this machine alone.
         self._route = self.port + count if not port else free_ports(count)
@@ -60,6 +60,11 @@ class Servers:
         ]
         if self.count > 1:
             lines.append(f'cluster {{ name: "tries", listen: "127.0.0.1:{self._route + place}", routes: [{routes}], no_advertise: true }}')
+        if self._has_system:
+            # Anybody may do what a node does, and a user of the servers' own, for tests, what who administers them does.
+            users = '$SYS { users: [{ user: "system", password: "system" }] }'
+            lines.append(f'accounts {{ CLAIMS {{ jetstream: enabled, users: [{{ user: "claims", password: "claims" }}] }}, {users} }}')
+            lines.append('no_auth_user: "claims"')
         if self._access:
             lines.append(f"include {json.dumps(os.path.relpath(pathlib.Path(self._access) / 'users.conf', self.folder))}")
         path = self.folder / f"server{place + 1}.conf"

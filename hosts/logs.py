@@ -17,7 +17,7 @@ import subjects
 
 HEAD_BYTES = 46
 # What a server that knows no leader says before the one in charge has answered; and what the one in charge says.
-NO_LEADER, NO_PLACE, NO_MESSAGE, WRONG_LAST = 10008, 10005, 10037, 10071
+NO_LEADER, NO_PLACE, NO_MESSAGE, NO_STREAM, WRONG_LAST = 10008, 10005, 10037, 10059, 10071
 ASK_SECONDS = 2.0
 # How long the servers may say nothing.
 MOST_SECONDS = 60.0
@@ -90,6 +90,15 @@ class Log:
         if "error" in reply:
             raise Fault(f"{self.name}: {reply['error'].get('description')}")
         return reply
+
+    async def is_there(self) -> bool:
+        """Whether the servers have such a log: its first message, which is that of who made it. Half of one is made on."""
+        reply = json.loads(await self._word(f"$JS.API.STREAM.MSG.GET.{self.name}", json.dumps({"seq": 1}).encode()))
+        if "error" not in reply:
+            return True
+        if reply["error"].get("err_code") in (NO_MESSAGE, NO_STREAM):
+            return False
+        raise Fault(f"{self.name}: {reply['error'].get('description')}")
 
     async def make(self, replicas: int) -> str:
         """Makes the log, once; its name among all that ever had this node."""

@@ -30,6 +30,7 @@ MOST_AGAIN_SECONDS = 2.0
 # What waits to be sent to a server that does not read; what is published beyond it is lost.
 MOST_WAITING_BYTES = 16 << 20
 MOST_LINE_BYTES = 1 << 16
+READ_BYTES = 1 << 16
 MOST_PAYLOAD_BYTES = 8 << 20
 
 
@@ -113,7 +114,7 @@ class Connection:
         self._subscriptions: dict[int, tuple[str, Callable[[Message], None]]] = {}
         self._numbers = itertools.count(1)
         self._writer: asyncio.StreamWriter | None = None
-        self._replies: dict[str, tuple[asyncio.Future[bytes], Callable[[bytes], bool]]] = {}
+        self._replies: dict[str, Callable[[bytes], None]] = {}
         self._pongs: collections.deque[asyncio.Future[bool]] = collections.deque()
         # Nobody else's replies come here, and nobody can guess where they come.
         self._inbox = f"{subjects.inbox(access.user or name)}.{secrets.token_hex(8)}"
@@ -191,19 +192,33 @@ class Connection:
         is_word: Callable[[bytes], bool] = lambda _: True,
     ) -> bytes | None:
         """The first reply to a message that is a word on it, or None where none comes in time."""
+        waiting: asyncio.Future[bytes | None] = asyncio.get_running_loop().create_future()
+
+        def heard(payload: bytes | None) -> None:
+            if not waiting.done() and (payload is None or is_word(payload)):
+                waiting.set_result(payload)
+
+        reply = self.ask(subject, payload, heard, headers)
+        late = asyncio.get_running_loop().call_later(seconds, heard, None)
+        try:
+            return await waiting
+        finally:
+            late.cancel()
+            self.forget(reply)
+
+    def ask(self, subject: str, payload: bytes, heard: Callable[[bytes], None], headers: dict[str, str] | None = None) -> str:
+        """Sends a message; `heard` is called with each reply to it, until it is forgotten: by the name that is given."""
         if not self._inbox_is_open:
             self._inbox_is_open = True
             self.subscribe(f"{self._inbox}.*", self._replied)
         reply = f"{self._inbox}.{next(self._numbers)}"
-        waiting = asyncio.get_running_loop().create_future()
-        self._replies[reply] = (waiting, is_word)
-        try:
-            self.publish(subject, payload, reply, headers)
-            return await asyncio.wait_for(waiting, seconds)
-        except TimeoutError:
-            return None
-        finally:
-            del self._replies[reply]
+        self._replies[reply] = heard
+        self.publish(subject, payload, reply, headers)
+        return reply
+
+    def forget(self, reply: str) -> None:
+        """Hears no more replies to a message."""
+        self._replies.pop(reply, None)
 
     async def flush(self, seconds: float) -> bool:
         """Whether the server has read all that was sent so far, in so many seconds."""
@@ -218,9 +233,9 @@ class Connection:
             return False
 
     def _replied(self, message: Message) -> None:
-        waiting, is_word = self._replies.get(message.subject, (None, None))
-        if waiting and not waiting.done() and is_word(message.payload):
-            waiting.set_result(message.payload)
+        heard = self._replies.get(message.subject)
+        if heard is not None:
+            heard(message.payload)
 
     def _send(self, data: bytes) -> None:
         if self._writer is None or self._writer.transport.get_write_buffer_size() > MOST_WAITING_BYTES:
@@ -324,13 +339,27 @@ class Connection:
     async def _read(self, reader: asyncio.StreamReader, writer: asyncio.StreamWriter) -> None:
         """Takes what the server says, until it goes. What says nothing that is known is passed over."""
         loop = asyncio.get_running_loop()
-        while True:
-            line = await reader.readuntil(b"\n")
+        came, wanted = b"", 0
+        while data := await reader.read(READ_BYTES):
             self._heard = loop.time()
-            word, _, rest = line.strip().partition(b" ")
+            came += data
+            if len(came) >= wanted:
+                came, wanted = self._take(came, writer)
+        raise asyncio.IncompleteReadError(came, None)
+
+    def _take(self, came: bytes, writer: asyncio.StreamWriter) -> tuple[bytes, int]:
+        """Takes all that is whole; what is left, and how many bytes that is at least once it is whole."""
+        at = 0
+        while (end := came.find(b"\n", at)) >= 0:
+            word, _, rest = came[at:end].strip().partition(b" ")
             if word in (b"MSG", b"HMSG"):
-                await self._message(reader, rest.split(), word == b"HMSG")
-            elif word == b"PING":
+                behind = self._message(came, end + 1, rest.split(), word == b"HMSG")
+                if behind > len(came):
+                    return came[at:], behind - at
+                at = behind
+                continue
+            at = end + 1
+            if word == b"PING":
                 writer.write(b"PONG\r\n")
             elif word == b"PONG":
                 self._told.clear()
@@ -338,13 +367,16 @@ class Connection:
                     self._ponged(True)
             elif word == b"-ERR":
                 self._refused(rest.decode(errors="replace").strip())
+        if len(came) - at > MOST_LINE_BYTES:
+            raise Broken("a line without an end")
+        return came[at:], 0
 
     def _refused(self, what: str) -> None:
         self.errors.append(what)
         self.say(f"the server says {what}")
 
-    async def _message(self, reader: asyncio.StreamReader, words: list[bytes], has_headers: bool) -> None:
-        """Takes a message; its headers, if it has some, are passed over."""
+    def _message(self, came: bytes, at: int, words: list[bytes], has_headers: bool) -> int:
+        """Takes the message of a line whose payload begins here, where it is whole; its headers, if it has some, are passed over. Where it ends."""
         try:
             subject, number, size = words[0].decode(), int(words[1]), int(words[-1])
             head = int(words.pop(-2)) if has_headers else 0
@@ -353,7 +385,8 @@ class Connection:
             raise Broken("it says a message as no NATS server does") from None
         if not 0 <= head <= size <= MOST_PAYLOAD_BYTES:
             raise Broken(f"a message of {size} bytes")
-        payload = await reader.readexactly(size + 2)
-        _, handler = self._subscriptions.get(number, ("", None))
-        if handler is not None:
-            handler(Message(subject, reply, payload[head:-2]))
+        if at + size + 2 <= len(came):
+            _, handler = self._subscriptions.get(number, ("", None))
+            if handler is not None:
+                handler(Message(subject, reply, came[at + head : at + size]))
+        return at + size + 2

@@ -230,7 +230,7 @@ class Host:
             await asyncio.sleep(0.005)
 
 
-KNOWN = (b"submit ", b"answer ", b"open ", b"take ", b"plan ", b"count", b"tick", b"stop", b"start")
+KNOWN = (b"submit ", b"answer ", b"open ", b"payments ", b"row ", b"take ", b"plan ", b"count", b"tick", b"stop", b"start")
 
 
 class Run:
@@ -298,7 +298,9 @@ class Run:
         await carrier.flush(DRAIN_SECONDS)
         self._say("ready", calls=self._node.at_start)
         service.tell("READY=1")
-        print(f"{name} ready", flush=True)
+        # One write: several hosts may share what this one writes to.
+        sys.stdout.write(f"{name} ready\n")
+        sys.stdout.flush()
         works = [carrier.task]
         if name.startswith("ph"):
             works += [asyncio.create_task(host.tick_for_ever()), asyncio.create_task(self._learn())]

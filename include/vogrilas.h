@@ -405,15 +405,13 @@ vogrilas_code vogrilas_describe(const void *message, size_t message_size, uint32
 **
 ** VOGRILAS_OK: there is such a run, VOGRILAS_NO_RUN: there is none; what is told stands in the buffer at both, *size bytes.
 ** VOGRILAS_SHORT_BUFFER: *size is how many bytes are told, the buffer is unchanged, and nothing is said of the run; ask again with
-** more room (64 KiB did for lines of a hundred nodes). VOGRILAS_NO_MEMORY; VOGRILAS_SETTINGS: the settings are none; *size is as it
-** was at both. VOGRILAS_NOT_A_LOG: the sizes do not add up to `logs_size`, and *size is `count`. That code also, or
-** VOGRILAS_LOG_VERSION, VOGRILAS_DAMAGED_HEAD, VOGRILAS_NO_KIND, VOGRILAS_OTHER_SETTINGS, VOGRILAS_DAMAGED, VOGRILAS_BAD_RECORD: a
-** log is none of these settings, and *size is which one, from 0. The buffer is unchanged at all of these.
+** more room (64 KiB did for lines of a hundred nodes). Nothing is judged, and the buffer is unchanged, at the first of these that
+** stands: VOGRILAS_NOT_A_LOG: the sizes do not add up to `logs_size`, and *size is `count`. VOGRILAS_SETTINGS: the settings are
+** none, or open no world; *size is as it was. VOGRILAS_NOT_A_LOG, VOGRILAS_LOG_VERSION, VOGRILAS_DAMAGED_HEAD, VOGRILAS_NO_KIND,
+** VOGRILAS_OTHER_SETTINGS, VOGRILAS_DAMAGED or VOGRILAS_BAD_RECORD (a record is no call): the first log that is none under these
+** settings, by its first fault, and *size is which one, from 0. VOGRILAS_NO_MEMORY, *size as it was, may stand in place of any.
 **
-** It is proved that the first two codes are right, of the settings that the text spells and the logs that the bytes are, and that
-** each other code comes with the buffer and *size as they stand here, but for what is tested: that settings and logs are refused
-** exactly where they should be, the first log that is none by its first fault, and which one it is; and that *size stays where
-** memory is refused while a log is read. What is told of a run is tested too.
+** All of this is proved, of the settings that the text spells and the logs that the bytes are. What is told of a run is tested.
 */
 vogrilas_code vogrilas_audit(const void *settings, size_t settings_size, const void *logs, size_t logs_size,
                              const size_t *sizes, size_t count, uint32_t json, void *buffer, size_t room, size_t *size);

@@ -35,7 +35,28 @@ def decoded(text, *words):
     """The objects that the program writes about an input, and its status."""
     run = subprocess.run([program, "--json", *words], input=text, stdout=subprocess.PIPE, check=False)
     lines = run.stdout.decode("ascii").splitlines()
+    SAID.extend(lines)
     return [json.loads(line, object_pairs_hook=once) for line in lines], run.returncode
+
+
+# All lines that the program wrote.
+SAID = []
+
+
+def made_again(wrong):
+    """How many of all descriptions are made into their messages again: `--encode` gives the bytes that their parts are."""
+    run = subprocess.run([program, "--encode", "--hex"], input="\n".join(SAID).encode() + b"\n", stdout=subprocess.PIPE, check=False)
+    lines, same = run.stdout.decode("ascii").splitlines(), 0
+    if len(lines) != len(SAID):
+        wrong.append(f"--encode: {len(lines)} lines for {len(SAID)} descriptions")
+    for said, line in zip(SAID, lines):
+        message = json.loads(said)
+        wanted = None if message["kind"] == "none" else bytes_of(message).hex()
+        if line.startswith("# line ") if wanted is None else line == wanted:
+            same += 1
+        else:
+            wrong.append(f"--encode: another message: {line[:120]} of {said[:120]}")
+    return same
 
 
 def bytes_of(message):
@@ -190,8 +211,9 @@ def main():
     plain = [dict(m, line=0) for m in messages if m["kind"] != "none"]
     if status != 0 or [dict(m, line=0) for m in again] != plain:
         wrong.append("hexadecimal digits are told otherwise than printed bytes")
+    again = made_again(wrong)
     print("\n".join(wrong), end="\n" if wrong else "", file=sys.stderr)
-    print(f"decode: {whole} messages told whole, {compared} findings compared, {len(wrong)} otherwise")
+    print(f"decode: {whole} messages told whole, {again} descriptions made again, {compared} findings compared, {len(wrong)} otherwise")
     return 1 if wrong else 0
 
 

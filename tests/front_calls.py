@@ -2,6 +2,8 @@
 
 import http.client
 import json
+import os
+import pathlib
 import re
 import signal
 import socket
@@ -75,6 +77,17 @@ class Front:
 
     def end(self, number=signal.SIGTERM):
         self.process.send_signal(number)
+        return self.process.wait(20)
+
+    def kill_keeper(self):
+        """Kills the process that writes the receipts: the front then ends by itself, and says that something failed."""
+        for folder in pathlib.Path("/proc").glob("[0-9]*"):
+            try:
+                parent, words = folder.joinpath("stat").read_text().rpartition(")")[2].split()[1], folder.joinpath("cmdline").read_bytes()
+            except OSError:
+                continue
+            if int(parent) == self.process.pid and b"keeping.py" in words:
+                os.kill(int(folder.name), signal.SIGKILL)
         return self.process.wait(20)
 
     def connect(self):

@@ -13,7 +13,7 @@ import threading
 import unittest
 
 import vogrilas
-from vogrilas import Billing, Code, FileNode, Header, Node, Refused, Reversal, VogrilasError, WrongField
+from vogrilas import Answer, Billing, Code, FileNode, Header, Node, Refused, Reversal, Ruling, VogrilasError, WrongField
 
 SETTINGS = pathlib.Path(os.environ["VOGRILAS_TRIAL_SETTINGS"]).read_bytes()
 REQUEST = vogrilas.unprinted(pathlib.Path(os.environ["VOGRILAS_TRIAL_REQUEST"]).read_bytes().rstrip(b"\n"))
@@ -292,6 +292,20 @@ class Trials(unittest.TestCase):
             with self.assertRaises(ValueError):
                 wrong()
         self.assertEqual(self.opened("ph1").submit(BILLING).number, 1)
+
+    def test_answers_are_read(self):
+        front, behind = "D0B11A011234567893     20240115\x1d\x1e\x1cAM21\x1cAN", "\x1cF30001000000000001\x1e\x1cAM22\x1cEM1\x1cD2123456"
+        amounts = "\x1e\x1cAM23\x1cF5100{\x1cF6557{\x1cF715{\x1cF9472{"
+        paid = ("0001000000000001", 123456, 5570, 150, 1000, 4720)
+        for text, ruling in (
+            (f"{front}P{behind}{amounts}", Ruling("paid", *paid)), (f"{front}D{behind}{amounts}", Ruling("duplicate", *paid)),
+            (f"{front}A{behind}".replace("D0B1", "D0B2"), Ruling("reversed", *paid[:2])),
+            (f"{front}R\x1cFA2\x1cFB07\x1cFB70", Ruling("rejected", codes=("07", "70"))),
+        ):  # fmt: skip
+            self.assertEqual(Answer.read(text.encode()), Answer((ruling,)))
+        for text in (f"{front}P{behind}", f"{front}X", "D0", "", REQUEST.decode()):
+            with self.assertRaises(ValueError):
+                Answer.read(text.encode())
 
     def test_wrong_fields(self):
         def header(**change):

@@ -316,7 +316,45 @@ def amounts(word: str, _: bytes) -> str:
     return f'agreeing={sum(meaning == plain_sum(text) for meaning, text in zip(told, texts, strict=True))}'
 
 
-FILES = {'amounts': amounts, 'answers': answers, 'codes': codes, 'envelopes': envelopes, 'framing': framing, 'headers': headers,
+REFUSED = '# line 1: no message: '
+
+
+def made_of(description: str) -> str:
+    """The message that claimdecode makes of a description, or why it makes none."""
+    out = run('claimdecode', '--encode', given=description.encode() + b'\n').out.decode('ascii').removesuffix('\n')
+    return out.removeprefix(REFUSED)
+
+
+def changed(said: dict, pointer: str, value: str | None) -> dict:
+    """A description with another text at a place, or with nothing there."""
+    *way, last = (int(it) if it.isdigit() else it for it in pointer.strip('/').split('/'))
+    at = said
+    for step in way:
+        at = at[step]
+    if value is None:
+        del at[last]
+    elif isinstance(at, list):
+        at.insert(last, json.loads(value))
+    else:
+        at[last] = value
+    return said
+
+
+def encoding(word: str, argument: bytes) -> str:
+    """What comes of a message's description, as it is or changed; `same` where it is the message."""
+    if word == 'json':
+        return made_of(argument.decode('latin-1'))
+    if word in ('set', 'drop'):
+        way, _, argument = argument.partition(b' ')
+        pointer, _, value = way.decode('latin-1').partition('=')
+        said, = described('request', [argument])
+        return made_of(json.dumps(changed(said, pointer, value if word == 'set' else None)))
+    said, = described(word, [argument])
+    made = made_of(json.dumps(said))
+    return 'same' if octets_of(made) == argument else made
+
+
+FILES = {'amounts': amounts, 'encoding': encoding, 'answers': answers, 'codes': codes, 'envelopes': envelopes, 'framing': framing, 'headers': headers,
          'lines': lines_of, 'orders': orders, 'printed-text': printed_text, 'reversals': orders}
 
 

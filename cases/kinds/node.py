@@ -14,6 +14,8 @@ SETTINGS = ('again = {again}\ntries = {tries}\n[[pharmacy]]\nqualifier = "01"\np
             '00093721410 = 18567\n[[route]]\nbin = "610455"\npayer = 1\n')
 USUAL = {'again': 1, 'tries': 1, 'journal': 100, 'table': 64, 'book': 1000}
 REQUEST, ANSWER = 1, 2
+# Words of rows whose line tells a list.
+LISTS = {'row-of': 'row', 'payments-of': 'payments'}
 # How many lines a node is given at once: so many as pipes hold.
 FEW = 100
 
@@ -63,6 +65,11 @@ class Steps:
             self.node.end()
         self.node = None
 
+    def list_of(self, line: str) -> str:
+        """What the node tells as a list: its lines, and the last one."""
+        said = self.node.ask(line)
+        return ' | '.join([*said.lines, said.last])
+
 
 class Journal(Steps):
     """Pharmacy 1."""
@@ -82,6 +89,8 @@ class Journal(Steps):
             return self.node.ask(f'take sw1 {printed(packet_of(kind, int(pharmacy), int(number), text))}').last
         if word == 'count':
             return self.node.ask('count').last.removeprefix('count ')
+        if word in LISTS:
+            return self.list_of(f'{LISTS[word]} {argument.decode()}')
         return {'submit': self.submit, 'send': self.send, 'tick': self.tick, 'held': self.held, 'open-of': self.open_of}[word](argument)
 
     def submit(self, text: bytes) -> str:
@@ -132,6 +141,8 @@ class Book(Steps):
         if word == 'refused':
             self.number += 1
             return self.node.served.take('sw1', packet_of(REQUEST, 1, self.number, argument)).refused or 'answered'
+        if word in LISTS:
+            return self.list_of(f'{LISTS[word]} {argument.decode()}')
         if word == 'packet':
             pharmacy, number, request = argument.split(b' ', 2)
             return printed(self.node.served.take('sw1', packet_of(REQUEST, int(pharmacy), int(number), request)).sent[0][1][:18])

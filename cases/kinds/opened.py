@@ -55,6 +55,32 @@ def beside(octets: bytes, starts: int) -> str:
         return ' '.join(told) or 'nothing'
 
 
+def turned(octets: bytes, place: int) -> bytes:
+    """These bytes with one bit of the byte at a place turned."""
+    changed = bytearray(octets)
+    changed[place] ^= 1
+    return bytes(changed)
+
+
+def repair(octets: bytes, *words: str) -> str:
+    """What `--repair` tells of a log: its lines, behind ` ! ` why it is not well, and what became of the file where it changed."""
+    with room() as folder:
+        settings, log = f'{folder}/settings.toml', f'{folder}/ph1.log'
+        for path, given in ((settings, SETTINGS), (log, octets)):
+            with open(path, 'wb') as file:
+                file.write(given)
+        ran = run('claimnode', '--repair', *words, settings, 'ph1', log, given=b'')
+        with open(log, 'rb') as file:
+            left = file.read()
+        told = ' | '.join(ran.out.decode().splitlines())
+        if ran.status:
+            told += ' ! ' * bool(told) + ran.err.decode().strip().removeprefix('claimnode: ')
+        if left == octets:
+            return told
+        kept = [f'{name[7:]}={os.path.getsize(f"{folder}/{name}")}' for name in sorted(os.listdir(folder)) if name.startswith('ph1.log.')]
+        return ' '.join([told, f'kept={len(left)}' if octets.startswith(left) else 'changed', *kept])
+
+
 def ticks(*calls: Call) -> bytes:
     return write_log(Log(HEAD, calls))
 
@@ -68,7 +94,19 @@ def with_length(place: int, size: int) -> bytes:
 
 def tell(word: str, argument: bytes) -> str:
     """What a row comes to."""
-    whole, count = ticks(*[QUIET] * TICKS), int(argument or b'0')
+    whole = ticks(*[QUIET] * TICKS)
+    if word == 'repair-cut':
+        place, typed = argument.decode().split(' ')
+        return repair(turned(whole, int(place)), '--cut-at', typed)
+    if word == 'words':
+        return str(run('claimnode', *argument.decode().split(' '), '/dev/null', 'ph1', '/dev/null', given=b'').status)
+    count = int(argument or b'0')
+    if word == 'repair':
+        return repair(turned(whole, count))
+    if word == 'repair-first':
+        return repair(whole[:count])
+    if word == 'turned':
+        return start(turned(whole, count))
     if word == 'cut':
         return start(whole[:count])
     if word == 'zeros-behind':

@@ -31,10 +31,11 @@ def clear_rooms() -> None:
 
 
 class Answer(NamedTuple):
-    """What a node says to a line: the packets that it sends, each with its receiver, its last line, and before it the open entries."""
+    """What a node says to a line: the packets that it sends, each with its receiver, its last line, and before it the lines of a list."""
     sent: list[tuple[str, bytes]]
     last: str
     entries: tuple[str, ...] = ()
+    lines: tuple[str, ...] = ()
 
     @property
     def refused(self) -> str | None:
@@ -72,14 +73,18 @@ class Served:
 
     def answer(self) -> Answer:
         """What it says to the next line that it was given."""
-        sent, entries = [], []
+        sent, entries, lines = [], [], []
         while True:
             told = self.line()
             if told.startswith('entry '):
                 entries.append(told.removeprefix('entry '))
                 continue
+            # Of a row, and of payments.
+            if told[0].isdigit() or told.startswith('payment '):
+                lines.append(told)
+                continue
             if not told.startswith('send '):
-                return Answer(sent, told, tuple(entries))
+                return Answer(sent, told, tuple(entries), tuple(lines))
             _, to, text = told.split(' ', 2)
             sent.append((to, octets_of(text)))
 

@@ -32,6 +32,24 @@ static void note_move(struct beats *beats, const struct word *heard, const char 
     add_text(&beats->served, " ");
 }
 
+/* How long a host counts as a stand-by that said that it follows. */
+#define FOLLOWS_SECONDS 5.0
+
+/* Notes how far a host follows, in its own place, or in that of who was heard of last. */
+static void note_follower(struct beats *beats, const struct word *heard) {
+    int at = 0;
+    for (int place = 0; place < MOST_FOLLOWERS; place++) {
+        if (strcmp(beats->follows[place].owner, heard->owner) == 0) {
+            at = place;
+            break;
+        }
+        if (beats->follows[place].heard < beats->follows[at].heard) at = place;
+    }
+    snprintf(beats->follows[at].owner, sizeof beats->follows[at].owner, "%s", heard->owner);
+    beats->follows[at].sequence = heard->sequence;
+    beats->follows[at].heard = now();
+}
+
 static void note(struct beats *beats, const struct word *heard, const char *text) {
     bool is_for_me = strcmp(heard->whom, beats->self) == 0;
     note_owner(beats, heard, is_for_me);
@@ -39,6 +57,7 @@ static void note(struct beats *beats, const struct word *heard, const char *text
     if (is_beat(heard, BEAT_FOLLOWS)) {
         snprintf(beats->follower, sizeof beats->follower, "%s", heard->owner);
         beats->followed = now();
+        note_follower(beats, heard);
         if (heard->sequence > beats->copied) beats->copied = heard->sequence;
     }
     beats->is_vouched = true;
@@ -81,6 +100,13 @@ struct heard beats_heard(struct beats *beats) {
     return has;
 }
 
+uint64_t beats_told(struct beats *beats) {
+    pthread_mutex_lock(&beats->lock);
+    uint64_t told = beats->has.sequence;
+    pthread_mutex_unlock(&beats->lock);
+    return told;
+}
+
 void beats_forget(struct beats *beats) {
     pthread_mutex_lock(&beats->lock);
     beats->has.heard = now();
@@ -100,6 +126,21 @@ bool beats_vouch(struct beats *beats, uint64_t sequence) {
     bool is_vouched = beats->is_vouched && sequence >= beats->vouched;
     pthread_mutex_unlock(&beats->lock);
     return is_vouched;
+}
+
+int beats_followers(struct beats *beats, uint64_t sequence, struct follower follower[MOST_FOLLOWERS]) {
+    int count = 0;
+    pthread_mutex_lock(&beats->lock);
+    for (const struct followed *one = beats->follows; one < beats->follows + MOST_FOLLOWERS; one++) {
+        if (one->heard == 0 || now() - one->heard > FOLLOWS_SECONDS) continue;
+        /* The machine stands before the last point; behind it is the number that the host drew. */
+        const char *end = strrchr(one->owner, '.');
+        int size = end == NULL ? (int)strlen(one->owner) : (int)(end - one->owner);
+        snprintf(follower[count].machine, sizeof follower[count].machine, "%.*s", size, one->owner);
+        follower[count++].lag = sequence > one->sequence ? sequence - one->sequence : 0;
+    }
+    pthread_mutex_unlock(&beats->lock);
+    return count;
 }
 
 bool beats_copied(struct beats *beats, uint64_t sequence) {

@@ -15,11 +15,20 @@
 /* After how long without a copy it is said that there is none. */
 #define SAY_SECONDS 5.0
 
+/* Tells metrics who has the log, and how far each host knows it. */
+static void tell_counts(struct candidate *it) {
+    struct follower follower[MOST_FOLLOWERS];
+    int count = it->owns ? beats_followers(&it->beats, it->stream.last, follower) : 0;
+    uint64_t told = beats_told(&it->beats);
+    counts_stream(it->owns, it->stream.last, !it->owns && told > it->stream.last ? told - it->stream.last : 0, follower, count);
+}
+
 static void tell_service(struct candidate *it) {
     if (now() < it->next_word) return;
     it->next_word = now() + 1;
     service_tell("WATCHDOG=1");
-    if (it->owns) counts_heard();
+    counts_heard();
+    tell_counts(it);
 }
 
 /* What is done while a word of the servers is awaited. */
@@ -140,6 +149,7 @@ static bool claim(struct candidate *it) {
     if (became == REFUSED_EARLIER) end_refused(&it->stream, became);
     if (became != TAKEN) return false;
     it->owns = true;
+    tell_counts(it);
     it->copy.pending.size = 0;
     it->copy.seen.vouched = true;
     copy_note(&it->copy, it->stream.last);
@@ -218,6 +228,9 @@ void candidate_look(struct candidate *it) {
     /* Who was stopped, or hears another who knows as much, has the servers say who has the log before anything is said. */
     if (was_away || (has.is_new && has.sequence == it->stream.last)) copy_append(&it->copy, "", 0);
     beats_say(&it->beats, BEAT_HAS, it->stream.last, BEAT_SECONDS);
+    if (now() < it->next_word) return;
+    it->next_word = now() + 1;
+    tell_counts(it);
 }
 
 void candidate_leave(struct candidate *it) {

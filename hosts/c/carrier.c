@@ -53,6 +53,10 @@ static void asked(struct carrier *carrier, natsMsg *text, enum sender from) {
     natsMsg_Destroy(text);
 }
 
+void carrier_again(struct carrier *carrier, natsMsg *text) {
+    asked(carrier, text, FROM_CALLER);
+}
+
 static void called(natsConnection *connection, natsSubscription *subscription, natsMsg *text, void *carrier) {
     (void)connection, (void)subscription;
     asked(carrier, text, FROM_CALLER);

@@ -20,14 +20,26 @@ static const double class_end[CLASSES] = { 0.0001, 0.00025, 0.0005, 0.001, 0.002
 static const char *const call_name[CALLS] = { "submit", "answer", "take", "tick", "plan", "stop", "start", "other" };
 static const char *const why_name[WHYS] = { "not_a_packet", "held_back", "full", "reply" };
 
+/* Times in classes. */
+struct times {
+    uint64_t classes[CLASSES + 1], count;
+    double seconds;
+};
+
 static pthread_mutex_t lock = PTHREAD_MUTEX_INITIALIZER;
 static struct {
-    uint64_t calls[CALLS], dropped[WHYS], classes[CLASSES + 1], again, syncs, connections;
+    uint64_t calls[CALLS], dropped[WHYS], again, connections;
     struct named refusals[MOST_NAMES], sent[MOST_NAMES], taken[MOST_NAMES];
-    double sync_seconds, heard;
+    struct times syncs, appends;
+    double heard;
     uint64_t log_calls, at_start, rows;
     size_t waiting;
     bool is_connected, is_ready;
+    /* Of a log in a stream. A host comes to have it once in its life. */
+    bool is_stream, owns, has_owned;
+    uint64_t sequence, lag, appends_again;
+    struct follower followers[MOST_FOLLOWERS];
+    int followers_count;
     /* When each open entry was first known to be open, by its number; 0 of one that is settled. */
     double *open;
     uint64_t open_room, open_count;
@@ -90,13 +102,40 @@ void counts_dropped(enum why why) {
     unlocked();
 }
 
-void counts_sync(double seconds) {
+/* Counts a time. */
+static void count_time(struct times *times, double seconds) {
     int class = 0;
     while (class < CLASSES && seconds > class_end[class]) class++;
     locked();
-    seen.classes[class]++;
-    seen.syncs++;
-    seen.sync_seconds += seconds;
+    times->classes[class]++;
+    times->count++;
+    times->seconds += seconds;
+    unlocked();
+}
+
+void counts_sync(double seconds) {
+    count_time(&seen.syncs, seconds);
+}
+
+void counts_appended(double seconds) {
+    count_time(&seen.appends, seconds);
+}
+
+void counts_appended_again(void) {
+    locked();
+    seen.appends_again++;
+    unlocked();
+}
+
+void counts_stream(bool owns, uint64_t sequence, uint64_t lag, const struct follower *follower, int count) {
+    locked();
+    seen.is_stream = true;
+    seen.owns = owns;
+    seen.has_owned = seen.has_owned || owns;
+    seen.sequence = sequence;
+    seen.lag = lag;
+    seen.followers_count = count;
+    memcpy(seen.followers, follower, (size_t)count * sizeof *follower);
     unlocked();
 }
 
@@ -158,6 +197,7 @@ bool counts_lives(void) {
 const char *counts_unready(void) {
     locked();
     const char *why = !seen.is_ready ? "starting, or draining" : !seen.is_connected ? "not connected" : NULL;
+    if (seen.is_stream && !seen.owns) why = "stands by: another host has the log";
     unlocked();
     return why;
 }
@@ -187,17 +227,31 @@ static void add_fixed(struct bytes *text, const char *node, const char *name, co
     }
 }
 
-static void add_syncs(struct bytes *text, const char *node) {
+static void add_times(struct bytes *text, const char *node, const char *name, const char *says, const struct times *times) {
     uint64_t total = 0;
-    add_head(text, "sync_seconds", "histogram", "How long a sync of the log took.");
+    add_head(text, name, "histogram", says);
     for (int class = 0; class <= CLASSES; class++) {
         char end[24] = "+Inf";
-        total += seen.classes[class];
+        total += times->classes[class];
         if (class < CLASSES) snprintf(end, sizeof end, "%g", class_end[class]);
-        add_form(text, "vogrilas_sync_seconds_bucket{le=\"%s\",node=\"%s\"} %llu\n", end, node, (unsigned long long)total);
+        add_form(text, "vogrilas_%s_bucket{le=\"%s\",node=\"%s\"} %llu\n", name, end, node, (unsigned long long)total);
     }
-    add_form(text, "vogrilas_sync_seconds_count{node=\"%s\"} %llu\n", node, (unsigned long long)seen.syncs);
-    add_form(text, "vogrilas_sync_seconds_sum{node=\"%s\"} %.9g\n", node, seen.sync_seconds);
+    add_form(text, "vogrilas_%s_count{node=\"%s\"} %llu\n", name, node, (unsigned long long)times->count);
+    add_form(text, "vogrilas_%s_sum{node=\"%s\"} %.9g\n", name, node, times->seconds);
+}
+
+/* What is told of a log in a stream. */
+static void add_stream(struct bytes *text, const char *node) {
+    add_one(text, node, "log_owner", "gauge", "Whether this host has the log; another one stands by.", seen.owns);
+    add_one(text, node, "takeovers_total", "counter", "Whether this host came to have the log since it started.", seen.has_owned);
+    add_one(text, node, "log_sequence", "gauge", "The last message of the log that this host knows.", (double)seen.sequence);
+    add_one(text, node, "log_lag", "gauge", "Messages that the host which has the log told of and this one lacks.", (double)seen.lag);
+    add_one(text, node, "stand_bys", "gauge", "Other hosts that follow the log, as the one that has it hears.", seen.followers_count);
+    add_head(text, "stand_by_lag", "gauge", "Messages that a stand-by is behind, as the host that has the log hears.");
+    for (const struct follower *one = seen.followers; one < seen.followers + seen.followers_count; one++)
+        add_form(text, "vogrilas_stand_by_lag{machine=\"%s\",node=\"%s\"} %llu\n", one->machine, node, (unsigned long long)one->lag);
+    add_one(text, node, "appends_again_total", "counter", "Messages sent again, since no word came on them.", (double)seen.appends_again);
+    add_times(text, node, "append_seconds", "How long the servers' word on what was appended took.", &seen.appends);
 }
 
 static void add_entries(struct bytes *text, const char *node) {
@@ -239,7 +293,8 @@ struct bytes counts_text(const char *node, const char *log) {
     add_one(&text, node, "log_calls", "gauge", "Calls in the log.", (double)seen.log_calls);
     add_one(&text, node, "log_calls_at_start", "gauge", "Calls that the log had at the start.", (double)seen.at_start);
     add_one(&text, node, "log_bytes", "gauge", "Bytes of the log.", stat(log, &at) == 0 ? (double)at.st_size : 0);
-    add_syncs(&text, node);
+    add_times(&text, node, "sync_seconds", "How long a sync of the log took.", &seen.syncs);
+    if (seen.is_stream) add_stream(&text, node);
     unlocked();
     return text;
 }

@@ -7,7 +7,8 @@
 **
 ** The subjects are those of hosts/node.py, so hosts of both kinds can serve nodes of one network: packets come on
 ** `claims.NODE.from.SENDER`, in printed bytes; callers' lines, `submit` and `answer`, on `claims.NODE.call`; an operator's, any line but
-** `take`, and `kill`, on `claims.NODE.operate`. Each of those lines is replied to with the last line of what the node says.
+** `take`, and `kill`, on `claims.NODE.operate`. Each of those lines is replied to with the last line of what the node says. A caller's
+** `wait NUMBER` is replied to as `answer NUMBER` is, but not before the entry has its answer.
 **
 ** A turn serves all that waits, appends the records to the log, syncs it once, and only then sends and replies. A host that
 ** dies before the sync has told nobody; one that dies behind it is started again and sends again what is due. SIGTERM drains. URL is as
@@ -132,7 +133,6 @@ static bool open_node(struct host *host) {
     if (is_open && node_open(&host->node, &text, &log) != log.size) fail_with(REFUSED, given->log, "it has something else than records");
     /* The file was synced as it was opened. */
     if (is_open) node_kept(&host->node, 0);
-    host->node.at_start = node_calls(&host->node);
     host->candidate->copy.node = &host->node;
     free(text.at);
     free(log.at);

@@ -1,7 +1,8 @@
 /*
 ** The rooms of the host: bytes (bytes.c), what it says (said.c), the file of a log (file.c), the node with its log (log.c), the way to
-** servers (access.c), the carrier (carrier.c), packets that are held back or go out later (packets.c), turns (turn.c), what it has seen
-** (counts.c), who asks for that (watch.c), and what a command line asks for (words.c). stream.h has those of a log in a stream.
+** servers (access.c), the carrier (carrier.c), packets that are held back or go out later (packets.c), callers who wait (waits.c), turns
+** (turn.c), what it has seen (counts.c), who asks for that (watch.c), and what a command line asks for (words.c). stream.h has those of a
+** log in a stream.
 */
 #ifndef NODE_H
 #define NODE_H
@@ -155,11 +156,20 @@ struct message *take_all(struct carrier *carrier, double seconds);
 void send_packet(struct carrier *carrier, const char *to, size_t to_size, const char *text, size_t size);
 /* Replies to a message. A reply goes to an inbox alone: elsewhere the host would speak in its own name what a caller wrote. */
 void reply(struct carrier *carrier, natsMsg *to, const char *line, size_t size);
+/* Takes a caller's line once more, as if it came now. */
+void carrier_again(struct carrier *carrier, natsMsg *text);
 /* The sender that a packet's subject names, in `sender`; false where the subject is no packet's. */
 bool sender_of(const char *node, const char *subject, char sender[9]);
 /* Takes no more messages; those that had come wait in the list when it returns. */
 void carrier_stop(struct carrier *carrier);
 void carrier_close(struct carrier *carrier);
+
+/* Whether a caller's line is `wait NUMBER`; it asks for the answer to an entry, and is replied to once there is one. */
+bool is_wait(const struct message *one);
+/* Notes that who sent such a line waits, and keeps its text; false where too many do. */
+bool waits_add(struct message *one);
+/* An entry has its answer: the lines of who waited for it are served in the next turn. */
+void waits_settled(struct carrier *carrier, uint64_t number);
 
 /* Packets of a tick, which go out spread over the time until the next one. */
 struct later {
@@ -220,6 +230,9 @@ void counts_again(uint64_t more);
 void counts_taken(const char *from);
 void counts_dropped(enum why why);
 void counts_sync(double seconds);
+/* Of a log in a stream: how long the servers' word on what was appended took, and how often the same was sent again. */
+void counts_appended(double seconds);
+void counts_appended_again(void);
 void counts_connected(bool is_connected);
 void counts_entered(uint64_t number);
 void counts_settled(uint64_t number);
@@ -227,6 +240,14 @@ void counts_settled(uint64_t number);
 void counts_node(uint64_t calls, uint64_t at_start, uint64_t rows, size_t waiting, bool is_ready);
 /* The node's thread lives, and waits for others' word. */
 void counts_heard(void);
+/* Another host that follows a log in a stream: its machine, and how many messages it is behind. */
+#define MOST_FOLLOWERS 8
+struct follower {
+    char machine[40];
+    uint64_t lag;
+};
+/* Of a log in a stream: whether this host has it, the last message that it knows, how many it is behind, and who follows it. */
+void counts_stream(bool owns, uint64_t sequence, uint64_t lag, const struct follower *follower, int count);
 /* The metrics of a node as Prometheus reads them. */
 struct bytes counts_text(const char *node, const char *log);
 /* Why the node does not serve, or NULL; and whether its thread was heard of lately. */

@@ -87,9 +87,11 @@ static enum appended append_one(struct stream *stream, uint64_t at, const char *
     natsMsg *message = message_of(stream, at, digest, bytes, size);
     enum appended became = NOT_SENT;
     double started = now(), due = started, wait = AGAIN_SECONDS;
-    bool is_judged = false, is_told = false;
+    bool is_judged = false, is_told = false, is_sent = false;
     do {
         if (now() >= due && engine_send(&stream->engine, message)) {
+            if (is_sent) counts_appended_again();
+            is_sent = true;
             due = now() + wait;
             wait = wait * 2 < MOST_AGAIN_SECONDS ? wait * 2 : MOST_AGAIN_SECONDS;
         }
@@ -101,7 +103,10 @@ static enum appended append_one(struct stream *stream, uint64_t at, const char *
         is_told = is_told || now() - started > SAY_SECONDS;
     } while (stream->waits(stream->closure));
     natsMsg_Destroy(message);
-    if (became == TAKEN) stream->last++;
+    if (became == TAKEN) {
+        stream->last++;
+        counts_appended(now() - started);
+    }
     return became;
 }
 

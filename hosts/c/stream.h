@@ -162,6 +162,13 @@ struct heard {
    calls were served. */
 enum beat { BEAT_HAS, BEAT_WANTS, BEAT_FOLLOWS, BEAT_LEAVES, BEAT_VOUCHES, BEAT_MOVES, BEAT_READY, BEAT_SERVED };
 
+/* A host that follows, how far, and when it said so. */
+struct followed {
+    char owner[OWNER_TEXT];
+    uint64_t sequence;
+    double heard;
+};
+
 /* What others say of a log, and what this host says. */
 struct beats {
     pthread_mutex_t lock;
@@ -174,6 +181,7 @@ struct beats {
     bool is_vouched;
     uint64_t vouched, copied;
     double said, followed;
+    struct followed follows[MOST_FOLLOWERS];
     /* The host that follows last; who moves the log to this one, whether that has handed it over, and where replies of calls that it
        served went, a space before each; whether the host to which this one moves it hears the node's callers. */
     char follower[OWNER_TEXT], mover[OWNER_TEXT];
@@ -183,10 +191,14 @@ struct beats {
 
 void beats_open(struct beats *beats, const struct stream *stream);
 struct heard beats_heard(struct beats *beats);
+/* The last sequence that a host which has the log told of. */
+uint64_t beats_told(struct beats *beats);
 /* Counts anew from now on how long nobody was heard. */
 void beats_forget(struct beats *beats);
 /* Whether somebody has told of the log's end, and it is not behind this sequence. */
 bool beats_vouch(struct beats *beats, uint64_t sequence);
+/* The hosts that follow, by their machines, and how far each is behind this sequence; how many they are. */
+int beats_followers(struct beats *beats, uint64_t sequence, struct follower follower[MOST_FOLLOWERS]);
 /* Whether another host has on its disk what stands up to this sequence. */
 bool beats_copied(struct beats *beats, uint64_t sequence);
 /* Whether nobody has told of a later sequence. */

@@ -5,6 +5,8 @@
 
 /* The part of a tick's time over which its packets go out. */
 #define SPREAD 0.8
+/* So many messages at most are few. */
+#define FEW_MESSAGES 8
 
 /* The line that a message asks for; false where who sends it may not ask so. A line end in it would make it two lines. */
 static bool line_of(const struct host *host, const struct message *one, struct bytes *line) {
@@ -19,6 +21,11 @@ static bool line_of(const struct host *host, const struct message *one, struct b
         add_form(line, "take %s ", sender);
         break;
     case FROM_CALLER:
+        if (is_wait(one)) {
+            add_text(line, "answer ");
+            text += 5, size -= 5;
+            break;
+        }
         if (!begins(text, size, "submit ") && !begins(text, size, "answer ")) return false;
         break;
     case FROM_OPERATOR:
@@ -93,7 +100,10 @@ static void note(const struct host *host, const struct message *one, const char 
     struct head head;
     if (begins(line, size, "number ")) counts_entered(strtoull(line + 7, NULL, 10));
     if (one->from != FROM_NODE) return;
-    if (is_pharmacy && begins(line, size, "ok") && head_of(text, text_size, &head)) counts_settled(head.number);
+    if (is_pharmacy && begins(line, size, "ok") && head_of(text, text_size, &head)) {
+        counts_settled(head.number);
+        waits_settled(host->carrier, head.number);
+    }
     if (!has_sent) held_forget(text, text_size);
 }
 
@@ -111,14 +121,21 @@ static struct message *answered(struct host *host, struct message *one, const ch
     if (begins(line, size, "refused ")) counts_refusal(line + 8, size - 8);
     if (one == NULL) return NULL;
     note(host, one, line, size, has_sent);
-    reply(host->carrier, one->text, line, size);
+    /* Who waits for an entry that is open is replied to later. */
+    bool is_owed = is_wait(one) && size == 4 && begins(line, size, "open") && waits_add(one);
+    if (!is_owed) reply(host->carrier, one->text, line, size);
     do one = one->next;
     while (one != NULL && !one->is_served);
     return one;
 }
 
+/* Whether a line is one of a list, behind which its end comes: an entry, a payment, or a transaction of a row, which begins with its id. */
+static bool is_of_list(const char *line, size_t size) {
+    return begins(line, size, "entry ") || begins(line, size, "payment ") || (size > 0 && line[0] >= '0' && line[0] <= '9');
+}
+
 /*
-** Sends and replies what the node has written: `send TO TEXT` lines, and behind those of a call its last line, or the `entry` lines of a
+** Sends and replies what the node has written: `send TO TEXT` lines, and behind those of a call its last line, or the lines of a
 ** list and its end, which are for the next message that was served. A tick has no message, and comes last.
 */
 static void tell(struct host *host, struct message *batch) {
@@ -135,7 +152,7 @@ static void tell(struct host *host, struct message *batch) {
             send_line(host, line, size, batch == NULL);
             again += batch == NULL;
             has_sent = true;
-        } else if (begins(line, size, "entry ")) {
+        } else if (is_of_list(line, size)) {
             if (list == NULL) list = line;
         } else {
             const char *from = list == NULL ? line : list;
@@ -147,6 +164,12 @@ static void tell(struct host *host, struct message *batch) {
     }
     counts_again(again);
     free(written.at);
+}
+
+/* Has what a turn of few messages said leave at once: the client gathers what is sent for up to a millisecond, which many want, and one that
+   waits for its word does not. */
+static void send_few(const struct host *host, size_t waiting) {
+    if (waiting > 0 && waiting <= FEW_MESSAGES) natsConnection_FlushTimeout(host->carrier->connection, 1);
 }
 
 void turn(struct host *host, struct message *batch, bool is_tick) {
@@ -176,6 +199,7 @@ void turn(struct host *host, struct message *batch, bool is_tick) {
     tell(host, batch);
     if (waiting > 0 || is_tick) torment(host->carrier->connection);
 #endif
+    send_few(host, waiting);
     torment_late(host->carrier->connection);
     node_clear(&host->node);
     if (is_tick) later_begin(&host->later, host->given.tick * SPREAD);

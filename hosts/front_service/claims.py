@@ -14,7 +14,7 @@ from .pharmacy import MOST_BYTES, Pharmacy
 from .printed import printed
 from .problems import Problem
 from .profile import not_carried
-from .programs import Decoder
+from .programs import Decoder, Encoder
 from .receipts import Receipt
 from .rulings import Rulings
 
@@ -41,6 +41,7 @@ class Claims:
     def __init__(self, is_lenient: bool, providers: dict[str, tuple[str, str]], rulings: Rulings) -> None:
         self._is_lenient, self._providers, self._rulings = is_lenient, providers, rulings
         self._requests, self._answers = Decoder("request"), Decoder("answer")
+        self._encoder = Encoder()
 
     def add_to(self, app: web.Application) -> None:
         app.router.add_post("/pharmacies/{pharmacy}/claims", self.send)
@@ -49,12 +50,12 @@ class Claims:
         app.router.add_get("/pharmacies/{pharmacy}/events", self.events)
 
     async def close(self) -> None:
-        await asyncio.gather(self._requests.close(), self._answers.close())
+        await asyncio.gather(self._requests.close(), self._answers.close(), self._encoder.close())
 
     async def send(self, request: web.Request) -> web.StreamResponse:
         """Enters a claim, once for each key."""
         pharmacy, seconds, key = asked.pharmacy(request), asked.wait(request), asked.key(request)
-        kind = request.content_type
+        kind = asked.media_type(request)
         if kind == "application/json":
             message = await self._made(await request.read(), pharmacy)
         elif kind in asked.RAW:
@@ -134,9 +135,9 @@ class Claims:
         if not isinstance(given, dict):
             raise Problem("BadRequest", "the body is an object, with parts or with an order")
         if "parts" in given:
-            return await fields.checked(fields.of_parts(given["parts"]), self._requests, None)
-        message = fields.of_order(given, self._providers[pharmacy.name])
-        return await fields.checked(message, self._requests, given)
+            return await fields.checked(await fields.encoded(given["parts"], self._encoder), self._requests, None)
+        made = fields.of_order(given, self._providers[pharmacy.name])
+        return await fields.checked(await fields.encoded(made.parts, self._encoder, made.places), self._requests, given)
 
     async def _placed(self, problem: Problem, message: bytes) -> Problem:
         """The problem, with the place of the fault where the framing has one."""

@@ -1,22 +1,30 @@
 """Messages made from JSON: from the parts that `claimdecode --json` tells, or from the fields of an order by the names that it gives them.
 
-What was made is read by claimdecode before it is used: it has to say the same order again, or the field that is at fault is named.
+`claimdecode --encode` makes the message, of parts; a part that is wrong is named. What was made is read by claimdecode before it is used: it
+has to say the same order again, or the field that is at fault is named.
 """
 
 from __future__ import annotations
 
+import json
+import re
 from typing import Any
 
-from .printed import unprinted
+from .printed import printed
 from .problems import Problem
-from .programs import Decoder
+from .programs import Decoder, Encoder
 
-# The fields of a request's header, with their widths.
+# The fields of a request's header: their numbers, names and widths.
 HEADER = (
-    ("bin_number", 6), ("version", 2), ("transaction_code", 2), ("processor_control_number", 10), ("transaction_count", 1),
-    ("service_provider_id_qualifier", 2), ("service_provider_id", 15), ("date_of_service", 8), ("software_vendor_id", 10),
+    ("101-A1", "bin_number", 6), ("102-A2", "version", 2), ("103-A3", "transaction_code", 2), ("104-A4", "processor_control_number", 10),
+    ("109-A9", "transaction_count", 1), ("202-B2", "service_provider_id_qualifier", 2), ("201-B1", "service_provider_id", 15),
+    ("401-D1", "date_of_service", 8), ("110-AK", "software_vendor_id", 10),
 )  # fmt: skip
+# The line of claimdecode that says why a description is no message, and where in it.
+REFUSED = re.compile(r"# line [0-9]+: no message: (?:(/parts/([0-9]+)[a-z/]*) )?(.*)")
 CODES = {"billing": "B1", "reversal": "B2"}
+# The fields of the header that the framing looks at, by the fault that says so.
+FRAMED = {"BadBin": "101-A1", "BadCount": "109-A9", "DateNotDigits": "401-D1"}
 # What a transaction of an order has: its field in the claim or pricing segment; True where it is a number or an amount.
 BILLING = {"prescription": int, "fill": int, "product": str, "quantity": int, "cost": int, "fee": int}
 REVERSAL = {"prescription": int, "fill": int}
@@ -33,35 +41,42 @@ def amount(cents: int) -> str:
     return text.lstrip("0") or text[-1]
 
 
-def of_parts(parts: Any) -> bytes:
-    """The message of the parts that claimdecode tells."""
+class Parts:
+    """The parts of a message as claimdecode tells them, each with the place in the caller's JSON that it is made of."""
+
+    def __init__(self) -> None:
+        self.parts: list[dict[str, Any]] = []
+        self.places: list[str] = []
+
+    def put(self, field: str, name: str, value: object, place: str) -> None:
+        try:
+            text = printed(str(value).encode("latin-1")).decode()
+        except ValueError:
+            raise Problem("FieldRefused", "texts have characters of Latin-1 alone", field=place) from None
+        self.parts.append({"field": field, "name": name, "value": text})
+        self.places.append(place)
+
+    def begin(self, segment: str, place: str) -> None:
+        self.put("111-AM", "segment", segment, place)
+
+    def begin_transaction(self, place: str) -> None:
+        self.parts.append({"name": "transaction"})
+        self.places.append(place)
+
+
+async def encoded(parts: Any, encoder: Encoder, places: list[str] | None = None) -> bytes:
+    """The message of parts; the one that is wrong is named by its place, or by that in the caller's JSON."""
     if not isinstance(parts, list):
         raise Problem("FieldRefused", "parts is a list", field="/parts")
-    made = []
-    is_behind_header = False
-    for place, part in enumerate(parts):
-        where = f"/parts/{place}"
-        if not isinstance(part, dict):
-            raise Problem("FieldRefused", "a part is an object", field=where)
-        if "transaction" in part:
-            made.append(b"\x1d")
-            continue
-        field, value = part.get("field"), part.get("value")
-        if not isinstance(field, str) or not isinstance(value, str):
-            raise Problem("FieldRefused", "a part has field and value, both texts", field=where)
-        try:
-            data = unprinted(value.encode("ascii"))
-        except ValueError as fault:
-            raise Problem("FieldRefused", f"the value is not in printed bytes: {fault}", field=f"{where}/value") from None
-        is_behind_header = is_behind_header or field == "111-AM"
-        made.append(
-            (b"\x1e\x1cAM" if field == "111-AM" else b"\x1c" + field[-2:].encode("ascii", "replace") if is_behind_header else b"") + data
-        )
-    return b"".join(made)
+    line, message = await encoder.ask(json.dumps({"kind": "request", "parts": parts}).encode())
+    if message is not None:
+        return message
+    where, place, why = REFUSED.fullmatch(line.decode()).groups()
+    raise Problem("FieldRefused", why, field=(places[int(place)] if place and places else where or "/parts"))
 
 
-def of_order(given: dict[str, Any], own: tuple[str, str]) -> bytes:
-    """The message of an order; `own` is the pharmacy's qualifier and provider, which stand where none are given."""
+def of_order(given: dict[str, Any], own: tuple[str, str]) -> Parts:
+    """The parts of an order; `own` is the pharmacy's qualifier and provider, which stand where none are given."""
     order = given.get("order")
     if order not in CODES:
         raise Problem("FieldRefused", "order is billing or reversal", field="/order")
@@ -74,18 +89,18 @@ def of_order(given: dict[str, Any], own: tuple[str, str]) -> bytes:
     fixed = {"version": "D0", "transaction_code": CODES[order], "transaction_count": str(len(several))}
     fixed |= {"service_provider_id_qualifier": given.get("service_provider_id_qualifier", own[0])}
     fixed |= {"service_provider_id": given.get("service_provider_id", own[1])}
-    message = "".join(_fixed(name, fixed.get(name, given.get(name, "")), width) for name, width in HEADER)
+    made = Parts()
+    for field, name, width in HEADER:
+        made.put(field, name, _fixed(name, fixed.get(name, given.get(name, "")), width), f"/{name}")
     if order == "billing":
-        message += f"\x1e\x1cAM04\x1cC2{_text(given.get('cardholder'), '/cardholder')}"
+        made.begin("04", "/cardholder")
+        made.put("302-C2", "cardholder_id", _text(given.get("cardholder"), "/cardholder"), "/cardholder")
     for place, one in enumerate(several):
-        message += _transaction(order, one, f"/transactions/{place}")
-    try:
-        return message.encode("latin-1")
-    except ValueError:
-        raise Problem("FieldRefused", "texts have characters of Latin-1 alone", field="") from None
+        _put_transaction(made, order, one, f"/transactions/{place}")
+    return made
 
 
-def _transaction(order: str, given: Any, where: str) -> str:
+def _put_transaction(made: Parts, order: str, given: Any, where: str) -> None:
     wanted = BILLING if order == "billing" else REVERSAL
     if not isinstance(given, dict):
         raise Problem("FieldRefused", "a transaction is an object", field=where)
@@ -98,11 +113,19 @@ def _transaction(order: str, given: Any, where: str) -> str:
         if kind is int and (not isinstance(value, int) or isinstance(value, bool) or value < 0):
             raise Problem("FieldRefused", "a whole number, not negative, is wanted", field=f"{where}/{name}")
         has[name] = _text(value, f"{where}/{name}") if kind is str else value
-    message = f"\x1d\x1e\x1cAM07\x1cEM1\x1cD2{has['prescription']}\x1cD3{has['fill']}"
+    made.begin_transaction(where)
+    made.begin("07", where)
+    made.put("455-EM", "prescription_number_qualifier", "1", where)
+    made.put("402-D2", "prescription_number", has["prescription"], f"{where}/prescription")
+    made.put("403-D3", "fill_number", has["fill"], f"{where}/fill")
     if order == "billing":
-        message += f"\x1cE103\x1cD7{has['product']}\x1cE7{has['quantity']}\x1e\x1cAM11\x1cD9{amount(has['cost'])}"
-        message += f"\x1cDC{amount(has['fee'])}" if "fee" in has else ""
-    return message
+        made.put("436-E1", "product_id_qualifier", "03", where)
+        made.put("407-D7", "product_id", has["product"], f"{where}/product")
+        made.put("442-E7", "quantity_dispensed", has["quantity"], f"{where}/quantity")
+        made.begin("11", where)
+        made.put("409-D9", "ingredient_cost_submitted", amount(has["cost"]), f"{where}/cost")
+        if "fee" in has:
+            made.put("412-DC", "dispensing_fee_submitted", amount(has["fee"]), f"{where}/fee")
 
 
 def _expect_known(given: dict[str, Any], known: set[str], where: str) -> None:
@@ -129,9 +152,9 @@ async def checked(message: bytes, decoder: Decoder, given: dict[str, Any] | None
     told = await decoder.ask(message)
     for one in told["findings"]:
         if one["finding"] in ("not_framed", "not_carried"):
-            raise Problem(
-                "FieldRefused" if given else "Unreadable", one["says"], **{name: one[name] for name in ("at", "fault") if name in one}
-            )
+            facts = {name: one[name] for name in ("at", "fault") if name in one}
+            facts |= {"field": FRAMED[one["fault"]]} if one.get("fault") in FRAMED else {}
+            raise Problem("FieldRefused" if given else "Unreadable", one["says"], **facts)
         if given and one["finding"] == "rejected":
             raise Problem("FieldRefused", one["says"], field=one["field"], code=one["code"])
     if given:

@@ -18,6 +18,7 @@ import ssl
 from collections.abc import Callable
 
 from .claims import guard
+from .helpers import Ended
 from .pharmacy import MOST_BYTES, Pharmacy
 from .problems import Problem
 from .receipts import Receipts
@@ -122,7 +123,8 @@ class Framed:
             key = self._keys.setdefault(digest, f"tcp-{secrets.token_urlsafe(16)}")
             number = (await self._pharmacy.submit(key, message)).number
             answer = await self._pharmacy.wait(number, self._seconds)
-        except Problem as problem:
+        except (Problem, Ended) as fault:
+            problem = fault if isinstance(fault, Problem) else Problem("NoReply")
             if problem.name not in UNKNOWN:
                 self._keys.pop(digest, None)
             word = "UNKNOWN" if problem.name in UNKNOWN else "REFUSED"

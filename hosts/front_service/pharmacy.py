@@ -27,10 +27,13 @@ MOST_BYTES = 32_768
 
 
 class Wait:
-    """The question for an answer that some callers have, and how many they are."""
+    """The question for an answer that some callers have: who they are, under which name its reply is heard, and when it is asked next."""
 
-    def __init__(self, task: asyncio.Task[bytes]) -> None:
-        self.task, self.callers = task, 0
+    def __init__(self) -> None:
+        self.callers: set[asyncio.Future[bytes | None]] = set()
+        self.reply = ""
+        self.poll = POLL_SECONDS
+        self.again: asyncio.TimerHandle | None = None
 
 
 class Pharmacy:
@@ -42,7 +45,7 @@ class Pharmacy:
         self._keys: dict[str, tuple[asyncio.Lock, list[int]]] = {}
         self._waits: dict[int, Wait] = {}
         self._host_waits = True
-        self._writes: set[asyncio.Task[None]] = set()
+        self._writes: set[asyncio.Future[None]] = set()
         self.last_number = 0
         # All numbers up to this one are known.
         self._looked = 0
@@ -69,24 +72,26 @@ class Pharmacy:
             if kept.number is not None:
                 return kept
             number = (None if is_new else await self._find(kept)) or await self._enter(key, message)
+            # The answer may be on its way while the number is noted, which takes a sync.
+            self._begin(number)
             await self._receipts.number(self.name, key, number)
             self.last_number = max(self.last_number, number)
             return kept._replace(number=number)
 
     async def wait(self, number: int, seconds: float) -> bytes | None:
         """The answer to an entry, or None where it has none within so many seconds."""
-        waiting = self._waits.get(number)
-        if waiting is None:
-            waiting = self._waits[number] = Wait(asyncio.create_task(self._await(number)))
-        waiting.callers += 1
+        loop = asyncio.get_running_loop()
+        caller: asyncio.Future[bytes | None] = loop.create_future()
+        waiting = self._begin(number)
+        waiting.callers.add(caller)
+        late = loop.call_later(seconds, _give_up, caller)
         try:
-            done, _ = await asyncio.wait({waiting.task}, timeout=seconds)
-            return waiting.task.result() if done else None
+            return await caller
         finally:
-            waiting.callers -= 1
+            late.cancel()
+            waiting.callers.discard(caller)
             if not waiting.callers:
-                self._waits.pop(number, None)
-                waiting.task.cancel()
+                self._end(number, waiting)
 
     async def look_for_ever(self) -> None:
         """Learns what is known of entries that nobody waits for, and of those that came by another way than the front."""
@@ -184,33 +189,81 @@ class Pharmacy:
             raise Problem("NoReply")
         return reply
 
-    async def _await(self, number: int) -> bytes:
-        """The answer to an entry, however long that takes."""
-        poll = POLL_SECONDS
-        while True:
-            word = b"wait" if self._host_waits else b"answer"
-            reply = await self._carrier.request(subjects.calls(self.name), b"%s %d" % (word, number), ASK_AGAIN_SECONDS)
-            if reply is None:
-                continue
-            if reply.startswith(b"answer "):
-                answer = unprinted(reply[7:])
-                self._settle(number, answer)
-                return answer
-            if reply == b"none":
-                raise Problem("NoSuchClaim")
-            if reply == b"refused Line":
-                self._host_waits = False
-            await asyncio.sleep(poll if reply == b"open" else BUSY_SECONDS)
-            poll = min(poll * 1.2, BUSY_SECONDS)
+    def _begin(self, number: int) -> Wait:
+        """Has the host asked for an answer, once for all who wait for it."""
+        waiting = self._waits.get(number)
+        if waiting is None:
+            waiting = self._waits[number] = Wait()
+            self._ask_for(number, waiting)
+        return waiting
+
+    def _ask_again(self, number: int, waiting: Wait) -> None:
+        """Asks once more, where somebody waits: the host may have been started anew, and knows nothing of it then."""
+        if waiting.callers:
+            self._ask_for(number, waiting)
+        else:
+            self._end(number, waiting)
+
+    def _ask_for(self, number: int, waiting: Wait) -> None:
+        self._carrier.forget(waiting.reply)
+        word = b"wait" if self._host_waits else b"answer"
+        waiting.reply = self._carrier.ask(
+            subjects.calls(self.name), b"%s %d" % (word, number), lambda reply: self._heard(number, waiting, reply)
+        )
+        self._later(ASK_AGAIN_SECONDS, number, waiting)
+
+    def _later(self, seconds: float, number: int, waiting: Wait) -> None:
+        if waiting.again is not None:
+            waiting.again.cancel()
+        waiting.again = asyncio.get_running_loop().call_later(seconds, self._ask_again, number, waiting)
+
+    def _heard(self, number: int, waiting: Wait, reply: bytes) -> None:
+        """What the host says of an entry that callers wait for."""
+        if reply.startswith(b"answer "):
+            answer = unprinted(reply[7:])
+            self._settle(number, answer)
+            for caller in waiting.callers:
+                if not caller.done():
+                    caller.set_result(answer)
+            self._end(number, waiting)
+            return
+        if reply == b"none":
+            for caller in waiting.callers:
+                if not caller.done():
+                    caller.set_exception(Problem("NoSuchClaim"))
+            self._end(number, waiting)
+            return
+        if reply == b"refused Line":
+            self._host_waits = False
+        self._later(waiting.poll if reply == b"open" else BUSY_SECONDS, number, waiting)
+        waiting.poll = min(waiting.poll * 1.2, BUSY_SECONDS)
+
+    def _end(self, number: int, waiting: Wait) -> None:
+        """Nobody waits for an entry any more, or it has its answer."""
+        self._carrier.forget(waiting.reply)
+        if waiting.again is not None:
+            waiting.again.cancel()
+        if self._waits.get(number) is waiting:
+            del self._waits[number]
 
     def _settle(self, number: int, answer: bytes) -> None:
         """Notes an answer. Nobody waits for the note: the node has the answer on disk."""
-        task = asyncio.create_task(self._receipts.seen(self.name, number, answer))
-        self._writes.add(task)
-        task.add_done_callback(self._writes.discard)
+        noted = self._receipts.seen(self.name, number, answer)
+        self._writes.add(noted)
+        noted.add_done_callback(self._noted)
         self._tell(number)
+
+    def _noted(self, noted: asyncio.Future[None]) -> None:
+        self._writes.discard(noted)
+        if not noted.cancelled() and noted.exception() is not None:
+            self._say("an answer is not noted", "warning", pharmacy=self.name)
 
     def _tell(self, number: int) -> None:
         for listener in self.listeners:
             with contextlib.suppress(asyncio.QueueFull):
                 listener.put_nowait(number)
+
+
+def _give_up(caller: asyncio.Future[bytes | None]) -> None:
+    if not caller.done():
+        caller.set_result(None)

@@ -7,6 +7,8 @@ from typing import Any
 
 from aiohttp import web
 
+from .helpers import Ended
+
 MEDIA_TYPE = "application/problem+json"
 # The status and the words of each name. Names of refusals of nodes are those of docs/FORMATS.md.
 KNOWN = {
@@ -70,6 +72,8 @@ async def as_problems(request: web.Request, handler: Any) -> web.StreamResponse:
         return response
     except ConnectionError:
         raise
+    except Ended:
+        return Problem("NoReply").response()
     except Exception as fault:  # noqa: BLE001: whatever it is, the caller gets an answer, and the log its kind
         where = fault.__traceback__
         while where is not None and where.tb_next is not None:

@@ -7,6 +7,8 @@ import re
 _HEADER_BYTES = 56
 # Groups and segments alike begin a new part; its first field is the segment's id.
 _PARTS = re.compile(rb"[\x1d\x1e]+")
+# Where none of these stands, nothing of the kind does.
+_SUSPECT = re.compile(rb"\x1c(?:C8|D6|AM\s*(?:05|10))")
 _CODES = {b"B3": "RebillNotCarried", b"E1": "EligibilityNotCarried"}
 _SEGMENTS = {b"05": "OtherPayerPaid", b"10": "CompoundNotCarried"}
 
@@ -15,6 +17,8 @@ def not_carried(message: bytes) -> tuple[str, str] | None:
     """The name of what is not carried, and the field that says so; None where the message has nothing of the kind."""
     if message[6:8] == b"D0" and message[8:10] in _CODES:
         return _CODES[message[8:10]], "103-A3"
+    if not _SUSPECT.search(message, _HEADER_BYTES):
+        return None
     for part in _PARTS.split(message[_HEADER_BYTES:]):
         for field in part.split(b"\x1c")[1:]:
             name = _field(field[:2], field[2:].strip())

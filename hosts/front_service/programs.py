@@ -13,7 +13,7 @@ import subprocess
 import sys
 from typing import Any
 
-from .printed import printed
+from .printed import printed, unprinted
 from .problems import Problem
 
 TOP = pathlib.Path(__file__).resolve().parent.parent.parent
@@ -37,8 +37,10 @@ def words_of(name: str) -> list[str]:
 def prepare(*names: str) -> None:
     """Has the programs there before anybody waits for them: the scripts of this repository compile what is not built, once."""
     for name in names:
+        # claimswitch has no version to say; an input without a line is answered by nothing.
+        word = "read" if name == "claimswitch" else "-V"
         try:
-            subprocess.run([*words_of(name), "-V"], stdout=subprocess.DEVNULL, check=False)
+            subprocess.run([*words_of(name), word], stdin=subprocess.DEVNULL, stdout=subprocess.DEVNULL, check=False)
         except Problem as problem:
             sys.exit(f"front: {problem.detail}")
 
@@ -57,13 +59,48 @@ async def run(name: str, *words: str, given: bytes = b"") -> tuple[int, bytes, b
     return process.returncode, written, said
 
 
-class Decoder:
-    """A claimdecode that stays, for messages of one kind: a line in, an object out, in order. One that has ended is started again."""
+class Standing:
+    """A claimdecode that stays: a line in, a line out, in order. One that has ended is started again."""
 
-    def __init__(self, kind: str) -> None:
-        self._kind = kind
+    def __init__(self, *words: str) -> None:
+        self._words = words
         self._starting = asyncio.Lock()
         self._child: Child | None = None
+
+    async def line(self, text: bytes) -> bytes:
+        """What it says of a line."""
+        async with self._starting:
+            if self._child is None or not self._child.is_alive:
+                pipe = asyncio.subprocess.PIPE
+                words = [*words_of("claimdecode"), *self._words]
+                process = await asyncio.create_subprocess_exec(*words, stdin=pipe, stdout=pipe, limit=MOST_LINE_BYTES)
+                self._child = Child(process)
+            told = self._child.ask(text)
+        return await asyncio.wait_for(told, SECONDS)
+
+    async def close(self) -> None:
+        if self._child is not None:
+            await self._child.close()
+
+
+class Encoder(Standing):
+    """Makes messages of their descriptions in JSON."""
+
+    def __init__(self) -> None:
+        super().__init__("--encode")
+
+    async def ask(self, description: bytes) -> tuple[bytes, bytes | None]:
+        """The line that comes of a description, and the message that it spells; no message where the line says why there is none."""
+        line = (await self.line(description)).rstrip(b"\n")
+        return line, None if line.startswith(b"#") else unprinted(line)
+
+
+class Decoder(Standing):
+    """Describes messages of one kind."""
+
+    def __init__(self, kind: str) -> None:
+        super().__init__("--json", kind)
+        self._kind = kind
 
     async def ask(self, message: bytes) -> dict[str, Any]:
         """What claimdecode says of a message."""
@@ -73,18 +110,7 @@ class Decoder:
             text = b"\\x23" + text[1:]
         if not text:
             return {"kind": self._kind, "bytes": 0, "parts": [], "findings": []}
-        async with self._starting:
-            if self._child is None or not self._child.is_alive:
-                pipe = asyncio.subprocess.PIPE
-                words = [*words_of("claimdecode"), "--json", self._kind]
-                process = await asyncio.create_subprocess_exec(*words, stdin=pipe, stdout=pipe, limit=MOST_LINE_BYTES)
-                self._child = Child(process)
-            told = self._child.ask(text)
-        return json.loads(await asyncio.wait_for(told, SECONDS))
-
-    async def close(self) -> None:
-        if self._child is not None:
-            await self._child.close()
+        return json.loads(await self.line(text))
 
 
 class Child:

@@ -2,6 +2,7 @@
 
 A row is there, synced, before its message goes to the node, and has its number, synced, before the caller hears of it. So the same key
 never becomes two entries, also where the front ends in between: `number` is then empty, and what the node has is looked up (pharmacy.py).
+A process of its own writes it (keeping.py), so that what is synced holds up nothing else.
 """
 
 from __future__ import annotations
@@ -9,18 +10,12 @@ from __future__ import annotations
 import asyncio
 import concurrent.futures
 import hashlib
-import os
-import queue
 import sqlite3
-import threading
-import time
 import urllib.parse
-from collections.abc import Callable
-from typing import Any, NamedTuple, TypeVar
+from typing import Any, NamedTuple
 
-_Made = TypeVar("_Made")
-# How many writes one sync may be for.
-MOST_AT_ONCE = 512
+from .helpers import Helper
+
 SCHEMA = """
 CREATE TABLE IF NOT EXISTS claims (
     id INTEGER PRIMARY KEY, pharmacy TEXT NOT NULL, number INTEGER, key TEXT, digest BLOB, request BLOB, answer BLOB,
@@ -51,158 +46,62 @@ class Receipt(NamedTuple):
     answered: float | None
 
 
-_COLUMNS = ", ".join(Receipt._fields)
-
-
 def digest_of(message: bytes) -> bytes:
     return hashlib.sha256(message).digest()
 
 
 class Receipts:
-    """The file, and the one thread that writes it. Writes that wait together are synced together."""
+    """The file: the process that writes it, and a thread that asks it on the side."""
 
     def __init__(self, name: str) -> None:
-        self._work: queue.SimpleQueue[tuple[Callable[[sqlite3.Connection], Any], asyncio.Future[Any]] | None] = queue.SimpleQueue()
-        self._loop = asyncio.get_running_loop()
-        # It has health data.
-        os.close(os.open(name, os.O_RDWR | os.O_CREAT, 0o600))
-        old = os.umask(0o077)
-        self._file = sqlite3.connect(name, check_same_thread=False, isolation_level=None)
-        self._file.row_factory = sqlite3.Row
-        self._file.execute("PRAGMA journal_mode = WAL")
-        # Each commit is on disk before it returns.
-        self._file.execute("PRAGMA synchronous = FULL")
-        self._file.executescript(SCHEMA)
-        os.umask(old)
+        self.name = name
+        self._keeper = Helper("keeping.py", name)
         # Long questions of people are asked on the side, and hold up no claim.
         self._side = sqlite3.connect(f"file:{urllib.parse.quote(name)}?mode=ro", uri=True, check_same_thread=False)
         self._side.row_factory = sqlite3.Row
         self._asking = concurrent.futures.ThreadPoolExecutor(1, "receipts-side")
-        self._thread = threading.Thread(target=self._run, name="receipts", daemon=True)
-        self._thread.start()
 
-    async def do(self, made: Callable[[sqlite3.Connection], _Made]) -> _Made:
-        """What a function makes of the file, once it is on disk."""
-        done = self._loop.create_future()
-        self._work.put((made, done))
-        return await done
+    async def keep_for_ever(self) -> None:
+        """Ends where the process that writes has ended: nothing can be promised then."""
+        await asyncio.shield(self._keeper.ended)
+        raise OSError("the process that writes the receipts has ended")
 
-    def close(self) -> None:
-        self._work.put(None)
-        self._thread.join()
+    async def close(self) -> None:
+        await self._keeper.close()
         self._asking.shutdown()
         self._side.close()
-        self._file.close()
-
-    def _run(self) -> None:
-        while (first := self._work.get()) is not None:
-            some = [first]
-            while len(some) < MOST_AT_ONCE and some[-1] is not None and not self._work.empty():
-                some.append(self._work.get())
-            is_last = some[-1] is None
-            self._make([it for it in some if it is not None])
-            if is_last:
-                return
-
-    def _make(self, some: list[tuple[Callable[[sqlite3.Connection], Any], asyncio.Future[Any]]]) -> None:
-        results: list[tuple[asyncio.Future[Any], Any, BaseException | None]] = []
-        try:
-            self._file.execute("BEGIN")
-            for made, done in some:
-                self._file.execute("SAVEPOINT one")
-                try:
-                    results.append((done, made(self._file), None))
-                except Exception as fault:  # noqa: BLE001: it is who asked that hears of it
-                    self._file.execute("ROLLBACK TO one")
-                    results.append((done, None, fault))
-                self._file.execute("RELEASE one")
-            self._file.execute("COMMIT")
-        except sqlite3.Error as fault:
-            if self._file.in_transaction:
-                self._file.execute("ROLLBACK")
-            results = [(done, None, fault) for _, done in some]
-        self._loop.call_soon_threadsafe(_tell, results)
 
     # What is asked of it.
 
     async def reserve(self, pharmacy: str, key: str, request: bytes, after_number: int) -> tuple[bool, Receipt]:
         """The row of a key, and whether it is new: then it has no number yet, and its entry will have a greater one than this."""
-
-        def made(file: sqlite3.Connection) -> tuple[bool, Receipt]:
-            done = file.execute(
-                "INSERT OR IGNORE INTO claims (pharmacy, key, digest, request, after_number, entered) VALUES (?, ?, ?, ?, ?, ?)",
-                (pharmacy, key, digest_of(request), request, after_number, time.time()),
-            )
-            return done.rowcount == 1, _one(file, "pharmacy = ? AND key = ?", pharmacy, key)
-
-        return await self.do(made)
+        is_new, row = await self._keeper.ask("reserve", pharmacy, key, digest_of(request), request, after_number)
+        return is_new, Receipt(*row)
 
     async def forget(self, pharmacy: str, key: str) -> None:
         """Takes back the row of a message that the node has refused: nothing was entered."""
-        text = "DELETE FROM claims WHERE pharmacy = ? AND key = ? AND number IS NULL"
-        await self.do(lambda file: file.execute(text, (pharmacy, key)).rowcount)
+        await self._keeper.ask("forget", pharmacy, key)
 
     async def number(self, pharmacy: str, key: str, number: int) -> None:
-        """Notes which number a key has. A row that was made for a number that others had asked about goes over into it."""
+        """Notes which number a key has."""
+        await self._keeper.ask("number", pharmacy, key, number)
 
-        def made(file: sqlite3.Connection) -> None:
-            seen = file.execute(
-                "SELECT answer, answered FROM claims WHERE pharmacy = ? AND number = ? AND key IS NULL", (pharmacy, number)
-            ).fetchone()
-            if seen is not None:
-                file.execute("DELETE FROM claims WHERE pharmacy = ? AND number = ?", (pharmacy, number))
-            answer, answered = tuple(seen) if seen is not None else (None, None)
-            file.execute(
-                "UPDATE claims SET number = ?, answer = ?, answered = ? WHERE pharmacy = ? AND key = ?",
-                (number, answer, answered, pharmacy, key),
-            )
-
-        await self.do(made)
-
-    async def seen(self, pharmacy: str, number: int, answer: bytes | None) -> None:
+    def seen(self, pharmacy: str, number: int, answer: bytes | None) -> asyncio.Future[None]:
         """Notes the answer to a number; of a number that came by another way than the front also that it is there."""
-
-        def made(file: sqlite3.Connection) -> None:
-            if file.execute("SELECT 1 FROM claims WHERE pharmacy = ? AND number = ?", (pharmacy, number)).fetchone() is None:
-                file.execute("INSERT INTO claims (pharmacy, number, entered) VALUES (?, ?, ?)", (pharmacy, number, time.time()))
-            if answer is not None:
-                file.execute(
-                    "UPDATE claims SET answer = ?, answered = ? WHERE pharmacy = ? AND number = ? AND answer IS NULL",
-                    (answer, time.time(), pharmacy, number),
-                )
-
-        await self.do(made)
+        return self._keeper.ask("seen", pharmacy, number, answer)
 
     async def of_number(self, pharmacy: str, number: int) -> Receipt | None:
-        return await self.do(lambda file: _one(file, "pharmacy = ? AND number = ?", pharmacy, number))
+        row = await self._keeper.ask("of_number", pharmacy, number)
+        return None if row is None else Receipt(*row)
 
     async def of_key(self, pharmacy: str, key: str) -> Receipt | None:
-        return await self.do(lambda file: _one(file, "pharmacy = ? AND key = ?", pharmacy, key))
+        row = await self._keeper.ask("of_key", pharmacy, key)
+        return None if row is None else Receipt(*row)
 
     async def rows(self, text: str, *values: object) -> list[sqlite3.Row]:
         """What a question in SQL finds, of all that is on disk."""
-        return await self._loop.run_in_executor(self._asking, lambda: self._side.execute(text, values).fetchall())
+        return await asyncio.get_running_loop().run_in_executor(self._asking, lambda: self._side.execute(text, values).fetchall())
 
     async def write_rulings(self, ruled: list[int], rows: list[tuple[Any, ...]]) -> None:
         """Notes what answers say, and which rows of claims that were."""
-
-        def made(file: sqlite3.Connection) -> None:
-            file.executemany(f"INSERT OR IGNORE INTO rulings VALUES ({', '.join('?' * 14)})", rows)
-            file.executemany("UPDATE claims SET is_ruled = 1 WHERE id = ?", [(it,) for it in ruled])
-
-        await self.do(made)
-
-
-def _one(file: sqlite3.Connection, where: str, *values: object) -> Receipt | None:
-    row = file.execute(f"SELECT {_COLUMNS} FROM claims WHERE {where}", values).fetchone()
-    return None if row is None else Receipt(*row)
-
-
-def _tell(results: list[tuple[asyncio.Future[Any], Any, BaseException | None]]) -> None:
-    for done, value, fault in results:
-        if done.done():
-            continue
-        if fault is None:
-            done.set_result(value)
-        else:
-            done.set_exception(fault)
+        await self._keeper.ask("write_rulings", ruled, rows)

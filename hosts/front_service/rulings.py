@@ -3,14 +3,13 @@
 from __future__ import annotations
 
 import asyncio
-import sqlite3
 from typing import Any
 
-from .programs import Decoder
+from .helpers import Helper
+from .programs import words_of
 from .receipts import Receipts
 
-# How many answers are read together, and how often it is looked whether there are any.
-AT_ONCE = 256
+# How often it is looked whether there are answers that nobody has read.
 LOOK_SECONDS = 1.0
 # A payment that a pharmacy counts: an authorization that a paid (else duplicate) answer names. Reversed is what an answer names so.
 _PAYMENTS = """
@@ -54,7 +53,7 @@ class Rulings:
 
     def __init__(self, receipts: Receipts) -> None:
         self._receipts = receipts
-        self._decoder = Decoder("answer")
+        self._reader = Helper("reading.py", receipts.name, *words_of("claimdecode"))
         self._reading = asyncio.Lock()
 
     async def read_for_ever(self) -> None:
@@ -62,17 +61,17 @@ class Rulings:
             await self.catch_up()
             await asyncio.sleep(LOOK_SECONDS)
 
-    async def close(self) -> None:
-        await self._decoder.close()
+    def close(self) -> None:
+        self._reader.kill()
 
     async def catch_up(self) -> None:
         """Reads all answers that are not read yet."""
-        text = "SELECT id, pharmacy, number, answer FROM claims WHERE answer IS NOT NULL AND is_ruled = 0 ORDER BY id LIMIT ?"
         async with self._reading:
-            while rows := await self._receipts.rows(text, AT_ONCE):
-                told = await asyncio.gather(*(self._decoder.ask(row["answer"]) for row in rows))
-                found = [it for row, one in zip(rows, told) for it in _rulings_of(row, one)]
-                await self._receipts.write_rulings([row["id"] for row in rows], found)
+            while True:
+                ruled, rows = await self._reader.ask("unread")
+                if not ruled:
+                    return
+                await self._receipts.write_rulings(ruled, rows)
 
     async def payments(self, which: Filter, page: int, size: int) -> list[dict[str, Any]]:
         """A page of payments, in the order of their entries."""
@@ -90,19 +89,3 @@ class Rulings:
         )
         text, values = which.ask(f"{columns[by]}, {sums}" if by else sums, "GROUP BY 1 ORDER BY 1" if by else "")
         return [dict(row) for row in await self._receipts.rows(text, *values)]
-
-
-def _rulings_of(row: sqlite3.Row, told: dict[str, Any]) -> list[tuple[Any, ...]]:
-    """The rows of an answer's rulings."""
-    parts = {part["name"]: part["value"] for part in reversed(told["parts"]) if "value" in part}
-    found = []
-    for one in told["findings"]:
-        if one["finding"] == "ruling":
-            authorization = one.get("authorization")
-            payer = int(authorization[:4]) if authorization else None
-            amounts = (one.get("cost"), one.get("fee"), one.get("copay"), one.get("total"))
-            place, code, day = one["transaction"], parts.get("transaction_code", ""), parts.get("date_of_service", "")
-            prescription = None if one.get("prescription") is None else str(one["prescription"])
-            kept = (row["pharmacy"], row["number"], place, code, one["ruling"], day, payer, authorization, prescription)
-            found.append((*kept, *amounts, one.get("codes")))
-    return found

@@ -110,7 +110,7 @@ class Front:
         app.router.add_get("/healthz", lambda request: asyncio.sleep(0, web.json_response({"front": "lives"})))
         runner, at = await serve(app, given.listen, tls_of(given))
         framed = [await self._framed(it, pharmacies, receipts) for it in given.tcp]
-        works = [it.look_for_ever() for it in pharmacies.values()] + [rulings.read_for_ever(), manager.live()]
+        works = [it.look_for_ever() for it in pharmacies.values()] + [rulings.read_for_ever(), receipts.keep_for_ever(), manager.live()]
         self._tasks = [asyncio.create_task(work) for work in works]
         self._say("ready", at=at)
         manager.tell("READY=1")
@@ -125,8 +125,9 @@ class Front:
         await runner.cleanup()
         for carrier in self._carriers.values():
             await carrier.close()
-        await asyncio.gather(claims.close(), rulings.close())
-        receipts.close()
+        await claims.close()
+        rulings.close()
+        await receipts.close()
         for task in done - {stopped}:
             task.result()
         return 0

@@ -12,7 +12,8 @@
 //! node.clear()?;
 //! ```
 //!
-//! [`FileNode`] does so with the file of its log, and [`Billing`] makes what a pharmacy submits.
+//! [`FileNode`] does so with the file of its log, and [`Billing`] makes what a pharmacy submits, and
+//! [`Answer`] says what came of it.
 //!
 //! The node is the proved library `libvogrilas`; `include/vogrilas.h` says what is proved of it and what a caller owes.
 //! This crate keeps what the caller owes, and is tested, not proved.
@@ -24,6 +25,7 @@ mod file_node;
 mod message;
 mod node;
 mod payment;
+mod reading;
 mod said;
 mod sys;
 
@@ -33,6 +35,7 @@ pub use file_node::{FileError, FileNode};
 pub use message::{Billing, Header, MakingError, Reversal, WrongField};
 pub use node::{Node, Opened};
 pub use payment::Payment;
+pub use reading::{Answer, Paid, ReadError, Ruling};
 pub use said::{Packet, Refused, Said};
 #[doc(hidden)]
 pub use sys::layout;

@@ -1,6 +1,6 @@
 //! Trials of messages that are made of fields: the request of examples/embed, and each field wrong in turn.
 
-use vogrilas::{unprinted, Billing, Code, Header, MakingError, Reversal, WrongField};
+use vogrilas::{unprinted, Answer, Billing, Code, Header, MakingError, Paid, ReadError, Reversal, Ruling, WrongField};
 
 const REQUEST: &[u8] = include_bytes!("../../../examples/embed/request");
 
@@ -49,4 +49,71 @@ fn wrong_fields_are_named() {
     assert_eq!(billing().reversal().fill_number(Some(255)).to_bytes(), wrong(403, Code::FieldTooLong));
     let fault = billing().fee(u32::MAX).to_bytes().unwrap_err();
     assert_eq!(fault.to_string(), "field 412: the field is too long");
+}
+
+#[test]
+fn messages_are_read() {
+    let request = billing().fill_number(7).to_bytes().unwrap();
+    assert_eq!(Billing::read(&request), Ok(billing().fill_number(7)));
+    assert_eq!(Reversal::read(&request), Err(ReadError::OtherKind));
+    for fill in [None, Some(0), Some(99)] {
+        let reversal = billing().reversal().fill_number(fill);
+        assert_eq!(Reversal::read(&reversal.to_bytes().unwrap()), Ok(reversal.clone()));
+        assert_eq!(Billing::read(&reversal.to_bytes().unwrap()), Err(ReadError::OtherKind));
+    }
+    let least = Billing::new(Header::new("000000", "", "20240229").qualifier(""), "1", 0, "1", 0, 0);
+    assert_eq!(Billing::read(&least.to_bytes().unwrap()), Ok(least));
+    let most = Billing::new(
+        Header::new("999999", [b'P'; 15], "99991231").pcn([b'C'; 10]).qualifier("99").vendor([b'V'; 10]),
+        [b'H'; 20],
+        999_999_999_999,
+        [b'N'; 19],
+        9_999_999_999,
+        99_999_999,
+    )
+    .fee(99_999_999)
+    .fill_number(99);
+    assert_eq!(Billing::read(&most.to_bytes().unwrap()), Ok(most));
+    // The same order in other bytes, and what is none: each beginning, and each byte otherwise.
+    let spelled = String::from_utf8(request.clone()).unwrap().replace("\x1cD37", "\x1cD307").into_bytes();
+    assert_eq!(Billing::read(&spelled), Err(ReadError::OtherBytes));
+    for size in 0..request.len() {
+        assert!(Billing::read(&request[..size]).is_err());
+        for byte in [0, b' ', b'0', b'9', b'{', 0x1c, 0x1d, 0x1e, 0xff] {
+            let mut other = request.clone();
+            other[size] = byte;
+            match Billing::read(&other) {
+                Ok(read) => assert_eq!(read.to_bytes().as_ref(), Ok(&other)),
+                Err(fault) => assert!(matches!(fault, ReadError::OtherKind | ReadError::OtherBytes)),
+            }
+        }
+    }
+}
+
+#[test]
+fn answers_are_read() {
+    let front = "D0B11A011234567893     20240115\x1d\x1e\x1cAM21\x1cAN";
+    let behind = "\x1cF30001000000000001\x1e\x1cAM22\x1cEM1\x1cD2123456";
+    let amounts = "\x1e\x1cAM23\x1cF5100{\x1cF6557{\x1cF715{\x1cF9472{";
+    let paid = Paid {
+        authorization: "0001000000000001".to_owned(),
+        prescription: 123456,
+        cost: 5570,
+        fee: 150,
+        copay: 1000,
+        total: 4720,
+    };
+    let read = |text: String| Answer::read(text.as_bytes()).map(|answer| answer.rulings);
+    assert_eq!(read(format!("{front}P{behind}{amounts}")), Ok(vec![Ruling::Paid(paid.clone())]));
+    assert_eq!(read(format!("{front}D{behind}{amounts}")), Ok(vec![Ruling::Duplicate(paid.clone())]));
+    let reversed = format!("{front}A{behind}").replace("D0B1", "D0B2");
+    assert_eq!(read(reversed), Ok(vec![Ruling::Reversed { authorization: paid.authorization, prescription: 123456 }]));
+    let codes = vec!["07".to_owned(), "70".to_owned()];
+    assert_eq!(read(format!("{front}R\x1cFA2\x1cFB07\x1cFB70")), Ok(vec![Ruling::Rejected { codes }]));
+    assert_eq!(read(format!("{front}P{behind}")), Err(ReadError::OtherKind));
+    assert_eq!(read(format!("{front}X")), Err(ReadError::OtherKind));
+    assert_eq!(Answer::read(b"D0"), Err(ReadError::OtherKind));
+    assert_eq!(Answer::read(&billing().to_bytes().unwrap()), Err(ReadError::OtherKind));
+    // A text of a message is no member of its description.
+    assert_eq!(read(format!("{front}R\x1cFA1\x1cFB70\x1cZZ\"findings\":[{{\"ruling\":\"paid\"}}")), Ok(vec![Ruling::Rejected { codes: vec!["70".to_owned()] }]));
 }

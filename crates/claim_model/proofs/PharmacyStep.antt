@@ -11,6 +11,7 @@ use Rattle.claim_model.specs.Numbered.{numbered, renumbered}
 use Rattle.claim_model.specs.Journal.{Journal, JournalAtRest, Kept, Sending, Submitted, submitted, ticked, due, heard, stopped, started, kept_entry}
 use Rattle.claim_model.specs.Node.{Node, Power, Up, AtRest, Sent, Call, Submit, Tick, Take, Stop, Start, Reprice, Done, to_switch, after_submit, after_hearing, pharmacy_takes, pharmacy_step}
 use Rattle.claim_model.specs.World.{World, packet_from}
+use Rattle.claim_model.specs.Limits.{most_entries}
 use Rattle.claim_model.specs.Settings.{WorldSettings, Accepts}
 use Rattle.claim_model.specs.Held.{journal_in, journal_at, decided}
 use Rattle.claim_model.proofs.Lists.{numbered_put, numbered_put_other, numbered_append, numbered_last, numbered_more, numbered_within, numbered_map, all_map}
@@ -39,7 +40,7 @@ pub carries_request : (ctx : Context) (given : WorldSettings) (w : World) (n : �
 carries_request ctx given w n j k e accepts here x stands =
     let g = pharmacy_given ctx given n j.settings accepts x.settings in
     let b = numbered_within j.entries k e stands in
-    let cap : j.settings.cap ≤ 65536 = g.2.cap in
+    let cap : j.settings.cap ≤ most_entries = g.2.cap in
     let room : length j.entries ≤ j.settings.cap = x.room in
     let y = x.entries k e stands in
     record {

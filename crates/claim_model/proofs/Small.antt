@@ -1,6 +1,7 @@
 -- A small reading of bytes, in which schedules compute: a request is its code, its provider, its BIN and one number for each group.
-use Rattle.std.proofs.Common.{ℕ, ◌/◌, ◌%◌, cond, ◌==◌, List, [], ◌∷◌, map, length, Option, Some, None, Result, Ok, Err}
-use Rattle.std.specs.Prelude.{bytes_eq, flat_map}
+use Rattle.std.proofs.Common.{◌≡◌, ℕ, ◌/◌, ◌%◌, cond, ◌==◌, List, [], ◌∷◌, map, length, Option, Some, None, Result, Ok, Err, refl}
+use Rattle.std.specs.Prelude.{bytes_eq, flat_map, option_map}
+use Rattle.claim_profile.specs.declared.reject.Code.TheVariants as code
 use Rattle.envelope.specs.declared.opening.EnvelopeFault.TheVariants.{Short}
 use Rattle.claim_model.specs.Words.{Amounts, Order, Bills, Reverses, Code, BadBin, NotCovered, DuplicateClaim, ReversalNotProcessed, Ruling, Paid, Duplicate, Reversed, Rejected, RequestHeader, Status, AcceptedStatus, RejectedStatus, Answer, Kind, Request, Response, Envelope, EnvelopeFault}
 use Rattle.claim_model.specs.Context.{Context}
@@ -25,15 +26,48 @@ abbrev pub small_orders : List ℕ → List (Result Order (List Code))
 small_orders (k ∷ p ∷ b ∷ groups) = map (small_order k p b) groups
 small_orders _ = []
 
+-- each code has a number of its own, from which it is read; another number is no code
 abbrev pub code_number : Code → ℕ
-code_number BadBin = 1
-code_number NotCovered = 70
-code_number DuplicateClaim = 83
-code_number ReversalNotProcessed = 87
-code_number _ = 0
+code_number code.Bin = 1
+code_number code.Cardholder = 7
+code_number code.DateOfService = 15
+code_number code.Prescription = 16
+code_number code.FillNumber = 17
+code_number code.Product = 21
+code_number code.IngredientCost = 23
+code_number code.Quantity = 97
+code_number code.DispensingFee = 98
+code_number code.NotCovered = 70
+code_number code.DuplicateClaim = 83
+code_number code.ReversalNotProcessed = 87
 
-abbrev pub number_code : ℕ → Code
-number_code n = cond (n == 1) BadBin (cond (n == 70) NotCovered (cond (n == 83) DuplicateClaim ReversalNotProcessed))
+abbrev pub every_code : List Code
+every_code =
+    code.Bin ∷ code.Cardholder ∷ code.DateOfService ∷ code.Prescription ∷ code.FillNumber ∷ code.Product ∷ code.IngredientCost
+    ∷ code.Quantity ∷ code.DispensingFee ∷ code.NotCovered ∷ code.DuplicateClaim ∷ code.ReversalNotProcessed ∷ []
+
+-- the first code of a list with this number
+abbrev pub code_among : ℕ → List Code → Option Code
+code_among n [] = None
+code_among n (c ∷ more) = cond (n == code_number c) (Some c) (code_among n more)
+
+abbrev pub number_code : ℕ → Option Code
+number_code n = code_among n every_code
+
+-- so a new code has to have a number, and to be read
+codes_are_read : (c : Code) → number_code (code_number c) ≡ Some c
+codes_are_read code.Bin = refl
+codes_are_read code.Cardholder = refl
+codes_are_read code.DateOfService = refl
+codes_are_read code.Prescription = refl
+codes_are_read code.FillNumber = refl
+codes_are_read code.Product = refl
+codes_are_read code.IngredientCost = refl
+codes_are_read code.Quantity = refl
+codes_are_read code.DispensingFee = refl
+codes_are_read code.NotCovered = refl
+codes_are_read code.DuplicateClaim = refl
+codes_are_read code.ReversalNotProcessed = refl
 
 abbrev pub code_numbers : List Code → List ℕ
 code_numbers (c ∷ []) = 4 ∷ code_number c ∷ 0 ∷ 0 ∷ []
@@ -49,15 +83,21 @@ ruling_numbers (Duplicate a n m) = 2 ∷ a.payer ∷ a.serial ∷ n ∷ []
 ruling_numbers (Reversed a n) = 3 ∷ a.payer ∷ a.serial ∷ n ∷ []
 ruling_numbers (Rejected codes) = code_numbers codes
 
-abbrev pub numbers_ruling : ℕ → ℕ → ℕ → ℕ → Ruling
+abbrev pub numbers_ruling : ℕ → ℕ → ℕ → ℕ → Option Ruling
 numbers_ruling k a b c =
-    cond (k == 1) (Paid (record { payer = a; serial = b }) c all_amounts)
-    (cond (k == 2) (Duplicate (record { payer = a; serial = b }) c all_amounts)
-    (cond (k == 3) (Reversed (record { payer = a; serial = b }) c) (Rejected (number_code a ∷ []))))
+    cond (k == 1) (Some (Paid (record { payer = a; serial = b }) c all_amounts))
+    (cond (k == 2) (Some (Duplicate (record { payer = a; serial = b }) c all_amounts))
+    (cond (k == 3) (Some (Reversed (record { payer = a; serial = b }) c))
+    (cond (k == 4) (option_map (λ (it : Code). Rejected (it ∷ [])) (number_code a)) None)))
 
-abbrev pub numbers_rulings : List ℕ → List Ruling
-numbers_rulings (k ∷ a ∷ b ∷ c ∷ more) = numbers_ruling k a b c ∷ numbers_rulings more
-numbers_rulings _ = []
+abbrev pub before_all : Option Ruling → Option (List Ruling) → Option (List Ruling)
+before_all (Some ruling) (Some more) = Some (ruling ∷ more)
+before_all _ _ = None
+
+abbrev pub numbers_rulings : List ℕ → Option (List Ruling)
+numbers_rulings [] = Some []
+numbers_rulings (k ∷ a ∷ b ∷ c ∷ more) = before_all (numbers_ruling k a b c) (numbers_rulings more)
+numbers_rulings _ = None
 
 abbrev pub status_number : Status → ℕ
 status_number AcceptedStatus = 65
@@ -69,7 +109,7 @@ small_answer h status rulings = 7 ∷ cond (bytes_eq h.code billing_code) 1 2 �
 abbrev pub small_read : ℕ → ℕ → ℕ → List ℕ → Option Answer
 small_read seven k status more =
     cond (seven == 7)
-    (let rulings = numbers_rulings more in Some (record { header = record { version = version_d0; code = small_code k; count = length rulings; status = status; qualifier = []; provider = []; date = [] }; rulings = rulings }))
+    (option_map (λ (rulings : List Ruling). record { header = record { version = version_d0; code = small_code k; count = length rulings; status = status; qualifier = []; provider = []; date = [] }; rulings = rulings }) (numbers_rulings more))
     None
 
 abbrev pub small_read_answer : List ℕ → Option Answer

@@ -15,6 +15,7 @@ pub mod Counted
 pub mod Table
 pub mod Node
 pub mod World
+pub mod Limits
 pub mod Settings
 pub mod Held
 pub mod Promises

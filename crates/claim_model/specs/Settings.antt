@@ -9,6 +9,7 @@ use Rattle.claim_model.specs.Rows.{Book}
 use Rattle.claim_model.specs.Table.{Table}
 use Rattle.claim_model.specs.Node.{Power, Up}
 use Rattle.claim_model.specs.World.{World}
+use Rattle.claim_model.specs.Limits.{most_pharmacies, most_switches, most_payers, most_entries}
 
 pub record PayerSettings : Type 0 where
   pub book : BookSettings
@@ -42,17 +43,21 @@ abbrev pub some_provider_twice : List PharmacySettings → Bool
 some_provider_twice [] = false
 some_provider_twice (s ∷ more) = list_any (same_provider s) more || some_provider_twice more
 
--- TooMany: over 256 pharmacies, 64 switches or 64 payers. NoNode: no node of some kind, or a pharmacy whose list is empty or names a
+-- more nodes of a kind than any settings may have
+abbrev pub too_many : WorldSettings → Bool
+too_many s = nat_lt most_pharmacies (length s.pharmacies) || (nat_lt most_switches (length s.switches) || nat_lt most_payers (length s.payers))
+
+-- TooMany: over 65,535 pharmacies, 4,096 switches or 4,096 payers. NoNode: no node of some kind, or a pharmacy whose list is empty or names a
 -- switch that is not there. SameProvider: two pharmacies of one identity
 abbrev pub settings_fault : WorldSettings → Option SettingsFault
 settings_fault s =
-    cond (nat_lt 256 (length s.pharmacies) || (nat_lt 64 (length s.switches) || nat_lt 64 (length s.payers))) (Some TooMany)
+    cond (too_many s) (Some TooMany)
     (cond (is_empty s.pharmacies || (is_empty s.switches || (is_empty s.payers || not (list_all (has_nodes (length s.switches)) s.pharmacies)))) (Some NoNode)
     (cond (some_provider_twice s.pharmacies) (Some SameProvider) None))
 
 -- what the settings of a pharmacy keep
 pub record IsPharmacySettings (s : PharmacySettings) : Type 0 where
-  pub cap : s.cap ≤ 65536
+  pub cap : s.cap ≤ most_entries
 
 -- what the settings of a book keep
 pub record IsBookSettings (s : BookSettings) : Type 0 where

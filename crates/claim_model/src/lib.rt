@@ -1,14 +1,15 @@
 //! The model of the claim switch: what a book, a journal, an in-flight table and the world of all nodes are,
 //! step by step, and what holds of every world that events lead to. What each node did in a run, as a log of its own,
 //! and which lists of events are an interleaving of such logs: calls are local, packets are never used up, and so one
-//! enabled call after another finds an interleaving where there is one. It has definitions and theorems, and no
-//! node's code.
+//! enabled call after another finds an interleaving where there is one. It has definitions and theorems, the limits
+//! of settings, and no node's code.
 #![tactic(auto)]
 
 mod answers;
 mod bytes;
 mod deliveries;
 mod interleavings;
+mod limits;
 mod local;
 mod payments;
 mod replays;
@@ -25,6 +26,7 @@ pub use deliveries::deliveries_meet_few_refusals;
 pub use interleavings::{
     enabled_calls_lead_on, interleavings_agree, interleavings_are_found, logs_of_interleavings,
 };
+pub use limits::Limits;
 pub use local::{calls_are_local, enabled_calls_stay, equal_packets_serve_alike};
 pub use payments::{
     counted_payments_stand, one_standing_payment, reversed_by_owner, standing_payments_are_counted,

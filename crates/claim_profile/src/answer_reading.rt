@@ -116,12 +116,20 @@ pub fn read_answer(alloc: Global, bytes: &[u8]) -> Result<Answer, AnswerFault>
     // The first fault, unless memory ran out.
     ensures fault { IfErr result (λ fault. FailsAs fault (answer_of bytes.now)) }
 {
+    read_answer_into(Vec::new(alloc), bytes)
+}
+
+/// Reads an answer as [`read_answer`] does, its rulings into a list whose memory is used again. What the list held is gone.
+pub fn read_answer_into(list: Vec<Ruling>, bytes: &[u8]) -> Result<Answer, AnswerFault>
+    ensures read { IfOk result (λ answer. answer_of bytes.now ≡ Ok answer) }
+    ensures fault { IfErr result (λ fault. FailsAs fault (answer_of bytes.now)) }
+{
     let framed = match check_response(bytes) {
         Ok(framed) => framed,
         Err(_) => return Err(AnswerFault::Framing),
     };
     let header = *framed.header();
-    let rulings = rulings_of(alloc, &header, framed.body(), framed.group_count())?;
+    let rulings = rulings_of(list, &header, framed.body(), framed.group_count())?;
     Ok(Answer { header, rulings })
 }
 
@@ -158,9 +166,9 @@ fn check_rulings(header: &ResponseHeader, from: Cursor<'_>, count: usize) -> Res
     Ok(())
 }
 
-/// The rulings of the groups behind a place, so many, in order.
+/// The rulings of the groups behind a place, so many, in order, in a list whose memory is used again.
 fn rulings_of(
-    alloc: Global,
+    list: Vec<Ruling>,
     header: &ResponseHeader,
     from: Cursor<'_>,
     count: usize,
@@ -169,7 +177,8 @@ fn rulings_of(
     ensures read { IfOk result (λ rulings. rulings_in header.now (groups_of from.entry.bytes.now) ≡ Ok rulings.items) }
     ensures fault { IfErr result (λ fault. FailsAs fault (rulings_in header.now (groups_of from.entry.bytes.now))) }
 {
-    let mut rulings = Vec::new(alloc);
+    let mut rulings = list;
+    rulings.clear();
     let mut rest = from;
     let mut left = count;
     while let Some(group) = next_group(rest, left) {

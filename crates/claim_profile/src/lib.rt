@@ -28,7 +28,7 @@ mod texts;
 mod transaction;
 mod values;
 
-pub use answer_reading::{Answer, AnswerFault, check_answer, read_answer};
+pub use answer_reading::{Answer, AnswerFault, check_answer, read_answer, read_answer_into};
 pub use answer_writing::{put_answer, write_answer};
 pub use authorization::Auth;
 pub use building::{BillingParts, BuildFault, ReversalParts, billing, reversal};

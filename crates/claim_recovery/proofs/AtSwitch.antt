@@ -13,6 +13,7 @@ use Rattle.claim_model.specs.Journal.{JournalAtRest, Kept}
 use Rattle.claim_model.specs.Table.{Slot, Table, Forward, Back, slot_of, entered_where, Requested, requested, requested_by, requested_readable, requested_again, routed_by}
 use Rattle.claim_model.specs.Node.{Switch, Power, Up, AtRest}
 use Rattle.claim_model.specs.World.{World, Packet, Event, Starting}
+use Rattle.claim_model.specs.Limits.{most_entries}
 use Rattle.claim_model.specs.Settings.{WorldSettings}
 use Rattle.claim_model.specs.Held.{journal_at, asked, decided}
 use Rattle.claim_model.specs.Promises.{Reached}
@@ -47,7 +48,7 @@ open_known ctx given w id request r o =
     let se = sj.entries id.number e j.2 in
     let g = pharmacy_given ctx given id.pharmacy j.0.settings r.accepts sj.settings in
     let b = numbered_within j.0.entries id.number e j.2 in
-    let cap : j.0.settings.cap ≤ 65536 = g.2.cap in
+    let cap : j.0.settings.cap ≤ most_entries = g.2.cap in
     let room : length j.0.entries ≤ j.0.settings.cap = sj.room in
     record {
       fits = record { pharmacy = g.0; pharmacy_fits = omega (arith, g.1); number = b.0; number_fits = omega (arith, b.1, cap, room); payload = (readable_parts ctx request se.header se.reads).0 };

@@ -1,5 +1,6 @@
 //! Why there is no verdict.
 
+use claim_reports::ReportFault;
 use kept_logs::LogFault;
 use log_audit::AuditFault;
 use thiserror::Error;
@@ -8,7 +9,7 @@ use thiserror::Error;
 #[derive(Debug, Drop, Error)]
 pub(crate) enum Finding {
     /// The words are wrong.
-    #[error("usage: claimaudit [--alone] [--csv payments|entries|rows|packets|open | --json | --schedule] SETTINGS LOG...")]
+    #[error("usage: claimaudit [--alone] [--csv payments|entries|rows|packets|open|counted | --json | --schedule] SETTINGS LOG..., or a report on tables (-h)")]
     Usage,
     /// The file of this name is no log under the settings.
     #[error("{0}: {1}")]
@@ -16,6 +17,9 @@ pub(crate) enum Finding {
     /// The settings are refused: what is wrong in them.
     #[error("settings refused: {0}")]
     Settings(String),
+    /// There is no report on the tables.
+    #[error("{0}")]
+    Report(ReportFault),
     /// There is nothing to be judged.
     #[error("{0}")]
     Fault(AuditFault),

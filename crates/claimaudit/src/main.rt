@@ -1,19 +1,27 @@
-//! The program `claimaudit`: the settings and the logs of all nodes, and whether they are those of one legal run.
+//! The program `claimaudit`: the settings and the logs of all nodes, and whether they are those of one legal run; and
+//! reports on the tables that it writes.
 #![tactic(auto)]
 
 mod finding;
+mod report_words;
 mod words;
 
 use crate::finding::Finding;
+use crate::report_words::{Lines, Report};
 use crate::words::{Asked, Words, words_of};
+use claim_reports::{
+    Comparison, ReportFault, compare_tables, receipts_beside, remittance_lines, remittance_sums,
+    totals_table,
+};
 use command_line::{End, given_words, read_file, read_settings_file};
 use log_audit::{
-    AuditFault, Audited, Form, LoneForm, LoneReport, Report, read_audited, report_alone, report_on,
+    AuditFault, Audited, Form, LoneForm, LoneReport, Report as AuditReport, read_audited,
+    report_alone, report_on,
 };
 use std::alloc::Global;
 use std::io::Write;
 use std::process::ExitCode;
-use world_settings::settings_fault;
+use world_settings::living_settings_fault;
 
 /// Why the program ends without a verdict.
 type Unjudged = End<Finding>;
@@ -32,7 +40,10 @@ fn run(rt: &HostRuntime) -> Result<bool, Unjudged> {
     let alloc = rt.alloc();
     let given = given_words(rt)?;
     let words = words_of(alloc, given.as_slice())?;
-    let told = audit(rt, &words)?;
+    let told = match words.asked {
+        Asked::Report(report) => reported(rt, &words, report)?,
+        Asked::Together(_) | Asked::Alone(_) => audit(rt, &words)?,
+    };
     let mut writer = rt.stdout();
     writer.write_all(told.text.as_slice())?;
     writer.flush()?;
@@ -64,6 +75,59 @@ struct Told {
     good: bool,
 }
 
+/// Reads tables and reports on them.
+fn reported(rt: &HostRuntime, words: &Words<'_>, report: Report) -> Result<Told, Unjudged> {
+    let mut tables = Vec::new(rt.alloc());
+    tables.push(read_file(rt, words.settings)?)?;
+    for name in &words.logs {
+        tables.push(read_file(rt, name)?)?;
+    }
+    match report_on_tables(rt.alloc(), tables.as_slice(), report) {
+        Ok(told) => Ok(told),
+        Err(ReportFault::OutOfMemory) => Err(End::OutOfMemory),
+        Err(fault) => Err(End::Own(Finding::Report(fault))),
+    }
+}
+
+/// The report on tables; of a comparison whether they agree.
+fn report_on_tables(
+    alloc: Global,
+    tables: &[Vec<u8>],
+    report: Report,
+) -> Result<Told, ReportFault> {
+    let first = table_at(tables, 0);
+    let text = match report {
+        Report::Totals(by, choice) => totals_table(alloc, first, by, &choice)?,
+        Report::Remittance(Lines::Each, asked) => remittance_lines(alloc, first, &asked)?,
+        Report::Remittance(Lines::Sums, asked) => remittance_sums(alloc, first, &asked)?,
+        Report::Compare(between) => {
+            let (entries, payments) = (table_at(tables, 1), table_at(tables, 2));
+            let told = compare_tables(alloc, first, entries, payments, between)?;
+            return Ok(compared(told));
+        }
+        Report::Receipts(pharmacy) => {
+            let (entries, packets) = (table_at(tables, 1), table_at(tables, 2));
+            let told = receipts_beside(alloc, first, entries, packets, pharmacy)?;
+            return Ok(compared(told));
+        }
+    };
+    Ok(Told { text, good: true })
+}
+
+/// What is written of a comparison, and whether its sides agree.
+fn compared(told: Comparison) -> Told {
+    let Comparison { text, agrees } = told;
+    Told { text, good: agrees }
+}
+
+/// The table at a place among those that were read.
+fn table_at(tables: &[Vec<u8>], place: usize) -> &[u8] {
+    match tables.get(place) {
+        Some(table) => table.as_slice(),
+        None => b"",
+    }
+}
+
 /// Reads the files and judges them.
 fn audit(rt: &HostRuntime, words: &Words<'_>) -> Result<Told, Unjudged> {
     let alloc = rt.alloc();
@@ -82,7 +146,7 @@ fn audit(rt: &HostRuntime, words: &Words<'_>) -> Result<Told, Unjudged> {
 /// What is wrong in settings that spell none.
 fn why_refused(rt: &HostRuntime, words: &Words<'_>) -> Result<Finding, Unjudged> {
     let text = read_settings_file(rt, words.settings)?;
-    match settings_fault(rt.alloc(), text.as_slice())? {
+    match living_settings_fault(rt.alloc(), text.as_slice())? {
         Some(why) => Ok(Finding::Settings(why)),
         None => Ok(Finding::Fault(AuditFault::Settings)),
     }
@@ -99,12 +163,13 @@ fn judged(
     match asked {
         Asked::Together(form) => told_together(alloc, audited, form),
         Asked::Alone(form) => told_alone(alloc, audited, form),
+        Asked::Report(_) => Err(AuditFault::Settings),
     }
 }
 
 /// What is told of logs of one run.
 fn told_together(alloc: Global, audited: Audited, form: Form) -> Result<Told, AuditFault> {
-    let Report { text, legal } = report_on(alloc, audited, form)?;
+    let AuditReport { text, legal } = report_on(alloc, audited, form)?;
     Ok(Told { text, good: legal })
 }
 

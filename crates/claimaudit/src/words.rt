@@ -2,6 +2,7 @@
 
 use crate::Unjudged;
 use crate::finding::Finding;
+use crate::report_words::{Report, report_of, with_reports};
 use clap::{Arg, ArgAction, Command};
 use command_line::{End, VERSION};
 use log_audit::{Form, LoneForm, LoneTable, Table};
@@ -10,21 +11,23 @@ use std::alloc::Global;
 /// What the command line names.
 #[derive(Drop)]
 pub(crate) struct Words<'a> {
-    /// The file of the settings.
+    /// The file of the settings; of a report the first table.
     pub(crate) settings: &'a str,
-    /// The files of the logs.
+    /// The files of the logs; of a report the other tables.
     pub(crate) logs: Vec<&'a str>,
-    /// What is asked of the logs.
+    /// What is asked of them.
     pub(crate) asked: Asked,
 }
 
-/// What is asked of logs.
+/// What is asked.
 #[derive(Clone, Copy)]
 pub(crate) enum Asked {
-    /// Whether they are those of one legal run.
+    /// Whether logs are those of one legal run.
     Together(Form),
-    /// Whether the node of each makes it, with nothing judged of other nodes.
+    /// Whether the node of each log makes it, with nothing judged of other nodes.
     Alone(LoneForm),
+    /// A report on tables.
+    Report(Report),
 }
 
 /// What the command line names; its first word is the program's own name.
@@ -46,17 +49,16 @@ pub(crate) fn words_of<'a>(alloc: Global, given: &'a [String]) -> Result<Words<'
         .value_name("TABLE")
         .action(ArgAction::Set)
         .help(
-            "writes a table of what the run left as CSV: payments, entries, rows or packets; alone, payments, entries, rows or open",
+            "writes a table of what the run left as CSV: payments, entries, rows, packets or counted; alone, payments, entries, rows, open or counted",
         );
     let settings = Arg::new(alloc, "SETTINGS")
         .required(true)
         .action(ArgAction::Set)
-        .help("the settings of all nodes, a TOML file");
+        .help("the settings of all nodes, a TOML file; of a report a table");
     let logs = Arg::new(alloc, "LOG")
-        .required(true)
         .action(ArgAction::Append)
-        .num_args(1..)
-        .help("the log of a node, each of them once, in any order");
+        .num_args(0..)
+        .help("the log of a node, each of them once, in any order; of a report a table");
     let command = Command::new(alloc, "claimaudit")
         .version(VERSION)
         .about(
@@ -68,20 +70,40 @@ pub(crate) fn words_of<'a>(alloc: Global, given: &'a [String]) -> Result<Words<'
         .arg(schedule)?
         .arg(settings)?
         .arg(logs)?;
+    let command = with_reports(alloc, command)?;
     let matches = command.try_get_matches_from(given)?;
-    let asked = asked_for(
+    let report = report_of(&matches)?;
+    let form = asked_for(
         matches.get_flag("alone"),
         matches.get_flag("schedule"),
         matches.get_flag("json"),
         matches.get_str("csv"),
     )?;
-    match (matches.get_str("SETTINGS"), matches.get_strs("LOG")) {
-        (Some(settings), Some(logs)) => Ok(Words {
+    let logs = matches.get_strs("LOG").unwrap_or(&[]);
+    let asked = asked_of(form, report, logs.len())?;
+    match matches.get_str("SETTINGS") {
+        Some(settings) => Ok(Words {
             settings,
             logs: Vec::from_slice(alloc, logs)?,
             asked,
         }),
-        _ => Err(End::Own(Finding::Usage)),
+        None => Err(End::Own(Finding::Usage)),
+    }
+}
+
+/// What is asked of so many files behind the first one: a report asks for nothing else, and has its own count of tables.
+fn asked_of(form: Asked, report: Option<Report>, others: usize) -> Result<Asked, Unjudged> {
+    let Some(report) = report else {
+        if others == 0 {
+            return Err(End::Own(Finding::Usage));
+        }
+        return Ok(form);
+    };
+    let is_plain = matches!(form, Asked::Together(Form::Lines));
+    if is_plain && others == report.other_tables() {
+        Ok(Asked::Report(report))
+    } else {
+        Err(End::Own(Finding::Usage))
     }
 }
 
@@ -113,6 +135,7 @@ fn lone_table_named(name: &str) -> Option<LoneTable> {
         "entries" => Some(LoneTable::Entries),
         "rows" => Some(LoneTable::Rows),
         "open" => Some(LoneTable::Open),
+        "counted" => Some(LoneTable::Counted),
         _ => None,
     }
 }
@@ -138,6 +161,7 @@ fn table_named(name: &str) -> Option<Table> {
         "entries" => Some(Table::Entries),
         "rows" => Some(Table::Rows),
         "packets" => Some(Table::Packets),
+        "counted" => Some(Table::Counted),
         _ => None,
     }
 }

@@ -1,6 +1,7 @@
 //! The program `claimdecode`: messages on standard input, a description of each on standard output.
 #![tactic(auto)]
 
+mod encoding;
 mod stop;
 mod words;
 
@@ -63,12 +64,28 @@ fn decode(rt: &HostRuntime, asked: Asked) -> ExitCode {
 fn described(rt: &HostRuntime, asked: Asked) -> Result<bool, Stop> {
     let alloc = rt.alloc();
     let mut source = LineSource::new(alloc, rt.stdin())?;
+    if asked.encode {
+        return encoded(rt, asked.spelling, &mut source);
+    }
     let mut page = Page::new(alloc, asked.style);
     let mut writer = rt.stdout();
     if asked.spelling == Spelling::Raw {
         return whole(alloc, asked, &mut source, &mut page, &mut writer);
     }
     each_line(alloc, asked, &mut source, &mut page, &mut writer)
+}
+
+/// Makes the messages that the input describes.
+fn encoded<R: Read + Drop>(
+    rt: &HostRuntime,
+    spelling: Spelling,
+    source: &mut LineSource<R>,
+) -> Result<bool, Stop> {
+    let mut writer = rt.stdout();
+    if spelling == Spelling::Raw {
+        return encoding::whole(rt.alloc(), source, &mut writer, &mut rt.stderr());
+    }
+    encoding::each_line(rt.alloc(), spelling, source, &mut writer)
 }
 
 /// Describes the whole input as one message.

@@ -12,6 +12,8 @@ pub(crate) struct Asked {
     pub(crate) kind: Option<MessageKind>,
     pub(crate) style: Style,
     pub(crate) spelling: Spelling,
+    /// Whether messages are made of their descriptions.
+    pub(crate) encode: bool,
 }
 
 static KINDS: [&str; 4] = ["request", "answer", "packet", "record"];
@@ -22,11 +24,12 @@ const ABOUT: &str =
 const AFTER: &str =
     "Messages come on standard input, one a line, in printed bytes: \\F, \\G and \\S are the \
 separators of fields, groups and segments, \\\\ a backslash, \\xHH any byte. Empty lines and those that begin \
-with # are skipped. Each message is described before the next one is read.
+with # are skipped. Each message is described before the next one is read. With --encode lines are descriptions in \
+JSON, and a line that describes no message is answered by one that begins with # and says why.
 
 Exit status:
   0  every message was described, a rejected or a faulty one too
-  1  a line spells no bytes (the others are described), or reading or writing failed
+  1  a line spells no bytes, or describes no message (the others are described, or made), or reading or writing failed
   2  the words are wrong";
 
 /// What the words of a command line ask for.
@@ -48,6 +51,7 @@ pub(crate) fn asked_in(alloc: Global, words: &[String]) -> Result<Asked, Error> 
         kind: kind_of(matches.get_str("kind")),
         style,
         spelling,
+        encode: matches.get_flag("encode"),
     })
 }
 
@@ -71,6 +75,14 @@ fn command<'a>(alloc: Global) -> Result<Command<'a>, Error> {
         .action(ArgAction::SetTrue)
         .conflicts_with("hex")?
         .help("Reads the whole input as one message, without 0x02 before it and 0x03 behind it");
+    let encode = Arg::new(alloc, "encode")
+        .long("encode")
+        .action(ArgAction::SetTrue)
+        .conflicts_with("json")?
+        .conflicts_with("kind")?
+        .help(
+            "Makes messages of what --json has written: one a line, with --hex in hexadecimal digits, with --raw one as its bytes",
+        );
     let command = Command::new(alloc, "claimdecode")
         .version(VERSION)
         .about(ABOUT)
@@ -78,7 +90,8 @@ fn command<'a>(alloc: Global) -> Result<Command<'a>, Error> {
         .arg(kind)?
         .arg(json)?
         .arg(hex)?
-        .arg(raw)?;
+        .arg(raw)?
+        .arg(encode)?;
     Ok(command)
 }
 

@@ -10,7 +10,7 @@ use run_merge::NodeLog;
 use schedule::{ScheduleFault, divide, read_schedule};
 use std::alloc::{AllocError, Global};
 use world_core::World;
-use world_settings::{SettingsFault, read_settings, settings_fault};
+use world_settings::{SettingsFault, living_settings_fault, read_living_settings};
 use world_setup::{Event, Node, StepFault, WorldFault};
 
 /// The files of a replay: `settings.toml`; of each node its log, as `ph1.log`; of each pharmacy the record of its
@@ -32,7 +32,7 @@ pub(crate) fn dump(alloc: Global, input: &[u8]) -> Result<Vec<DumpFile>, DumpFau
 
 /// The opening world of settings.
 fn opened(alloc: Global, text: &[u8]) -> Result<World, DumpFault> {
-    let settings = match read_settings(alloc, text) {
+    let settings = match read_living_settings(alloc, text) {
         Ok(settings) => settings,
         Err(SettingsFault::OutOfMemory) => return Err(DumpFault::OutOfMemory),
         Err(SettingsFault::Settings) => return Err(why_refused(alloc, text)?),
@@ -46,7 +46,7 @@ fn opened(alloc: Global, text: &[u8]) -> Result<World, DumpFault> {
 
 /// What is wrong in settings that spell none.
 fn why_refused(alloc: Global, text: &[u8]) -> Result<DumpFault, AllocError> {
-    match settings_fault(alloc, text)? {
+    match living_settings_fault(alloc, text)? {
         Some(why) => Ok(DumpFault::Settings(why)),
         None => Ok(DumpFault::Settings(String::from_str(alloc, "they are none")?)),
     }

@@ -12,6 +12,9 @@ pub(crate) enum Finding {
     /// The old settings have not grown to the new ones.
     #[error("{0}")]
     Growth(GrowthFault),
+    /// One of the settings is refused, for what is wrong in it.
+    #[error("{0}: {1}")]
+    Refused(GrowthFault, String),
     /// Another process has the log of this name.
     #[error("{0}: another process has the log")]
     Locked(String),

@@ -20,6 +20,7 @@ use node_service::ServiceFault;
 use std::alloc::Global;
 use std::io::Write;
 use std::process::ExitCode;
+use world_settings::living_settings_fault;
 use world_setup::Node;
 
 /// Why the program ends before each log is one of the new settings.
@@ -55,7 +56,17 @@ fn check_growth(alloc: Global, old: &[u8], new: &[u8]) -> Result<(), Ungone> {
     match grows(alloc, old, new) {
         Ok(()) => Ok(()),
         Err(GrowthFault::OutOfMemory) => Err(End::OutOfMemory),
+        Err(GrowthFault::OldSettings) => why_refused(alloc, GrowthFault::OldSettings, old),
+        Err(GrowthFault::NewSettings) => why_refused(alloc, GrowthFault::NewSettings, new),
         Err(fault) => Err(End::Own(Finding::Growth(fault))),
+    }
+}
+
+/// Ends for settings that are refused, with what is wrong in them.
+fn why_refused(alloc: Global, fault: GrowthFault, text: &[u8]) -> Result<(), Ungone> {
+    match living_settings_fault(alloc, text)? {
+        Some(why) => Err(End::Own(Finding::Refused(fault, why))),
+        None => Err(End::Own(Finding::Growth(fault))),
     }
 }
 

@@ -9,6 +9,9 @@ pub(crate) enum Finding {
     /// Another process has the log.
     #[error("another process has the log")]
     Locked,
+    /// A sync of the log failed, and nobody has looked since: the mark that says so.
+    #[error("a sync of the log failed; look at it, and remove {0}")]
+    SyncFailed(String),
     /// The node's name is none.
     #[error("NODE is ph, sw or pr and a number, as ph1")]
     Node,
@@ -18,9 +21,15 @@ pub(crate) enum Finding {
     /// More turns than can be counted.
     #[error("too many turns")]
     TooManyTurns,
-    /// A word that is to be a number of calls is none.
-    #[error("--at-least wants a number")]
-    Number,
+    /// The log is damaged at this place, and nothing was cut.
+    #[error("the log is damaged at byte {0}, and stays as it is")]
+    Damaged(usize),
+    /// The place behind `--cut-at` is not that of the damage, which is this one.
+    #[error("the damage is at byte {0}, and nothing is cut elsewhere")]
+    OtherPlace(usize),
+    /// There is no damage to be cut off.
+    #[error("the log is not damaged, and nothing is cut")]
+    NotDamaged,
     /// The settings are refused: what is wrong in them.
     #[error("settings refused: {0}")]
     Settings(String),

@@ -4,10 +4,15 @@
 
 mod file;
 mod finding;
+mod repair;
+mod standard;
+mod undamaged;
 mod words;
 
 use crate::file::open_log;
 use crate::finding::Finding;
+use crate::repair::repair;
+use crate::standard::take_standard;
 use crate::words::{Words, words_of};
 use command_line::{End, given_words, read_settings_file};
 use node_process::{Host, Owner, Unserved, serve_all};
@@ -15,7 +20,7 @@ use node_service::{Service, ServiceFault};
 use payer_book::HashKeys;
 use std::alloc::Global;
 use std::process::ExitCode;
-use world_settings::settings_fault;
+use world_settings::living_settings_fault;
 
 fn main(rt: HostRuntime) -> ExitCode {
     match run(&rt) {
@@ -27,6 +32,7 @@ fn main(rt: HostRuntime) -> ExitCode {
 /// Serves the node that the command line names, from its log.
 fn run(rt: &HostRuntime) -> Result<(), End<Finding>> {
     let alloc = rt.alloc();
+    let _standard = take_standard(rt)?;
     let given = given_words(rt)?;
     let words = words_of(alloc, given.as_slice())?;
     let text = read_settings_file(rt, words.settings)?;
@@ -44,7 +50,7 @@ fn check_settings(rt: &HostRuntime, words: &Words<'_>, text: &[u8]) -> Result<()
 
 /// What is wrong in settings that are refused.
 fn why_refused(alloc: Global, text: &[u8]) -> Result<Finding, End<Finding>> {
-    match settings_fault(alloc, text)? {
+    match living_settings_fault(alloc, text)? {
         Some(why) => Ok(Finding::Settings(why)),
         None => Ok(Finding::Service(ServiceFault::Settings)),
     }
@@ -53,6 +59,9 @@ fn why_refused(alloc: Global, text: &[u8]) -> Result<Finding, End<Finding>> {
 /// Serves a node under settings from its log.
 fn run_node(rt: &HostRuntime, words: &Words<'_>, text: &[u8]) -> Result<(), End<Finding>> {
     check_settings(rt, words, text)?;
+    if words.repair {
+        return repair(rt, words, text);
+    }
     let log = open_log(rt, words.log)?;
     let mut host = Host::new(rt, words.log, log, rt.stdin(), rt.stdout());
     let owner = Owner {

@@ -1,15 +1,12 @@
 //! The words of the command line.
 
 use crate::finding::Finding;
-use clap::{Arg, ArgAction, Command};
+use clap::error::ErrorKind;
+use clap::{Arg, ArgAction, ArgMatches, Command, value_parser};
 use command_line::{End, VERSION};
-use input_text::read_decimal;
 use node_service::node_in;
-use std::alloc::Global;
+use std::alloc::{AllocError, Global};
 use world_setup::Node;
-
-/// The most digits of a count of calls (own).
-const MOST_DIGITS: usize = 18;
 
 /// What the command line names.
 #[derive(Drop)]
@@ -22,11 +19,40 @@ pub(crate) struct Words<'a> {
     pub(crate) log: &'a str,
     /// How many calls the log is known to have.
     pub(crate) least: u64,
+    /// Whether the log is not served: what stands behind its damage is told.
+    pub(crate) repair: bool,
+    /// Where the log is cut: the place of its damage, typed back.
+    pub(crate) cut_at: Option<u64>,
 }
 
 /// What the command line names; its first word is the program's own name.
 pub(crate) fn words_of<'a>(alloc: Global, given: &'a [String]) -> Result<Words<'a>, End<Finding>> {
-    let command = Command::new(alloc, "claimnode")
+    let mut command = command(alloc)?;
+    let matches = command.try_get_matches_from_mut(given)?;
+    match words_in(&matches) {
+        Some(words) => Ok(words),
+        None => Err(End::Words(command.error(
+            ErrorKind::ValueValidation,
+            "NODE is ph, sw or pr and a number, as ph1",
+        )?)),
+    }
+}
+
+/// What was matched; none where the node's name is none.
+fn words_in<'a>(matches: &ArgMatches<'a>) -> Option<Words<'a>> {
+    Some(Words {
+        settings: matches.get_str("SETTINGS")?,
+        node: node_in(matches.get_str("NODE")?.as_bytes())?,
+        log: matches.get_str("LOG")?,
+        least: matches.get_one::<u64>("at-least").unwrap_or(0),
+        repair: matches.get_flag("repair"),
+        cut_at: matches.get_one::<u64>("cut-at"),
+    })
+}
+
+/// The command line.
+fn command<'a>(alloc: Global) -> Result<Command<'a>, AllocError> {
+    Command::new(alloc, "claimnode")
         .version(VERSION)
         .about(
             "Serves one node from its log: lines on standard input ask it, and each call is on disk before what it sent is said.",
@@ -38,24 +64,9 @@ pub(crate) fn words_of<'a>(alloc: Global, given: &'a [String]) -> Result<Words<'
             "LOG",
             "the node's log, which is made where it is not there",
         ))?
-        .arg(least(alloc))?;
-    let matches = command.try_get_matches_from(given)?;
-    match (
-        matches.get_str("SETTINGS"),
-        matches.get_str("NODE"),
-        matches.get_str("LOG"),
-    ) {
-        (Some(settings), Some(name), Some(log)) => match node_in(name.as_bytes()) {
-            Some(node) => Ok(Words {
-                settings,
-                node,
-                log,
-                least: least_of(matches.get_str("at-least"))?,
-            }),
-            None => Err(End::Own(Finding::Node)),
-        },
-        _ => Err(End::Own(Finding::Node)),
-    }
+        .arg(least(alloc))?
+        .arg(repair(alloc)?)?
+        .arg(cut_at(alloc)?)
 }
 
 /// How many calls the log is known to have.
@@ -63,19 +74,31 @@ fn least<'a>(alloc: Global) -> Arg<'a> {
     Arg::new(alloc, "at-least")
         .long("at-least")
         .value_name("CALLS")
+        .value_parser(value_parser!(u64))
         .action(ArgAction::Set)
         .help("refuse a log of fewer calls, such as an older copy")
 }
 
-/// The number behind `--at-least`; 0 where it is not said.
-fn least_of(word: Option<&str>) -> Result<u64, End<Finding>> {
-    match word {
-        None => Ok(0),
-        Some(word) => match read_decimal(word.as_bytes(), MOST_DIGITS) {
-            Some(number) => Ok(number),
-            None => Err(End::Own(Finding::Number)),
-        },
-    }
+/// That the log is not served, and what stands behind its damage is told.
+fn repair<'a>(alloc: Global) -> Result<Arg<'a>, AllocError> {
+    Arg::new(alloc, "repair")
+        .long("repair")
+        .action(ArgAction::SetTrue)
+        .help("serve nothing: tell what stands behind the damage of a log")
+        .conflicts_with("at-least")
+}
+
+/// Where the log is cut.
+fn cut_at<'a>(alloc: Global) -> Result<Arg<'a>, AllocError> {
+    Arg::new(alloc, "cut-at")
+        .long("cut-at")
+        .value_name("PLACE")
+        .value_parser(value_parser!(u64))
+        .action(ArgAction::Set)
+        .help(
+            "with --repair: cut the log off at this place, that of its damage, and keep what stands behind it beside the log",
+        )
+        .requires_arg("repair")
 }
 
 /// A word that has to be there.

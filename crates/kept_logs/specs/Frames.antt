@@ -73,3 +73,9 @@ sized_frame number (Some (size, rest)) = if is_size size then behind_length numb
 -- the record of this number at the front of bytes
 unfoldable pub frame_at : ℕ → List ℕ → Frame
 frame_at number bytes = sized_frame number (u64_at bytes)
+
+-- what follows a record that stands whole and undamaged
+abbrev pub behind_frame : Frame → Option (List ℕ)
+behind_frame (Framed body after) = Some after
+behind_frame CutOff = None
+behind_frame Damaged = None

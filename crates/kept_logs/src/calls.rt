@@ -7,8 +7,9 @@ ghost use Rattle.world_setup.specs.Seen.{node_seen, call_seen};
 ghost use Rattle.kept_logs.specs.Calls.{call_text, call_at, call_of, submit_at, take_at, unplan_at, plan_at};
 ghost use Rattle.kept_logs.specs.Fits.{FitsCall};
 
-use crate::fields::{take_node, take_text, take_u8, take_u32};
-use crate::putting::{put_node, put_text, put_u8, put_u32};
+use crate::fields::{take_node, take_text};
+use crate::putting::{put_node, put_text};
+use kept_records::{put_u8, put_u32, take_u8, take_u32};
 use octets::Octets;
 use std::alloc::{AllocError, Global};
 use world_setup::{Call, Node};

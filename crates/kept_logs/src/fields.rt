@@ -2,60 +2,11 @@
 
 ghost use Rattle.std.specs.Prelude.{◌≡◌};
 ghost use Rattle.std.specs.Option.{option_map};
-ghost use Rattle.kept_records.specs.Fields.{u8_at, u16_at, u32_at, u64_at};
 ghost use Rattle.world_setup.specs.Seen.{node_seen};
 ghost use Rattle.kept_logs.specs.Fields.{bytes_at, text_at, node_of, node_at};
 
+use kept_records::{take_u8, take_u16, take_u64};
 use world_setup::Node;
-
-/// A number of one byte and what follows it; none where there is no byte.
-#[tactic(auto, unfolding(kept_records::specs::Fields::u8_at))]
-pub(crate) fn take_u8(bytes: &[u8]) -> Option<(u8, &[u8])>
-    ensures { option_map (λ taken. (taken.0, taken.1.now)) result ≡ u8_at bytes.now }
-{
-    if bytes.is_empty() {
-        return None;
-    }
-    Some((bytes[0], &bytes[1..]))
-}
-
-/// A number of two bytes and what follows it; none where it is cut off.
-#[tactic(auto, unfolding(kept_records::specs::Fields::u16_at))]
-pub(crate) fn take_u16(bytes: &[u8]) -> Option<(u16, &[u8])>
-    ensures { option_map (λ taken. (taken.0, taken.1.now)) result ≡ u16_at bytes.now }
-{
-    if bytes.len() < 2 {
-        return None;
-    }
-    let number = u16::from_be_bytes([bytes[0], bytes[1]]);
-    Some((number, &bytes[2..]))
-}
-
-/// A number of four bytes and what follows it; none where it is cut off.
-#[tactic(auto, unfolding(kept_records::specs::Fields::u32_at))]
-pub(crate) fn take_u32(bytes: &[u8]) -> Option<(u32, &[u8])>
-    ensures { option_map (λ taken. (taken.0, taken.1.now)) result ≡ u32_at bytes.now }
-{
-    if bytes.len() < 4 {
-        return None;
-    }
-    let number = u32::from_be_bytes([bytes[0], bytes[1], bytes[2], bytes[3]]);
-    Some((number, &bytes[4..]))
-}
-
-/// A number of eight bytes and what follows it; none where it is cut off.
-#[tactic(auto, unfolding(kept_records::specs::Fields::u64_at))]
-pub(crate) fn take_u64(bytes: &[u8]) -> Option<(u64, &[u8])>
-    ensures { option_map (λ taken. (taken.0, taken.1.now)) result ≡ u64_at bytes.now }
-{
-    if bytes.len() < 8 {
-        return None;
-    }
-    let number = u64::from_be_bytes([
-        bytes[0], bytes[1], bytes[2], bytes[3], bytes[4], bytes[5], bytes[6], bytes[7],
-    ]);
-    Some((number, &bytes[8..]))
-}
 
 /// The first so many bytes and what follows them; none where there are fewer.
 #[tactic(auto, unfolding(crate::specs::Fields::bytes_at))]

@@ -1,13 +1,13 @@
 //! Records in a file.
 
 ghost use Rattle.std.specs.Prelude.{◌≡◌, ◌==◌, true, length, IfOk};
-ghost use Rattle.kept_logs.specs.Frames.{frame_text, frame_at, body_at, is_size, is_zeros, no_record};
+ghost use Rattle.std.specs.Option.{option_copied};
+ghost use Rattle.kept_logs.specs.Frames.{behind_frame, frame_text, frame_at, body_at, is_size, is_zeros, no_record};
 ghost use Rattle.kept_logs.specs.MetSeen.{frame_seen};
 
 use crate::digest::check_of;
-use crate::fields::take_u64;
 use crate::met::{Met, meet};
-use crate::putting::put_u64;
+use kept_records::{put_u64, take_u64};
 use std::alloc::{AllocError, Global};
 
 /// What a record takes beside its body, in bytes: its length twice, and what vouches for it.
@@ -86,6 +86,17 @@ pub(crate) fn take_frame(number: u64, bytes: &[u8]) -> Frame<'_>
         Met::Whole(rest) => take_body(number, size, rest),
         Met::Torn => Frame::CutOff,
         Met::Differs => Frame::Damaged,
+    }
+}
+
+/// What follows the undamaged record of this number that begins these bytes; none where there is no such record, or it is cut off.
+pub fn behind_record(number: u64, bytes: &[u8]) -> Option<&[u8]>
+    ensures { option_copied result ≡ behind_frame (frame_at number bytes.now) }
+{
+    match take_frame(number, bytes) {
+        Frame::Whole(_, after) => Some(after),
+        Frame::CutOff => None,
+        Frame::Damaged => None,
     }
 }
 

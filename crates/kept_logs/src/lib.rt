@@ -18,5 +18,6 @@ mod records;
 
 pub use digest::SettingsDigest;
 pub use fault::LogFault;
+pub use frames::behind_record;
 pub use laws::{log_is_its_text, log_reads_back, log_takes_one_more};
 pub use logs::{ReadLog, place_of, read_log, record_bytes, write_log};

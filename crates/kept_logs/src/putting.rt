@@ -1,35 +1,14 @@
 //! The fields of logs, put behind what is written already.
 
-ghost use Rattle.std.specs.Prelude.{◌≡◌, ◌<◌, ◌^◌, ◌++◌, ◌∷◌, [], length, OnOk};
-ghost use Rattle.std.specs.Int.{w16, w32, w64, to_be_bytes};
+ghost use Rattle.std.specs.Prelude.{◌≡◌, ◌<◌, ◌^◌, ◌++◌, ◌∷◌, length, OnOk};
+ghost use Rattle.std.specs.Int.{w16, to_be_bytes};
 ghost use Rattle.world_setup.specs.Seen.{node_seen};
 ghost use Rattle.kept_logs.specs.Fields.{text_of, node_text};
 ghost use Rattle.kept_logs.specs.Fits.{FitsNode};
 
+use kept_records::put_u64;
 use std::alloc::AllocError;
 use world_setup::Node;
-
-/// Puts a number of one byte.
-pub(crate) fn put_u8(out: &mut Vec<u8>, number: u8) -> Result<(), AllocError>
-    ensures { OnOk result (out.new.items ≡ out.old.items ++ number ∷ []) }
-{
-    out.push(number)?;
-    Ok(())
-}
-
-/// Puts a number of four bytes.
-pub(crate) fn put_u32(out: &mut Vec<u8>, number: u32) -> Result<(), AllocError>
-    ensures { OnOk result (out.new.items ≡ out.old.items ++ to_be_bytes w32 number) }
-{
-    out.extend_from_slice(&number.to_be_bytes())
-}
-
-/// Puts a number of eight bytes.
-pub(crate) fn put_u64(out: &mut Vec<u8>, number: u64) -> Result<(), AllocError>
-    ensures { OnOk result (out.new.items ≡ out.old.items ++ to_be_bytes w64 number) }
-{
-    out.extend_from_slice(&number.to_be_bytes())
-}
 
 /// Puts a text behind its length.
 #[tactic(auto, unfolding(crate::specs::Fields::text_of))]

@@ -9,8 +9,9 @@ ghost use Rattle.kept_logs.specs.LogSeen.{entry_seen};
 ghost use Rattle.kept_logs.specs.Fits.{FitsCall, FitsSent};
 
 use crate::calls::{put_call, take_call};
-use crate::fields::{take_node, take_text, take_u64};
-use crate::putting::{put_node, put_text, put_u64};
+use crate::fields::{take_node, take_text};
+use crate::putting::{put_node, put_text};
+use kept_records::{put_u64, take_u64};
 use octets::Octets;
 use run_merge::Record;
 use std::alloc::{AllocError, Global};

@@ -2,6 +2,7 @@
 use Rattle.std.proofs.Common.{◌≡◌, ℕ, suc, ◌+◌, ◌<◌, ◌≤◌, ◌^◌, List, [], ◌∷◌, ◌++◌, length, slice_get, Some, refl, sym, ◌∙◌, ap, arith}
 use Rattle.std.proofs.lemmas.Option.{same_Some}
 use Rattle.claim_model.specs.Journal.{JournalAtRest, Kept}
+use Rattle.claim_model.specs.Limits.{most_entries}
 use Rattle.kept_records.specs.Heads.{HeadParts, head_at}
 use Rattle.kept_records.specs.Entries.{EntryParts, entry_text, entry_at, entries_text}
 use Rattle.kept_records.specs.Journals.{IsMade, empty_journal, journal_text}
@@ -30,7 +31,7 @@ same_entries number (e ∷ es) (f ∷ fs) small short brief count h =
     let others : es ≡ fs = same_entries (number + 1) es fs (omega arith) (λ place kept at. short (suc place) kept at) (λ place kept at. brief (suc place) kept at) (omega arith) first.1 in
     ap (λ k. k ∷ es) first.0 ∙ ap (λ ks. f ∷ ks) others
 
-pub same_text : (version other : ℕ) (j k : JournalAtRest) → IsMade j → IsMade k → j.number < 2 ^ 16 → k.number < 2 ^ 16 → length j.entries ≤ 65536 → length k.entries ≤ 65536 → journal_text version j ≡ journal_text other k
+pub same_text : (version other : ℕ) (j k : JournalAtRest) → IsMade j → IsMade k → j.number < 2 ^ 16 → k.number < 2 ^ 16 → length j.entries ≤ most_entries → length k.entries ≤ most_entries → journal_text version j ≡ journal_text other k
     → (version ≡ other) × (j.number ≡ k.number) × (j.entries ≡ k.entries)
 unfolding journal_text
 same_text version other j k made also small little few less h =

@@ -4,6 +4,7 @@ use Rattle.std.proofs.lemmas.Bool.Decides.{nat_tests}
 use Rattle.std.specs.List.{list_all}
 use Rattle.std.specs.Int.{w16, w32, to_be_bytes}
 use Rattle.claim_model.specs.Journal.{JournalAtRest, Kept}
+use Rattle.claim_model.specs.Limits.{most_entries}
 use Rattle.kept_records.specs.Fields.{u8_at, u16_at, u32_at}
 use Rattle.kept_records.specs.Heads.{head_at}
 use Rattle.kept_records.specs.Entries.{entries_text}
@@ -66,5 +67,5 @@ pub all_suit : (entries : List Kept) → list_all (λ (kept : Kept). fits_versio
 all_suit [] = refl
 all_suit (kept ∷ entries) = all_suit entries
 
-pub read_back : (j : JournalAtRest) (text : List ℕ) → IsMade j → j.number < 2 ^ 16 → length j.entries ≤ 65536 → text ≡ journal_text 2 j → journal_in j.number j.settings text ≡ Ok j
+pub read_back : (j : JournalAtRest) (text : List ℕ) → IsMade j → j.number < 2 ^ 16 → length j.entries ≤ most_entries → text ≡ journal_text 2 j → journal_in j.number j.settings text ≡ Ok j
 read_back j text made small few is = ap (journal_in j.number j.settings) is ∙ journal_in-put 2 j made small (omega arith) refl (all_suit j.entries)

@@ -1,4 +1,4 @@
-//! The fields of records, taken from the front of bytes.
+//! The fields of records and logs, taken from the front of bytes; numbers have their high byte first (own).
 
 ghost use Rattle.std.specs.Prelude.{◌≡◌};
 ghost use Rattle.std.specs.Option.{option_map};
@@ -8,7 +8,7 @@ use envelope::LARGEST_PAYLOAD;
 
 /// A number of one byte and what follows it; none where there is no byte.
 #[tactic(auto, unfolding(crate::specs::Fields::u8_at))]
-pub(crate) fn take_u8(bytes: &[u8]) -> Option<(u8, &[u8])>
+pub fn take_u8(bytes: &[u8]) -> Option<(u8, &[u8])>
     ensures { option_map (λ taken. (taken.0, taken.1.now)) result ≡ u8_at bytes.now }
 {
     if bytes.is_empty() {
@@ -19,7 +19,7 @@ pub(crate) fn take_u8(bytes: &[u8]) -> Option<(u8, &[u8])>
 
 /// A number of two bytes and what follows it; none where it is cut off.
 #[tactic(auto, unfolding(crate::specs::Fields::u16_at))]
-pub(crate) fn take_u16(bytes: &[u8]) -> Option<(u16, &[u8])>
+pub fn take_u16(bytes: &[u8]) -> Option<(u16, &[u8])>
     ensures { option_map (λ taken. (taken.0, taken.1.now)) result ≡ u16_at bytes.now }
 {
     if bytes.len() < 2 {
@@ -31,7 +31,7 @@ pub(crate) fn take_u16(bytes: &[u8]) -> Option<(u16, &[u8])>
 
 /// A number of four bytes and what follows it; none where it is cut off.
 #[tactic(auto, unfolding(crate::specs::Fields::u32_at))]
-pub(crate) fn take_u32(bytes: &[u8]) -> Option<(u32, &[u8])>
+pub fn take_u32(bytes: &[u8]) -> Option<(u32, &[u8])>
     ensures { option_map (λ taken. (taken.0, taken.1.now)) result ≡ u32_at bytes.now }
 {
     if bytes.len() < 4 {
@@ -43,7 +43,7 @@ pub(crate) fn take_u32(bytes: &[u8]) -> Option<(u32, &[u8])>
 
 /// A number of eight bytes and what follows it; none where it is cut off.
 #[tactic(auto, unfolding(crate::specs::Fields::u64_at))]
-pub(crate) fn take_u64(bytes: &[u8]) -> Option<(u64, &[u8])>
+pub fn take_u64(bytes: &[u8]) -> Option<(u64, &[u8])>
     ensures { option_map (λ taken. (taken.0, taken.1.now)) result ≡ u64_at bytes.now }
 {
     if bytes.len() < 8 {

@@ -1,4 +1,4 @@
-//! The fields of records, put behind what is written already.
+//! The fields of records and logs, put behind what is written already; numbers have their high byte first (own).
 
 ghost use Rattle.std.specs.Prelude.{◌≡◌, ◌≤◌, ◌++◌, ◌∷◌, [], length, OnOk};
 ghost use Rattle.std.specs.Int.{w16, w32, w64, to_be_bytes};
@@ -8,7 +8,7 @@ ghost use Rattle.kept_records.specs.Fields.{sized};
 use std::alloc::AllocError;
 
 /// Puts a number of one byte.
-pub(crate) fn put_u8(out: &mut Vec<u8>, number: u8) -> Result<(), AllocError>
+pub fn put_u8(out: &mut Vec<u8>, number: u8) -> Result<(), AllocError>
     ensures { OnOk result (out.new.items ≡ out.old.items ++ number ∷ []) }
 {
     out.push(number)?;
@@ -23,14 +23,14 @@ pub(crate) fn put_u16(out: &mut Vec<u8>, number: u16) -> Result<(), AllocError>
 }
 
 /// Puts a number of four bytes.
-pub(crate) fn put_u32(out: &mut Vec<u8>, number: u32) -> Result<(), AllocError>
+pub fn put_u32(out: &mut Vec<u8>, number: u32) -> Result<(), AllocError>
     ensures { OnOk result (out.new.items ≡ out.old.items ++ to_be_bytes w32 number) }
 {
     out.extend_from_slice(&number.to_be_bytes())
 }
 
 /// Puts a number of eight bytes.
-pub(crate) fn put_u64(out: &mut Vec<u8>, number: u64) -> Result<(), AllocError>
+pub fn put_u64(out: &mut Vec<u8>, number: u64) -> Result<(), AllocError>
     ensures { OnOk result (out.new.items ≡ out.old.items ++ to_be_bytes w64 number) }
 {
     out.extend_from_slice(&number.to_be_bytes())

@@ -3,8 +3,8 @@ use Rattle.std.proofs.Common.{◌≡◌, ℕ, ◌+◌, ◌<◌, ◌≤◌, List,
 use Rattle.std.proofs.lemmas.List.{at_drop_more, drop_all}
 use Rattle.claim_model.specs.Counted.{Counted}
 use Rattle.pharmacy_journal.specs.Listing.{Listed}
-use Rattle.log_audit.specs.declared.tables.layout.Style.{Style}
-use Rattle.log_audit.specs.Rows.{row_text, rows_text}
+use Rattle.table_text.specs.declared.layout.Style.{Style}
+use Rattle.table_text.specs.Rows.{row_text, rows_text}
 use Rattle.log_audit.specs.Entries.{count_named, entry_row, entry_rows}
 use Rattle.log_audit.proofs.Joining.{one_row, block_goes_on, block_ends}
 

@@ -3,9 +3,9 @@ use Rattle.std.proofs.Common.{◌≡◌, ℕ, ◌+◌, ◌<◌, ◌≤◌, List,
 use Rattle.std.specs.List.{flat_map}
 use Rattle.std.proofs.lemmas.List.{at_drop_more, drop_all}
 use Rattle.std.proofs.lemmas.Grind.{flat_map-append}
-use Rattle.log_audit.specs.declared.tables.layout.Style.{Style}
-use Rattle.log_audit.specs.Members.{Row}
-use Rattle.log_audit.specs.Rows.{row_text, rows_text}
+use Rattle.table_text.specs.declared.layout.Style.{Style}
+use Rattle.table_text.specs.Members.{Row}
+use Rattle.table_text.specs.Rows.{row_text, rows_text}
 use Rattle.log_audit.specs.Payments.{told_from}
 
 pub cons_alike : {A : Type 0} {x y : A} {xs ys : List A} → x ≡ y → xs ≡ ys → (x ∷ xs) ≡ (y ∷ ys)

@@ -1,4 +1,3 @@
-pub mod Separating
 pub mod Joining
 pub mod Running
 pub mod Entering
@@ -7,6 +6,7 @@ pub mod Naming
 pub mod Leaving
 pub mod Listing
 pub mod LogReading
+mod Refusing
 pub mod Going
 pub mod Counting
 pub mod Telling

@@ -8,11 +8,12 @@ use Rattle.pharmacy_journal.specs.Listing.{Listed}
 use Rattle.payer_book.specs.declared.book.PaymentView.{PaymentView}
 use Rattle.log_audit.specs.Payments as payments
 use Rattle.log_audit.specs.Entries as entries
+use Rattle.log_audit.specs.CountedRows.{counted_row, counted_shown_row}
 use Rattle.log_audit.specs.Rulings.{At, answered_row, ruling_row}
 use Rattle.log_audit.specs.Packets.{loaded_row, packet_row}
 use Rattle.log_audit.specs.Tables.{names_in, table_names}
 use Rattle.log_audit.specs.declared.tables.payments.PaidAt.{PaidAt}
-use Rattle.log_audit.specs.declared.tables.table.Table.TheVariants.{Payments, Entries, Rows, Packets}
+use Rattle.log_audit.specs.declared.tables.table.Table.TheVariants.{Payments, Entries, Rows, Packets, Counted as CountedTable}
 
 pub payments_named : (at : PaidAt) (counted : Bool) (p : PaymentView) → names_in (payments.payment_row at counted p) ≡ table_names Payments
 unfolding payments.shown_row
@@ -32,3 +33,7 @@ rulings_named at (Rejected rejects) = refl
 pub packets_named : (ctx : Context) (number event : ℕ) (p : Packet) → names_in (packet_row ctx number event p) ≡ table_names Packets
 unfolding loaded_row
 packets_named ctx number event p = refl
+
+pub counted_named : (pharmacy : ℕ) (c : Counted) → names_in (counted_row pharmacy c) ≡ table_names CountedTable
+unfolding counted_shown_row
+counted_named pharmacy c = refl

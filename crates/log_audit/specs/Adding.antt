@@ -4,24 +4,13 @@ use Rattle.std.specs.Global.{Vec}
 use Rattle.bin_routes.specs.Table.{RouteMaps}
 use Rattle.claim_model.specs.Bytes.{bytes_with}
 use Rattle.claim_model.specs.Context.{Context}
-use Rattle.log_audit.specs.Members.{Row}
-use Rattle.log_audit.specs.Rows.{row_text, rows_text}
+use Rattle.table_text.specs.Members.{Row}
+use Rattle.table_text.specs.Adding.{Adds, AddsRow, AddsRows}
 use Rattle.log_audit.specs.Sentences.{told_line, told_lines}
 use Rattle.log_audit.specs.declared.sentences.Manner.{Manner}
-use Rattle.log_audit.specs.declared.tables.layout.Style.{Style}
+use Rattle.table_text.specs.declared.layout.Style.{Style}
 
--- these bytes come behind what was there
-abbrev pub Adds : Vec ℕ → Vec ℕ → List ℕ → Type 0
-Adds old new text = new.items ≡ old.items ++ text
-
--- a row does, and rows do, in a style
-abbrev pub AddsRow : Style → Vec ℕ → Vec ℕ → Row → Type 0
-AddsRow style old new row = Adds old new (row_text style row)
-
-abbrev pub AddsRows : Style → Vec ℕ → Vec ℕ → List Row → Type 0
-AddsRows style old new rows = Adds old new (rows_text style rows)
-
--- the same of a row and of rows that are told in a context: they are told so under all routes
+-- a row, and rows, that are told in a context come behind what was there: they are told so under all routes
 abbrev pub TellsRow : {A : Type 0} → {B : Type 0} → Style → Vec ℕ → Vec ℕ → (Context → Row) → Result A B → Type 0
 TellsRow style old new told result = (routes : RouteMaps) → OnOk result (AddsRow style old new (told (bytes_with routes)))
 

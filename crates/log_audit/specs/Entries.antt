@@ -4,7 +4,7 @@ use Rattle.claim_model.specs.Words.{Auth, Ruling, Paid, Duplicate, Reversed, Rej
 use Rattle.claim_model.specs.Counted.{Counted}
 use Rattle.claim_model.specs.Payments.{same_auth}
 use Rattle.pharmacy_journal.specs.Listing.{Listed}
-use Rattle.log_audit.specs.Members.{Row}
+use Rattle.table_text.specs.Members.{Row}
 use Rattle.log_audit.specs.Kinds.{kind_word, number_member, text_member}
 use Rattle.log_audit.specs.declared.tables.entries.EntryShown.{EntryShown}
 

@@ -4,7 +4,7 @@ use Rattle.std.specs.Global.{Vec}
 use Rattle.sha2.specs.Sha256.{sha256}
 use Rattle.claim_model.specs.Logs.{NodeLog}
 use Rattle.world_setup.specs.declared.settings.WorldSettings.{WorldSettings}
-use Rattle.world_settings.specs.Document.{document_seen, settings_in}
+use Rattle.world_settings.specs.Document.{document_seen, living_in}
 use Rattle.kept_logs.specs.Logs.{Reading, log_in}
 use Rattle.kept_logs.specs.declared.fault.LogFault.{LogFault}
 
@@ -26,7 +26,7 @@ AreLogs digest (bytes ∷ more) (log ∷ logs) = IsLog digest bytes log × AreLo
 
 -- the settings are those that a text spells, and the logs are those that bytes are under its digest
 pub record IsRead (text : List ℕ) (bytes : List (List ℕ)) (settings : WorldSettings) (logs : List NodeLog) : Type 0 where
-  pub spelled : settings_in text ≡ Some (document_seen settings)
+  pub spelled : living_in text ≡ Some (document_seen settings)
   pub read : AreLogs (sha256 text) bytes logs
 
 -- how many bytes stand behind the records of a log that stand whole

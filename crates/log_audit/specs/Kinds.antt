@@ -5,7 +5,7 @@ use Rattle.claim_profile.specs.declared.transaction.TransactionCode.TheVariants 
 use Rattle.claim_profile.specs.Transaction.{transaction_code}
 use Rattle.claim_model.specs.Words.{RequestHeader}
 use Rattle.claim_model.specs.Node.{Node, Pharmacy, Switch, Payer}
-use Rattle.log_audit.specs.Members.{Member, Number, Text, Named, Flag, number_or_nothing}
+use Rattle.table_text.specs.Members.{Member, Number, Text, Named, Flag, number_or_nothing}
 
 -- the word for a kind of transaction
 abbrev pub kind_named : Option TransactionCode → List ℕ

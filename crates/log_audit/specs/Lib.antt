@@ -1,16 +1,13 @@
-pub mod Members
-pub mod Seen
-pub mod Quoting
-pub mod Values
-pub mod Rows
 pub mod Kinds
 pub mod Sentences
 pub mod SentencesSeen
 pub mod Adding
+pub mod Claims
 pub mod Payments
 pub mod Rulings
 pub mod Packets
 pub mod Entries
+pub mod CountedRows
 pub mod Tables
 pub mod Senders
 pub mod Judged
@@ -18,6 +15,7 @@ pub mod Tabled
 pub mod Texts
 pub mod Ledger
 pub mod Given
+pub mod Refused
 pub mod Lacks
 pub mod Wrongs
 pub mod WrongsSeen

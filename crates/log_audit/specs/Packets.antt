@@ -4,7 +4,7 @@ use Rattle.claim_model.specs.Words.{Kind, Request, Response, Envelope, EnvelopeF
 use Rattle.claim_model.specs.Context.{Context}
 use Rattle.claim_model.specs.Numbered.{numbered}
 use Rattle.claim_model.specs.World.{Packet}
-use Rattle.log_audit.specs.Members.{Row}
+use Rattle.table_text.specs.Members.{Row}
 use Rattle.log_audit.specs.Kinds.{number_member, text_member, optional_member, node_member}
 use Rattle.log_audit.specs.Payments.{told_from}
 use Rattle.log_audit.specs.declared.tables.packets.Carried.{Carried}

@@ -10,10 +10,11 @@ use Rattle.claim_model.specs.Rows as model
 use Rattle.claim_model.specs.Rows.{Book, ruled_rows}
 use Rattle.payer_book.specs.declared.book.PaymentView.{PaymentView}
 use Rattle.payer_book.specs.Views.{payment_view}
-use Rattle.log_audit.specs.Members.{Row}
+use Rattle.table_text.specs.Members.{Row}
 use Rattle.log_audit.specs.Kinds.{date_in, number_member, text_member, flag_member, optional_member}
 use Rattle.log_audit.specs.declared.tables.payments.PaidAt.{PaidAt}
 use Rattle.log_audit.specs.declared.tables.payments.Shown.{Shown}
+use Rattle.log_audit.specs.Claims.{ClaimShown, claim_asked, claim_shown, claim_seen}
 use Rattle.log_audit.specs.declared.tables.payments.FillTexts.{FillTexts}
 use Rattle.log_audit.specs.declared.tables.payments.Cents.{Cents}
 
@@ -52,6 +53,7 @@ pub record PaymentShown : Type 0 where
   pub fill : FillShown
   pub date : List ℕ
   pub cents : Cents
+  pub claim : ClaimShown
 
 abbrev pub texts_seen : FillTexts → FillShown
 texts_seen t = record { bin = t.bin.now; pcn = t.pcn.now; qualifier = t.qualifier.now; provider = t.provider.now; prescription = t.prescription; number = t.number }
@@ -69,6 +71,7 @@ shown_seen s = record {
   fill = texts_seen s.fill;
   date = s.date.now;
   cents = s.cents;
+  claim = claim_seen s.claim;
 }
 
 -- the row of what is told of a payment
@@ -92,7 +95,12 @@ shown_row s =
     number_member (codes "cost_cents") s.cents.cost ∷
     number_member (codes "fee_cents") s.cents.fee ∷
     number_member (codes "copay_cents") s.cents.copay ∷
-    number_member (codes "paid_cents") s.cents.paid ∷ []
+    number_member (codes "paid_cents") s.cents.paid ∷
+    text_member (codes "cardholder") s.claim.cardholder ∷
+    text_member (codes "product") s.claim.product ∷
+    optional_member (codes "quantity_thousandths") s.claim.quantity ∷
+    optional_member (codes "submitted_cost_cents") s.claim.cost ∷
+    optional_member (codes "submitted_fee_cents") s.claim.fee ∷ []
 
 -- the row of a payment: where it was made, whether a pharmacy counts it, and what the book has of it
 abbrev pub payment_row : PaidAt → Bool → PaymentView → Row
@@ -108,6 +116,7 @@ payment_row at counted p = shown_row (record {
   fill = fill_shown p.fill;
   date = at.date;
   cents = cents_of p.amounts;
+  claim = claim_shown at.claim;
 })
 
 abbrev pub found_payment : PaidAt → Bool → Option PaymentView → List Row
@@ -116,7 +125,7 @@ found_payment at counted (Some p) = payment_row at counted p ∷ []
 
 -- where the payment of an authorization was made
 abbrev pub paid_at : ℕ → model.Row → ℕ → Auth → PaidAt
-paid_at payer row transaction auth = record { payer = payer; id = row.id; transaction = transaction; auth = auth; date = date_in (readable_header row.request) }
+paid_at payer row transaction auth = record { payer = payer; id = row.id; transaction = transaction; auth = auth; date = date_in (readable_header row.request); claim = claim_asked row.request transaction }
 
 -- the payment of an authorization in the book, where a ruling of this row made it; `counted` says which authorizations are counted
 abbrev pub paid_rows : Context → (Auth → Bool) → Book → model.Row → ℕ → Auth → List Row

@@ -3,7 +3,7 @@ use Rattle.std.specs.Prelude.{ℕ, List, ◌++◌, codes, decimal}
 use Rattle.std.specs.List.{flat_map}
 use Rattle.claim_model.specs.Node.{Node, Pharmacy, Switch, Payer}
 use Rattle.log_audit.specs.Kinds.{number_of}
-use Rattle.log_audit.specs.Quoting.{json_text}
+use Rattle.table_text.specs.Quoting.{json_text}
 use Rattle.log_audit.specs.declared.sentences.Manner.{Manner}
 use Rattle.log_audit.specs.declared.sentences.Manner.TheVariants.{Line, Member}
 

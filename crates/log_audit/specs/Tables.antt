@@ -12,15 +12,16 @@ use Rattle.claim_model.specs.Rows.{Book}
 use Rattle.claim_model.specs.World.{World}
 use Rattle.pharmacy_journal.specs.Counting.{has_auth}
 use Rattle.pharmacy_journal.specs.Listing.{listed}
-use Rattle.log_audit.specs.Members.{Member, Row}
-use Rattle.log_audit.specs.Rows.{rows_text, head_text, list_text}
-use Rattle.log_audit.specs.declared.tables.layout.Style.TheVariants.{Csv, Json}
+use Rattle.table_text.specs.Members.{Member, Row}
+use Rattle.table_text.specs.Rows.{rows_text, head_text, list_text}
+use Rattle.table_text.specs.declared.layout.Style.TheVariants.{Csv, Json}
 use Rattle.log_audit.specs.Payments.{book_payments}
 use Rattle.log_audit.specs.Entries.{entry_rows}
+use Rattle.log_audit.specs.CountedRows.{counted_rows}
 use Rattle.log_audit.specs.Rulings.{book_rulings}
 use Rattle.log_audit.specs.Packets.{packet_rows}
 use Rattle.log_audit.specs.declared.tables.table.Table.{Table}
-use Rattle.log_audit.specs.declared.tables.table.Table.TheVariants.{Payments, Entries, Rows, Packets}
+use Rattle.log_audit.specs.declared.tables.table.Table.TheVariants.{Payments, Entries, Rows, Packets, Counted as CountedTable}
 
 -- one of these payments has this authorization
 abbrev pub names_auth : List Counted → Auth → Bool
@@ -61,23 +62,38 @@ node_rulings node = book_rulings (book_in node)
 abbrev pub world_rulings : World → List Row
 world_rulings w = flat_map node_rulings w.payers
 
+abbrev pub journal_counted : Context → JournalAtRest → List Row
+journal_counted ctx j = counted_rows j.number (counted ctx j)
+
+abbrev pub node_counted_rows : Context → Power Journal JournalAtRest → List Row
+node_counted_rows ctx node = journal_counted ctx (journal_in node)
+
+-- the payments that pharmacies count
+abbrev pub world_counted : Context → World → List Row
+world_counted ctx w = flat_map (node_counted_rows ctx) w.pharmacies
+
 -- the rows of a table of a world, where these events sent its packets
 abbrev pub table_rows : Context → World → List ℕ → Table → List Row
 table_rows ctx w senders Payments = world_payments ctx w
 table_rows ctx w senders Entries = world_entries ctx w
 table_rows ctx w senders Rows = world_rulings w
 table_rows ctx w senders Packets = packet_rows ctx w.packets senders
+table_rows ctx w senders CountedTable = world_counted ctx w
 
 -- the names of the columns of a table
 abbrev pub table_names : Table → List (List ℕ)
 table_names Payments =
     codes "payer" ∷ codes "pharmacy" ∷ codes "number" ∷ codes "transaction" ∷ codes "authorization" ∷ codes "state" ∷ codes "reversed_by" ∷ codes "counted" ∷
     codes "bin" ∷ codes "processor_control_number" ∷ codes "provider_qualifier" ∷ codes "provider" ∷ codes "prescription" ∷ codes "fill" ∷ codes "date_of_service" ∷
-    codes "cost_cents" ∷ codes "fee_cents" ∷ codes "copay_cents" ∷ codes "paid_cents" ∷ []
+    codes "cost_cents" ∷ codes "fee_cents" ∷ codes "copay_cents" ∷ codes "paid_cents" ∷
+    codes "cardholder" ∷ codes "product" ∷ codes "quantity_thousandths" ∷ codes "submitted_cost_cents" ∷ codes "submitted_fee_cents" ∷ []
 table_names Entries = codes "pharmacy" ∷ codes "number" ∷ codes "kind" ∷ codes "transactions" ∷ codes "state" ∷ codes "counted_payments" ∷ codes "counted_cents" ∷ []
 table_names Rows =
-    codes "payer" ∷ codes "pharmacy" ∷ codes "number" ∷ codes "kind" ∷ codes "transaction" ∷ codes "ruling" ∷ codes "authorization" ∷ codes "reject_codes" ∷ []
+    codes "payer" ∷ codes "pharmacy" ∷ codes "number" ∷ codes "kind" ∷ codes "transaction" ∷ codes "ruling" ∷ codes "authorization" ∷ codes "reject_codes" ∷
+    codes "prescription" ∷ codes "date_of_service" ∷ codes "paid_cents" ∷ []
 table_names Packets = codes "packet" ∷ codes "event" ∷ codes "from" ∷ codes "to" ∷ codes "carries" ∷ codes "pharmacy" ∷ codes "number" ∷ codes "bytes" ∷ []
+table_names CountedTable =
+    codes "pharmacy" ∷ codes "payer" ∷ codes "authorization" ∷ codes "cost_cents" ∷ codes "fee_cents" ∷ codes "copay_cents" ∷ codes "paid_cents" ∷ []
 
 -- the names of the columns of a row
 abbrev pub names_in : Row → List (List ℕ)
@@ -101,6 +117,7 @@ table_name Payments = codes "payments"
 table_name Entries = codes "entries"
 table_name Rows = codes "rows"
 table_name Packets = codes "packets"
+table_name CountedTable = codes "counted"
 
 -- a table as a member of an object of JSON, behind a comma
 unfoldable pub table_member : Context → World → List ℕ → Table → List ℕ
@@ -109,4 +126,5 @@ table_member ctx w senders table = codes ",\n\"" ++ (table_name table ++ (codes 
 -- all tables as members
 unfoldable pub table_members : Context → World → List ℕ → List ℕ
 table_members ctx w senders =
-    table_member ctx w senders Payments ++ (table_member ctx w senders Entries ++ (table_member ctx w senders Rows ++ table_member ctx w senders Packets))
+    table_member ctx w senders Payments ++ (table_member ctx w senders Entries ++ (table_member ctx w senders Rows
+    ++ (table_member ctx w senders Packets ++ table_member ctx w senders CountedTable)))

@@ -14,9 +14,9 @@ use Rattle.world_setup.specs.declared.event.Event.{Event as Kept}
 use Rattle.world_setup.specs.declared.settings.WorldSettings.{WorldSettings}
 use Rattle.run_merge.specs.LogSeen.{logs_seen}
 use Rattle.run_merge.specs.Merged.{IsMerged}
-use Rattle.log_audit.specs.Members.{Row}
+use Rattle.table_text.specs.Members.{Row}
 use Rattle.log_audit.specs.Kinds.{number_member, node_member}
-use Rattle.log_audit.specs.Rows.{rows_text, list_text}
+use Rattle.table_text.specs.Rows.{rows_text, list_text}
 use Rattle.log_audit.specs.Senders.{senders_from}
 use Rattle.log_audit.specs.Sentences.{Words, Number, Named, sentence}
 use Rattle.log_audit.specs.Texts.{texts_from}
@@ -26,7 +26,7 @@ use Rattle.log_audit.specs.Tables.{table_members}
 use Rattle.log_audit.specs.Tabled.{run_csv}
 use Rattle.log_audit.specs.Reasons.{IsReasons}
 use Rattle.log_audit.specs.declared.sentences.Manner.TheVariants.{Line, Member}
-use Rattle.log_audit.specs.declared.tables.layout.Style.TheVariants as style
+use Rattle.table_text.specs.declared.layout.Style.TheVariants as style
 use Rattle.log_audit.specs.declared.reading.Audited.{Audited}
 use Rattle.log_audit.specs.declared.report.Form.{Form}
 use Rattle.log_audit.specs.declared.report.Form.TheVariants.{Lines, Json, Csv, Schedule}

@@ -4,7 +4,8 @@ ghost use Rattle.std.specs.Prelude.{◌≡◌, ◌++◌, length, count_by, IfOk,
 ghost use Rattle.pharmacy_journal.specs.Listing.{listed};
 ghost use Rattle.claim_model.specs.Counted.{counted};
 ghost use Rattle.world_core.specs.Parts.{context_of};
-ghost use Rattle.log_audit.specs.Adding.{Adds, Tells};
+ghost use Rattle.table_text.specs.Adding.{Adds};
+ghost use Rattle.log_audit.specs.Adding.{Tells};
 ghost use Rattle.log_audit.specs.Sentences.{sentence};
 ghost use Rattle.log_audit.specs.Texts.{texts_from};
 ghost use Rattle.log_audit.specs.Ledger.{in_cents, counted_total, is_open, is_answered, stands, count_standing, requests_pieces, standing_pieces, pharmacy_text, node_requests, ledger_text};

@@ -4,7 +4,7 @@ ghost use Rattle.std.specs.Prelude.{◌≡◌, map, IfOk, OnOk};
 ghost use Rattle.bin_routes.specs.Table.{routes_of};
 ghost use Rattle.claim_model.specs.Settings.{opening};
 ghost use Rattle.world_setup.specs.Seen.{event_seen, settings_seen};
-ghost use Rattle.log_audit.specs.Adding.{Adds};
+ghost use Rattle.table_text.specs.Adding.{Adds};
 ghost use Rattle.log_audit.specs.Tabled.{run_csv};
 ghost use Rattle.log_audit.specs.Telling.{run_ledger, run_members};
 

@@ -31,5 +31,5 @@ pub use lone_tables::LoneTable;
 pub use reading::{Audited, read_audited};
 pub use reasons::some_reason_is_told;
 pub use report::{Form, Report, report_on};
-pub use tables::laws::{lists_are_separated, rows_have_their_columns};
+pub use tables::laws::rows_have_their_columns;
 pub use tables::table::Table;

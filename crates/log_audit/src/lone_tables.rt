@@ -5,12 +5,13 @@ use crate::alone::Lone;
 use crate::object::put_logs;
 use crate::reading::Audited;
 use crate::sentences::{Manner, put_told};
-use crate::tables::columns::{put_entry_names, put_open_names, put_payment_names, put_row_names};
+use crate::tables::columns::{
+    put_counted_names, put_entry_names, put_open_names, put_payment_names, put_row_names,
+};
 use crate::tables::counted::take_journal;
+use crate::tables::counting::put_journal_counted;
 use crate::tables::entries::put_journal;
-use crate::tables::fields::Field;
 use crate::tables::kinds::{kind_word, number_of};
-use crate::tables::layout::{Style, put_list, put_row};
 use crate::tables::payments::put_book_payments;
 use crate::tables::rows::put_book_rulings;
 use claim_profile::Auth;
@@ -19,6 +20,7 @@ use pharmacy_journal::EntryView;
 use run_merge::NodeLog;
 use std::alloc::{AllocError, Global};
 use std::collections::BTreeSet;
+use table_text::{Field, Style, put_list, put_row};
 
 /// Which table of nodes one by one.
 #[derive(Clone, Copy, PartialEq, Eq)]
@@ -31,6 +33,8 @@ pub enum LoneTable {
     Rows,
     /// Each entry without an answer, and how many ticks came behind its submission.
     Open,
+    /// Each payment that a pharmacy counts.
+    Counted,
 }
 
 /// Appends a table as CSV.
@@ -46,6 +50,7 @@ pub(crate) fn put_lone_table(
         LoneTable::Entries => put_entry_names(out)?,
         LoneTable::Rows => put_row_names(out)?,
         LoneTable::Open => put_open_names(out)?,
+        LoneTable::Counted => put_counted_names(out)?,
     }
     put_table(alloc, out, Style::Csv, audited, lones, table)
 }
@@ -66,6 +71,7 @@ pub(crate) fn put_lone_object(
         put_member(alloc, out, audited, lones, b"entries", LoneTable::Entries)?;
         put_member(alloc, out, audited, lones, b"rows", LoneTable::Rows)?;
         put_member(alloc, out, audited, lones, b"open", LoneTable::Open)?;
+        put_member(alloc, out, audited, lones, b"counted", LoneTable::Counted)?;
     } else {
         out.extend_from_slice(b"false,\n\"reasons\":")?;
         put_reasons(alloc, out, lones)?;
@@ -167,6 +173,10 @@ fn put_node(
         },
         LoneTable::Open => match node.journal(alloc)? {
             Some(journal) => put_open(alloc, out, style, log, &journal),
+            None => Ok(()),
+        },
+        LoneTable::Counted => match node.journal(alloc)? {
+            Some(journal) => put_journal_counted(out, style, &journal),
             None => Ok(()),
         },
     }

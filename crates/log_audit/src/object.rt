@@ -3,20 +3,19 @@
 ghost use Rattle.std.specs.Prelude.{◌≡◌, ◌++◌, codes, length, map, slice_index, OnOk, IfOk};
 ghost use Rattle.world_setup.specs.Seen.{event_seen};
 ghost use Rattle.run_merge.specs.LogSeen.{log_seen, logs_seen};
-ghost use Rattle.log_audit.specs.Adding.{Adds, AddsRow, AddsRows};
-ghost use Rattle.log_audit.specs.Rows.{list_text};
+ghost use Rattle.table_text.specs.Adding.{Adds, AddsRow, AddsRows};
+ghost use Rattle.table_text.specs.Rows.{list_text};
 ghost use Rattle.log_audit.specs.Telling.{log_row, log_rows, logs_member, count_member, run_members, run_object};
-ghost use Rattle.log_audit.specs.declared.tables.layout.Style.TheVariants.{Json};
+ghost use Rattle.table_text.specs.declared.layout.Style.TheVariants.{Json};
 
 use crate::fault::AuditFault;
 use crate::left::put_left_tables;
 use crate::reading::Audited;
 use crate::sentences::{Piece, put_pieces};
-use crate::tables::fields::Field;
 use crate::tables::kinds::node_field;
-use crate::tables::layout::{Style, put_list, put_row};
 use run_merge::NodeLog;
 use std::alloc::{AllocError, Global};
+use table_text::{Field, Style, put_list, put_row};
 use world_setup::Event;
 
 /// The object of logs of a legal run of these events.

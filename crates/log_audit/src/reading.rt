@@ -1,18 +1,20 @@
 //! What is read before anything is judged: the settings, and the logs.
 
-ghost use Rattle.std.specs.Prelude.{◌≡◌, ◌++◌, ◌∷◌, [], Some, Ok, IfOk, OnOk};
+ghost use Rattle.std.specs.Prelude.{◌≡◌, ◌++◌, ◌∷◌, [], Some, None, Ok, IfOk, IfErr, OnOk};
 ghost use Rattle.sha2.specs.Sha256.{sha256};
-ghost use Rattle.world_settings.specs.Document.{document_seen, settings_in};
+ghost use Rattle.world_setup.specs.Taken.{world_fault};
+ghost use Rattle.world_settings.specs.Document.{document_seen, living_in};
 ghost use Rattle.run_merge.specs.LogSeen.{logs_seen};
 ghost use Rattle.kept_logs.specs.Logs.{log_in};
 ghost use Rattle.kept_logs.specs.LogSeen.{reading_seen};
 ghost use Rattle.log_audit.specs.Given.{AreLogs, IsRead, bytes_of, torn_ends};
+ghost use Rattle.log_audit.specs.Refused.{AreNoLogs, IsNoLog, IsRefused, SpellsNone, TakesNone};
 
 use crate::fault::AuditFault;
 use kept_logs::{LogFault, ReadLog, SettingsDigest, read_log};
 use run_merge::NodeLog;
 use std::alloc::{AllocError, Global};
-use world_settings::{SettingsFault, read_settings};
+use world_settings::{SettingsFault, read_living_settings};
 use world_setup::{WorldFault, WorldSettings};
 
 /// The settings of nodes, their logs, and how many bytes of a torn end each log has.
@@ -27,11 +29,16 @@ pub struct Audited {
 /// Reads the settings, a TOML document, and each of the logs, which have the digest of its text.
 ///
 /// # Errors
-/// `Settings`, then `World`, then `Log` for the first log that is none under these settings; `OutOfMemory`.
+/// The first that stands: `Settings`, `World`, `Log` for the first log that is none under these settings. `OutOfMemory` may
+/// stand in place of any answer.
 pub fn read_audited(alloc: Global, text: Vec<u8>, logs: &[Vec<u8>]) -> Result<Audited, AuditFault>
     // What is judged is what the text spells and the bytes are.
     ensures given { IfOk result (λ audited.
         IsRead text.items (bytes_of logs.now) audited.settings (logs_seen audited.logs.items)) }
+    // A world takes the settings.
+    ensures taken { IfOk result (λ audited. world_fault audited.settings ≡ None) }
+    // The cause is true, and those before it do not stand.
+    ensures refused { IfErr result (λ why. IsRefused text.items (bytes_of logs.now) why) }
     // The torn ends are what stands behind the records that stand whole.
     ensures torn { IfOk result (λ audited. audited.torn.items ≡ torn_ends (sha256 text.items) (bytes_of logs.now)) }
     // A schedule begins with the very text.
@@ -76,6 +83,7 @@ fn read_logs(
 ) -> Result<ReadLogs, AuditFault>
     ensures logs { IfOk result (λ read. AreLogs digest.now (bytes_of logs.now) (logs_seen read.logs.items)) }
     ensures torn { IfOk result (λ read. read.torn.items ≡ torn_ends digest.now (bytes_of logs.now)) }
+    ensures refused { IfErr result (λ why. AreNoLogs digest.now (bytes_of logs.now) why) }
 {
     let mut read = ReadLogs {
         logs: Vec::new(alloc),
@@ -95,7 +103,8 @@ fn read_one(
     place: usize,
     bytes: &[u8],
 ) -> Result<ReadLog, AuditFault>
-    ensures { IfOk result (λ read. log_in digest.now bytes.now ≡ Ok (reading_seen read)) }
+    ensures read { IfOk result (λ read. log_in digest.now bytes.now ≡ Ok (reading_seen read)) }
+    ensures refused { IfErr result (λ why. IsNoLog digest.now bytes.now place why) }
 {
     match read_log(alloc, digest, bytes) {
         Ok(read) => Ok(read),
@@ -106,9 +115,10 @@ fn read_one(
 
 /// The settings that a text spells.
 fn settings_of(alloc: Global, text: &[u8]) -> Result<WorldSettings, AuditFault>
-    ensures { IfOk result (λ settings. settings_in text.now ≡ Some (document_seen settings)) }
+    ensures read { IfOk result (λ settings. living_in text.now ≡ Some (document_seen settings)) }
+    ensures refused { IfErr result (λ why. SpellsNone text.now why) }
 {
-    match read_settings(alloc, text) {
+    match read_living_settings(alloc, text) {
         Ok(settings) => Ok(settings),
         Err(SettingsFault::OutOfMemory) => Err(AuditFault::OutOfMemory),
         Err(SettingsFault::Settings) => Err(AuditFault::Settings),
@@ -116,7 +126,10 @@ fn settings_of(alloc: Global, text: &[u8]) -> Result<WorldSettings, AuditFault>
 }
 
 /// Whether a world takes these settings.
-fn check_world(alloc: Global, settings: &WorldSettings) -> Result<(), AuditFault> {
+fn check_world(alloc: Global, settings: &WorldSettings) -> Result<(), AuditFault>
+    ensures taken { OnOk result (world_fault settings.now ≡ None) }
+    ensures refused { IfErr result (λ why. TakesNone settings.now why) }
+{
     match settings.checked_routes(alloc) {
         Ok(_) => Ok(()),
         Err(WorldFault::OutOfMemory) => Err(AuditFault::OutOfMemory),

@@ -3,7 +3,7 @@
 ghost use Rattle.std.specs.Prelude.{◌≡◌, ◌++◌, true, false, codes, map, IfOk, OnOk};
 ghost use Rattle.world_setup.specs.Seen.{event_seen};
 ghost use Rattle.run_merge.specs.LogSeen.{log_seen, logs_seen};
-ghost use Rattle.log_audit.specs.Adding.{Adds};
+ghost use Rattle.table_text.specs.Adding.{Adds};
 ghost use Rattle.log_audit.specs.Judged.{IsTold};
 ghost use Rattle.log_audit.specs.Tabled.{run_csv};
 ghost use Rattle.log_audit.specs.Telling.{log_line, log_lines, legal_line, run_lines, IsTextOf, IsNoRunLines, IsNoRunObject, IsUntold, IsWritten};

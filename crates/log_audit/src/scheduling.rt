@@ -5,7 +5,7 @@ ghost use Rattle.std.specs.Str.Lines.{lines};
 ghost use Rattle.schedule.specs.Division.{ends_in_newline, scheduled_lines};
 ghost use Rattle.schedule.specs.Reading.{events_of};
 ghost use Rattle.world_setup.specs.Seen.{event_seen};
-ghost use Rattle.log_audit.specs.Adding.{Adds};
+ghost use Rattle.table_text.specs.Adding.{Adds};
 ghost use Rattle.log_audit.specs.Telling.{divider, IsSchedule};
 
 use crate::fault::AuditFault;

@@ -2,15 +2,15 @@
 
 ghost use Rattle.std.specs.Prelude.{◌≡◌, ◌++◌, map, OnOk};
 ghost use Rattle.world_setup.specs.Seen.{node_seen};
-ghost use Rattle.log_audit.specs.Adding.{Adds};
+ghost use Rattle.table_text.specs.Adding.{Adds};
 ghost use Rattle.log_audit.specs.Sentences.{node_word, node_text, piece_text, sentence, told_line};
 ghost use Rattle.log_audit.specs.SentencesSeen.{piece_seen};
 ghost use Rattle.log_audit.specs.declared.sentences.Manner.TheVariants.{Line, Member};
 
 use crate::tables::kinds::number_of;
-use crate::tables::quoting::put_json_text;
 use input_text::put_decimal;
 use std::alloc::AllocError;
+use table_text::put_json_text;
 use world_setup::Node;
 
 /// A piece of a line.

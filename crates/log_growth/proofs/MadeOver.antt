@@ -10,7 +10,7 @@ use Rattle.bin_routes.specs.Table.{routes_of}
 use Rattle.claim_model.specs.Bytes.{bytes_with}
 use Rattle.world_setup.specs.Seen.{settings_seen}
 use Rattle.world_setup.specs.declared.settings.WorldSettings.{WorldSettings}
-use Rattle.world_settings.specs.Document.{Document, document_seen, settings_in}
+use Rattle.world_settings.specs.Document.{Document, document_seen, living_in}
 use Rattle.run_merge.specs.Order.{FitsBy}
 use Rattle.run_merge.specs.Misfits.{BreaksAt}
 use Rattle.kept_logs.specs.declared.fault.LogFault.{LogFault}

@@ -1,7 +1,7 @@
 -- Texts of settings of which one has grown from the other.
 use Rattle.std.specs.Prelude.{◌≡◌, ◌⊎◌, ⊤, ℕ, List, Some, None}
 use Rattle.world_setup.specs.declared.settings.WorldSettings.{WorldSettings}
-use Rattle.world_settings.specs.Document.{settings_in}
+use Rattle.world_settings.specs.Document.{living_in}
 use Rattle.node_service.specs.Opened.{Spells}
 use Rattle.node_service.specs.Refused.{SpellsNoWorld}
 use Rattle.log_growth.specs.Compared.{GrowsTo, first_ungrown}
@@ -27,7 +27,7 @@ pub record HasNotGrown (old new : List ℕ) (found : Ungrown) : Type 0 where
 
 -- a text spells no settings, or some that no world takes
 abbrev pub SpellsNone : List ℕ → Type 0
-SpellsNone text = (settings_in text ≡ None) ⊎ SpellsNoWorld text
+SpellsNone text = (living_in text ≡ None) ⊎ SpellsNoWorld text
 
 -- texts are refused for this cause
 abbrev pub IsNoGrowth : List ℕ → List ℕ → GrowthFault → Type 0

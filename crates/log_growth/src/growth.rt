@@ -11,7 +11,7 @@ use crate::reason::reason;
 use crate::ungrown::Ungrown;
 use std::alloc::Global;
 use thiserror::Error;
-use world_settings::{SettingsFault, read_settings};
+use world_settings::{SettingsFault, read_living_settings};
 use world_setup::{WorldFault, WorldSettings};
 
 /// Why settings have not grown to others: the first cause in the order of this list. Want of memory may stand in place of any
@@ -69,7 +69,7 @@ fn settings_of(alloc: Global, text: &[u8]) -> Result<WorldSettings, Untaken>
     ensures spelled { IfOk result (λ settings. Spells text.now settings) }
     ensures refused { IfErr result (λ why. why ≡ Settings → SpellsNone text.now) }
 {
-    let settings = match read_settings(alloc, text) {
+    let settings = match read_living_settings(alloc, text) {
         Ok(settings) => settings,
         Err(SettingsFault::OutOfMemory) => return Err(Untaken::OutOfMemory),
         Err(SettingsFault::Settings) => return Err(Untaken::Settings),

@@ -23,6 +23,7 @@ mod record_lines;
 mod records;
 mod request_lines;
 mod spelling;
+mod standard;
 mod text;
 mod transmissions;
 mod values;

@@ -5,6 +5,7 @@ use crate::meaning::{put_mark, put_meaning};
 use crate::names::FieldName;
 use crate::page::{Page, Row, Style, columns};
 use crate::part::{Part, PartKind};
+use crate::standard::{unused_field, unused_segment};
 
 impl Page {
     /// Writes a part.
@@ -14,7 +15,7 @@ impl Page {
         match part.kind {
             PartKind::Header(name) => self.field(place, name, part.bytes),
             PartKind::Field(Some(name)) => self.field(place, name, behind(part.bytes, 3)),
-            PartKind::Field(None) => self.unknown(place, part.bytes),
+            PartKind::Field(None) => self.unread(place, part.bytes),
             PartKind::Segment => self.segment(place, behind(part.bytes, 4)),
             PartKind::Group => self.group(place),
             PartKind::Mark(mark) => self.mark(place, mark, part.bytes),
@@ -35,14 +36,27 @@ impl Page {
         self.row(place, row);
     }
 
-    /// Writes a field that the product does not know in its segment.
-    fn unknown(&mut self, place: usize, bytes: &[u8]) {
+    /// Writes a field that the product does not read in its segment.
+    fn unread(&mut self, place: usize, bytes: &[u8]) {
         let named = behind(bytes, 1);
-        let row = Row {
-            number: &named[..named.len().min(2)],
-            name: "unknown, carried unchanged",
-            key: "unknown",
-            value: behind(bytes, 3),
+        let letters = &named[..named.len().min(2)];
+        let value = behind(bytes, 3);
+        let row = match unused_field(letters) {
+            Some(field) => {
+                self.note.put("not used by this profile");
+                Row {
+                    number: field.number.as_bytes(),
+                    name: field.name,
+                    key: field.key,
+                    value,
+                }
+            }
+            None => Row {
+                number: letters,
+                name: "unknown, carried unchanged",
+                key: "unknown",
+                value,
+            },
         };
         self.row(place, row);
     }
@@ -122,6 +136,9 @@ fn segment_name(id: &[u8]) -> &'static str {
         b"21" => "response status",
         b"22" => "response claim",
         b"23" => "response pricing",
-        _ => "unknown, carried unchanged",
+        _ => match unused_segment(id) {
+            Some(name) => name,
+            None => "unknown, carried unchanged",
+        },
     }
 }

@@ -3,7 +3,8 @@
 use crate::names::FieldName;
 use claim_profile::TransactionCode;
 
-/// What a field of an order has to hold, under this transaction code.
+/// What a field of an order has to hold, under this transaction code. Of the fields of the last arm no transaction is
+/// rejected for what they hold; a field that is new has to be put among them, or gets words of its own.
 pub(crate) fn wanted_in(field: FieldName, code: Option<TransactionCode>) -> &'static str {
     match field {
         FieldName::Cardholder => "one text of 1 to 20 bytes",
@@ -16,7 +17,23 @@ pub(crate) fn wanted_in(field: FieldName, code: Option<TransactionCode>) -> &'st
         FieldName::Quantity => "one number of 1 to 10 digits",
         FieldName::IngredientCost => "one amount that is not negative",
         FieldName::DispensingFee => "at most one amount that is not negative",
-        _ => "another value",
+        FieldName::TransactionCode => "the code of a billing or a reversal",
+        FieldName::Bin
+        | FieldName::Version
+        | FieldName::Pcn
+        | FieldName::TransactionCount
+        | FieldName::ProviderQualifier
+        | FieldName::Provider
+        | FieldName::Vendor
+        | FieldName::HeaderStatus
+        | FieldName::ResponseStatus
+        | FieldName::Authorization
+        | FieldName::RejectCount
+        | FieldName::RejectCode
+        | FieldName::PatientPay
+        | FieldName::CostPaid
+        | FieldName::FeePaid
+        | FieldName::TotalPaid => "another value",
     }
 }
 

@@ -2,7 +2,6 @@ pub mod LooseValues
 pub mod PartValues
 pub mod Crosses
 pub mod Lines
-pub mod Appending
 pub mod Pieces
 pub mod Rooms
 pub mod Hostings

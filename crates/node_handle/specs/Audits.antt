@@ -4,8 +4,11 @@ use Rattle.std.specs.Global.{Vec}
 use Rattle.std.specs.Option.{option_map}
 use Rattle.claim_model.specs.Logs.{NodeLog}
 use Rattle.world_setup.specs.declared.settings.WorldSettings.{WorldSettings}
+use Rattle.world_setup.specs.declared.world_fault.WorldFault.{WorldFault}
+use Rattle.world_settings.specs.Document.{living_in}
 use Rattle.log_audit.specs.Judged.{IsTold}
 use Rattle.log_audit.specs.Given.{IsRead}
+use Rattle.log_audit.specs.Refused.{SpellsNoWorld, RefusesLog}
 use Rattle.kept_logs.specs.declared.fault.LogFault.{LogFault}
 use Rattle.node_handle.specs.declared.refusal.Refusal.{Refusal}
 use Rattle.node_handle.specs.declared.refusal.Refusal.TheVariants.{OutOfMemory, Settings, NotALog, NoRun, ShortBuffer}
@@ -46,16 +49,35 @@ Reports told legal (Ok made) buffer after size = (legal ≡ true) × Stands told
 Reports told legal (Err why) buffer after size =
     ((why ≡ NoRun) × ((legal ≡ false) × Stands told buffer after size)) ⊎ ((why ≡ ShortBuffer) × Lacks told buffer after size)
 
--- settings or a log are refused
-abbrev pub RefusesRead : Refusal → ℕ → ℕ → Type 0
-RefusesRead why before place = (((why ≡ OutOfMemory) ⊎ (why ≡ Settings)) × (place ≡ before)) ⊎ ((fault : LogFault) × (why ≡ refusal_of_log fault))
+-- the text spells no settings, or some that no world takes
+abbrev pub HasNoSettings : List ℕ → Type 0
+HasNoSettings text = (living_in text ≡ None) ⊎ ((why : WorldFault) × SpellsNoWorld text why)
 
--- nothing is judged: the sizes are not those of all bytes, or memory, settings or a log are refused
-abbrev pub IsUnjudged : List ℕ → List ℕ → Refusal → ℕ → ℕ → Type 0
-IsUnjudged bytes sizes why before place = ((why ≡ NotALog) × ((cut_at sizes bytes ≡ None) × (place ≡ length sizes))) ⊎ RefusesRead why before place
+-- the settings are taken, and the piece at this place is the first that is no log under them
+pub record HasNoLog (text : List ℕ) (pieces : List (List ℕ)) (why : Refusal) (place : ℕ) : Type 0 where
+  pub fault : LogFault
+  pub is : why ≡ refusal_of_log fault
+  pub first : RefusesLog text pieces place fault
+
+-- pieces of bytes are not judged: memory is refused, then the settings, then the first piece that is no log
+abbrev pub RefusesRead : List ℕ → List (List ℕ) → Refusal → ℕ → ℕ → Type 0
+RefusesRead text pieces why before place =
+    ((why ≡ OutOfMemory) × (place ≡ before)) ⊎ (((why ≡ Settings) × ((place ≡ before) × HasNoSettings text)) ⊎ HasNoLog text pieces why place)
+
+-- the same of bytes with the logs of these sizes
+pub record RefusesPieces (text bytes sizes : List ℕ) (why : Refusal) (before place : ℕ) : Type 0 where
+  pub pieces : List (List ℕ)
+  pub cut : cut_at sizes bytes ≡ Some pieces
+  pub refused : RefusesRead text pieces why before place
+
+-- nothing is judged: memory is refused, the sizes are not those of all bytes, or what they cut is refused
+abbrev pub IsUnjudged : List ℕ → List ℕ → List ℕ → Refusal → ℕ → ℕ → Type 0
+IsUnjudged text bytes sizes why before place =
+    ((why ≡ OutOfMemory) × (place ≡ before))
+    ⊎ (((why ≡ NotALog) × ((cut_at sizes bytes ≡ None) × (place ≡ length sizes))) ⊎ RefusesPieces text bytes sizes why before place)
 
 -- logs are judged, and it is told what they are; or nothing is, and the buffer is as it was
 abbrev pub Audits : List ℕ → List ℕ → List ℕ → Said → List ℕ → List ℕ → ℕ → ℕ → Type 0
 Audits text bytes sizes said buffer after before size =
     ((told : List ℕ) × ((legal : Bool) × (IsJudged text bytes sizes legal × Reports told legal said buffer after size)))
-    ⊎ ((after ≡ buffer) × ((why : Refusal) × ((said ≡ Err why) × IsUnjudged bytes sizes why before size)))
+    ⊎ ((after ≡ buffer) × ((why : Refusal) × ((said ≡ Err why) × IsUnjudged text bytes sizes why before size)))

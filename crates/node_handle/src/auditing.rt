@@ -1,8 +1,9 @@
 //! Whether logs are those of one legal run, as claimaudit tells it.
 
-ghost use Rattle.std.specs.Prelude.{◌≡◌, true, false, IfOk, IfErr, OnOk};
+ghost use Rattle.std.specs.Prelude.{◌≡◌, ℕ, List, true, false, IfOk, IfErr, OnOk};
 ghost use Rattle.run_merge.specs.LogSeen.{logs_seen};
 ghost use Rattle.log_audit.specs.Given.{IsRead};
+ghost use Rattle.log_audit.specs.Refused.{IsRefused};
 ghost use Rattle.log_audit.specs.Judged.{IsTold};
 ghost use Rattle.node_handle.specs.declared.refusal.Refusal.TheVariants.{NoRun, OutOfMemory};
 ghost use Rattle.node_handle.specs.Audits.{Audits, bytes_of, IsJudged, IsReported, IsUnjudged, RefusesRead, Reports};
@@ -18,9 +19,10 @@ use std::alloc::Global;
 /// object of JSON.
 ///
 /// # Errors
-/// `NoRun` where they are those of no legal run; what is told of them was copied then too. Else the buffer is as it was:
-/// `Settings`, or the fault of a log, with its place among the logs, from 0, in `size`; `NotALog`, with their count, where
-/// the sizes are not those of all bytes; `ShortBuffer`, or memory was refused.
+/// `NoRun` where they are those of no legal run; what is told of them was copied then too. Else the buffer is as it was, and
+/// the first that stands is told: `NotALog`, with the count of sizes in `size`, where they are not those of all bytes;
+/// `Settings`; the first fault of the first log that is none, with its place, from 0, in `size`; `ShortBuffer`. Memory that
+/// was refused may stand in place of any.
 pub fn audit(
     alloc: Global,
     style: Style,
@@ -66,7 +68,7 @@ fn report_of(
     place: &mut usize,
 ) -> Result<Report, Refusal>
     ensures judged { IfOk result (λ report. IsJudged settings.now logs.now sizes.now report.legal) }
-    ensures refused { IfErr result (λ why. IsUnjudged logs.now sizes.now why place.old place.new) }
+    ensures refused { IfErr result (λ why. IsUnjudged settings.now logs.now sizes.now why place.old place.new) }
 {
     match pieces_of(alloc, logs, sizes) {
         Ok(Some(pieces)) => report_on_pieces(alloc, style, settings, pieces.as_slice(), place),
@@ -87,7 +89,8 @@ fn report_on_pieces(
     place: &mut usize,
 ) -> Result<Report, Refusal>
     ensures judged { IfOk result (λ report. IsReported settings.now (bytes_of logs.now) report.legal) }
-    ensures refused { IfErr result (λ why. RefusesRead why place.old place.new) }
+    ensures refused { IfErr result (λ why.
+        RefusesRead settings.now (bytes_of logs.now) why place.old place.new) }
 {
     match audited(alloc, settings, logs) {
         Ok(audited) => reported(alloc, style, audited),
@@ -108,7 +111,8 @@ fn reported(alloc: Global, style: Style, audited: Audited) -> Result<Report, Ref
 
 /// The settings and the logs that bytes are.
 fn audited(alloc: Global, settings: &[u8], logs: &[Vec<u8>]) -> Result<Audited, AuditFault>
-    ensures { IfOk result (λ a. IsRead settings.now (bytes_of logs.now) a.settings (logs_seen a.logs.items)) }
+    ensures read { IfOk result (λ a. IsRead settings.now (bytes_of logs.now) a.settings (logs_seen a.logs.items)) }
+    ensures refused { IfErr result (λ why. IsRefused settings.now (bytes_of logs.now) why) }
 {
     match Vec::from_slice(alloc, settings) {
         Ok(text) => read_audited(alloc, text, logs),
@@ -126,7 +130,8 @@ fn form_of(style: Style) -> Form {
 
 /// The refusal of a fault, with the place of the log that it is about.
 fn told(fault: AuditFault, place: &mut usize) -> Refusal
-    ensures { RefusesRead result place.old place.new }
+    ensures { (text : List ℕ) (pieces : List (List ℕ))
+        → IsRefused text pieces fault → RefusesRead text pieces result place.old place.new }
 {
     match fault {
         AuditFault::OutOfMemory => Refusal::OutOfMemory,

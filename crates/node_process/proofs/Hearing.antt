@@ -1,11 +1,13 @@
 -- Bytes that are taken line by line.
 use Rattle.std.proofs.Common.{◌≡◌, ℕ, ◌+◌, ◌<◌, ◌≤◌, false, List, [], ◌∷◌, ◌++◌, take, drop, length, length-drop, Some, Result, Ok, Err, OnOk, refl, sym, ap, ◌∙◌, subst, arith}
 use Rattle.std.proofs.lemmas.List.Quantifiers.{position-Some}
+use Rattle.std.specs.List.{AllByRecursion}
 use Rattle.std.specs.Prelude.{position}
 use Rattle.std.specs.Str.Lines.{strip_carriage_return}
 use Rattle.claim_model.proofs.Lists.{all_append}
+use Rattle.kept_logs.specs.Fits.{FitsLogged}
 use Rattle.node_service.specs.Serving.{Serving, after_line}
-use Rattle.node_service.specs.Lines.{after_lines}
+use Rattle.node_service.specs.Lines.{after_lines, line_calls, lines_calls}
 use Rattle.node_process.specs.Heard.{is_newline, whole_lines, begun_line, NoNewline}
 use Rattle.node_process.proofs.Splitting.{whole_one, begun_one, whole_none, begun_all}
 
@@ -14,13 +16,16 @@ pub record IsTaken (before : Serving) (text : List ℕ) (s : Serving) (pending r
   pub none : NoNewline pending
   pub lines : after_lines before (whole_lines text) ≡ after_lines s (whole_lines (pending ++ rest))
   pub begun : begun_line text ≡ begun_line (pending ++ rest)
+  -- where the calls of the lines that are left fit into records, all do
+  pub fits : AllByRecursion FitsLogged (lines_calls s (whole_lines (pending ++ rest))) → AllByRecursion FitsLogged (lines_calls before (whole_lines text))
 
 pub taken_first : (before : Serving) (pending bytes : List ℕ) → NoNewline pending → IsTaken before (pending ++ bytes) before pending bytes
-taken_first before pending bytes none = record { none = none; lines = refl; begun = refl }
+taken_first before pending bytes none = record { none = none; lines = refl; begun = refl; fits = λ f. f }
 
 pub taken_line : (before : Serving) (text : List ℕ) (s next : Serving) (pending empty rest left : List ℕ) (end : ℕ) → IsTaken before text s pending rest → position is_newline rest ≡ Some end → next ≡ after_line s (strip_carriage_return (pending ++ take end rest)) → empty ≡ []
-    → left ≡ drop (end + 1) rest → IsTaken before text next empty left
-taken_line before text s next pending empty rest left end t found serves none behind =
+    → left ≡ drop (end + 1) rest → AllByRecursion FitsLogged (line_calls s (strip_carriage_return (pending ++ take end rest))) → IsTaken before text next empty left
+taken_line before text s next pending empty rest left end t found serves none behind one =
+    let line = strip_carriage_return (pending ++ take end rest) in
     let gone : empty ++ left ≡ drop (end + 1) rest = ap (λ (x : List ℕ). x ++ left) none ∙ behind in
     record {
       none = subst NoNewline (sym none) tt;
@@ -29,6 +34,11 @@ taken_line before text s next pending empty rest left end t found serves none be
           ∙ (ap (after_lines s) (whole_one pending rest end t.none found)
           ∙ (ap (λ (x : Serving). after_lines x (whole_lines (drop (end + 1) rest))) (sym serves) ∙ ap (λ (x : List ℕ). after_lines next (whole_lines x)) (sym gone)));
       begun = t.begun ∙ (begun_one pending rest end t.none found ∙ ap begun_line (sym gone));
+      fits = λ more.
+          t.fits (subst (λ (lines : List (List ℕ)). AllByRecursion FitsLogged (lines_calls s lines)) (sym (whole_one pending rest end t.none found))
+          (all_append FitsLogged (line_calls s line) (lines_calls (after_line s line) (whole_lines (drop (end + 1) rest))) one
+          (subst (λ (x : Serving). AllByRecursion FitsLogged (lines_calls x (whole_lines (drop (end + 1) rest)))) serves
+          (subst (λ (x : List ℕ). AllByRecursion FitsLogged (lines_calls next (whole_lines x))) gone more))));
     }
 
 -- where no line ends any more
@@ -36,6 +46,11 @@ pub taken_all : (before : Serving) (text : List ℕ) (s : Serving) (pending rest
 taken_all before text s pending rest t none =
     let all : NoNewline (pending ++ rest) = all_append (λ (byte : ℕ). is_newline byte ≡ false) pending rest t.none none in
     (sym (t.lines ∙ ap (after_lines s) (whole_none (pending ++ rest) all)), (sym (t.begun ∙ begun_all (pending ++ rest) all), all))
+
+pub taken_fits : (before : Serving) (text : List ℕ) (s : Serving) (pending rest : List ℕ) → IsTaken before text s pending rest → NoNewline rest → AllByRecursion FitsLogged (lines_calls before (whole_lines text))
+taken_fits before text s pending rest t none =
+    let all : NoNewline (pending ++ rest) = all_append (λ (byte : ℕ). is_newline byte ≡ false) pending rest t.none none in
+    t.fits (subst (λ (lines : List (List ℕ)). AllByRecursion FitsLogged (lines_calls s lines)) (sym (whole_none (pending ++ rest) all)) tt)
 
 pub nothing_ends : (rest : List ℕ) → length rest ≤ 0 → NoNewline rest
 nothing_ends [] h = tt

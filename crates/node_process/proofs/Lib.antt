@@ -4,3 +4,8 @@ pub mod Asking
 pub mod Moments
 pub mod Hearing
 pub mod Turning
+pub mod Left
+pub mod Spoken
+pub mod Stepping
+pub mod Histories
+pub mod Following

@@ -1,14 +1,15 @@
 -- Each act of a process, from a moment that is safe to the next.
 use Rattle.std.proofs.Common.{◌≡◌, ◌≤◌, ℕ, zero, suc, Bool, true, false, not, ◌&&◌, cond, List, [], ◌∷◌, ◌++◌, take, length, Result, Ok, Err, OnOk, is_ok, ◌==◌, refl, sym, ap, ◌∙◌, subst, ◌⊎◌, inl, inr, append_assoc, append-nil, arith}
 use Rattle.std.proofs.lemmas.Bool.Decides.{nat_tests}
+use Rattle.node_service.specs.Answering.{ready_line}
 use Rattle.node_service.specs.Serving.{Serving, cleared}
 use Rattle.node_service.specs.Lines.{after_lines}
 use Rattle.node_service.specs.Opened.{IsOpened}
 use Rattle.node_process.specs.Acts.{Act, Found, Cut, Append, Sync, Say, Hear, found, file, has_failed, kept, said, heard}
 use Rattle.node_process.specs.Heard.{whole_lines, begun_line}
-use Rattle.node_process.specs.Safe.{Whose, IsStartOf, ready_line, asked, log_of, words_of, IsCovered, IsWholeFile, IsSafe, AtEachMoment, IsRun, IsRunDone, IsServed, IsLogged, IsOpening, Reads, Trims, Heads, Begins, Serves, Logs}
+use Rattle.node_process.specs.Safe.{Whose, IsStartOf, asked, log_of, words_of, FitsInput, IsCovered, IsLogOfInput, IsWholeFile, IsSafe, AtEachMoment, IsRun, IsRunDone, IsServed, IsLogged, IsOpening, Reads, Trims, Heads, Begins, Serves, Logs}
 use Rattle.node_service.proofs.Lines.{new_or_whole}
-use Rattle.node_process.proofs.Asking.{asked_more}
+use Rattle.node_process.proofs.Asking.{asked_more, fits_more}
 
 -- ---- beginnings
 
@@ -42,21 +43,25 @@ module _ (start : Serving) (base : List ℕ) where
   cover_on t u words more keeps (inr c) = inr (record {
     input = c.input;
     came = record { rest = c.came.rest ++ more.rest; is = sym (append_assoc c.input c.came.rest more.rest) ∙ (ap (λ (x : List ℕ). x ++ more.rest) c.came.is ∙ more.is) };
+    fits = c.fits;
     sent = subst (λ (x : List ℕ). IsStartOf x (words_of start c.input)) (sym words) c.sent;
     logged = record { rest = c.logged.rest ++ keeps.rest; is = sym (append_assoc (log_of start base c.input) c.logged.rest keeps.rest) ∙ (ap (λ (x : List ℕ). x ++ keeps.rest) c.logged.is ∙ keeps.is) };
   })
 
-  log_of_all : (t : List Act) → file t ≡ log_of start base (heard t) → IsWholeFile start base t
-  log_of_all t e = inr (inr (record { input = heard t; came = all_of (heard t); is = e }))
+  all_log : (t : List Act) → FitsInput start (heard t) → file t ≡ log_of start base (heard t) → IsLogOfInput start base t
+  all_log t fits e = record { input = heard t; came = all_of (heard t); fits = fits; is = e }
+
+  log_of_all : (t : List Act) → FitsInput start (heard t) → file t ≡ log_of start base (heard t) → IsWholeFile start base t
+  log_of_all t fits e = inr (inr (all_log t fits e))
 
   -- ---- a turn
 
   pub append_each : (t : List Act) (s : Serving) (done : Bool) → IsServed start base t s → AtEachMoment start base (Append s.records done ∷ t)
   append_each t s done v = (
     record {
-      order = (v.on.well, v.on.synced);
+      order = (v.on.well, (v.on.synced, all_log (Append s.records done ∷ t) v.on.fits v.log));
       covered = cover_on t (Append s.records done ∷ t) refl (all_of (heard t)) (all_of (kept t)) (now t v.on.each).covered;
-      whole = log_of_all (Append s.records done ∷ t) v.log;
+      whole = log_of_all (Append s.records done ∷ t) v.on.fits v.log;
     },
     v.on.each,
   )
@@ -70,9 +75,9 @@ module _ (start : Serving) (base : List ℕ) where
       let u = Append s.records true ∷ t in
       let before = append_each t s true v in (
         record {
-          order = v.on.well;
-          covered = cover_on u (Sync done ∷ u) refl (all_of (heard t)) (sync_kept u done v.on.well (start_with (kept t) (file t) s.records (same_start (kept t) (file t) v.on.synced))) before.0.covered;
-          whole = log_of_all (Sync done ∷ u) v.log;
+          order = ((tt, v.on.well.1), all_log u v.on.fits v.log);
+          covered = cover_on u (Sync done ∷ u) refl (all_of (heard t)) (sync_kept u done v.on.well.1 (start_with (kept t) (file t) s.records (same_start (kept t) (file t) v.on.synced))) before.0.covered;
+          whole = log_of_all (Sync done ∷ u) v.on.fits v.log;
         },
         before,
       )
@@ -82,8 +87,9 @@ module _ (start : Serving) (base : List ℕ) where
       record {
         on = record {
           each = sync_each t s true v;
-          well = v.on.well;
-          synced = ap (λ b. cond (true && not b) (file t ++ s.records) (kept t)) v.on.well;
+          well = (tt, v.on.well.1);
+          synced = ap (λ b. cond (true && not b) (file t ++ s.records) (kept t)) v.on.well.1;
+          fits = v.on.fits;
           same = v.on.same;
           words = v.on.words;
         };
@@ -100,10 +106,11 @@ module _ (start : Serving) (base : List ℕ) where
       covered = inr (record {
         input = heard t;
         came = all_of (heard t);
+        fits = v.on.fits;
         sent = same_start (said t ++ s.out) (words_of start (heard t)) v.on.words;
         logged = same_start (log_of start base (heard t)) (kept t) (sym v.log ∙ sym v.on.synced);
       });
-      whole = log_of_all (Say s.out done ∷ t) v.log;
+      whole = log_of_all (Say s.out done ∷ t) v.on.fits v.log;
     },
     v.on.each,
   )
@@ -113,8 +120,9 @@ module _ (start : Serving) (base : List ℕ) where
       record {
         on = record {
           each = say_each t s true v;
-          well = v.on.well;
+          well = (tt, v.on.well.1);
           synced = v.on.synced;
+          fits = v.on.fits;
           same = v.on.same;
           words = append-nil (said t ++ s.out) ∙ v.on.words;
         };
@@ -124,7 +132,7 @@ module _ (start : Serving) (base : List ℕ) where
   whole_on : (t : List Act) (bytes : List ℕ) → IsWholeFile start base t → IsWholeFile start base (Hear bytes ∷ t)
   whole_on t bytes (inl e) = inl e
   whole_on t bytes (inr (inl e)) = inr (inl e)
-  whole_on t bytes (inr (inr l)) = inr (inr (record { input = l.input; came = start_with l.input (heard t) bytes l.came; is = l.is }))
+  whole_on t bytes (inr (inr l)) = inr (inr (record { input = l.input; came = start_with l.input (heard t) bytes l.came; fits = l.fits; is = l.is }))
 
   pub hear_each : (t : List Act) (s : Serving) (bytes : List ℕ) → IsServed start base t s → AtEachMoment start base (Hear bytes ∷ t)
   hear_each t s bytes v = (
@@ -136,8 +144,8 @@ module _ (start : Serving) (base : List ℕ) where
     v.on.each,
   )
 
-  pub heard_served : (t : List Act) (s : Serving) (bytes : List ℕ) → IsServed start base t s → IsServed start base (Hear bytes ∷ t) (after_lines s (whole_lines (begun_line (heard t) ++ bytes)))
-  heard_served t s bytes v =
+  pub heard_served : (t : List Act) (s : Serving) (bytes : List ℕ) → IsServed start base t s → FitsInput s (begun_line (heard t) ++ bytes) → IsServed start base (Hear bytes ∷ t) (after_lines s (whole_lines (begun_line (heard t) ++ bytes)))
+  heard_served t s bytes v fits =
       let f = asked_more start (heard t) bytes s v.on.same in
       let u = f.added in
       let a = asked start (heard t) in
@@ -145,8 +153,9 @@ module _ (start : Serving) (base : List ℕ) where
       (record {
         on = record {
           each = hear_each t s bytes v;
-          well = v.on.well;
+          well = (tt, v.on.well.1);
           synced = v.on.synced;
+          fits = fits_more start (heard t) bytes s v.on.same v.on.fits fits;
           same = ap cleared (sym f.all);
           words =
               sym (append_assoc (said t) s.out u.out)
@@ -165,22 +174,29 @@ module _ (start : Serving) (base : List ℕ) where
   found_each bytes = (record { order = refl; covered = inl refl; whole = inl refl }, record { order = tt; covered = inl refl; whole = inl refl })
 
   -- the file of an opening, which is the log of no input
+  none_log : (t : List Act) (text : List ℕ) → IsOpening start base t text → text ≡ base ++ start.records → IsLogOfInput start base t
+  none_log t text o e = record { input = []; came = record { rest = heard t; is = refl }; fits = tt; is = o.is ∙ e }
+
   log_of_none : (t : List Act) (text : List ℕ) → IsOpening start base t text → text ≡ base ++ start.records → IsWholeFile start base t
-  log_of_none t text o e = inr (inr (record { input = []; came = record { rest = heard t; is = refl }; is = o.is ∙ e }))
+  log_of_none t text o e = inr (inr (none_log t text o e))
 
   pub head_each : (t : List Act) (done : Bool) → IsOpening start base t base → kept t ≡ file t → AtEachMoment start base (Append start.records done ∷ t)
   head_each t done o synced = (
     record {
-      order = (o.well, synced);
+      order = (o.well, (synced, headed));
       covered = inl o.silent;
-      whole = inr (inr (record { input = []; came = record { rest = heard t; is = refl }; is = ap (λ (x : List ℕ). x ++ start.records) o.is }));
+      whole = inr (inr headed);
     },
     o.each,
   )
+    where
+      headed : IsLogOfInput start base (Append start.records done ∷ t)
+      headed = record { input = []; came = record { rest = heard t; is = refl }; fits = tt; is = ap (λ (x : List ℕ). x ++ start.records) o.is }
 
   pub settle_each : (t : List Act) (done : Bool) → IsOpening start base t (base ++ start.records) → AtEachMoment start base (Sync done ∷ t)
   settle_each t done o =
-      (record { order = o.well; covered = inl o.silent; whole = inr (inr (record { input = []; came = record { rest = heard t; is = refl }; is = o.is })) }, o.each)
+      let log : IsLogOfInput start base t = record { input = []; came = record { rest = heard t; is = refl }; fits = tt; is = o.is } in
+      (record { order = (o.well, log); covered = inl o.silent; whole = inr (inr (record { input = []; came = record { rest = heard t; is = refl }; fits = tt; is = o.is })) }, o.each)
 
   pub greet_each : (t : List Act) (done : Bool) → IsOpening start base t (base ++ start.records) → kept t ≡ file t → AtEachMoment start base (Say (ready_line start.calls) done ∷ t)
   greet_each t done o synced = (
@@ -189,10 +205,11 @@ module _ (start : Serving) (base : List ℕ) where
       covered = inr (record {
         input = [];
         came = record { rest = heard t; is = refl };
+        fits = tt;
         sent = record { rest = start.out; is = ap (λ (x : List ℕ). (x ++ ready_line start.calls) ++ start.out) o.silent };
         logged = same_start (log_of start base []) (kept t) (sym (synced ∙ o.is));
       });
-      whole = inr (inr (record { input = []; came = record { rest = heard t; is = refl }; is = o.is }));
+      whole = inr (inr (record { input = []; came = record { rest = heard t; is = refl }; fits = tt; is = o.is }));
     },
     o.each,
   )
@@ -202,8 +219,9 @@ module _ (start : Serving) (base : List ℕ) where
       record {
         on = record {
           each = greet_each t true o synced;
-          well = o.well;
+          well = (tt, o.well.1);
           synced = synced;
+          fits = subst (FitsInput start) (sym o.deaf) tt;
           same = ap (λ (x : List ℕ). cleared (asked start x)) (sym o.deaf);
           words =
               append-nil (said t ++ ready_line start.calls)
@@ -230,7 +248,7 @@ pub reads_runs : (whose : Whose) (t : List Act) (whole size : ℕ) (s : Serving)
 reads_runs whose t whole size s r = subst (IsRun whose) (sym r.is) (runs whose (Found r.bytes ∷ []) s whole r.opened r.enough (found_each s (take whole r.bytes) r.bytes))
 
 cut_each : (s : Serving) (whole : ℕ) (bytes : List ℕ) (done : Bool) → AtEachMoment s (take whole bytes) (Cut whole done ∷ Found bytes ∷ [])
-cut_each s whole bytes done = (record { order = refl; covered = inl refl; whole = inr (inl refl) }, found_each s (take whole bytes) bytes)
+cut_each s whole bytes done = (record { order = (refl, refl); covered = inl refl; whole = inr (inl refl) }, found_each s (take whole bytes) bytes)
 
 pub cut_runs : (whose : Whose) (t : List Act) (whole size : ℕ) (s : Serving) (done : Bool) → Reads whose t whole size s → IsRun whose (Cut whole done ∷ t)
 cut_runs whose t whole size s done r =
@@ -243,13 +261,13 @@ take_none (suc whole) = refl
 pub cut_trims : (whose : Whose) (t : List Act) (whole size : ℕ) (s : Serving) → Reads whose t whole size s → Trims whose (Cut whole true ∷ t) whole s
 cut_trims whose t whole size s r =
     subst (λ (acts : List Act). Trims whose (Cut whole true ∷ acts) whole s) (sym r.is)
-    (record { opened = r.opened; enough = r.enough; opening = record { each = cut_each s whole r.bytes true; well = refl; silent = refl; deaf = refl; is = refl }; unsynced = take_none whole })
+    (record { opened = r.opened; enough = r.enough; opening = record { each = cut_each s whole r.bytes true; well = (tt, refl); silent = refl; deaf = refl; is = refl }; unsynced = take_none whole })
 
 pub whole_trims : (whose : Whose) (t : List Act) (whole size : ℕ) (s : Serving) → Reads whose t whole size s → whole ≡ size → Trims whose t whole s
 whole_trims whose t whole size s r same =
     let all : take whole r.bytes ≡ r.bytes = ap (λ (n : ℕ). take n r.bytes) (same ∙ r.count) ∙ take_whole r.bytes in
     subst (λ (acts : List Act). Trims whose acts whole s) (sym r.is)
-    (record { opened = r.opened; enough = r.enough; opening = record { each = found_each s (take whole r.bytes) r.bytes; well = refl; silent = refl; deaf = refl; is = sym all }; unsynced = refl })
+    (record { opened = r.opened; enough = r.enough; opening = record { each = found_each s (take whole r.bytes) r.bytes; well = (tt, refl); silent = refl; deaf = refl; is = sym all }; unsynced = refl })
   where
     take_whole : (bytes : List ℕ) → take (length bytes) bytes ≡ bytes
     take_whole [] = refl
@@ -276,7 +294,7 @@ head_heads whose t whole s h some =
       enough = h.enough;
       opening = record {
         each = head_each s (take whole (found t)) t true h.opening (empty_base whose t whole s h some);
-        well = h.opening.well;
+        well = (tt, h.opening.well.1);
         silent = h.opening.silent;
         deaf = h.opening.deaf;
         is = ap (λ (x : List ℕ). x ++ s.records) h.opening.is;
@@ -305,8 +323,8 @@ settle_begins whose t whole s h =
     record {
       opened = h.opened;
       enough = h.enough;
-      opening = record { each = settle_each s (take whole (found t)) t true h.opening; well = h.opening.well; silent = h.opening.silent; deaf = h.opening.deaf; is = h.opening.is };
-      synced = ap (λ b. cond (true && not b) (file t) (kept t)) h.opening.well;
+      opening = record { each = settle_each s (take whole (found t)) t true h.opening; well = (tt, h.opening.well.1); silent = h.opening.silent; deaf = h.opening.deaf; is = h.opening.is };
+      synced = ap (λ b. cond (true && not b) (file t) (kept t)) h.opening.well.1;
     }
 
 pub greet_runs : (whose : Whose) (t : List Act) (whole : ℕ) (s : Serving) (done : Bool) → Begins whose t whole s → IsRun whose (Say (ready_line s.calls) done ∷ t)
@@ -340,8 +358,8 @@ say_serves whose t s v = record { start = v.start; whole = v.whole; opened = v.o
 pub hear_runs : (whose : Whose) (t : List Act) (s : Serving) (bytes : List ℕ) → Serves whose t s → IsRun whose (Hear bytes ∷ t)
 hear_runs whose t s bytes v = runs whose (Hear bytes ∷ t) v.start v.whole v.opened v.enough (hear_each v.start (take v.whole (found t)) t s bytes v.served)
 
-pub hear_serves : (whose : Whose) (t : List Act) (s : Serving) (bytes : List ℕ) → Serves whose t s → Serves whose (Hear bytes ∷ t) (after_lines s (whole_lines (begun_line (heard t) ++ bytes)))
-hear_serves whose t s bytes v = record { start = v.start; whole = v.whole; opened = v.opened; enough = v.enough; served = heard_served v.start (take v.whole (found t)) t s bytes v.served }
+pub hear_serves : (whose : Whose) (t : List Act) (s : Serving) (bytes : List ℕ) → Serves whose t s → FitsInput s (begun_line (heard t) ++ bytes) → Serves whose (Hear bytes ∷ t) (after_lines s (whole_lines (begun_line (heard t) ++ bytes)))
+hear_serves whose t s bytes v fits = record { start = v.start; whole = v.whole; opened = v.opened; enough = v.enough; served = heard_served v.start (take v.whole (found t)) t s bytes v.served fits }
 
 -- the input has ended, and nothing is left to be said
 pub ends_done : (whose : Whose) (t : List Act) (s : Serving) → Serves whose t s → s.records ≡ [] → s.out ≡ [] → IsRunDone whose (Hear [] ∷ t)
@@ -354,7 +372,7 @@ ends_done whose t s v no_records no_words =
       opened = v.opened;
       enough = v.enough;
       done = record {
-        well = v.served.on.well;
+        well = v.served.on.well.1;
         logged =
             v.served.on.synced
             ∙ (sym (append-nil (file t))

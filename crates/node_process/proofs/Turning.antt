@@ -4,7 +4,7 @@ use Rattle.node_service.specs.Serving.{Serving}
 use Rattle.node_service.specs.Lines.{after_lines}
 use Rattle.node_process.specs.Acts.{Act, Hear, heard}
 use Rattle.node_process.specs.Heard.{whole_lines, begun_line, NoNewline}
-use Rattle.node_process.specs.Safe.{Whose, IsRun, IsRunDone, Serves, IsTurn}
+use Rattle.node_process.specs.Safe.{Whose, FitsInput, IsRun, IsRunDone, Serves, IsTurn}
 use Rattle.node_process.proofs.Splitting.{begun_append}
 use Rattle.node_process.proofs.Moments.{hear_runs, hear_serves, ends_done}
 
@@ -15,9 +15,10 @@ begins_turn whose t s serves deaf no_records no_words =
 pub turn_runs : (whose : Whose) (t : List Act) (s : Serving) (pending bytes : List ℕ) → IsTurn whose t s pending → IsRun whose (Hear bytes ∷ t)
 turn_runs whose t s pending bytes turn = hear_runs whose t s bytes turn.serves
 
-pub turn_serves : (whose : Whose) (t : List Act) (s next : Serving) (pending bytes : List ℕ) → IsTurn whose t s pending → next ≡ after_lines s (whole_lines (pending ++ bytes)) → Serves whose (Hear bytes ∷ t) next
-turn_serves whose t s next pending bytes turn is =
-    subst (Serves whose (Hear bytes ∷ t)) (ap (λ (x : List ℕ). after_lines s (whole_lines (x ++ bytes))) (sym turn.begun) ∙ sym is) (hear_serves whose t s bytes turn.serves)
+pub turn_serves : (whose : Whose) (t : List Act) (s next : Serving) (pending bytes : List ℕ) → IsTurn whose t s pending → next ≡ after_lines s (whole_lines (pending ++ bytes)) → FitsInput s (pending ++ bytes)
+    → Serves whose (Hear bytes ∷ t) next
+turn_serves whose t s next pending bytes turn is fits =
+    subst (Serves whose (Hear bytes ∷ t)) (ap (λ (x : List ℕ). after_lines s (whole_lines (x ++ bytes))) (sym turn.begun) ∙ sym is) (hear_serves whose t s bytes turn.serves (subst (λ (x : List ℕ). FitsInput s (x ++ bytes)) turn.begun fits))
 
 pub turn_on : (whose : Whose) (t u : List Act) (s next : Serving) (pending bytes more : List ℕ) → IsTurn whose t s pending → Serves whose u next → heard u ≡ heard t ++ bytes → more ≡ begun_line (pending ++ bytes) → NoNewline more
     → next.records ≡ [] → next.out ≡ [] → IsTurn whose u next more

@@ -3,3 +3,4 @@ pub mod Acts
 pub mod Noting
 pub mod Heard
 pub mod Safe
+pub mod Histories

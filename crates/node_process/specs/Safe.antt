@@ -1,10 +1,13 @@
 -- What is safe at each moment of a process: what was said is on the disk.
-use Rattle.std.specs.Prelude.{◌≡◌, ◌≤◌, ◌⊎◌, ⊤, ℕ, length, false, List, [], ◌∷◌, ◌++◌, codes, decimal, take}
+use Rattle.std.specs.Prelude.{◌≡◌, ◌≤◌, ◌⊎◌, ⊤, ℕ, length, false, List, [], ◌∷◌, ◌++◌, take}
+use Rattle.std.specs.List.{AllByRecursion}
 use Rattle.claim_model.specs.Node.{Node}
 use Rattle.world_setup.specs.Seen.{node_seen}
+use Rattle.kept_logs.specs.Fits.{FitsLogged}
 use Rattle.node_process.specs.declared.opening.Owner.{Owner}
+use Rattle.node_service.specs.Answering.{ready_line}
 use Rattle.node_service.specs.Serving.{Serving, cleared}
-use Rattle.node_service.specs.Lines.{after_lines}
+use Rattle.node_service.specs.Lines.{after_lines, lines_calls}
 use Rattle.node_service.specs.Opened.{IsOpened}
 use Rattle.node_process.specs.Acts.{Act, Found, Cut, Append, Sync, Say, Hear, found, file, has_failed, kept, said, heard, heard_last}
 use Rattle.node_process.specs.Heard.{whole_lines, begun_line, NoNewline}
@@ -13,10 +16,6 @@ use Rattle.node_process.specs.Heard.{whole_lines, begun_line, NoNewline}
 pub record IsStartOf (front bytes : List ℕ) : Type 0 where
   pub rest : List ℕ
   pub is : front ++ rest ≡ bytes
-
--- what the program says first: how many calls the log has
-abbrev pub ready_line : ℕ → List ℕ
-ready_line calls = codes "ready " ++ (decimal calls ++ codes "\n")
 
 -- the node behind the whole lines of an input
 abbrev pub asked : Serving → List ℕ → Serving
@@ -30,28 +29,44 @@ log_of start base input = base ++ (asked start input).records
 abbrev pub words_of : Serving → List ℕ → List ℕ
 words_of start input = ready_line start.calls ++ (asked start input).out
 
+-- the numbers of the calls that an input adds to the log are numbers of a machine, so their records read back
+abbrev pub FitsInput : Serving → List ℕ → Type 0
+FitsInput start input = AllByRecursion FitsLogged (lines_calls start (whole_lines input))
+
 -- what was said begins what some beginning of the input sends, and every record of that beginning is on the disk
 pub record IsCovered (start : Serving) (base : List ℕ) (acts : List Act) : Type 0 where
   pub input : List ℕ
   pub came : IsStartOf input (heard acts)
+  pub fits : FitsInput start input
   pub sent : IsStartOf (said acts) (words_of start input)
   pub logged : IsStartOf (log_of start base input) (kept acts)
-
--- nothing is done behind a failure, and an append stands on what is synced
-abbrev pub IsInOrder : List Act → Type 0
-IsInOrder [] = ⊤
-IsInOrder (Found bytes ∷ before) = has_failed before ≡ false
-IsInOrder (Cut size done ∷ before) = has_failed before ≡ false
-IsInOrder (Append bytes done ∷ before) = (has_failed before ≡ false) × (kept before ≡ file before)
-IsInOrder (Sync done ∷ before) = has_failed before ≡ false
-IsInOrder (Say bytes done ∷ before) = has_failed before ≡ false
-IsInOrder (Hear bytes ∷ before) = has_failed before ≡ false
 
 -- the log of a beginning of the input
 pub record IsLogOfInput (start : Serving) (base : List ℕ) (acts : List Act) : Type 0 where
   pub input : List ℕ
   pub came : IsStartOf input (heard acts)
+  pub fits : FitsInput start input
   pub is : file acts ≡ log_of start base input
+
+-- the log was read
+abbrev pub IsRead : List Act → Type 0
+IsRead [] = ⊥
+IsRead (act ∷ before) = ⊤
+
+-- the log was read, and no call failed
+abbrev pub GoesWell : List Act → Type 0
+GoesWell acts = IsRead acts × (has_failed acts ≡ false)
+
+-- the log is read first, and once; what is cut off is what stands behind its whole records, before anything else is done; an append stands on what
+-- is synced, and makes of it the log of a beginning of the input; what is synced is such a log; and nothing is done behind a failure
+abbrev pub IsInOrder : Serving → List ℕ → List Act → Type 0
+IsInOrder start base [] = ⊤
+IsInOrder start base (Found bytes ∷ before) = before ≡ []
+IsInOrder start base (Cut size done ∷ before) = (before ≡ Found (found before) ∷ []) × (take size (found before) ≡ base)
+IsInOrder start base (Append bytes done ∷ before) = GoesWell before × ((kept before ≡ file before) × IsLogOfInput start base (Append bytes done ∷ before))
+IsInOrder start base (Sync done ∷ before) = GoesWell before × IsLogOfInput start base before
+IsInOrder start base (Say bytes done ∷ before) = GoesWell before
+IsInOrder start base (Hear bytes ∷ before) = GoesWell before
 
 -- the file is as it was found, or cut to what stays of it, or the log of a beginning of the input
 abbrev pub IsWholeFile : Serving → List ℕ → List Act → Type 0
@@ -59,7 +74,7 @@ IsWholeFile start base acts = (file acts ≡ found acts) ⊎ ((file acts ≡ bas
 
 -- a moment is safe: the order is kept, nothing was said or what was said is on the disk, and the file is whole
 pub record IsSafe (start : Serving) (base : List ℕ) (acts : List Act) : Type 0 where
-  pub order : IsInOrder acts
+  pub order : IsInOrder start base acts
   pub covered : (said acts ≡ []) ⊎ IsCovered start base acts
   pub whole : IsWholeFile start base acts
 
@@ -111,8 +126,9 @@ pub record IsRunDone (whose : Whose) (acts : List Act) : Type 0 where
 -- what is common to all moments between two acts
 pub record IsOn (start : Serving) (base : List ℕ) (acts : List Act) (s : Serving) : Type 0 where
   pub each : AtEachMoment start base acts
-  pub well : has_failed acts ≡ false
+  pub well : GoesWell acts
   pub synced : kept acts ≡ file acts
+  pub fits : FitsInput start (heard acts)
   pub same : cleared s ≡ cleared (asked start (heard acts))
   pub words : said acts ++ s.out ≡ words_of start (heard acts)
 
@@ -129,7 +145,7 @@ pub record IsLogged (start : Serving) (base : List ℕ) (acts : List Act) (s : S
 -- a log that is opened, before a word is said: its file is this text
 pub record IsOpening (start : Serving) (base : List ℕ) (acts : List Act) (text : List ℕ) : Type 0 where
   pub each : AtEachMoment start base acts
-  pub well : has_failed acts ≡ false
+  pub well : GoesWell acts
   pub silent : said acts ≡ []
   pub deaf : heard acts ≡ []
   pub is : file acts ≡ text

@@ -1,4 +1,4 @@
-//! What is cut off a log is kept in a file beside it.
+//! Files beside a log: what was cut off it, and the mark of a sync that failed.
 
 use std::alloc::Global;
 use std::fs::{File, OpenOptions};
@@ -10,8 +10,8 @@ use std::{fs, io};
 const MOST_FILES: u32 = 1_000;
 
 /// Keeps what stands in a file behind so many bytes in a new file beside it, and says so on standard error: at the name of the
-/// log with `.cut-` and the place behind it. Its bytes are synced; its name is once a start syncs the folder.
-pub(crate) fn keep_end(rt: &HostRuntime, path: &str, size: usize) -> io::Result<()> {
+/// log with `.cut-` and the place behind it. Its bytes and its name are on disk then.
+pub fn keep_end(rt: &HostRuntime, path: &str, size: usize) -> io::Result<()> {
     let bytes = fs::read(rt, path)?;
     let Some(end) = bytes.get(size..) else {
         return Ok(());
@@ -19,11 +19,22 @@ pub(crate) fn keep_end(rt: &HostRuntime, path: &str, size: usize) -> io::Result<
     let (name, mut file) = new_beside(rt, path, size)?;
     file.write_all(end)?;
     file.sync_all()?;
+    sync_folder(rt, path)?;
     let count = end.len();
     let _ = eprintln!(rt;
-        "claimnode: {count} bytes of a torn end behind byte {size} are cut off, and kept in {name}"
+        "claimnode: {count} bytes behind byte {size} are cut off, and kept in {name}"
     );
     Ok(())
+}
+
+/// Has the names in the folder of a file on disk.
+pub fn sync_folder(rt: &HostRuntime, path: &str) -> io::Result<()> {
+    let folder = match path.rfind('/') {
+        Some(0) => "/",
+        Some(place) => &path[..place],
+        None => ".",
+    };
+    File::open(rt, folder)?.sync_all()
 }
 
 /// A file beside a log that was not there.
@@ -55,6 +66,23 @@ fn name_of(alloc: Global, path: &str, size: usize, number: u32) -> io::Result<St
         1 => Ok(format!(in alloc; "{path}.cut-{size}")?),
         _ => Ok(format!(in alloc; "{path}.cut-{size}-{number}")?),
     }
+}
+
+/// The name of the mark of a log whose sync failed. While it is there the log is not to be opened: the system may show bytes
+/// that are on no disk.
+pub fn mark_of_failed_sync(alloc: Global, path: &str) -> io::Result<String> {
+    Ok(format!(in alloc; "{path}.sync-failed")?)
+}
+
+/// Leaves the mark of a log whose sync failed.
+pub(crate) fn leave_mark(rt: &HostRuntime, path: &str) -> io::Result<()> {
+    let name = mark_of_failed_sync(rt.alloc(), path)?;
+    let mut file = private_file()
+        .write(true)
+        .create(true)
+        .open(rt, name.as_str())?;
+    file.write_all(b"a sync of the log failed\n")?;
+    file.sync_all()
 }
 
 /// How a file is made that nobody else may read.

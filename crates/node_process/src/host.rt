@@ -3,7 +3,7 @@
 ghost use Rattle.std.specs.Prelude.{◌≡◌, ◌≤◌, []};
 ghost use Rattle.std.specs.Prelude.{length, IfOk};
 
-use crate::beside::keep_end;
+use crate::beside::{keep_end, leave_mark};
 use crate::machine::Machine;
 use crate::noted::Noted;
 use std::alloc::Global;
@@ -25,7 +25,7 @@ const SAID: u64 = 4;
 const HEARD: u64 = 5;
 
 /// A log's file that is read from its beginning and appended to, an input and an output. What is cut off the file is kept in
-/// another one beside it.
+/// another one beside it, and a sync that fails leaves a mark there.
 #[derive(Drop)]
 pub struct Host<'a, I: Read + Drop, O: Write + Drop> {
     rt: &'a HostRuntime,
@@ -83,7 +83,7 @@ impl<'a, I: Read + Drop, O: Write + Drop> Machine for Host<'a, I, O> {
     }
 
     fn sync(&mut self) -> io::Result<()> {
-        let answer = self.file.sync_all();
+        let answer = synced(self.rt, self.path, &self.file);
         self.noted
             .note(&[SYNCED, u64::from(answer.is_ok()), 0], &[]);
         answer
@@ -107,6 +107,17 @@ impl<'a, I: Read + Drop, O: Write + Drop> Machine for Host<'a, I, O> {
 fn cut_off(rt: &HostRuntime, path: &str, file: &File, size: usize) -> io::Result<()> {
     keep_end(rt, path, size)?;
     file.set_len(size as u64)
+}
+
+/// Has a file on disk; a mark beside it stays where that fails.
+fn synced(rt: &HostRuntime, path: &str, file: &File) -> io::Result<()> {
+    match file.sync_all() {
+        Ok(()) => Ok(()),
+        Err(error) => {
+            let _ = leave_mark(rt, path);
+            Err(error)
+        }
+    }
 }
 
 /// Writes all bytes, and has them leave.

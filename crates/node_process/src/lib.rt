@@ -2,11 +2,13 @@
 //! records is appended and synced before anything of it is said.
 //!
 //! The order is proved of every run, at each moment and at each failure, of the calls that the process asks of the system
-//! (`Machine`). `Host` is the system over a real file.
+//! (`Machine`). `Host` is the system over a real file. Processes that follow one another over one file, whatever their deaths
+//! leave of it, are the process of `crash_safety`.
 #![tactic(auto)]
 
 mod beside;
 mod host;
+mod laws;
 mod machine;
 mod noted;
 mod opening;
@@ -14,7 +16,9 @@ mod pending;
 mod serving;
 mod unserved;
 
+pub use beside::{keep_end, mark_of_failed_sync, sync_folder};
 pub use host::Host;
+pub use laws::{files_are_processes, processes_follow_one_another, steps_are_moves};
 pub use machine::Machine;
 pub use opening::Owner;
 pub use serving::serve_all;

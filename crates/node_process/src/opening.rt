@@ -1,16 +1,16 @@
 //! From the file of a log to a node that is served.
 
-ghost use Rattle.std.specs.Prelude.{◌≡◌, ◌⊎◌, ◌++◌, [], IfOk, OnOk};
+ghost use Rattle.std.specs.Prelude.{◌≡◌, ◌⊎◌, [], IfOk, OnOk};
+ghost use Rattle.node_service.specs.Answering.{ready_line};
 ghost use Rattle.node_service.specs.Serving.{cleared};
 ghost use Rattle.node_process.specs.Acts.{heard};
-ghost use Rattle.node_process.specs.Safe.{IsRun, IsUnopened, Serves, Begins, Heads, Reads, Trims, ready_line, owner_seen};
+ghost use Rattle.node_process.specs.Safe.{IsRun, IsUnopened, Serves, Begins, Heads, Reads, Trims, owner_seen};
 
 use crate::machine::Machine;
 use crate::unserved::Unserved;
-use input_text::put_decimal;
-use node_service::Service;
+use node_service::{Service, ready_line};
 use payer_book::HashKeys;
-use std::alloc::{AllocError, Global};
+use std::alloc::Global;
 use std::io;
 use world_setup::Node;
 
@@ -68,7 +68,7 @@ fn begin<M: Machine>(
     ensures deaf { OnOk result (heard (M.acts machine.new) ≡ []) }
     ensures quiet { IfOk result (λ s. (s.records ≡ []) × (s.out ≡ [])) }
 {
-    let ready = ready_of(alloc, service.calls())?;
+    let ready = ready_line(alloc, service.calls())?;
     trim(owner, machine, &service, whole, size)?;
     append_head(owner, machine, &service, whole)?;
     settle(owner, machine, &service, whole)?;
@@ -153,22 +153,4 @@ fn ready_to_serve(service: Service) -> Service
     let mut service = service;
     service.clear();
     service
-}
-
-/// The line that says how many calls a log has.
-fn ready_of(alloc: Global, calls: u64) -> Result<Vec<u8>, AllocError>
-    ensures { IfOk result (λ line. line.items ≡ ready_line calls) }
-{
-    let mut line = Vec::new(alloc);
-    put_ready(&mut line, calls)?;
-    Ok(line)
-}
-
-/// Appends the line that says how many calls a log has.
-fn put_ready(out: &mut Vec<u8>, calls: u64) -> Result<(), AllocError>
-    ensures { OnOk result (out.new.items ≡ out.old.items ++ ready_line calls) }
-{
-    out.extend_from_slice(b"ready ")?;
-    put_decimal(out, calls)?;
-    out.extend_from_slice(b"\n")
 }

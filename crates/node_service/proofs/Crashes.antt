@@ -25,7 +25,7 @@ use Rattle.node_service.specs.Lines.{IsRestart}
 use Rattle.node_service.proofs.Lines.{digest_length}
 
 -- the first calls of a log have no more bytes than those with more calls
-longer_text : (number : ℕ) (calls more : List Logged) → length (calls_text number calls) ≤ length (calls_text number (calls ++ more))
+pub longer_text : (number : ℕ) (calls more : List Logged) → length (calls_text number calls) ≤ length (calls_text number (calls ++ more))
 unfolding calls_text
 longer_text number [] more = omega arith
 longer_text number (r ∷ calls) more =

@@ -3,3 +3,4 @@ pub mod Lines
 pub mod Crashes
 pub mod Refusals
 pub mod OpenEntries
+pub mod Pages

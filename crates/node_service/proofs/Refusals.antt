@@ -11,7 +11,7 @@ use Rattle.world_setup.specs.Taken.{world_fault}
 use Rattle.world_setup.specs.declared.settings.WorldSettings.{WorldSettings}
 use Rattle.world_setup.specs.declared.world_fault.WorldFault.{WorldFault}
 use Rattle.world_setup.specs.declared.world_fault.WorldFault.TheVariants as fault
-use Rattle.world_settings.specs.Document.{document_seen, settings_in}
+use Rattle.world_settings.specs.Document.{document_seen, living_in}
 use Rattle.run_merge.specs.Naming.{is_there}
 use Rattle.run_merge.specs.Order.{FitsBy}
 use Rattle.run_merge.specs.Misfits.{BreaksAt, IsMade}
@@ -23,7 +23,7 @@ use Rattle.node_service.specs.Opened.{Spells, IsBegun}
 use Rattle.node_service.specs.Refused.{Tells, NoSettings, IsAnothers, NoLog, IsNotMade, IsRefused}
 
 -- no world takes the settings
-pub no_world : (text : List ℕ) (s : WorldSettings) (f : WorldFault) (why : ServiceFault) → settings_in text ≡ Some (document_seen s)
+pub no_world : (text : List ℕ) (s : WorldSettings) (f : WorldFault) (why : ServiceFault) → living_in text ≡ Some (document_seen s)
     → (f ≡ fault.OutOfMemory) ⊎ (world_fault s ≡ Some f) → Tells f why → NoSettings text why
 no_world text s f OutOfMemory spelled refused tells = tt
 no_world text s f Settings spelled (inr is) tells = inr (record { settings = s; spelled = spelled; why = f; refused = is })

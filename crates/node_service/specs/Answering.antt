@@ -1,9 +1,13 @@
--- What is written of a call: a line for each packet that the node sent, and a last line that says how the call ended.
+-- What is written: that a node is served; and of a call a line for each packet that the node sent, and a last line that says how it ended.
 use Rattle.std.specs.Prelude.{ℕ, List, ◌++◌, codes, decimal}
 use Rattle.std.specs.List.{flat_map}
 use Rattle.input_text.specs.Printing.{printed}
 use Rattle.claim_model.specs.Node.{Sent}
 use Rattle.node_service.specs.Names.{node_text}
+
+-- a node is served: how many calls its log has
+abbrev pub ready_line : ℕ → List ℕ
+ready_line calls = codes "ready " ++ (decimal calls ++ codes "\n")
 
 -- a packet for another node: `send`, its name and the packet in printed bytes
 unfoldable pub sent_line : Sent → List ℕ

@@ -7,13 +7,17 @@ use Rattle.input_text.specs.Words.{split_word}
 use Rattle.input_text.specs.Decimals.{decimal_number}
 use Rattle.input_text.specs.Printing.{unprinted}
 use Rattle.schedule.specs.Events.{product_in, price_in}
-use Rattle.world_setup.specs.declared.call.Call.{Call}
+use Rattle.world_setup.specs.declared.call.Call as declared
 use Rattle.world_setup.specs.declared.call.Call.TheVariants.{Submit, Tick, Take, Stop, Start, Plan}
 use Rattle.node_service.specs.Names.{node_in}
 use Rattle.node_service.specs.declared.asking.Asked as value
 use Rattle.node_service.specs.declared.asking.Asked.TheVariants as asked
 use Rattle.node_service.specs.declared.asking.Question.{Question}
-use Rattle.node_service.specs.declared.asking.Question.TheVariants.{Answer, Count, Open}
+use Rattle.node_service.specs.declared.asking.Question.TheVariants.{Answer, Count, Open, Row, Payments}
+
+-- a call with texts of its own
+abbrev pub Call : Type 0
+Call = declared.Call (List ℕ)
 
 -- a request in printed bytes, which may be empty
 abbrev pub submission : List ℕ → Option Call
@@ -68,18 +72,25 @@ asked_seen (asked.Call call) = Calls call
 asked_seen (asked.Tell question) = Tells question
 
 -- from which number on, and how many, each in 1 to 18 digits
-unfoldable pub open_question : List ℕ → Option Question
-open_question rest = do
+unfoldable pub range_in : List ℕ → Option (ℕ × ℕ)
+range_in rest = do
   parts ← split_word rest
   number ← decimal_number 18 parts.0
   count ← decimal_number 18 parts.1
-  Some (Open number count)
+  Some (number, count)
+
+-- the question of a word with such a range
+abbrev pub ranged_question : List ℕ → ℕ × ℕ → Option Question
+ranged_question word range =
+    if bytes_eq word (codes "open") then Some (Open range.0 range.1) else
+    if bytes_eq word (codes "payments") then Some (Payments range.0 range.1) else None
 
 -- the question of a word and what stands behind it
 abbrev pub question_with : List ℕ → List ℕ → Option Question
 question_with word rest =
     if bytes_eq word (codes "answer") then option_map Answer (decimal_number 18 rest) else
-    if bytes_eq word (codes "open") then open_question rest else None
+    if bytes_eq word (codes "row") then option_map Row (decimal_number 18 rest) else
+    range_in rest >>= ranged_question word
 
 -- the question that is one word
 abbrev pub plain_question : List ℕ → Option Question

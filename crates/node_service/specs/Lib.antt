@@ -2,6 +2,8 @@ pub mod Names
 pub mod Asking
 pub mod Answering
 pub mod Listing
+pub mod BookRow
+pub mod Payments
 pub mod Serving
 pub mod Opened
 pub mod Lines

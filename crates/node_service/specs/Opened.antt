@@ -6,7 +6,7 @@ use Rattle.claim_model.specs.Nodes.{AnyNode}
 use Rattle.claim_model.specs.Logs.{Logged, NodeLog, Makes}
 use Rattle.world_setup.specs.Taken.{world_fault}
 use Rattle.world_setup.specs.declared.settings.WorldSettings.{WorldSettings}
-use Rattle.world_settings.specs.Document.{document_seen, settings_in}
+use Rattle.world_settings.specs.Document.{document_seen, living_in}
 use Rattle.kept_logs.specs.declared.fault.LogFault.TheVariants.{Short}
 use Rattle.kept_logs.specs.Logs.{log_text, log_in}
 use Rattle.kept_logs.specs.Fits.{FitsLog}
@@ -16,7 +16,7 @@ use Rattle.node_service.specs.Serving.{Serving}
 
 -- a text spells these settings, and a world takes them
 pub record Spells (text : List ℕ) (settings : WorldSettings) : Type 0 where
-  pub spelled : settings_in text ≡ Some (document_seen settings)
+  pub spelled : living_in text ≡ Some (document_seen settings)
   pub taken : world_fault settings ≡ None
 
 -- the node of that name makes these calls from its opening, and sends with each every byte that the log has as sent

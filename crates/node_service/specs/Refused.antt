@@ -9,7 +9,7 @@ use Rattle.world_setup.specs.Taken.{world_fault}
 use Rattle.world_setup.specs.declared.settings.WorldSettings.{WorldSettings}
 use Rattle.world_setup.specs.declared.world_fault.WorldFault.{WorldFault}
 use Rattle.world_setup.specs.declared.world_fault.WorldFault.TheVariants as world_fault
-use Rattle.world_settings.specs.Document.{document_seen, settings_in}
+use Rattle.world_settings.specs.Document.{document_seen, living_in}
 use Rattle.run_merge.specs.Naming.{is_there}
 use Rattle.run_merge.specs.Misfits.{BreaksAt}
 use Rattle.node_logged.specs.Setting.{context_of, opened}
@@ -23,7 +23,7 @@ use Rattle.node_service.specs.Opened.{Spells, IsBegun}
 -- a text spells settings that no world takes
 pub record SpellsNoWorld (text : List ℕ) : Type 0 where
   pub settings : WorldSettings
-  pub spelled : settings_in text ≡ Some (document_seen settings)
+  pub spelled : living_in text ≡ Some (document_seen settings)
   pub why : WorldFault
   pub refused : world_fault settings ≡ Some why
 
@@ -38,7 +38,7 @@ Tells (world_fault.BadRoute why) e = e ≡ Settings
 -- the settings are refused: the text spells none, or some that no world takes
 abbrev pub NoSettings : List ℕ → ServiceFault → Type 0
 NoSettings text OutOfMemory = ⊤
-NoSettings text Settings = (settings_in text ≡ None) ⊎ SpellsNoWorld text
+NoSettings text Settings = (living_in text ≡ None) ⊎ SpellsNoWorld text
 NoSettings text NoSuchNode = ⊥
 NoSettings text (Log fault) = ⊥
 NoSettings text OtherNode = ⊥
@@ -113,7 +113,7 @@ pub record DoesNotMake (text : List ℕ) (node : Node) (bytes : List ℕ) (place
 -- a node is refused for this cause, and for none before it
 abbrev pub IsRefused : List ℕ → Node → List ℕ → ServiceFault → Type 0
 IsRefused text node bytes OutOfMemory = ⊤
-IsRefused text node bytes Settings = (settings_in text ≡ None) ⊎ SpellsNoWorld text
+IsRefused text node bytes Settings = (living_in text ≡ None) ⊎ SpellsNoWorld text
 IsRefused text node bytes NoSuchNode = HasNoNode text node
 IsRefused text node bytes (Log fault) = HasNoLog text node bytes (Log fault)
 IsRefused text node bytes OtherNode = HasNoLog text node bytes OtherNode

@@ -11,10 +11,12 @@ use Rattle.node_logged.specs.Setting.{context_of}
 use Rattle.kept_logs.specs.Records.{logged_text}
 use Rattle.kept_logs.specs.Frames.{frame_text}
 use Rattle.node_service.specs.declared.asking.Question.{Question}
-use Rattle.node_service.specs.declared.asking.Question.TheVariants.{Answer, Count, Open}
+use Rattle.node_service.specs.declared.asking.Question.TheVariants.{Answer, Count, Open, Row, Payments}
 use Rattle.node_service.specs.Asking.{Asked, Calls, Tells, asked_of}
 use Rattle.node_service.specs.Answering.{sent_lines, done_line, number_line, refused_line, answer_line}
+use Rattle.node_service.specs.BookRow.{row_text}
 use Rattle.node_service.specs.Listing.{count_text, open_text}
+use Rattle.node_service.specs.Payments.{payments_text}
 
 -- a node, how many calls its log has, the records that are to be appended to the log, and what is to be written once they are synced
 pub record Serving : Type 0 where
@@ -76,6 +78,8 @@ abbrev pub told_of : Context → AnyNode → Node → Question → List ℕ
 told_of ctx state node (Answer number) = answer_of ctx state node number
 told_of ctx state node Count = count_text state
 told_of ctx state node (Open number count) = open_text number count state
+told_of ctx state node (Row number) = row_text ctx number state
+told_of ctx state node (Payments number count) = payments_text ctx number count state
 
 -- what is asked is said
 abbrev pub telling : Serving → Question → Serving

@@ -1,13 +1,34 @@
-//! What is written of a call.
+//! What is written of a node, and of its calls.
 
-ghost use Rattle.std.specs.Prelude.{◌≡◌, ◌++◌, map, OnOk};
+ghost use Rattle.std.specs.Prelude.{◌≡◌, ◌++◌, map, IfOk, OnOk};
 ghost use Rattle.world_setup.specs.Seen.{sent_seen};
-ghost use Rattle.node_service.specs.Answering.{answer_line, done_line, number_line, refused_line, sent_line, sent_lines};
+ghost use Rattle.node_service.specs.Answering.{answer_line, done_line, number_line, ready_line, refused_line, sent_line, sent_lines};
 
 use crate::names::put_node;
 use input_text::{put_decimal, put_printed};
-use std::alloc::AllocError;
+use std::alloc::{AllocError, Global};
 use world_setup::Sent;
+
+/// The line that says that a node is served, and how many calls its log has.
+///
+/// # Errors
+/// Memory was refused.
+pub fn ready_line(alloc: Global, calls: u64) -> Result<Vec<u8>, AllocError>
+    ensures { IfOk result (λ line. line.items ≡ ready_line calls) }
+{
+    let mut line = Vec::new(alloc);
+    put_ready(&mut line, calls)?;
+    Ok(line)
+}
+
+/// Appends that a node is served, and how many calls its log has.
+fn put_ready(out: &mut Vec<u8>, calls: u64) -> Result<(), AllocError>
+    ensures { OnOk result (out.new.items ≡ out.old.items ++ ready_line calls) }
+{
+    out.extend_from_slice(b"ready ")?;
+    put_decimal(out, calls)?;
+    out.extend_from_slice(b"\n")
+}
 
 /// Appends a line for each packet that a node sent: `send`, the addressee and the packet in printed bytes.
 #[tactic(auto, unfolding(crate::specs::Answering::sent_lines))]

@@ -2,7 +2,7 @@
 
 ghost use Rattle.std.specs.Prelude.{◌≡◌, IfOk};
 ghost use Rattle.std.specs.Option.{option_map};
-ghost use Rattle.node_service.specs.Asking.{asked_of, asked_seen, call_of, call_with, open_question, plain_call, plain_question, plan_change, question_of, question_with, submission, taking};
+ghost use Rattle.node_service.specs.Asking.{asked_of, asked_seen, call_of, call_with, plain_call, plain_question, plan_change, question_of, question_with, range_in, submission, taking};
 
 use crate::names::node_in;
 use input_text::{PrintedFault, read_decimal, split_word, unprint};
@@ -32,12 +32,16 @@ pub(crate) enum Question {
     Count,
     /// The entries of a pharmacy without an answer, the oldest first: from this number on, so many at most.
     Open(u64, u64),
+    /// The row of this number of a payer's book, from 1.
+    Row(u64),
+    /// The payments of a pharmacy or a payer: from the one of this number on, so many at most.
+    Payments(u64, u64),
 }
 
 /// What a line asks; `None` where it spells nothing.
 ///
 /// The lines: `submit TEXT`, `tick`, `take FROM TEXT`, `stop`, `start`, `plan PRODUCT PRICE`, and those that change nothing,
-/// `answer NUMBER`, `open NUMBER COUNT`, `count`. Texts are printed bytes.
+/// `answer NUMBER`, `open NUMBER COUNT`, `count`, `row NUMBER`, `payments NUMBER COUNT`. Texts are printed bytes.
 ///
 /// # Errors
 /// Memory was refused.
@@ -73,8 +77,16 @@ fn question_with(word: &[u8], rest: &[u8]) -> Option<Question>
         let number = read_decimal(rest, MOST_NUMBER_DIGITS)?;
         return Some(Question::Answer(number));
     }
+    if word == b"row".as_slice() {
+        let number = read_decimal(rest, MOST_NUMBER_DIGITS)?;
+        return Some(Question::Row(number));
+    }
+    let (number, count) = range_in(rest)?;
     if word == b"open".as_slice() {
-        return open_question(rest);
+        return Some(Question::Open(number, count));
+    }
+    if word == b"payments".as_slice() {
+        return Some(Question::Payments(number, count));
     }
     None
 }
@@ -89,15 +101,15 @@ fn plain_question(line: &[u8]) -> Option<Question>
     None
 }
 
-/// From which entry on, and how many.
-#[tactic(auto, unfolding(crate::specs::Asking::open_question))]
-fn open_question(rest: &[u8]) -> Option<Question>
-    ensures { result ≡ open_question rest.now }
+/// From which number on, and how many.
+#[tactic(auto, unfolding(crate::specs::Asking::range_in))]
+fn range_in(rest: &[u8]) -> Option<(u64, u64)>
+    ensures { result ≡ range_in rest.now }
 {
     let (first, behind) = split_word(rest)?;
     let number = read_decimal(first, MOST_NUMBER_DIGITS)?;
     let count = read_decimal(behind, MOST_NUMBER_DIGITS)?;
-    Some(Question::Open(number, count))
+    Some((number, count))
 }
 
 /// The call that a line spells; `None` where it spells none.

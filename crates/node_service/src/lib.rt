@@ -7,15 +7,20 @@
 
 mod answering;
 mod asking;
+mod book_row;
 mod fault;
 mod laws;
 mod listing;
 mod names;
 mod opening;
+mod payment_lines;
+mod payments;
 mod service;
 mod telling;
 
+pub use answering::ready_line;
 pub use fault::ServiceFault;
 pub use laws::{crashed_files_restart, lines_add, restarts_are_the_same, served_logs_grow};
 pub use names::node_in;
+pub use payments::{NodePayment, payments_of};
 pub use service::Service;

@@ -3,7 +3,7 @@
 ghost use Rattle.std.specs.Prelude.{◌≡◌, [], ◌++◌, take, Some, IfOk, IfErr, IsSome};
 ghost use Rattle.sha2.specs.Sha256.{sha256};
 ghost use Rattle.world_setup.specs.Seen.{node_seen};
-ghost use Rattle.world_settings.specs.Document.{document_seen, settings_in};
+ghost use Rattle.world_settings.specs.Document.{document_seen, living_in};
 ghost use Rattle.run_merge.specs.LogSeen.{log_seen};
 ghost use Rattle.node_logged.specs.Setting.{opened};
 ghost use Rattle.kept_logs.specs.Logs.{log_text};
@@ -21,7 +21,7 @@ use node_state::NodeState;
 use payer_book::HashKeys;
 use run_merge::{NodeLog, make_log};
 use std::alloc::{AllocError, Global};
-use world_settings::{SettingsFault, read_settings};
+use world_settings::{SettingsFault, read_living_settings};
 use world_setup::{Node, WorldSettings};
 
 /// A log that was read or begun: what it has, how many bytes of the file stay, and what is to be appended.
@@ -75,10 +75,10 @@ fn shared_of(alloc: Global, keys: &HashKeys, text: &[u8]) -> Result<Shared, Serv
 
 /// The settings that a text spells, with these keys.
 fn settings_of(alloc: Global, keys: &HashKeys, text: &[u8]) -> Result<WorldSettings, ServiceFault>
-    ensures read { IfOk result (λ settings. settings_in text.now ≡ Some (document_seen settings)) }
+    ensures read { IfOk result (λ settings. living_in text.now ≡ Some (document_seen settings)) }
     ensures refused { IfErr result (λ why. NoSettings text.now why) }
 {
-    match read_settings(alloc, text) {
+    match read_living_settings(alloc, text) {
         Ok(settings) => Ok(settings.with_keys(keys)),
         Err(SettingsFault::OutOfMemory) => Err(ServiceFault::OutOfMemory),
         Err(SettingsFault::Settings) => Err(ServiceFault::Settings),

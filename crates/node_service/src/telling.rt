@@ -5,12 +5,17 @@ ghost use Rattle.bin_routes.specs.Table.{RouteMaps};
 ghost use Rattle.claim_model.specs.Bytes.{bytes_with};
 ghost use Rattle.claim_model.specs.Node.{Pharmacy};
 ghost use Rattle.world_setup.specs.Seen.{call_seen, node_seen};
+ghost use Rattle.node_service.specs.BookRow.{row_text};
 ghost use Rattle.node_service.specs.Listing.{open_text};
+ghost use Rattle.node_service.specs.Payments.{payments_text};
 ghost use Rattle.node_service.specs.Serving.{answer_of, answer_text, last_line, made_lines, told_of};
 
 use crate::answering::{put_answer, put_done, put_number, put_sent};
 use crate::asking::Question;
+use crate::book_row::put_row_in;
 use crate::listing::{put_count, put_end, put_open};
+use crate::payment_lines::put_payments;
+use crate::payments::{page, payments_of};
 use envelope::TxnId;
 use node_state::NodeState;
 use octets::Octets;
@@ -65,6 +70,8 @@ pub(crate) fn put_told(
         Question::Answer(number) => put_answer_to(alloc, out, state, name, number),
         Question::Count => put_count(out, state.size(alloc)? as u64),
         Question::Open(number, count) => put_open_of(alloc, out, state, number, count),
+        Question::Row(number) => put_row_of(alloc, out, state, number),
+        Question::Payments(number, count) => put_payments_of(alloc, out, state, number, count),
     }
 }
 
@@ -82,6 +89,38 @@ fn put_open_of(
         Some(journal) => put_open(out, &journal, number, count),
         None => put_end(out),
     }
+}
+
+/// Appends the row of a number of a payer's book; another node has none.
+fn put_row_of(
+    alloc: Global,
+    out: &mut Vec<u8>,
+    state: &NodeState,
+    number: u64,
+) -> Result<(), AllocError>
+    ensures { (routes : RouteMaps) → OnOk result (out.new.items
+        ≡ out.old.items ++ row_text (bytes_with routes) number state.now) }
+{
+    match state.book(alloc)? {
+        Some(reading) => put_row_in(out, reading.book(), number),
+        None => out.extend_from_slice(b"none\n"),
+    }
+}
+
+/// Appends the payments of a node, so many at most from the one of a number on.
+fn put_payments_of(
+    alloc: Global,
+    out: &mut Vec<u8>,
+    state: &NodeState,
+    number: u64,
+    count: u64,
+) -> Result<(), AllocError>
+    ensures { (routes : RouteMaps) → OnOk result (out.new.items
+        ≡ out.old.items ++ payments_text (bytes_with routes) number count state.now) }
+{
+    let list = payments_of(alloc, state)?;
+    put_payments(out, page(list.as_slice(), number, count))?;
+    put_end(out)
 }
 
 /// Appends the answer to a number of this pharmacy; of another node there is none.

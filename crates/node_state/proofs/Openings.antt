@@ -6,7 +6,7 @@ use Rattle.std.proofs.lemmas.Bool.{and_parts}
 use Rattle.claim_model.specs.Numbered.{numbered}
 use Rattle.claim_model.specs.Journal.{PharmacySettings}
 use Rattle.claim_model.specs.Node.{Up}
-use Rattle.claim_model.specs.Settings.{WorldSettings, SettingsFault, TooMany, NoNode, settings_fault, is_empty, is_switch, has_nodes, pharmacies_from, switches_of, payers_from}
+use Rattle.claim_model.specs.Settings.{WorldSettings, SettingsFault, TooMany, NoNode, settings_fault, too_many, is_empty, is_switch, has_nodes, pharmacies_from, switches_of, payers_from}
 use Rattle.claim_model.specs.Settings.{PayerSettings as Opened}
 use Rattle.bin_routes.specs.Payer.{payer_number}
 use Rattle.world_setup.specs.declared.settings.PayerSettings.{PayerSettings}
@@ -85,7 +85,7 @@ no_none false false false false false rest h = absurd (cc)
 
 pub all_have_nodes : (s : WorldSettings) → settings_fault s ≡ None → list_all (has_nodes (length s.switches)) s.pharmacies ≡ true
 all_have_nodes s h =
-    no_none (nat_lt 256 (length s.pharmacies) || (nat_lt 64 (length s.switches) || nat_lt 64 (length s.payers))) (is_empty s.pharmacies) (is_empty s.switches) (is_empty s.payers) (list_all (has_nodes (length s.switches)) s.pharmacies) _ h
+    no_none (too_many s) (is_empty s.pharmacies) (is_empty s.switches) (is_empty s.payers) (list_all (has_nodes (length s.switches)) s.pharmacies) _ h
 
 -- each pharmacy tries some switch
 pub have_node : (switches : ℕ) (ss : List PharmacySettings) → list_all (has_nodes switches) ss ≡ true → list_all has_node ss ≡ true

@@ -1,16 +1,24 @@
--- What the rule of a node that is up makes of an envelope that it takes.
-use Rattle.std.specs.Prelude.{ℕ, Ok}
+-- What the rule of a node that is up makes of a packet that it takes, and of its envelope.
+use Rattle.std.specs.Prelude.{◌≡◌, ℕ, List, Result, Ok, Err}
+use Rattle.std.proofs.Common.{ap}
 use Rattle.envelope.specs.Envelope.{Opened}
 use Rattle.bin_routes.specs.Table.{RouteMaps}
-use Rattle.claim_model.specs.Bytes.{bytes_with}
+use Rattle.claim_model.specs.Words.{EnvelopeFault}
+use Rattle.claim_model.specs.Bytes.{bytes_with, envelope_in}
+use Rattle.claim_model.specs.Refusal.{NoEnvelope}
 use Rattle.claim_model.specs.Rows.{Book}
 use Rattle.claim_model.specs.Book.{answered}
 use Rattle.claim_model.specs.Journal.{Journal, JournalAtRest, heard}
 use Rattle.claim_model.specs.Table.{Table, requested, responded}
-use Rattle.claim_model.specs.Node.{Node, Power, Outcome, after_hearing, switch_takes, after_request, after_response, payer_takes, after_answer}
+use Rattle.claim_model.specs.Node.{Node, Power, Up, Take, Outcome, Refused, pharmacy_step, switch_step, payer_step, after_hearing, pharmacy_takes, switch_takes, after_request, after_response, payer_takes, after_answer}
 use Rattle.switch_node.specs.Sent.{content}
 
--- a pharmacy hears it
+-- of a packet: this of its envelope, or a refusal where it is none
+abbrev pub taken : {A : Type 0} → (Opened → Outcome A) → Result Opened EnvelopeFault → Outcome A
+taken takes (Ok envelope) = takes envelope
+taken takes (Err fault) = Refused (NoEnvelope fault)
+
+-- a pharmacy hears an envelope
 abbrev pub hears : RouteMaps → Journal → Opened → Outcome (Power Journal JournalAtRest)
 hears routes journal envelope = after_hearing (heard (bytes_with routes) journal (content envelope))
 
@@ -31,3 +39,19 @@ payer_handles routes book from envelope = payer_takes (bytes_with routes) book f
 abbrev pub payer_answers : RouteMaps → Book → Node → Opened → Outcome (Power Book Book)
 payer_answers routes book from envelope =
     after_answer (bytes_with routes) from envelope.id (answered (bytes_with routes) book envelope.id envelope.payload)
+
+-- a packet that is read so is taken so
+pub pharmacy_reads : (routes : RouteMaps) (j : Journal) (from : Node) (bytes : List ℕ) (read : Result Opened EnvelopeFault) → (bytes_with routes).read_envelope bytes ≡ envelope_in read
+    → pharmacy_step (bytes_with routes) (Up j) (Take from bytes) ≡ taken (hears routes j) read
+pharmacy_reads routes j from bytes (Ok envelope) is = ap (pharmacy_takes (bytes_with routes) j) is
+pharmacy_reads routes j from bytes (Err fault) is = ap (pharmacy_takes (bytes_with routes) j) is
+
+pub switch_reads : (routes : RouteMaps) (t : Table) (from : Node) (bytes : List ℕ) (read : Result Opened EnvelopeFault) → (bytes_with routes).read_envelope bytes ≡ envelope_in read
+    → switch_step (bytes_with routes) (Up t) (Take from bytes) ≡ taken (switch_handles routes t) read
+switch_reads routes t from bytes (Ok envelope) is = ap (switch_takes (bytes_with routes) t) is
+switch_reads routes t from bytes (Err fault) is = ap (switch_takes (bytes_with routes) t) is
+
+pub payer_reads : (routes : RouteMaps) (b : Book) (from : Node) (bytes : List ℕ) (read : Result Opened EnvelopeFault) → (bytes_with routes).read_envelope bytes ≡ envelope_in read
+    → payer_step (bytes_with routes) (Up b) (Take from bytes) ≡ taken (payer_handles routes b from) read
+payer_reads routes b from bytes (Ok envelope) is = ap (payer_takes (bytes_with routes) b from) is
+payer_reads routes b from bytes (Err fault) is = ap (payer_takes (bytes_with routes) b from) is

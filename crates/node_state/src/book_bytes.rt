@@ -11,7 +11,7 @@ use std::marker::Model;
 
 /// The bytes of a book's record, beside the payer's number, the book's settings and the keys that its maps hash with.
 #[derive(Drop)]
-pub(crate) struct BookBytes {
+pub struct BookBytes {
     payer: PayerNo,
     settings: BookSettings,
     keys: HashKeys,

@@ -11,7 +11,7 @@ use std::marker::Model;
 
 /// The bytes of a journal's record, beside the pharmacy's number and settings.
 #[derive(Drop)]
-pub(crate) struct JournalBytes {
+pub struct JournalBytes {
     number: u16,
     settings: PharmacySettings,
     bytes: Vec<u8>,

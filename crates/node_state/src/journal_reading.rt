@@ -9,9 +9,10 @@ ghost use Rattle.claim_model.specs.Journal.{stopped};
 ghost use Rattle.claim_model.specs.Numbered.{numbered};
 ghost use Rattle.pharmacy_journal.specs.Listing.{listed};
 ghost use Rattle.pharmacy_journal.specs.Entries.{IsEntryOf};
+ghost use Rattle.pharmacy_journal.specs.Telling.{Begins};
 ghost use Rattle.node_state.specs.Nodes.{request_in};
 
-use pharmacy_journal::{CountedPayment, EntryView, JournalAtRest, KeptEntry, Pharmacy};
+use pharmacy_journal::{CountedPayment, EntryView, JournalAtRest, KeptEntry, Pharmacy, Teller};
 use std::alloc::AllocError;
 use std::marker::Model;
 
@@ -124,6 +125,16 @@ impl<'a> JournalReading<'a> {
         match &self.source {
             JournalSource::Running(pharmacy) => pharmacy.list(),
             JournalSource::Resting(journal) => journal.list(),
+        }
+    }
+
+    /// All entries, to be told one by one, and then the payments that the pharmacy counts.
+    pub fn teller(&self) -> Teller<'_>
+        ensures { Begins self.now.entries result }
+    {
+        match &self.source {
+            JournalSource::Running(pharmacy) => return pharmacy.teller(),
+            JournalSource::Resting(journal) => return journal.teller(),
         }
     }
 

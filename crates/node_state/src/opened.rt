@@ -2,6 +2,7 @@
 
 ghost use Rattle.std.specs.Prelude.{◌≡◌, ◌<◌, ◌≤◌, true, None, Some, IsSome, IfOk, length, map};
 ghost use Rattle.std.specs.List.{list_all};
+ghost use Rattle.claim_model.specs.Limits.{most_payers};
 ghost use Rattle.claim_model.specs.Numbered.{numbered};
 ghost use Rattle.claim_model.specs.Settings.{settings_fault, opening, pharmacies_from, switches_of, payers_from};
 ghost use Rattle.world_setup.specs.Seen.{node_seen, settings_seen, payer_seen};
@@ -72,7 +73,7 @@ fn switch_of(alloc: Global, switches: &[SwitchSettings], number: u16) -> SwitchN
 
 /// The payer of a number that is there.
 fn payer_of(alloc: Global, payers: &[PayerSettings], number: u16) -> Result<PayerNode, AllocError>
-    requires few { length payers.now ≤ 64 }
+    requires few { length payers.now ≤ most_payers }
     requires some { 0 < number }
     requires there { number ≤ length payers.now }
     ensures { IfOk result (λ opened. numbered (payers_from 1 (map payer_seen payers.now)) number ≡ Some opened) }

@@ -1,47 +1,135 @@
 //! One payer, up or at rest.
 
-ghost use Rattle.std.specs.Prelude.{◌≡◌, ◌≤◌, [], length, IfOk, OnErr};
+ghost use Rattle.std.specs.Prelude.{◌≡◌, ◌≤◌, [], length, refl, IfOk, OnErr};
 ghost use Rattle.std.specs.Option.{option_copied};
 ghost use Rattle.bin_routes.specs.Table.{RouteMaps};
-ghost use Rattle.claim_model.specs.Node.{Up, Take, Stop, Start, Reprice};
+ghost use Rattle.claim_model.specs.Bytes.{bytes_with};
+ghost use Rattle.claim_model.specs.Node.{Up, Reprice, payer_step};
 ghost use Rattle.claim_model.specs.Held.{book_in};
-ghost use Rattle.world_setup.specs.Seen.{node_seen, call_seen};
-ghost use Rattle.node_state.specs.Outcomes.{PayerMakes, PayerRefuses};
+ghost use Rattle.world_setup.specs.Seen.{node_seen};
+ghost use Rattle.node_state.specs.Outcomes.{Makes, Refuses, PayerMakes, PayerRefuses};
 ghost use Rattle.node_state.specs.Records.{book_record};
-ghost use Rattle.node_state.specs.Sends.{is_up};
+ghost use Rattle.node_state.specs.Taking.{payer_handles, payer_answers, payer_reads};
 
 use crate::book_bytes::BookBytes;
 use crate::book_reading::BookReading;
-use crate::payer_calls;
+use crate::faults::{book_fault, plan_fault};
+use crate::opening::is_request;
+use crate::powered::{Kind, Powered, State};
 use bin_routes::{PayerNo, Routes};
+use envelope::Envelope;
 use octets::Octets;
 use payer_book::{Book, BookSettings, HashKeys, Plan};
 use std::alloc::{AllocError, Global};
-use std::marker::Model;
-use world_setup::{Call, Node, Sent, StepFault};
-
-/// What there is of a payer: its book, or at rest the book's record.
-#[derive(Drop)]
-pub(crate) enum PayerState {
-    Up(Book),
-    AtRest(BookBytes),
-}
+use world_setup::{Call, Node, NodeFault, Sent, StepFault};
 
 /// A payer, up or at rest. At rest it is the bytes of its book's record, beside its number and settings.
-#[derive(Drop)]
-pub struct PayerNode {
-    state: PayerState,
+pub type PayerNode = Powered<Book>;
+
+impl Kind for Book {
+    type Rest = BookBytes;
+
+    ghost step = { λ routes node call. payer_step (bytes_with routes) node call };
+
+    ghost most = { λ node call. 1 };
+
+    ghost takes = { λ routes node from envelope. payer_handles routes node from envelope };
+
+    /// Takes a request and nothing else.
+    fn take(
+        &mut self,
+        alloc: Global,
+        routes: &Routes,
+        from: Node,
+        envelope: &Envelope<'_>,
+        _packet: &Octets,
+    ) -> Result<Vec<Sent>, StepFault> {
+        if is_request(envelope) {
+            answer(alloc, self, routes, from, envelope)
+        } else {
+            Err(StepFault::Node(NodeFault::Unreadable))
+        }
+    }
+
+    /// Changes its plan.
+    fn ask(
+        &mut self,
+        alloc: Global,
+        _routes: &Routes,
+        call: Call<&Octets>,
+    ) -> Result<Vec<Sent>, StepFault> {
+        match call {
+            Call::Plan { product, price } => change_plan(alloc, self, product.as_slice(), price),
+            Call::Submit(_) | Call::Tick => Err(StepFault::NoSuchNode),
+            Call::Take { .. } | Call::Stop | Call::Start => unreachable!(),
+        }
+    }
+
+    fn save(&self, alloc: Global) -> Result<BookBytes, AllocError> {
+        BookBytes::save(alloc, self)
+    }
+
+    fn wake(alloc: Global, rest: &BookBytes) -> Result<Book, AllocError> {
+        rest.start(alloc)
+    }
+
+    fn down(call: Call<&Octets>) -> StepFault {
+        match call {
+            Call::Plan { .. } => StepFault::Down,
+            _ => StepFault::NoSuchNode,
+        }
+    }
+
+    ghost reads = { λ routes node from bytes read is. payer_reads routes node from bytes read is };
+
+    ghost takes_nothing = { λ routes rest from bytes. refl };
+
+    ghost stops_once = { λ routes rest. refl };
+
+    ghost starts_once = { λ routes node. refl };
 }
 
-impl Model for PayerNode {
-    ghost use Rattle.claim_model.specs.Rows.{Book as BookParts};
-    ghost use Rattle.claim_model.specs.Node.{Power};
+/// Answers a request to the node that it came from. The room for what is sent is had first.
+fn answer(
+    alloc: Global,
+    book: &mut Book,
+    routes: &Routes,
+    from: Node,
+    envelope: &Envelope<'_>,
+) -> Result<Vec<Sent>, StepFault>
+    ensures ok { Makes (payer_answers routes.now book.old (node_seen from) envelope.now) (Up book.new) result }
+    ensures fault { Refuses (payer_answers routes.now book.old (node_seen from) envelope.now) result }
+    ensures few { IfOk result (λ sent. length sent.items ≤ 1) }
+    ensures err { OnErr result (book.new ≡ book.old) }
+{
+    let mut sent = Vec::with_capacity(alloc, 1)?;
+    match book.answer_packet(routes, envelope.id(), envelope.payload()) {
+        Ok(bytes) => {
+            sent.push_reserved(Sent { to: from, bytes });
+            Ok(sent)
+        }
+        Err(fault) => Err(book_fault(fault)),
+    }
+}
 
-    ghost Value = { Power BookParts BookParts };
-
-    ghost use Rattle.node_state.specs.Powered.{payer_seen};
-
-    ghost view = { λ n. payer_seen n.state };
+/// Sets the price of a product, in ten-thousandths of a dollar a unit, or with `None` takes the product off the plan. Nothing
+/// is sent.
+fn change_plan(
+    alloc: Global,
+    book: &mut Book,
+    product: &[u8],
+    price: Option<u32>,
+) -> Result<Vec<Sent>, StepFault>
+    ensures ok { (routes : RouteMaps)
+        → PayerMakes routes (Up book.old) (Reprice product.now price) (Up book.new) result }
+    ensures fault { (routes : RouteMaps) → PayerRefuses routes (Up book.old) (Reprice product.now price) result }
+    ensures few { IfOk result (λ sent. length sent.items ≤ 1) }
+    ensures err { OnErr result (book.new ≡ book.old) }
+{
+    match book.change_plan(product, price) {
+        Ok(()) => Ok(Vec::new(alloc)),
+        Err(fault) => Err(plan_fault(fault)),
+    }
 }
 
 impl PayerNode {
@@ -62,125 +150,7 @@ impl PayerNode {
     ) -> PayerNode
         ensures { result ≡ Up (record { payer = payer; settings = settings; plan = plan; rows = [] }) }
     {
-        PayerNode {
-            state: PayerState::Up(Book::keyed(alloc, payer, settings, plan, keys)),
-        }
-    }
-
-    /// Whether it is up.
-    pub fn is_up(&self) -> bool
-        ensures { result ≡ is_up self.now }
-    {
-        match &self.state {
-            PayerState::Up(_) => true,
-            PayerState::AtRest(_) => false,
-        }
-    }
-
-    /// Makes a call, and gives what it sent.
-    ///
-    /// # Errors
-    /// `NoSuchNode` for a submission or a tick; then `Down` or `AlreadyUp`; then the refusal of the payer. The payer is
-    /// then as it was.
-    pub fn step(
-        &mut self,
-        alloc: Global,
-        routes: &Routes,
-        call: &Call,
-    ) -> Result<Vec<Sent>, StepFault>
-        ensures ok { PayerMakes routes.now self.old (call_seen call.now) self.new result }
-        ensures fault { PayerRefuses routes.now self.old (call_seen call.now) result }
-        ensures err { OnErr result (self.new ≡ self.old) }
-    {
-        match call {
-            Call::Take { from, bytes } => self.take(alloc, routes, *from, bytes),
-            Call::Plan { product, price } => self.change_plan(alloc, product.as_slice(), *price),
-            Call::Stop => self.stop(alloc),
-            Call::Start => self.start(alloc),
-            Call::Submit(_) => Err(StepFault::NoSuchNode),
-            Call::Tick => Err(StepFault::NoSuchNode),
-        }
-    }
-
-    /// Takes a packet: a request is answered to the node that it came from.
-    ///
-    /// # Errors
-    /// `Down`, then what is wrong with the envelope, then `Unreadable` for an answer, then the refusal of
-    /// [`Book::answer`]. The payer is then as it was.
-    pub fn take(
-        &mut self,
-        alloc: Global,
-        routes: &Routes,
-        from: Node,
-        packet: &Octets,
-    ) -> Result<Vec<Sent>, StepFault>
-        ensures ok { PayerMakes routes.now self.old (Take (node_seen from) packet.now) self.new result }
-        ensures fault { PayerRefuses routes.now self.old (Take (node_seen from) packet.now) result }
-        ensures few { IfOk result (λ sent. length sent.items ≤ 1) }
-        ensures err { OnErr result (self.new ≡ self.old) }
-    {
-        match &mut self.state {
-            PayerState::Up(book) => payer_calls::take(alloc, book, routes, from, packet),
-            PayerState::AtRest(_) => Err(StepFault::Down),
-        }
-    }
-
-    /// Sets the price of a product, in ten-thousandths of a dollar a unit, or with `None` takes the product off the
-    /// plan. Nothing is sent.
-    ///
-    /// # Errors
-    /// `Down`, then the refusal of [`Book::change_plan`]. The payer is then as it was.
-    pub fn change_plan(
-        &mut self,
-        alloc: Global,
-        product: &[u8],
-        price: Option<u32>,
-    ) -> Result<Vec<Sent>, StepFault>
-        ensures ok { (routes : RouteMaps) → PayerMakes routes self.old (Reprice product.now price) self.new result }
-        ensures fault { (routes : RouteMaps) → PayerRefuses routes self.old (Reprice product.now price) result }
-        ensures few { IfOk result (λ sent. length sent.items ≤ 1) }
-        ensures err { OnErr result (self.new ≡ self.old) }
-    {
-        match &mut self.state {
-            PayerState::Up(book) => payer_calls::change_plan(alloc, book, product, price),
-            PayerState::AtRest(_) => Err(StepFault::Down),
-        }
-    }
-
-    /// Stops it. The book is saved first, so a stop that finds no memory leaves it up.
-    ///
-    /// # Errors
-    /// `Down`. The payer is then as it was.
-    pub fn stop(&mut self, alloc: Global) -> Result<Vec<Sent>, StepFault>
-        ensures ok { (routes : RouteMaps) → PayerMakes routes self.old Stop self.new result }
-        ensures fault { (routes : RouteMaps) → PayerRefuses routes self.old Stop result }
-        ensures few { IfOk result (λ sent. length sent.items ≤ 1) }
-        ensures err { OnErr result (self.new ≡ self.old) }
-    {
-        let kept = match &self.state {
-            PayerState::Up(book) => BookBytes::save(alloc, book)?,
-            PayerState::AtRest(_) => return Err(StepFault::Down),
-        };
-        self.state = PayerState::AtRest(kept);
-        Ok(Vec::new(alloc))
-    }
-
-    /// Starts it again from its record, which is kept until that has succeeded.
-    ///
-    /// # Errors
-    /// `AlreadyUp`. The payer is then as it was.
-    pub fn start(&mut self, alloc: Global) -> Result<Vec<Sent>, StepFault>
-        ensures ok { (routes : RouteMaps) → PayerMakes routes self.old Start self.new result }
-        ensures fault { (routes : RouteMaps) → PayerRefuses routes self.old Start result }
-        ensures few { IfOk result (λ sent. length sent.items ≤ 1) }
-        ensures err { OnErr result (self.new ≡ self.old) }
-    {
-        let book = match &self.state {
-            PayerState::Up(_) => return Err(StepFault::AlreadyUp),
-            PayerState::AtRest(kept) => kept.start(alloc)?,
-        };
-        self.state = PayerState::Up(book);
-        Ok(Vec::new(alloc))
+        Powered::running(Book::keyed(alloc, payer, settings, plan, keys))
     }
 
     /// The bytes that there are of it at rest: its book's text, of version 2. None while it is up.
@@ -188,8 +158,8 @@ impl PayerNode {
         ensures { option_copied result ≡ book_record self.now }
     {
         match &self.state {
-            PayerState::Up(_) => None,
-            PayerState::AtRest(kept) => Some(kept.bytes()),
+            State::Up(_) => None,
+            State::AtRest(kept) => Some(kept.bytes()),
         }
     }
 
@@ -198,8 +168,8 @@ impl PayerNode {
         ensures { IfOk result (λ book. book ≡ book_in self.now) }
     {
         match &self.state {
-            PayerState::Up(book) => Ok(BookReading::lent(book)),
-            PayerState::AtRest(kept) => Ok(BookReading::read(kept.start(alloc)?)),
+            State::Up(book) => Ok(BookReading::lent(book)),
+            State::AtRest(kept) => Ok(BookReading::read(kept.start(alloc)?)),
         }
     }
 }

@@ -1,45 +1,125 @@
 //! One pharmacy, up or at rest.
 
-ghost use Rattle.std.specs.Prelude.{◌≡◌, ◌<◌, ◌≤◌, [], length, IfOk, OnErr};
+ghost use Rattle.std.specs.Prelude.{◌≡◌, ◌<◌, ◌≤◌, [], length, refl, None, IfOk, IfErr, OnErr};
 ghost use Rattle.std.specs.Option.{option_copied};
-ghost use Rattle.claim_model.specs.Node.{Node as ModelNode, Up, Submit, Tick, Take, Stop, Start};
+ghost use Rattle.claim_model.specs.Bytes.{bytes_with};
+ghost use Rattle.claim_model.specs.Node.{Up, Submit, Tick, pharmacy_step};
 ghost use Rattle.claim_model.specs.Held.{journal_in};
-ghost use Rattle.world_setup.specs.Seen.{call_seen};
+ghost use Rattle.world_setup.specs.Refused.{refusal_of};
 ghost use Rattle.node_state.specs.Outcomes.{PharmacyMakes, PharmacyRefuses};
 ghost use Rattle.node_state.specs.Records.{journal_record};
-ghost use Rattle.node_state.specs.Sends.{is_up, most_due};
+ghost use Rattle.node_state.specs.Sends.{most_due, most_sent};
+ghost use Rattle.node_state.specs.Taking.{hears, pharmacy_reads};
 
+use crate::faults::{hear_fault, submit_fault};
 use crate::journal_bytes::JournalBytes;
 use crate::journal_reading::JournalReading;
-use crate::pharmacy_calls;
+use crate::powered::{Kind, Powered, State};
+use crate::sending::{push_all, to_switch};
+use bin_routes::Routes;
+use envelope::Envelope;
 use octets::Octets;
 use pharmacy_journal::{JournalAtRest, Pharmacy, PharmacySettings};
 use std::alloc::{AllocError, Global};
-use std::marker::Model;
-use world_setup::{Call, Sent, StepFault};
-
-/// What there is of a pharmacy: its journal, or at rest the journal's record.
-#[derive(Drop)]
-pub(crate) enum PharmacyState {
-    Up(Pharmacy),
-    AtRest(JournalBytes),
-}
+use world_setup::{Call, Node, Sent, StepFault};
 
 /// A pharmacy, up or at rest. At rest it is the bytes of its journal's record, beside its number and settings.
-#[derive(Drop)]
-pub struct PharmacyNode {
-    state: PharmacyState,
+pub type PharmacyNode = Powered<Pharmacy>;
+
+impl Kind for Pharmacy {
+    type Rest = JournalBytes;
+
+    ghost step = { λ routes node call. pharmacy_step (bytes_with routes) node call };
+
+    ghost most = { λ node call. most_sent node call };
+
+    ghost takes = { λ routes node from envelope. hears routes node envelope };
+
+    /// Hears an answer, whoever sent it: it settles the entry of its number. Nothing is sent.
+    fn take(
+        &mut self,
+        alloc: Global,
+        _routes: &Routes,
+        _from: Node,
+        envelope: &Envelope<'_>,
+        packet: &Octets,
+    ) -> Result<Vec<Sent>, StepFault> {
+        match self.hear_packet(envelope, packet) {
+            Ok(()) => Ok(Vec::new(alloc)),
+            Err(fault) => Err(hear_fault(fault)),
+        }
+    }
+
+    /// Submits a text, or ticks.
+    fn ask(
+        &mut self,
+        alloc: Global,
+        _routes: &Routes,
+        call: Call<&Octets>,
+    ) -> Result<Vec<Sent>, StepFault> {
+        match call {
+            Call::Submit(text) => submit(alloc, self, text.as_slice()),
+            Call::Tick => tick(alloc, self),
+            Call::Plan { .. } => Err(StepFault::NoSuchNode),
+            Call::Take { .. } | Call::Stop | Call::Start => unreachable!(),
+        }
+    }
+
+    fn save(&self, alloc: Global) -> Result<JournalBytes, AllocError> {
+        JournalBytes::save(alloc, self)
+    }
+
+    fn wake(alloc: Global, rest: &JournalBytes) -> Result<Pharmacy, AllocError> {
+        rest.start(alloc)
+    }
+
+    fn down(call: Call<&Octets>) -> StepFault {
+        match call {
+            Call::Plan { .. } => StepFault::NoSuchNode,
+            _ => StepFault::Down,
+        }
+    }
+
+    ghost reads = { λ routes node from bytes read is. pharmacy_reads routes node from bytes read is };
+
+    ghost takes_nothing = { λ routes rest from bytes. refl };
+
+    ghost stops_once = { λ routes rest. refl };
+
+    ghost starts_once = { λ routes node. refl };
 }
 
-impl Model for PharmacyNode {
-    ghost use Rattle.claim_model.specs.Journal.{Journal, JournalAtRest};
-    ghost use Rattle.claim_model.specs.Node.{Power};
+/// Submits a text: enters it under the next number, and sends its packet to the first switch. The room for what is sent is
+/// had first.
+fn submit(alloc: Global, pharmacy: &mut Pharmacy, text: &[u8]) -> Result<Vec<Sent>, StepFault>
+    ensures ok { PharmacyMakes (Up pharmacy.old) (Submit text.now) (Up pharmacy.new) result }
+    ensures fault { PharmacyRefuses (Up pharmacy.old) (Submit text.now) result }
+    ensures few { IfOk result (λ sent. length sent.items ≤ 1) }
+    ensures err { OnErr result (pharmacy.new ≡ pharmacy.old) }
+{
+    let mut sent = Vec::with_capacity(alloc, 1)?;
+    match pharmacy.submit(text) {
+        Ok(submitted) => {
+            sent.push_reserved(to_switch(submitted.1));
+            Ok(sent)
+        }
+        Err(fault) => Err(submit_fault(fault)),
+    }
+}
 
-    ghost Value = { Power Journal JournalAtRest };
-
-    ghost use Rattle.node_state.specs.Powered.{pharmacy_seen};
-
-    ghost view = { λ n. pharmacy_seen n.state };
+/// One tick: sends each open entry again that is due, in order of numbers. There is room for a packet of each entry before
+/// it, which is enough.
+fn tick(alloc: Global, pharmacy: &mut Pharmacy) -> Result<Vec<Sent>, StepFault>
+    ensures ok { PharmacyMakes (Up pharmacy.old) Tick (Up pharmacy.new) result }
+    ensures fault { IfErr result (λ fault. refusal_of fault ≡ None) }
+    ensures few { IfOk result (λ sent. length sent.items ≤ length pharmacy.old.entries) }
+    ensures err { OnErr result (pharmacy.new ≡ pharmacy.old) }
+{
+    let mut sent = Vec::new(alloc);
+    sent.reserve(pharmacy.entries())?;
+    let packets = pharmacy.tick()?;
+    push_all(&mut sent, packets);
+    Ok(sent)
 }
 
 impl PharmacyNode {
@@ -54,19 +134,7 @@ impl PharmacyNode {
         ensures { IfOk result (λ n. n ≡ Up (record { number = number; settings = settings; entries = [] })) }
     {
         let pharmacy = Pharmacy::new(alloc, number, settings)?;
-        Ok(PharmacyNode {
-            state: PharmacyState::Up(pharmacy),
-        })
-    }
-
-    /// Whether it is up.
-    pub fn is_up(&self) -> bool
-        ensures { result ≡ is_up self.now }
-    {
-        match &self.state {
-            PharmacyState::Up(_) => true,
-            PharmacyState::AtRest(_) => false,
-        }
+        Ok(Powered::running(pharmacy))
     }
 
     /// How many packets its next tick sends at most.
@@ -74,114 +142,9 @@ impl PharmacyNode {
         ensures { result ≡ most_due self.now }
     {
         match &self.state {
-            PharmacyState::Up(pharmacy) => pharmacy.entries(),
-            PharmacyState::AtRest(_) => 0,
+            State::Up(pharmacy) => pharmacy.entries(),
+            State::AtRest(_) => 0,
         }
-    }
-
-    /// Makes a call, and gives what it sent.
-    ///
-    /// # Errors
-    /// `NoSuchNode` for a change of a plan; then `Down` or `AlreadyUp`; then the refusal of the pharmacy. The pharmacy
-    /// is then as it was.
-    pub fn step(&mut self, alloc: Global, call: &Call) -> Result<Vec<Sent>, StepFault>
-        ensures ok { PharmacyMakes self.old (call_seen call.now) self.new result }
-        ensures fault { PharmacyRefuses self.old (call_seen call.now) result }
-        ensures err { OnErr result (self.new ≡ self.old) }
-    {
-        match call {
-            Call::Submit(text) => self.submit(alloc, text.as_slice()),
-            Call::Tick => self.tick(alloc),
-            Call::Take { from: _, bytes } => self.take(alloc, bytes),
-            Call::Stop => self.stop(alloc),
-            Call::Start => self.start(alloc),
-            Call::Plan { .. } => Err(StepFault::NoSuchNode),
-        }
-    }
-
-    /// Submits the request with this text: enters it under the next number, and sends its packet to the first switch.
-    ///
-    /// # Errors
-    /// `Down`, or the refusal of [`Pharmacy::submit`]. The pharmacy is then as it was.
-    pub fn submit(&mut self, alloc: Global, text: &[u8]) -> Result<Vec<Sent>, StepFault>
-        ensures ok { PharmacyMakes self.old (Submit text.now) self.new result }
-        ensures fault { PharmacyRefuses self.old (Submit text.now) result }
-        ensures few { IfOk result (λ sent. length sent.items ≤ 1) }
-        ensures err { OnErr result (self.new ≡ self.old) }
-    {
-        match &mut self.state {
-            PharmacyState::Up(pharmacy) => pharmacy_calls::submit(alloc, pharmacy, text),
-            PharmacyState::AtRest(_) => Err(StepFault::Down),
-        }
-    }
-
-    /// One tick of its time: sends each open entry again that is due, in order of numbers.
-    ///
-    /// # Errors
-    /// `Down`. The pharmacy is then as it was.
-    pub fn tick(&mut self, alloc: Global) -> Result<Vec<Sent>, StepFault>
-        ensures ok { PharmacyMakes self.old Tick self.new result }
-        ensures fault { PharmacyRefuses self.old Tick result }
-        ensures few { IfOk result (λ sent. length sent.items ≤ most_due self.old) }
-        ensures err { OnErr result (self.new ≡ self.old) }
-    {
-        match &mut self.state {
-            PharmacyState::Up(pharmacy) => pharmacy_calls::tick(alloc, pharmacy),
-            PharmacyState::AtRest(_) => Err(StepFault::Down),
-        }
-    }
-
-    /// Takes a packet, whoever sent it: an answer settles the entry of its number. Nothing is sent.
-    ///
-    /// # Errors
-    /// `Down`, then what is wrong with the envelope, then the refusal of [`Pharmacy::hear`]. The pharmacy is then as
-    /// it was.
-    pub fn take(&mut self, alloc: Global, packet: &Octets) -> Result<Vec<Sent>, StepFault>
-        ensures ok { (from : ModelNode) → PharmacyMakes self.old (Take from packet.now) self.new result }
-        ensures fault { (from : ModelNode) → PharmacyRefuses self.old (Take from packet.now) result }
-        ensures few { IfOk result (λ sent. length sent.items ≤ 1) }
-        ensures err { OnErr result (self.new ≡ self.old) }
-    {
-        match &mut self.state {
-            PharmacyState::Up(pharmacy) => pharmacy_calls::take(alloc, pharmacy, packet),
-            PharmacyState::AtRest(_) => Err(StepFault::Down),
-        }
-    }
-
-    /// Stops it. The journal is saved first, so a stop that finds no memory leaves it up.
-    ///
-    /// # Errors
-    /// `Down`. The pharmacy is then as it was.
-    pub fn stop(&mut self, alloc: Global) -> Result<Vec<Sent>, StepFault>
-        ensures ok { PharmacyMakes self.old Stop self.new result }
-        ensures fault { PharmacyRefuses self.old Stop result }
-        ensures few { IfOk result (λ sent. length sent.items ≤ 1) }
-        ensures err { OnErr result (self.new ≡ self.old) }
-    {
-        let kept = match &self.state {
-            PharmacyState::Up(pharmacy) => JournalBytes::save(alloc, pharmacy)?,
-            PharmacyState::AtRest(_) => return Err(StepFault::Down),
-        };
-        self.state = PharmacyState::AtRest(kept);
-        Ok(Vec::new(alloc))
-    }
-
-    /// Starts it again from its record, which is kept until that has succeeded.
-    ///
-    /// # Errors
-    /// `AlreadyUp`. The pharmacy is then as it was.
-    pub fn start(&mut self, alloc: Global) -> Result<Vec<Sent>, StepFault>
-        ensures ok { PharmacyMakes self.old Start self.new result }
-        ensures fault { PharmacyRefuses self.old Start result }
-        ensures few { IfOk result (λ sent. length sent.items ≤ 1) }
-        ensures err { OnErr result (self.new ≡ self.old) }
-    {
-        let pharmacy = match &self.state {
-            PharmacyState::Up(_) => return Err(StepFault::AlreadyUp),
-            PharmacyState::AtRest(kept) => kept.start(alloc)?,
-        };
-        self.state = PharmacyState::Up(pharmacy);
-        Ok(Vec::new(alloc))
     }
 
     /// The bytes that there are of it at rest: its journal's text, of version 2. None while it is up.
@@ -189,8 +152,8 @@ impl PharmacyNode {
         ensures { option_copied result ≡ journal_record self.now }
     {
         match &self.state {
-            PharmacyState::Up(_) => None,
-            PharmacyState::AtRest(kept) => Some(kept.bytes()),
+            State::Up(_) => None,
+            State::AtRest(kept) => Some(kept.bytes()),
         }
     }
 
@@ -198,10 +161,10 @@ impl PharmacyNode {
     pub fn into_journal(self, alloc: Global) -> Result<JournalAtRest, AllocError>
         ensures { IfOk result (λ journal. journal ≡ journal_in self) }
     {
-        let PharmacyNode { state } = self;
+        let Powered { state } = self;
         match state {
-            PharmacyState::Up(pharmacy) => Ok(pharmacy.stop()),
-            PharmacyState::AtRest(kept) => kept.read(alloc),
+            State::Up(pharmacy) => Ok(pharmacy.stop()),
+            State::AtRest(kept) => kept.read(alloc),
         }
     }
 
@@ -210,8 +173,8 @@ impl PharmacyNode {
         ensures { IfOk result (λ journal. journal ≡ journal_in self.now) }
     {
         match &self.state {
-            PharmacyState::Up(pharmacy) => Ok(JournalReading::running(pharmacy)),
-            PharmacyState::AtRest(kept) => Ok(JournalReading::resting(kept.read(alloc)?)),
+            State::Up(pharmacy) => Ok(JournalReading::running(pharmacy)),
+            State::AtRest(kept) => Ok(JournalReading::resting(kept.read(alloc)?)),
         }
     }
 }

@@ -88,8 +88,9 @@ impl NodeState {
         ensures fault { Refuses (node_step (bytes_with routes.now) self.old (call_seen call.now)) result }
         ensures err { OnErr result (self.new ≡ self.old) }
     {
+        let call = call.lent();
         match &mut self.kind {
-            StateKind::Pharmacy(node) => node.step(alloc, call),
+            StateKind::Pharmacy(node) => node.step(alloc, routes, call),
             StateKind::Switch(node) => node.step(alloc, routes, call),
             StateKind::Payer(node) => node.step(alloc, routes, call),
         }

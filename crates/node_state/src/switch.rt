@@ -1,47 +1,140 @@
 //! One switch, up or at rest.
 
-ghost use Rattle.std.specs.Prelude.{◌≡◌, ◌≤◌, [], length, IfOk, OnErr};
+ghost use Rattle.std.specs.Prelude.{◌≡◌, ◌≤◌, [], length, refl, IfOk, OnErr};
 ghost use Rattle.std.specs.Option.{option_copied};
+ghost use Rattle.envelope.specs.Envelope.{envelope_text};
 ghost use Rattle.bin_routes.specs.Table.{RouteMaps};
-ghost use Rattle.claim_model.specs.Node.{Node as ModelNode, Up, Take, Stop, Start};
+ghost use Rattle.claim_model.specs.Bytes.{bytes_with};
+ghost use Rattle.claim_model.specs.Node.{Up, switch_step};
 ghost use Rattle.claim_model.specs.Held.{held_in_table};
-ghost use Rattle.world_setup.specs.Seen.{call_seen};
-ghost use Rattle.node_state.specs.Outcomes.{SwitchMakes, SwitchRefuses};
-ghost use Rattle.node_state.specs.Sends.{is_up, in_flight_at};
+ghost use Rattle.node_state.specs.Outcomes.{Makes, Refuses};
+ghost use Rattle.node_state.specs.Sends.{in_flight_at};
+ghost use Rattle.node_state.specs.Taking.{switch_handles, switch_requests, switch_responds, switch_reads};
 ghost use Rattle.node_state.specs.Nodes.{slots_in};
 
-use crate::switch_calls;
+use crate::faults::{request_fault, response_fault};
+use crate::opening::is_request;
+use crate::powered::{Kind, Powered, State};
+use crate::sending::{to_payer_or_back, to_pharmacy};
 use bin_routes::Routes;
-use envelope::TxnId;
+use envelope::{Envelope, TxnId};
 use octets::Octets;
 use std::alloc::{AllocError, Global};
-use std::marker::Model;
 use switch_node::{InFlight, Switch, SwitchSettings};
-use world_setup::{Call, Sent, StepFault};
-
-/// What there is of a switch: its table, or at rest its settings.
-#[derive(Drop)]
-pub(crate) enum SwitchState {
-    Up(Switch),
-    AtRest(SwitchSettings),
-}
+use world_setup::{Call, Node, Sent, StepFault};
 
 /// A switch, up or at rest. At rest it has its settings alone: a stop loses the table.
-#[derive(Drop)]
-pub struct SwitchNode {
-    state: SwitchState,
+pub type SwitchNode = Powered<Switch>;
+
+impl Kind for Switch {
+    type Rest = SwitchSettings;
+
+    ghost step = { λ routes node call. switch_step (bytes_with routes) node call };
+
+    ghost most = { λ node call. 1 };
+
+    ghost takes = { λ routes node from envelope. switch_handles routes node envelope };
+
+    /// Takes a request or a response, whoever sent it.
+    fn take(
+        &mut self,
+        alloc: Global,
+        routes: &Routes,
+        _from: Node,
+        envelope: &Envelope<'_>,
+        packet: &Octets,
+    ) -> Result<Vec<Sent>, StepFault> {
+        if is_request(envelope) {
+            request(alloc, self, routes, envelope, packet)
+        } else {
+            response(alloc, self, envelope, packet)
+        }
+    }
+
+    /// All other calls are for nodes of other kinds.
+    fn ask(
+        &mut self,
+        _alloc: Global,
+        _routes: &Routes,
+        call: Call<&Octets>,
+    ) -> Result<Vec<Sent>, StepFault> {
+        match call {
+            Call::Submit(_) | Call::Tick | Call::Plan { .. } => Err(StepFault::NoSuchNode),
+            Call::Take { .. } | Call::Stop | Call::Start => unreachable!(),
+        }
+    }
+
+    /// Its settings: the table is lost.
+    fn save(&self, _alloc: Global) -> Result<SwitchSettings, AllocError> {
+        Ok(self.settings())
+    }
+
+    /// A switch with an empty table.
+    fn wake(alloc: Global, rest: &SwitchSettings) -> Result<Switch, AllocError> {
+        Ok(Switch::new(alloc, *rest))
+    }
+
+    fn down(call: Call<&Octets>) -> StepFault {
+        match call {
+            Call::Submit(_) | Call::Tick | Call::Plan { .. } => StepFault::NoSuchNode,
+            Call::Take { .. } | Call::Stop | Call::Start => unreachable!(),
+        }
+    }
+
+    ghost reads = { λ routes node from bytes read is. switch_reads routes node from bytes read is };
+
+    ghost takes_nothing = { λ routes rest from bytes. refl };
+
+    ghost stops_once = { λ routes rest. refl };
+
+    ghost starts_once = { λ routes node. refl };
 }
 
-impl Model for SwitchNode {
-    ghost use Rattle.std.specs.Prelude.{ℕ};
-    ghost use Rattle.claim_model.specs.Table.{Table};
-    ghost use Rattle.claim_model.specs.Node.{Power};
+/// Takes a request: it goes to its payer, or back to its pharmacy with an answer. The room for what is sent is had first.
+fn request(
+    alloc: Global,
+    switch: &mut Switch,
+    routes: &Routes,
+    envelope: &Envelope<'_>,
+    packet: &Octets,
+) -> Result<Vec<Sent>, StepFault>
+    requires { packet.now ≡ envelope_text envelope.now.kind envelope.now.id envelope.now.payload }
+    ensures ok { Makes (switch_requests routes.now switch.old envelope.now) (Up switch.new) result }
+    ensures fault { Refuses (switch_requests routes.now switch.old envelope.now) result }
+    ensures few { IfOk result (λ sent. length sent.items ≤ 1) }
+    ensures err { OnErr result (switch.new ≡ switch.old) }
+{
+    let mut sent = Vec::with_capacity(alloc, 1)?;
+    match switch.request_packet(routes, envelope, packet) {
+        Ok(routed) => {
+            sent.push_reserved(to_payer_or_back(envelope.id(), routed));
+            Ok(sent)
+        }
+        Err(fault) => Err(request_fault(fault)),
+    }
+}
 
-    ghost Value = { Power Table ℕ };
-
-    ghost use Rattle.node_state.specs.Powered.{switch_seen};
-
-    ghost view = { λ n. switch_seen n.state };
+/// Takes a response: it goes to its pharmacy. The room for what is sent is had first.
+fn response(
+    alloc: Global,
+    switch: &mut Switch,
+    envelope: &Envelope<'_>,
+    packet: &Octets,
+) -> Result<Vec<Sent>, StepFault>
+    requires { packet.now ≡ envelope_text envelope.now.kind envelope.now.id envelope.now.payload }
+    ensures ok { (routes : RouteMaps) → Makes (switch_responds routes switch.old envelope.now) (Up switch.new) result }
+    ensures fault { (routes : RouteMaps) → Refuses (switch_responds routes switch.old envelope.now) result }
+    ensures few { IfOk result (λ sent. length sent.items ≤ 1) }
+    ensures err { OnErr result (switch.new ≡ switch.old) }
+{
+    let mut sent = Vec::with_capacity(alloc, 1)?;
+    match switch.response_packet(envelope, packet) {
+        Ok(bytes) => {
+            sent.push_reserved(to_pharmacy(envelope.id(), bytes));
+            Ok(sent)
+        }
+        Err(fault) => Err(response_fault(fault)),
+    }
 }
 
 impl SwitchNode {
@@ -49,103 +142,7 @@ impl SwitchNode {
     pub fn new(alloc: Global, settings: SwitchSettings) -> SwitchNode
         ensures { result ≡ Up (record { cap = settings; entries = [] }) }
     {
-        SwitchNode {
-            state: SwitchState::Up(Switch::new(alloc, settings)),
-        }
-    }
-
-    /// Whether it is up.
-    pub fn is_up(&self) -> bool
-        ensures { result ≡ is_up self.now }
-    {
-        match &self.state {
-            SwitchState::Up(_) => true,
-            SwitchState::AtRest(_) => false,
-        }
-    }
-
-    /// Makes a call, and gives what it sent.
-    ///
-    /// # Errors
-    /// `NoSuchNode` for a submission, a tick or a change of a plan; then `Down` or `AlreadyUp`; then the refusal of the
-    /// switch. The switch is then as it was.
-    pub fn step(
-        &mut self,
-        alloc: Global,
-        routes: &Routes,
-        call: &Call,
-    ) -> Result<Vec<Sent>, StepFault>
-        ensures ok { SwitchMakes routes.now self.old (call_seen call.now) self.new result }
-        ensures fault { SwitchRefuses routes.now self.old (call_seen call.now) result }
-        ensures err { OnErr result (self.new ≡ self.old) }
-    {
-        match call {
-            Call::Take { from: _, bytes } => self.take(alloc, routes, bytes),
-            Call::Stop => self.stop(alloc),
-            Call::Start => self.start(alloc),
-            Call::Submit(_) => Err(StepFault::NoSuchNode),
-            Call::Tick => Err(StepFault::NoSuchNode),
-            Call::Plan { .. } => Err(StepFault::NoSuchNode),
-        }
-    }
-
-    /// Takes a packet, whoever sent it: a request goes to its payer, or back to its pharmacy with an answer; a
-    /// response goes to its pharmacy.
-    ///
-    /// # Errors
-    /// `Down`, then what is wrong with the envelope, then the refusal of [`Switch::request`] or [`Switch::response`].
-    /// The switch is then as it was.
-    pub fn take(
-        &mut self,
-        alloc: Global,
-        routes: &Routes,
-        packet: &Octets,
-    ) -> Result<Vec<Sent>, StepFault>
-        ensures ok { (from : ModelNode) → SwitchMakes routes.now self.old (Take from packet.now) self.new result }
-        ensures fault { (from : ModelNode) → SwitchRefuses routes.now self.old (Take from packet.now) result }
-        ensures few { IfOk result (λ sent. length sent.items ≤ 1) }
-        ensures err { OnErr result (self.new ≡ self.old) }
-    {
-        match &mut self.state {
-            SwitchState::Up(switch) => switch_calls::take(alloc, switch, routes, packet),
-            SwitchState::AtRest(_) => Err(StepFault::Down),
-        }
-    }
-
-    /// Stops it. Its table is lost.
-    ///
-    /// # Errors
-    /// `Down`. The switch is then as it was.
-    pub fn stop(&mut self, alloc: Global) -> Result<Vec<Sent>, StepFault>
-        ensures ok { (routes : RouteMaps) → SwitchMakes routes self.old Stop self.new result }
-        ensures fault { (routes : RouteMaps) → SwitchRefuses routes self.old Stop result }
-        ensures few { IfOk result (λ sent. length sent.items ≤ 1) }
-        ensures err { OnErr result (self.new ≡ self.old) }
-    {
-        let settings = match &self.state {
-            SwitchState::Up(switch) => switch.settings(),
-            SwitchState::AtRest(_) => return Err(StepFault::Down),
-        };
-        self.state = SwitchState::AtRest(settings);
-        Ok(Vec::new(alloc))
-    }
-
-    /// Starts it again, with an empty table.
-    ///
-    /// # Errors
-    /// `AlreadyUp`. The switch is then as it was.
-    pub fn start(&mut self, alloc: Global) -> Result<Vec<Sent>, StepFault>
-        ensures ok { (routes : RouteMaps) → SwitchMakes routes self.old Start self.new result }
-        ensures fault { (routes : RouteMaps) → SwitchRefuses routes self.old Start result }
-        ensures few { IfOk result (λ sent. length sent.items ≤ 1) }
-        ensures err { OnErr result (self.new ≡ self.old) }
-    {
-        let settings = match &self.state {
-            SwitchState::Up(_) => return Err(StepFault::AlreadyUp),
-            SwitchState::AtRest(settings) => *settings,
-        };
-        self.state = SwitchState::Up(Switch::new(alloc, settings));
-        Ok(Vec::new(alloc))
+        Powered::running(Switch::new(alloc, settings))
     }
 
     /// The answer to a request in its table, where that came. A stopped switch has none.
@@ -153,8 +150,8 @@ impl SwitchNode {
         ensures { option_copied result ≡ held_in_table id self.now }
     {
         match &self.state {
-            SwitchState::Up(switch) => switch.held(id),
-            SwitchState::AtRest(_) => None,
+            State::Up(switch) => switch.held(id),
+            State::AtRest(_) => None,
         }
     }
 
@@ -163,8 +160,8 @@ impl SwitchNode {
         ensures { IfOk result (λ list. list.items ≡ in_flight_at self.now) }
     {
         match &self.state {
-            SwitchState::Up(switch) => switch.list(),
-            SwitchState::AtRest(_) => Ok(Vec::new(alloc)),
+            State::Up(switch) => switch.list(),
+            State::AtRest(_) => Ok(Vec::new(alloc)),
         }
     }
 
@@ -173,8 +170,8 @@ impl SwitchNode {
         ensures { result ≡ slots_in self.now }
     {
         match &self.state {
-            SwitchState::Up(switch) => switch.len(),
-            SwitchState::AtRest(_) => 0,
+            State::Up(switch) => switch.len(),
+            State::AtRest(_) => 0,
         }
     }
 }

@@ -11,8 +11,9 @@ use Rattle.payer_book.specs.declared.book.payment.Standing.{Standing}
 use Rattle.payer_book.specs.declared.ruling.changes.Change.{Change}
 use Rattle.payer_book.specs.declared.ruling.matches.Matches.{Matches}
 use Rattle.payer_book.specs.declared.ruling.matches.Matches.TheVariants.{Nothing, One, Several}
-use Rattle.payer_book.specs.Ledger.{is_of, standing_of, is_for_payment, IsOther, NoFillTwice, IsNumbered}
+use Rattle.payer_book.specs.Ledger.{is_of, standing_of, is_for_payment, IsOther, NoFillTwice}
 use Rattle.payer_book.specs.Changes.{is_reversed}
+use Rattle.payer_book.specs.PaymentPlaces.{IsBelow}
 use Rattle.payer_book.specs.Matches.{tally, with_one, fill_for, is_match, matched, is_between, matches_between}
 use Rattle.payer_book.proofs.Lists.{filter_same, filter_none, all_true}
 use Rattle.claim_model.proofs.Tests.{fill_same}
@@ -143,9 +144,9 @@ matches_one v changes n ss is = filter_same _ _ ss (all_true _ (λ s. by_test s 
     by_test s true h = let e : n ≡ s.claim.fill.fill = match_number v changes s n is h in let m : ℕ = s.claim.fill.fill in grind (arith, nat_tests)
 
 -- and one without
-pub matches_any : (v : Reversal) (changes : List Change) (ss : List Standing) → AllByRecursion IsNumbered ss → matches_between v changes 0 100 ss ≡ filter (is_match v changes) ss
-matches_any v changes ss numbers = filter_same _ _ ss (all_weaker IsNumbered _ (λ s le. by_test s le (is_match v changes s)) ss numbers)
+pub matches_any : (v : Reversal) (changes : List Change) (numbers : ℕ) (ss : List Standing) → AllByRecursion (IsBelow numbers) ss → matches_between v changes 0 numbers ss ≡ filter (is_match v changes) ss
+matches_any v changes numbers ss below = filter_same _ _ ss (all_weaker (IsBelow numbers) _ (λ s lt. by_test s lt (is_match v changes s)) ss below)
   where
-    by_test : (s : Standing) → IsNumbered s → (b : Bool) → (b && is_between 0 100 s) ≡ b
-    by_test s le false = refl
-    by_test s le true = let m : ℕ = s.claim.fill.fill in grind (arith, nat_tests)
+    by_test : (s : Standing) → IsBelow numbers s → (b : Bool) → (b && is_between 0 numbers s) ≡ b
+    by_test s lt false = refl
+    by_test s lt true = let m : ℕ = s.claim.fill.fill in grind (arith, nat_tests)

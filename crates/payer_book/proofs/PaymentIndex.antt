@@ -1,5 +1,5 @@
 -- The index of standing payments.
-use Rattle.std.proofs.Common.{◌≡◌, ℕ, zero, suc, ◌+◌, ◌<◌, Bool, true, false, cond, List, [], ◌∷◌, ◌++◌, map, length, Option, Some, None, slice_get, slice_set, refl, sym, ap, ◌∙◌, subst, inl, inr, arith}
+use Rattle.std.proofs.Common.{◌≡◌, ℕ, zero, suc, ◌+◌, ◌<◌, ◌≤◌, Bool, true, false, cond, List, [], ◌∷◌, ◌++◌, map, length, Option, Some, None, slice_get, slice_set, refl, sym, ap, ◌∙◌, subst, inl, inr, arith}
 use Rattle.std.specs.Prelude.{bytes_eq, ◌==◌, ◌&&◌, option_and_then}
 use Rattle.std.specs.List.{AllByRecursion}
 use Rattle.std.proofs.Math.Bool.{and_comm}
@@ -10,12 +10,12 @@ use Rattle.claim_model.specs.Words.{TxnId, Auth, Fill}
 use Rattle.claim_model.specs.Payments.{same_auth}
 use Rattle.claim_model.specs.Judgement.{same_fill}
 use Rattle.claim_profile.specs.contracts.order.FillPartialEq.TheImpl as fill_eq
-use Rattle.claim_model.proofs.Lists.{find_passes, get_last, get_more, get_within, all_append}
+use Rattle.claim_model.proofs.Lists.{find_passes, get_last, get_more, get_within, all_append, all_weaker}
 use Rattle.payer_book.specs.declared.book.payment.Standing.{Standing}
 use Rattle.payer_book.specs.declared.book.payment.Payment.{Payment}
 use Rattle.payer_book.specs.declared.book.payment.Payment.TheVariants.{Standing as Stands, Reversed as WasReversed}
-use Rattle.payer_book.specs.Ledger.{has_auth, payment_with, is_of, still, standing_in, standing_of, after_reversal, reversal_of, AreNumbered, IsOther, NoFillTwice, IsNumbered, HasFillNumber, IsLedger}
-use Rattle.payer_book.specs.PaymentPlaces.{StandsAt, IsIndexed}
+use Rattle.payer_book.specs.Ledger.{has_auth, payment_with, is_of, still, standing_in, standing_of, after_reversal, reversal_of, AreNumbered, IsOther, NoFillTwice, IsNumbered, IsLedger}
+use Rattle.payer_book.specs.PaymentPlaces.{StandsAt, IsBelow, IsIndexed}
 use Rattle.payer_book.proofs.Lists.{get_append, get_set, get_set_other}
 use Rattle.claim_model.proofs.Tests.{fill_same, fill_self, auth_same}
 use Rattle.payer_book.proofs.Numbering.{numbered, numbered_at, numbered_more, numbered_kept, after_reversal_at}
@@ -54,7 +54,7 @@ stands_found fill (Stands t ∷ ps) s (suc k) e is = by_test (is_of fill t) (sta
     by_test true g = (t, refl)
     by_test false g = g
 
-module _ (payer first : ℕ) (ps : List Payment) (at : Fill → Option ℕ) (h : IsIndexed payer first ps at) where
+module _ (payer first numbers : ℕ) (ps : List Payment) (at : Fill → Option ℕ) (h : IsIndexed payer first numbers ps at) where
   -- the payment at the place that the index has is the fill's standing one
   pub index_finds : (fill : Fill) (o : Option ℕ) → at fill ≡ o → option_and_then (λ k. option_and_then still (slice_get ps k)) o ≡ standing_of fill (standing_in ps)
   index_finds fill None e = by_search (standing_of fill (standing_in ps)) refl
@@ -90,16 +90,16 @@ no_fill_twice at n [] h = tt
 no_fill_twice at n (WasReversed r ∷ ps) h = no_fill_twice at (n + 1) ps (one_on at n (WasReversed r) ps h)
 no_fill_twice at n (Stands s ∷ ps) h = (others at (n + 1) (n + 0) s ps (h s 0 refl) (omega arith) (one_on at n (Stands s) ps h), no_fill_twice at (n + 1) ps (one_on at n (Stands s) ps h))
 
-pub index_ledger : (payer first room : ℕ) (ps : List Payment) (at : Fill → Option ℕ) → IsIndexed payer first ps at → IsLedger (record { payer = payer; first = first; payments = ps; room = room })
-index_ledger payer first room ps at h = record {
+pub index_ledger : (payer first numbers room : ℕ) (ps : List Payment) (at : Fill → Option ℕ) → IsIndexed payer first numbers ps at → IsLedger (record { payer = payer; first = first; payments = ps; room = room })
+index_ledger payer first numbers room ps at h = record {
   numbered = h.numbered;
   fills = no_fill_twice at 0 ps (λ s k e. let m : k ≡ 0 + k = omega arith in h.there s k e ∙ ap (λ x. Some x) m);
-  numbers = h.numbers;
+  numbers = all_weaker (IsBelow numbers) IsNumbered (λ s below. let few = h.few in omega arith) (standing_in ps) h.below;
 }
 
 -- one payment more
-module _ (payer first : ℕ) (ps : List Payment) (at new : Fill → Option ℕ) (s : Standing) (h : IsIndexed payer first ps at) (auth : s.auth ≡ numbered payer (first + length ps))
-    (number : HasFillNumber s.claim) (none : standing_of s.claim.fill (standing_in ps) ≡ None) (more : (fill : Fill) → new fill ≡ cond (same_fill s.claim.fill fill) (Some (length ps)) (at fill)) where
+module _ (payer first numbers more_numbers : ℕ) (ps : List Payment) (at new : Fill → Option ℕ) (s : Standing) (h : IsIndexed payer first numbers ps at) (auth : s.auth ≡ numbered payer (first + length ps))
+    (few : more_numbers ≤ 100) (others : numbers ≤ more_numbers) (number : IsBelow more_numbers s) (none : standing_of s.claim.fill (standing_in ps) ≡ None) (more : (fill : Fill) → new fill ≡ cond (same_fill s.claim.fill fill) (Some (length ps)) (at fill)) where
   more_found : (fill : Fill) (place : ℕ) (b : Bool) → same_fill s.claim.fill fill ≡ b → cond b (Some (length ps)) (at fill) ≡ Some place → StandsAt (ps ++ Stands s ∷ []) fill place
   more_found fill place true is e = record {
     payment = s;
@@ -123,27 +123,29 @@ module _ (payer first : ℕ) (ps : List Payment) (at new : Fill → Option ℕ) 
             more t.claim.fill ∙ (cond-true (same_fill s.claim.fill t.claim.fill) (Some (length ps)) (at t.claim.fill) (subst (λ (x : Standing). same_fill s.claim.fill x.claim.fill ≡ true) same (fill_self s.claim.fill)) ∙ ap (λ k. Some k) (sym last.0))
       ]
 
-  pub indexed_more : IsIndexed payer first (ps ++ Stands s ∷ []) new
+  pub indexed_more : IsIndexed payer first more_numbers (ps ++ Stands s ∷ []) new
   indexed_more = record {
     least = h.least;
     numbered = numbered_more payer first ps (Stands s) h.numbered auth;
-    numbers = subst (AllByRecursion IsNumbered) (sym (filter_map-append still ps (Stands s ∷ []))) (all_append IsNumbered (standing_in ps) (s ∷ []) h.numbers (number, tt));
+    few = few;
+    below = subst (AllByRecursion (IsBelow more_numbers)) (sym (filter_map-append still ps (Stands s ∷ [])))
+        (all_append (IsBelow more_numbers) (standing_in ps) (s ∷ []) (all_weaker (IsBelow numbers) (IsBelow more_numbers) (λ t below. omega arith) (standing_in ps) h.below) (number, tt));
     found = λ fill place e. more_found fill place (same_fill s.claim.fill fill) refl (sym (more fill) ∙ e);
     there = more_there;
   }
 
 -- fewer standing payments
-fewer_numbers : (auth : Auth) (by : TxnId) (ps : List Payment) → AllByRecursion IsNumbered (standing_in ps) → AllByRecursion IsNumbered (standing_in (map (after_reversal auth by) ps))
-fewer_numbers auth by [] a = tt
-fewer_numbers auth by (WasReversed r ∷ ps) a = fewer_numbers auth by ps a
-fewer_numbers auth by (Stands s ∷ ps) a = by_test (same_auth auth s.auth) (fewer_numbers auth by ps a.1)
+fewer_numbers : (numbers : ℕ) (auth : Auth) (by : TxnId) (ps : List Payment) → AllByRecursion (IsBelow numbers) (standing_in ps) → AllByRecursion (IsBelow numbers) (standing_in (map (after_reversal auth by) ps))
+fewer_numbers numbers auth by [] a = tt
+fewer_numbers numbers auth by (WasReversed r ∷ ps) a = fewer_numbers numbers auth by ps a
+fewer_numbers numbers auth by (Stands s ∷ ps) a = by_test (same_auth auth s.auth) (fewer_numbers numbers auth by ps a.1)
   where
-    by_test : (b : Bool) → AllByRecursion IsNumbered (standing_in (map (after_reversal auth by) ps)) → AllByRecursion IsNumbered (standing_in (cond b (reversal_of by s) (Stands s) ∷ map (after_reversal auth by) ps))
+    by_test : (b : Bool) → AllByRecursion (IsBelow numbers) (standing_in (map (after_reversal auth by) ps)) → AllByRecursion (IsBelow numbers) (standing_in (cond b (reversal_of by s) (Stands s) ∷ map (after_reversal auth by) ps))
     by_test true g = g
     by_test false g = (a.0, g)
 
 -- one standing payment is reversed
-module _ (payer first : ℕ) (ps : List Payment) (at new : Fill → Option ℕ) (auth : Auth) (by : TxnId) (s : Standing) (k : ℕ) (h : IsIndexed payer first ps at) (there : slice_get ps k ≡ Some (Stands s)) (is_auth : s.auth ≡ auth)
+module _ (payer first numbers : ℕ) (ps : List Payment) (at new : Fill → Option ℕ) (auth : Auth) (by : TxnId) (s : Standing) (k : ℕ) (h : IsIndexed payer first numbers ps at) (there : slice_get ps k ≡ Some (Stands s)) (is_auth : s.auth ≡ auth)
     (less : (fill : Fill) → new fill ≡ cond (same_fill s.claim.fill fill) None (at fill)) where
   pub reversed_list : slice_set ps k (reversal_of by s) ≡ map (after_reversal auth by) ps
   reversed_list =
@@ -169,11 +171,12 @@ module _ (payer first : ℕ) (ps : List Payment) (at new : Fill → Option ℕ) 
       other (same_some place k (sym (h.there t place old) ∙ (ap at (sym (fill_same s.claim.fill t.claim.fill is)) ∙ h.there s k there)))) in
       less t.claim.fill ∙ (cond-false (same_fill s.claim.fill t.claim.fill) None (at t.claim.fill) apart ∙ h.there t place old)
 
-  pub indexed_less : IsIndexed payer first (slice_set ps k (reversal_of by s)) new
+  pub indexed_less : IsIndexed payer first numbers (slice_set ps k (reversal_of by s)) new
   indexed_less = record {
     least = h.least;
     numbered = subst (AreNumbered payer first) (sym reversed_list) (numbered_kept payer first auth by ps h.numbered);
-    numbers = subst (λ (xs : List Payment). AllByRecursion IsNumbered (standing_in xs)) (sym reversed_list) (fewer_numbers auth by ps h.numbers);
+    few = h.few;
+    below = subst (λ (xs : List Payment). AllByRecursion (IsBelow numbers) (standing_in xs)) (sym reversed_list) (fewer_numbers numbers auth by ps h.below);
     found = λ fill place e. less_found fill place (same_fill s.claim.fill fill) refl (sym (less fill) ∙ e);
     there = less_there;
   }

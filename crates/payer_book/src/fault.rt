@@ -50,7 +50,7 @@ impl<T: Drop> From<AllocFailed<T>> for BookFault {
 #[derive(Clone, Copy, Debug, PartialEq, Eq, Error)]
 pub enum SettingFault {
     /// A number lies outside its range.
-    #[error("a first serial is 1 to 999,999,999,999, and a cap 1 to 65,536")]
+    #[error("a first serial is 1 to 999,999,999,999, and a cap 1 to what the limits allow")]
     BadSetting,
 }
 

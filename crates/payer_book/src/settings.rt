@@ -1,16 +1,16 @@
 //! What a book is opened with, beside its payer and its plan.
 
 ghost use Rattle.std.specs.Prelude.{◌≡◌, ◌≤◌};
+ghost use Rattle.claim_model.specs.Limits.{most_entries};
 ghost use Rattle.claim_profile.specs.Authorization.{largest_serial};
-ghost use Rattle.payer_book.specs.Settings.{settings_of};
+ghost use Rattle.payer_book.specs.Settings.{settings_of, settings_within};
 
 use crate::fault::SettingFault;
+use claim_model::Limits;
 use std::marker::Model;
 
 /// The largest serial number of an authorization, in twelve digits (own).
 pub const LAST_SERIAL: u64 = 999_999_999_999;
-/// The most rows that a book's settings may allow (own).
-pub const MOST_ROWS: u32 = 65_536;
 
 /// The first serial number and the most rows of a book (own).
 #[derive(Clone, Copy, PartialEq, Eq)]
@@ -38,7 +38,14 @@ impl BookSettings {
     pub fn new(serial: u64, cap: u32) -> Result<BookSettings, SettingFault>
         ensures { result ≡ settings_of serial cap }
     {
-        if serial == 0 || serial > LAST_SERIAL || cap == 0 || cap > MOST_ROWS {
+        BookSettings::within(Limits::stated(), serial, cap)
+    }
+
+    /// The same within these limits, which say how many rows there may be at most.
+    pub fn within(limits: Limits, serial: u64, cap: u32) -> Result<BookSettings, SettingFault>
+        ensures { result ≡ settings_within limits serial cap }
+    {
+        if serial == 0 || serial > LAST_SERIAL || cap == 0 || cap > limits.entries() {
             return Err(SettingFault::BadSetting);
         }
         Ok(BookSettings { serial, cap })
@@ -57,7 +64,7 @@ impl BookSettings {
     pub fn cap(&self) -> u32
         ensures value { result ≡ self.now.cap }
         ensures least { 1 ≤ result }
-        ensures most { result ≤ 65536 }
+        ensures most { result ≤ most_entries }
     {
         self.cap
     }

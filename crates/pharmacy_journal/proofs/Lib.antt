@@ -11,3 +11,4 @@ pub mod Hearings
 pub mod Answering
 pub mod StopStart
 pub mod Payable
+mod Tellings

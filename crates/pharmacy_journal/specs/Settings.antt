@@ -3,6 +3,7 @@ use Rattle.std.specs.Prelude.{ℕ, ◌<◌, ◌≤◌, List, length, IsTrue}
 use Rattle.std.specs.List.{list_all}
 use Rattle.d0_header.specs.Field.{is_plain}
 use Rattle.claim_model.specs.Journal.{PharmacySettings}
+use Rattle.claim_model.specs.Limits.{Limits, stated, most_entries}
 use Rattle.pharmacy_journal.specs.Retry.{Rule}
 
 -- settings of these
@@ -10,16 +11,24 @@ abbrev pub settings_of : List ℕ → List ℕ → List ℕ → ℕ → ℕ → 
 settings_of qualifier provider nodes again tries cap =
     record { qualifier = qualifier; provider = provider; nodes = nodes; again = again; tries = tries; cap = cap }
 
--- waits of 1 to 1,000 ticks, 1 to 1,000 tries, 1 to 65,536 entries, and an identity without separators
-pub record AreSettings (s : PharmacySettings) : Type 0 where
+-- waits of 1 to 1,000 ticks, 1 to 1,000 tries, at most so many entries and one at least, and an identity without separators
+pub record AreWithin (most : ℕ) (s : PharmacySettings) : Type 0 where
   pub some_ticks : 0 < s.again
   pub ticks_in_limit : s.again ≤ 1000
   pub some_try : 0 < s.tries
   pub tries_in_limit : s.tries ≤ 1000
   pub some_entry : 0 < s.cap
-  pub entries_in_limit : s.cap ≤ 65536
+  pub entries_in_limit : s.cap ≤ most
   pub plain_qualifier : IsTrue (list_all is_plain s.qualifier)
   pub plain_provider : IsTrue (list_all is_plain s.provider)
+
+-- the same of 1 to 16,777,216 entries
+abbrev pub AreSettings : PharmacySettings → Type 0
+AreSettings s = AreWithin most_entries s
+
+-- the same of 1 to 65,536 entries, the stated limit
+abbrev pub AreStated : PharmacySettings → Type 0
+AreStated s = AreWithin stated.entries s
 
 -- the widths of an identity, and as many nodes as the circle of phases has room for
 pub record AreSized (s : PharmacySettings) : Type 0 where

@@ -1,5 +1,5 @@
 -- What entries tell, and what one adds to what was told before it.
-use Rattle.std.specs.Prelude.{◌≡◌, ◌||◌, List, Option, ◌++◌, Result, IfOk}
+use Rattle.std.specs.Prelude.{◌≡◌, ℕ, ◌+◌, ◌||◌, Bool, true, false, List, [], ◌∷◌, Option, ◌++◌, length, Result, IfOk}
 use Rattle.std.specs.Global.{Vec}
 use Rattle.std.specs.List.{list_any, filter_map}
 use Rattle.bin_routes.specs.Table.{RouteMaps}
@@ -7,10 +7,11 @@ use Rattle.claim_model.specs.Words.{Auth}
 use Rattle.claim_model.specs.Bytes.{bytes_with}
 use Rattle.claim_model.specs.Payments.{same_auth, is_auth}
 use Rattle.claim_model.specs.Counted.{Counted, counted}
-use Rattle.claim_model.specs.Journal.{JournalAtRest}
+use Rattle.claim_model.specs.Journal.{Kept, JournalAtRest}
 use Rattle.pharmacy_journal.specs.declared.counting.Told.{Told}
 use Rattle.pharmacy_journal.specs.declared.slot.Slot.{Slot}
 use Rattle.pharmacy_journal.specs.Entries.{kept_of}
+use Rattle.pharmacy_journal.specs.Listing.{Listed, listed_from}
 use Rattle.pharmacy_journal.specs.Counting.{Outcome, outcomes_of, named_in, outcome_reverses, has_auth}
 
 -- what an entry tells
@@ -46,3 +47,30 @@ CountsPaid j result = (routes : RouteMaps) → IfOk result (λ paid. paid.items 
 
 abbrev pub TellsPaid : {A E : Type 0} → JournalAtRest → Result (A × Vec Counted) E → Type 0
 TellsPaid j result = (routes : RouteMaps) → IfOk result (λ told. told.1.items ≡ counted (bytes_with routes) j)
+
+-- what is told so far, and what these outcomes will tell, is what all outcomes tell
+pub record IsTold (told : Told) (left all : List Outcome) : Type 0 where
+  pub named : told.named.items ++ filter_map named_in left ≡ filter_map named_in all
+  pub reversed : (a : Auth) → (has_auth told.reversed.keys a || list_any (outcome_reverses a) left) ≡ list_any (outcome_reverses a) all
+
+-- a journal that is told entry by entry: the number of the next one, those that are left, all of them, and what was told last
+pub record Telling : Type 0 where
+  pub number : ℕ
+  pub left : List Kept
+  pub entries : List Kept
+  pub entry : Listed
+
+-- none of these entries is told
+pub record Begins (entries : List Kept) (t : Telling) : Type 0 where
+  pub number : t.number ≡ 1
+  pub left : t.left ≡ entries
+  pub all : t.entries ≡ entries
+
+-- the next entry is told, or there is none
+abbrev pub TellsNext : Telling → Telling → Bool → Type 0
+TellsNext old new true = (listed_from old.number old.left ≡ new.entry ∷ listed_from new.number new.left) × (length old.left ≡ length new.left + 1)
+TellsNext old new false = (old.left ≡ []) × (new.left ≡ [])
+
+-- the payments are those that the rule counts of a journal with these entries
+abbrev pub CountsIn : {E : Type 0} → List Kept → Result (Vec Counted) E → Type 0
+CountsIn entries result = (routes : RouteMaps) (j : JournalAtRest) → j.entries ≡ entries → IfOk result (λ paid. paid.items ≡ counted (bytes_with routes) j)

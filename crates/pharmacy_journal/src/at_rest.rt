@@ -3,6 +3,7 @@
 ghost use Rattle.std.specs.Prelude.{◌≡◌, ◌<◌, ◌≤◌, ◌-◌, [], length, map, None, Some, IsSome, IfOk, IfErr, OnOk, OnErr, true, false};
 ghost use Rattle.std.specs.Option.{option_copied};
 ghost use Rattle.claim_profile.specs.Readable.{readable_header};
+ghost use Rattle.claim_model.specs.Limits.{most_entries};
 ghost use Rattle.claim_model.specs.Journal.{stopped, started, is_own};
 ghost use Rattle.pharmacy_journal.specs.Settings.{rule_of};
 ghost use Rattle.pharmacy_journal.specs.Retry.{phases_of};
@@ -137,7 +138,7 @@ impl JournalAtRest {
     pub fn entries(&self) -> usize
         ensures value { result ≡ length self.now.entries }
         ensures in_limit { result ≤ self.now.settings.cap }
-        ensures small { result ≤ 65536 }
+        ensures small { result ≤ most_entries }
         ensures made { IsMadeByAdding self.now }
     {
         self.slots.len()

@@ -1,6 +1,6 @@
 //! The payments that a pharmacy counts.
 
-ghost use Rattle.std.specs.Prelude.{◌≡◌, ◌≢◌, ◌<◌, ◌++◌, [], length, map, not, IfOk, OnOk};
+ghost use Rattle.std.specs.Prelude.{◌≡◌, ◌≢◌, ℕ, ◌+◌, ◌<◌, ◌≤◌, ◌++◌, [], length, map, take, drop, not, IfOk, OnOk};
 ghost use Rattle.std.specs.Option.{option_to_list};
 ghost use Rattle.d0_segments.specs.Pieces.{groups_of};
 ghost use Rattle.d0_segments.specs.FramedParts.{shared_in, group_in};
@@ -18,7 +18,7 @@ ghost use Rattle.pharmacy_journal.specs.Telling.{told_by, NamesAll, ReversesAll,
 use crate::at_rest::JournalAtRest;
 use crate::pharmacy::Pharmacy;
 use crate::slot::Slot;
-use claim_profile::{Amounts, AnswerFault, Auth, Fill, Order, Ruling, order_at, read_answer};
+use claim_profile::{Amounts, AnswerFault, Auth, Fill, Order, Ruling, order_at, read_answer_into};
 use d0_header::RequestHeader;
 use d0_segments::{Framed, check_request};
 use std::alloc::{AllocError, Global};
@@ -91,7 +91,7 @@ fn paid_in(alloc: Global, slots: &[Slot]) -> Result<Vec<CountedPayment>, AllocEr
     ensures { IfOk result (λ paid. paid.items ≡ counted_in (outcomes (map kept_of slots.now))) }
 {
     let told = read_all(alloc, slots)?;
-    counted_of(alloc, told)
+    counted_of(told)
 }
 
 /// What entries tell: the payments that are named, in order, and the authorizations that are reversed.
@@ -113,11 +113,11 @@ pub(crate) fn nothing_told(alloc: Global) -> Told
 }
 
 /// The payments that are counted of what entries tell.
-pub(crate) fn counted_of(alloc: Global, told: Told) -> Result<Vec<CountedPayment>, AllocError>
+pub(crate) fn counted_of(told: Told) -> Result<Vec<CountedPayment>, AllocError>
     ensures { IfOk result (λ paid. paid.items ≡ without told.reversed.keys (firsts told.named.items)) }
 {
     let Told { named, reversed } = told;
-    first_of_each(alloc, named.as_slice(), reversed)
+    first_of_each(named, reversed)
 }
 
 /// What these entries tell.
@@ -137,17 +137,17 @@ fn read_slot(alloc: Global, slot: &Slot, told: &mut Told) -> Result<(), AllocErr
     ensures named { OnOk result (NamesMore told.old told.new (told_by slot.now)) }
     ensures reversed { OnOk result (ReversesMore told.old told.new (told_by slot.now)) }
 {
-    let rulings = rulings_of(alloc, slot)?;
+    let rulings = rulings_of_into(Vec::new(alloc), slot)?;
     take_slot(told, slot, rulings.as_slice())
 }
 
-/// The rulings of an entry's answer.
-pub(crate) fn rulings_of(alloc: Global, slot: &Slot) -> Result<Vec<Ruling>, AllocError>
+/// The rulings of an entry's answer, in a list whose memory is used again.
+pub(crate) fn rulings_of_into(list: Vec<Ruling>, slot: &Slot) -> Result<Vec<Ruling>, AllocError>
     ensures { IfOk result (λ rulings. rulings.items ≡ rulings_of (kept_of slot.now).answer) }
 {
     match slot {
-        Slot::Waiting(_) => Ok(Vec::new(alloc)),
-        Slot::Settled(txn) => rulings_in(alloc, txn.answer()),
+        Slot::Waiting(_) => Ok(emptied(list)),
+        Slot::Settled(txn) => rulings_in(list, txn.answer()),
     }
 }
 
@@ -261,42 +261,62 @@ fn auth_reversed(ruling: &Ruling) -> Option<Auth>
     }
 }
 
-/// The first payment of each authorization that is not among `seen`.
+/// The first payment of each authorization that is not among `seen`: these come to the front of the list, and the others go.
 fn first_of_each(
-    alloc: Global,
-    named: &[CountedPayment],
+    named: Vec<CountedPayment>,
     seen: BTreeSet<Auth>,
 ) -> Result<Vec<CountedPayment>, AllocError>
-    ensures { IfOk result (λ counted. counted.items ≡ without seen.keys (firsts named.now)) }
+    ensures { IfOk result (λ counted. counted.items ≡ without seen.keys (firsts named.items)) }
 {
+    let mut payments = named;
     let mut seen = seen;
-    let mut counted = Vec::new(alloc);
-    for payment in named {
-        count(&mut counted, &mut seen, *payment)?;
+    let mut kept = 0;
+    for place in 0..payments.len() {
+        let payment = payments[place];
+        kept = count(&mut payments, &mut seen, payment, kept)?;
     }
-    Ok(counted)
+    payments.truncate(kept);
+    Ok(payments)
 }
 
-/// Counts a payment, where its authorization was not seen.
+/// Counts a payment, where its authorization was not seen: it comes behind the first payments of the list, which are counted, so
+/// many. Gives how many are counted then.
 fn count(
-    counted: &mut Vec<CountedPayment>,
+    payments: &mut Vec<CountedPayment>,
     seen: &mut BTreeSet<Auth>,
     payment: CountedPayment,
-) -> Result<(), AllocError>
-    ensures counted { OnOk result (counted.new.items ≡ with_first seen.old.keys counted.old.items payment) }
+    kept: usize,
+) -> Result<usize, AllocError>
+    requires { kept < length payments.old.items }
+    ensures counted { IfOk result (λ more. take more payments.new.items
+        ≡ with_first seen.old.keys (take kept payments.old.items) payment) }
+    ensures one { IfOk result (λ more. more ≤ kept + 1) }
+    ensures rest { OnOk result ((k : ℕ) → kept < k → drop k payments.new.items ≡ drop k payments.old.items) }
+    ensures same { OnOk result (length payments.new.items ≡ length payments.old.items) }
     ensures seen { OnOk result (JoinsOne payment.auth seen.old.keys seen.new.keys) }
 {
     if take_auth(seen, payment.auth())? {
-        counted.push(payment)?;
+        payments[kept] = payment;
+        return Ok(kept + 1);
     }
-    Ok(())
+    Ok(kept)
 }
 
-/// The rulings of an answer, none where the bytes are no answer.
-pub(crate) fn rulings_in(alloc: Global, answer: &[u8]) -> Result<Vec<Ruling>, AllocError>
+/// A list without what it held.
+fn emptied(list: Vec<Ruling>) -> Vec<Ruling>
+    ensures { result.items ≡ [] }
+{
+    let mut list = list;
+    list.clear();
+    list
+}
+
+/// The rulings of an answer, none where the bytes are no answer, in a list whose memory is used again.
+fn rulings_in(list: Vec<Ruling>, answer: &[u8]) -> Result<Vec<Ruling>, AllocError>
     ensures { IfOk result (λ rulings. rulings.items ≡ rulings_told answer.now) }
 {
-    match read_answer(alloc, answer) {
+    let alloc = *list.allocator();
+    match read_answer_into(list, answer) {
         Ok(answer) => Ok(answer.into_rulings()),
         Err(fault) => {
             answer_memory(fault)?;

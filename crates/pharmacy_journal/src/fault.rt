@@ -8,8 +8,8 @@ use thiserror::Error;
 /// Why settings are refused.
 #[derive(Clone, Copy, Debug, PartialEq, Eq, Error)]
 pub enum SettingFault {
-    /// `again` or `tries` is not 1 to 1,000, the cap is not 1 to 65,536, or the identity has a separator.
-    #[error("again and tries are 1 to 1,000, a cap is 1 to 65,536, and an identity has no separator")]
+    /// `again` or `tries` is not 1 to 1,000, the cap is not 1 to what the limits allow, or the identity has a separator.
+    #[error("again and tries are 1 to 1,000, a cap is 1 to what the limits allow, and an identity has no separator")]
     BadSetting,
 }
 

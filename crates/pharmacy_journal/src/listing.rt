@@ -6,12 +6,13 @@ ghost use Rattle.pharmacy_journal.specs.Entries.{kept_of};
 ghost use Rattle.pharmacy_journal.specs.Listing.{listed, listed_from, listed_as, rulings_of};
 
 use crate::at_rest::JournalAtRest;
-use crate::counting::rulings_of;
+use crate::counting::rulings_of_into;
 use crate::pharmacy::Pharmacy;
 use crate::slot::Slot;
 use claim_profile::{Ruling, code_of, count_of};
 use std::alloc::{AllocError, Global};
 use std::marker::Model;
+use std::mem;
 
 /// What is told of an entry: its number, the code (103-A3) and the count (109-A9) of its request, and
 /// the rulings of its answer, none where it is open.
@@ -61,6 +62,14 @@ impl EntryView {
     }
 }
 
+impl EntryView {
+    /// The list of rulings, so that its memory is used again.
+    pub(crate) fn release(&mut self) -> Vec<Ruling> {
+        let none = Vec::new(*self.rulings.allocator());
+        mem::replace(&mut self.rulings, none)
+    }
+}
+
 impl Pharmacy {
     /// All entries, in order of their numbers.
     pub fn list(&self) -> Result<Vec<EntryView>, AllocError>
@@ -97,12 +106,30 @@ pub(crate) fn view_of(alloc: Global, number: u64, slot: &Slot) -> Result<EntryVi
     ensures seen { IfOk result (λ view. listed_as number (kept_of slot.now) ≡ view ∷ []) }
     ensures rulings { IfOk result (λ view. view.rulings ≡ rulings_of (kept_of slot.now).answer) }
 {
+    view_in(Vec::new(alloc), number, slot)
+}
+
+/// What is told of an entry, its rulings in a list whose memory is used again.
+pub(crate) fn view_in(list: Vec<Ruling>, number: u64, slot: &Slot) -> Result<EntryView, AllocError>
+    ensures seen { IfOk result (λ view. listed_as number (kept_of slot.now) ≡ view ∷ []) }
+    ensures rulings { IfOk result (λ view. view.rulings ≡ rulings_of (kept_of slot.now).answer) }
+{
     let request = slot.request();
-    let rulings = rulings_of(alloc, slot)?;
+    let rulings = rulings_of_into(list, slot)?;
     Ok(EntryView {
         number,
         code: code_of(request),
         count: count_of(request),
         rulings,
     })
+}
+
+/// What is told before the first entry is.
+pub(crate) fn no_view(alloc: Global) -> EntryView {
+    EntryView {
+        number: 0,
+        code: [0, 0],
+        count: 0,
+        rulings: Vec::new(alloc),
+    }
 }

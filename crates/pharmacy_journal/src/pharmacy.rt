@@ -3,6 +3,7 @@
 ghost use Rattle.std.specs.Prelude.{◌≡◌, ◌<◌, ◌≤◌, ◌++◌, length, [], Some, IfOk, OnErr, OnOk};
 ghost use Rattle.bin_routes.specs.Table.{RouteMaps};
 ghost use Rattle.claim_model.specs.Bytes.{bytes_with};
+ghost use Rattle.claim_model.specs.Limits.{most_entries};
 ghost use Rattle.claim_model.specs.Journal.{ticked, due, stopped};
 ghost use Rattle.pharmacy_journal.specs.Resting.{added_all};
 ghost use Rattle.pharmacy_journal.specs.Sendings.{due_packets, packet_at};
@@ -79,7 +80,7 @@ impl Pharmacy {
     pub fn entries(&self) -> usize
         ensures value { result ≡ length self.now.entries }
         ensures in_limit { result ≤ self.now.settings.cap }
-        ensures small { result ≤ 65536 }
+        ensures small { result ≤ most_entries }
         // The entries are such that the journal at rest is made by adding them one by one.
         ensures made { added_all
             (Some (record { number = self.now.number; settings = self.now.settings; entries = [] }))

@@ -3,16 +3,15 @@
 ghost use Rattle.std.specs.Prelude.{◌≡◌, ◌≤◌, ◌<◌, ◌↔◌, length, IsOk, IfOk, IsTrue};
 ghost use Rattle.std.specs.List.{list_all};
 ghost use Rattle.d0_header.specs.Field.{is_plain};
-ghost use Rattle.pharmacy_journal.specs.Settings.{settings_of, AreSettings};
+ghost use Rattle.pharmacy_journal.specs.Settings.{settings_of, AreSettings, AreStated, AreWithin};
 
 use crate::fault::SettingFault;
+use claim_model::Limits;
 use std::alloc::AllocError;
 use std::marker::Model;
 
 /// The most ticks of a wait, and the most tries at one node (own).
 const MOST_ROUNDS: u32 = 1_000;
-/// The most entries that a journal's settings may allow (own).
-const MOST_ENTRIES: u32 = 65_536;
 
 /// The identity of a pharmacy, the switches that it tries in turn, its rule of retries and the most
 /// entries of its journal (own).
@@ -54,12 +53,38 @@ impl PharmacySettings {
         cap: u32,
     ) -> Result<PharmacySettings, SettingFault>
         requires { length nodes.items ≤ 4294967295 }
-        ensures taken { IsOk result ↔ AreSettings (settings_of qualifier provider nodes.items again tries cap) }
+        ensures taken { IsOk result ↔ AreStated (settings_of qualifier provider nodes.items again tries cap) }
+        ensures given { IfOk result (λ s. s ≡ settings_of qualifier provider nodes.items again tries cap) }
+    {
+        PharmacySettings::within(
+            Limits::stated(),
+            qualifier,
+            provider,
+            nodes,
+            again,
+            tries,
+            cap,
+        )
+    }
+
+    /// The same within these limits, which say how many entries there may be at most.
+    pub fn within(
+        limits: Limits,
+        qualifier: [u8; 2],
+        provider: [u8; 15],
+        nodes: Vec<u16>,
+        again: u32,
+        tries: u32,
+        cap: u32,
+    ) -> Result<PharmacySettings, SettingFault>
+        requires { length nodes.items ≤ 4294967295 }
+        ensures taken { IsOk result
+            ↔ AreWithin limits.entries (settings_of qualifier provider nodes.items again tries cap) }
         ensures given { IfOk result (λ s. s ≡ settings_of qualifier provider nodes.items again tries cap) }
     {
         if !in_limit(again, MOST_ROUNDS)
             || !in_limit(tries, MOST_ROUNDS)
-            || !in_limit(cap, MOST_ENTRIES)
+            || !in_limit(cap, limits.entries())
         {
             return Err(SettingFault::BadSetting);
         }

@@ -44,7 +44,7 @@ fn told_by(
     ensures paid { IfOk result (λ told. told.1.items ≡ counted_in (outcomes (map kept_of slots.now))) }
 {
     let (views, told) = read_both(alloc, slots)?;
-    let paid = counted_of(alloc, told)?;
+    let paid = counted_of(told)?;
     Ok((views, paid))
 }
 

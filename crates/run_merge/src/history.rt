@@ -4,6 +4,7 @@ ghost use Rattle.std.specs.Prelude.{◌≡◌, ◌+◌, ◌<◌, ◌≤◌, leng
 ghost use Rattle.bin_routes.specs.Fault.{first_fault};
 ghost use Rattle.bin_routes.specs.Table.{routes_of};
 ghost use Rattle.claim_model.specs.Bytes.{bytes_with};
+ghost use Rattle.claim_model.specs.Limits.{most_pharmacies, most_switches, most_payers};
 ghost use Rattle.claim_model.specs.Settings.{settings_fault};
 ghost use Rattle.world_setup.specs.Seen.{event_seen, settings_seen, node_seen};
 ghost use Rattle.run_merge.specs.Naming.{is_numbered, is_there, name_at, has_log, all_distinct};
@@ -117,8 +118,9 @@ fn each_has_log(settings: &WorldSettings, logs: &[NodeLog]) -> bool
 
 /// The name at a place among those of all nodes: of pharmacies, then of switches, then of payers.
 fn name_at(pharmacies: usize, switches: usize, place: usize) -> Node
-    requires few { pharmacies + switches ≤ 320 }
-    requires place { place < 384 }
+    requires pharmacies { pharmacies ≤ most_pharmacies }
+    requires switches { switches ≤ most_switches }
+    requires place { place < pharmacies + switches + most_payers }
     ensures { node_seen result ≡ name_at pharmacies switches place }
 {
     let others = pharmacies + switches;

@@ -4,11 +4,10 @@ use crate::extent::Extent;
 use crate::stop::PictureStop;
 use clap::error::ErrorKind;
 use clap::{Arg, ArgAction, Command, Error as ClapError};
+use command_line::VERSION;
 use input_text::read_decimal;
 use std::alloc::Global;
 
-/// The version that `-V` tells: that of the repository's change log.
-const VERSION: &str = "0.7.0";
 /// The most digits of an event's number.
 const MOST_DIGITS: usize = 18;
 

@@ -15,7 +15,7 @@ const MOST_DIGITS: usize = 18;
 
 /// The event that a line spells; `None` where it spells none.
 #[tactic(auto, unfolding(crate::specs::Events::event_of))]
-pub(crate) fn event_of(alloc: Global, line: &[u8]) -> Result<Option<Event>, AllocError>
+pub fn event_of(alloc: Global, line: &[u8]) -> Result<Option<Event>, AllocError>
     ensures { IfOk result (λ event. event ≡ event_of line.now) }
 {
     match split_word(line) {

@@ -18,6 +18,7 @@ mod writing;
 
 pub use commands::Command;
 pub use division::{Division, divide};
+pub use events::event_of;
 pub use fault::{ScheduleFault, TextFault};
 pub use plans::{price_in, product_in};
 pub use reading::read_schedule;

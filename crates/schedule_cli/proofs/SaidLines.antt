@@ -1,8 +1,8 @@
 -- What is printed of the book's own answer is what is printed of the model's, and lines follow one another.
-use Rattle.std.proofs.Common.{◌≡◌, ℕ, ◌+◌, ◌<◌, ◌≤◌, List, ◌∷◌, ◌++◌, drop, length, get_or, Result, Ok, Err, IfOk, IfErr, refl, sym, ap, ◌∙◌, append_assoc, append-nil}
+use Rattle.std.proofs.Common.{◌≡◌, ℕ, List, [], ◌∷◌, ◌++◌, Result, Ok, Err, IfOk, IfErr, refl, sym, ap, ◌∙◌, append_assoc, append-nil}
 use Rattle.std.specs.Prelude.{codes, decimal}
-use Rattle.std.proofs.lemmas.List.{at_drop_more, drop_all}
 use Rattle.bin_routes.specs.Table.{RouteMaps}
+use Rattle.schedule.proofs.EventLists.{joined}
 use Rattle.claim_model.specs.Refusal.{Refusal}
 use Rattle.claim_model.specs.Rows.{Book}
 use Rattle.claim_model.specs.Book.{Answered}
@@ -13,10 +13,11 @@ use Rattle.payer_book.specs.declared.fault.BookFault.TheVariants.{OutOfMemory, U
 use Rattle.schedule_cli.specs.declared.entries.Entry.{Entry}
 use Rattle.schedule_cli.specs.declared.fault.CheckFault.{CheckFault}
 use Rattle.schedule_cli.specs.declared.fault.CheckFault.TheVariants as check
-use Rattle.schedule_cli.specs.Entries.{entries_of}
+use Rattle.schedule_cli.specs.declared.fault.InputFault.TheVariants.{Line}
+use Rattle.schedule_cli.specs.Entries.{by_line, entries_in, entries_of}
 use Rattle.schedule_cli.specs.Sample.{sample_routes, opening_book}
 use Rattle.schedule_cli.specs.Stops.{RefusedFor as InputRefusedFor}
-use Rattle.schedule_cli.specs.Lines.{told, line_of, book_after, said_to, answer_lines, lines_for, output_of}
+use Rattle.schedule_cli.specs.Lines.{told, line_of, book_after, said_to, answer_lines, lines_behind, lines_for, output_of}
 use Rattle.schedule_cli.specs.Said.{said_text}
 
 -- the same text, unless memory ran out
@@ -41,22 +42,25 @@ line_joined front first second third said number answer one two three is =
     ∙ (append_assoc front (decimal number ++ said) (codes "\n")
     ∙ ap (λ (xs : List ℕ). front ++ xs) (append_assoc (decimal number) said (codes "\n") ∙ ap (λ (xs : List ℕ). decimal number ++ (xs ++ codes "\n")) is)))
 
--- the loop's step: one line more
-pub lines_go_on : (maps : RouteMaps) (book next : Book) (entries : List Entry) (i : ℕ) (entry : Entry) (front more all : List ℕ)
-    → i < length entries → entry ≡ get_or entries i entry → more ≡ front ++ line_of entry.id.number (said_to maps book entry) → next ≡ book_after book (said_to maps book entry)
-    → front ++ answer_lines maps book (drop i entries) ≡ all → more ++ answer_lines maps next (drop (i + 1) entries) ≡ all
-lines_go_on maps book next entries i entry front more all lt is line after so_far =
-    let left = drop (i + 1) entries in
-    let split : answer_lines maps book (drop i entries) ≡ answer_lines maps book (entry ∷ left) =
-    at_drop_more (answer_lines maps book) entries i entry lt ∙ ap (λ (e : Entry). answer_lines maps book (e ∷ left)) (sym is) in
-    ap (λ (xs : List ℕ). xs ++ answer_lines maps next left) line
-    ∙ (append_assoc front (line_of entry.id.number (said_to maps book entry)) (answer_lines maps next left)
-    ∙ (ap (λ (b : Book). front ++ (line_of entry.id.number (said_to maps book entry) ++ answer_lines maps b left)) after
-    ∙ (ap (λ (xs : List ℕ). front ++ xs) (sym split) ∙ so_far)))
+-- one line more
+pub lines_go_on : (maps : RouteMaps) (book next : Book) (entry : Entry) (front more : List ℕ) (left : Result (List Entry) ℕ)
+    → more ≡ front ++ line_of entry.id.number (said_to maps book entry) → next ≡ book_after book (said_to maps book entry)
+    → lines_behind maps next more left ≡ lines_behind maps book front (joined (entry ∷ []) left)
+lines_go_on maps book next entry front more (Err number) line after = refl
+lines_go_on maps book next entry front more (Ok entries) line after =
+    let one = line_of entry.id.number (said_to maps book entry) in
+    ap (λ (xs : List ℕ). Ok (xs ++ answer_lines maps next entries)) line
+    ∙ (ap (λ (xs : List ℕ). Ok xs) (append_assoc front one (answer_lines maps next entries))
+    ∙ ap (λ (b : Book). Ok (front ++ (one ++ answer_lines maps b entries))) after)
 
-pub lines_are_done : (maps : RouteMaps) (book : Book) (entries : List Entry) (i : ℕ) (front all : List ℕ) → length entries ≤ i → front ++ answer_lines maps book (drop i entries) ≡ all → front ≡ all
-lines_are_done maps book entries i front all le so_far =
-    sym (append-nil front) ∙ (ap (λ (left : List Entry). front ++ answer_lines maps book left) (sym (drop_all i entries le)) ∙ so_far)
+-- a line that spells none
+pub lines_stop : (maps : RouteMaps) (book : Book) (front : List ℕ) (number : ℕ) (read : Result (List Entry) ℕ) → Err number ≡ lines_behind maps book front read → by_line read ≡ Err (Line number)
+lines_stop maps book front number (Ok entries) e = absurd cc
+lines_stop maps book front number (Err other) e = let same : number ≡ other = cc in ap (λ n. Err (Line n)) (sym same)
+
+-- no line is left
+pub lines_are_done : (maps : RouteMaps) (book : Book) (front : List ℕ) → lines_behind maps book front (Ok []) ≡ Ok front
+lines_are_done maps book front = ap (λ (xs : List ℕ). Ok xs) (append-nil front)
 
 -- an input whose entries are refused has no output
 pub output_refused : (fault : CheckFault) (input : List ℕ) → InputRefusedFor fault (entries_of input) → InputRefusedFor fault (output_of input)
@@ -64,6 +68,10 @@ unfolding output_of
 output_refused check.OutOfMemory input h = tt
 output_refused (check.Input why) input h = ap lines_for h
 
-pub output_is : (input : List ℕ) (entries : List Entry) (output : List ℕ) → entries_of input ≡ Ok entries → output ≡ answer_lines sample_routes opening_book entries → output_of input ≡ Ok output
+pub output_is : (input output : List ℕ) → lines_behind sample_routes opening_book [] (entries_in input) ≡ Ok output → output_of input ≡ Ok output
 unfolding output_of
-output_is input entries output read is = ap lines_for read ∙ ap (λ (o : List ℕ). Ok o) (sym is)
+output_is input output told = by_entries (entries_in input) told
+  where
+    by_entries : (read : Result (List Entry) ℕ) → lines_behind sample_routes opening_book [] read ≡ Ok output → lines_for (by_line read) ≡ Ok output
+    by_entries (Err number) e = absurd cc
+    by_entries (Ok entries) e = cc

@@ -47,6 +47,11 @@ abbrev pub answer_lines : RouteMaps → Book → List Entry → List ℕ
 answer_lines maps book [] = []
 answer_lines maps book (e ∷ more) = entry_line maps book e ++ answer_lines maps (book_after book (said_to maps book e)) more
 
+-- what stands in an output with the lines of these entries behind what it had, or the line that spells none
+abbrev pub lines_behind : RouteMaps → Book → List ℕ → Result (List Entry) ℕ → Result (List ℕ) ℕ
+lines_behind maps book front (Ok entries) = Ok (front ++ answer_lines maps book entries)
+lines_behind maps book front (Err number) = Err number
+
 -- the lines for the entries of an input
 abbrev pub lines_for : Result (List Entry) InputFault → Result (List ℕ) InputFault
 lines_for (Ok entries) = Ok (answer_lines sample_routes opening_book entries)

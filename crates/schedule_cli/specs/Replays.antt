@@ -1,9 +1,10 @@
 -- The report that an input has.
-use Rattle.std.specs.Prelude.{◌≡◌, ℕ, Bool, ◌&&◌, List, length, map, Option, Some, None, is_none, Result, Ok, Err, if◌then◌else◌}
+use Rattle.std.specs.Prelude.{◌≡◌, ℕ, Bool, ◌&&◌, List, [], ◌++◌, length, map, Option, Some, None, is_none, Result, Ok, Err, if◌then◌else◌}
 use Rattle.std.specs.Str.Lines.{lines}
 use Rattle.bin_routes.specs.Fault.{first_fault}
 use Rattle.bin_routes.specs.Table.{routes_of}
 use Rattle.claim_model.specs.Settings.{settings_fault, opening}
+use Rattle.claim_model.specs.World.{run}
 use Rattle.world_setup.specs.Seen.{event_seen}
 use Rattle.world_setup.specs.declared.event.Event.{Event}
 use Rattle.world_core.specs.Parts.{WorldParts, context_of}
@@ -11,7 +12,7 @@ use Rattle.world_settings.specs.Document.{Document, settings_in}
 use Rattle.schedule.specs.Division.{settings_text, schedule_lines}
 use Rattle.schedule.specs.Reading.{events_of}
 use Rattle.world_report.specs.Words.{lines_text}
-use Rattle.world_report.specs.Events.{run_lines}
+use Rattle.world_report.specs.Events.{event_lines, run_lines}
 use Rattle.world_settings.specs.declared.fault.SettingsFault.{SettingsFault}
 use Rattle.world_settings.specs.declared.fault.SettingsFault.TheVariants as settings
 use Rattle.schedule_cli.specs.declared.fault.InputFault.{InputFault}
@@ -59,3 +60,20 @@ pub record Begins (input : List ℕ) (w : WorldParts) (events : List Event) : Ty
 abbrev pub OpensNone : SettingsFault → Option WorldParts → Type 0
 OpensNone settings.OutOfMemory opened = Unit {0}
 OpensNone settings.Settings opened = opened ≡ None
+
+-- behind what was written stand the lines of these events from the world as it was, and the world is as it is after all of them
+pub record IsAfter (events : List Event) (written : List ℕ) (before : WorldParts) (now : List ℕ) (after : WorldParts) : Type 0 where
+  pub lines : now ≡ written ++ lines_text (event_lines (context_of before) before.world 1 (map event_seen events))
+  pub world : after.world ≡ run (context_of before) before.world (map event_seen events)
+  pub routes : after.routes ≡ before.routes
+
+-- the same of the events that lines spell
+abbrev pub IsRun : Result (List Event) ℕ → List ℕ → WorldParts → List ℕ → WorldParts → Type 0
+IsRun (Ok events) written before now after = IsAfter events written before now after
+IsRun (Err number) written before now after = ⊥
+
+-- the lines of the events of an input, and the world after them
+pub record IsRunOf (input : List ℕ) (told : List ℕ) (after : WorldParts) : Type 0 where
+  pub before : WorldParts
+  pub opens : world_in (settings_text input) ≡ Some before
+  pub run : IsRun (events_of (schedule_lines (lines input))) [] before told after

@@ -2,20 +2,20 @@
 
 ghost use Rattle.std.specs.Prelude.{◌≡◌, ◌≢◌, ◌++◌, Ok, Err, IfOk, IfErr, OnOk};
 ghost use Rattle.payer_book.specs.declared.fault.BookFault.TheVariants.{OutOfMemory as NoMemory};
-ghost use Rattle.schedule_cli.specs.Lines.{answer_lines, book_after, entry_line, output_of, said_to};
-ghost use Rattle.schedule_cli.specs.Sample.{opening_book, sample_routes};
+ghost use Rattle.schedule_cli.specs.Entries.{entries_in, entries_of};
+ghost use Rattle.schedule_cli.specs.Lines.{book_after, entry_line, lines_behind, output_of, said_to};
 ghost use Rattle.schedule_cli.specs.Said.{fault_name, said_text};
 ghost use Rattle.schedule_cli.specs.Stops.{RefusedFor, schedule_told};
 
-use crate::entries::{Entry, entries};
+use crate::entries::{Entry, entry_of};
 use crate::sample;
 use bin_routes::Routes;
-use input_text::{put_decimal, put_printed};
+use input_text::{Lines, is_skipped, put_decimal, put_printed};
 use payer_book::{Book, BookFault, HashKeys, Reply};
 use schedule::ScheduleFault as LineFault;
 use std::alloc::{AllocError, Global};
 
-/// The whole output for an input, which is given back once its entries are read.
+/// The whole output for an input.
 ///
 /// # Errors
 /// `Line` of the first line that spells no entry; `OutOfMemory`.
@@ -23,25 +23,52 @@ pub(crate) fn answers(alloc: Global, keys: &HashKeys, input: Vec<u8>) -> Result<
     ensures all { IfOk result (λ output. output_of input.items ≡ Ok output.items) }
     ensures fault { IfErr result (λ fault. RefusedFor (schedule_told fault) (output_of input.items)) }
 {
-    let read = entries(alloc, input.as_slice());
-    drop(input);
-    match read {
-        Ok(entries) => Ok(all_lines(alloc, keys, entries.as_slice())?),
-        Err(fault) => Err(fault),
-    }
-}
-
-/// The lines of all entries, from the book as it opens.
-fn all_lines(alloc: Global, keys: &HashKeys, entries: &[Entry]) -> Result<Vec<u8>, AllocError>
-    ensures { IfOk result (λ output. output.items ≡ answer_lines sample_routes opening_book entries.now) }
-{
     let routes = sample::routes(alloc)?;
     let mut book = sample::book(alloc, keys)?;
     let mut output = Vec::new(alloc);
-    for entry in entries {
-        put_line(&mut output, &mut book, &routes, entry)?;
-    }
+    put_lines(&mut output, &mut book, &routes, alloc, input.as_slice())?;
     Ok(output)
+}
+
+/// Appends the line of each entry of an input, over the book as the earlier ones left it. An entry is answered as its line is
+/// read.
+///
+/// # Errors
+/// `Line` of the first line that spells no entry, where lines that are skipped are counted; `OutOfMemory`. Entries may have been
+/// answered then, and lines appended.
+fn put_lines(
+    output: &mut Vec<u8>,
+    book: &mut Book,
+    routes: &Routes,
+    alloc: Global,
+    input: &[u8],
+) -> Result<(), LineFault>
+    ensures lines { OnOk result (lines_behind routes.now book.old output.old.items (entries_in input.now)
+        ≡ Ok output.new.items) }
+    ensures fault { IfErr result (λ fault. RefusedFor (schedule_told fault) (entries_of input.now)) }
+{
+    for line in Lines::new(input) {
+        if !is_skipped(line.text) {
+            match entry_of(alloc, line.text)? {
+                Some(entry) => put_entry(output, book, routes, entry)?,
+                None => return Err(LineFault::Line(line.number as u64)),
+            }
+        }
+    }
+    Ok(())
+}
+
+/// Appends the line of one entry, and gives the entry back.
+fn put_entry(
+    output: &mut Vec<u8>,
+    book: &mut Book,
+    routes: &Routes,
+    entry: Entry,
+) -> Result<(), AllocError>
+    ensures line { OnOk result (output.new.items ≡ output.old.items ++ entry_line routes.now book.old entry) }
+    ensures book { OnOk result (book.new ≡ book_after book.old (said_to routes.now book.old entry)) }
+{
+    put_line(output, book, routes, &entry)
 }
 
 /// Appends the line of one entry.

@@ -1,13 +1,11 @@
-//! The entries that the lines of an input spell.
+//! The entry that a line of an input spells.
 
-ghost use Rattle.std.specs.Prelude.{◌≡◌, IfOk, IfErr};
-ghost use Rattle.schedule_cli.specs.Entries.{id_in, entry_of, entries_of};
-ghost use Rattle.schedule_cli.specs.Stops.{RefusedFor, schedule_told};
+ghost use Rattle.std.specs.Prelude.{◌≡◌, IfOk};
+ghost use Rattle.schedule_cli.specs.Entries.{id_in, entry_of};
 
 use envelope::TxnId;
-use input_text::{Lines, PrintedFault, is_skipped, read_decimal, split_word, unprint};
+use input_text::{PrintedFault, read_decimal, split_word, unprint};
 use octets::Octets;
-use schedule::ScheduleFault as LineFault;
 use std::alloc::{AllocError, Global};
 
 /// The pharmacy under whose number all lines stand (own).
@@ -20,26 +18,6 @@ const MOST_DIGITS: usize = 18;
 pub(crate) struct Entry {
     pub(crate) id: TxnId,
     pub(crate) request: Octets,
-}
-
-/// The entries of all lines that are not skipped.
-///
-/// # Errors
-/// `Line` of the first line that spells no entry; `OutOfMemory`.
-pub(crate) fn entries(alloc: Global, input: &[u8]) -> Result<Vec<Entry>, LineFault>
-    ensures read { IfOk result (λ entries. entries_of input.now ≡ Ok entries.items) }
-    ensures fault { IfErr result (λ fault. RefusedFor (schedule_told fault) (entries_of input.now)) }
-{
-    let mut entries = Vec::new(alloc);
-    for line in Lines::new(input) {
-        if !is_skipped(line.text) {
-            match entry_of(alloc, line.text)? {
-                Some(entry) => entries.push(entry)?,
-                None => return Err(LineFault::Line(line.number as u64)),
-            }
-        }
-    }
-    Ok(entries)
 }
 
 /// The entry that a line spells, if it spells one.

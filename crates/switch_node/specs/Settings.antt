@@ -1,8 +1,13 @@
 -- Which settings a switch takes.
 use Rattle.std.specs.Prelude.{ℕ, nat_le, ◌&&◌, Result, Ok, Err, if◌then◌else◌}
+use Rattle.claim_model.specs.Limits.{Limits, stated}
 use Rattle.switch_node.specs.declared.fault.SettingFault.{SettingFault}
 use Rattle.switch_node.specs.declared.fault.SettingFault.TheVariants.{BadSetting}
 
--- the settings of a cap, which is 1 to 65,536
+-- the settings of a cap, which is 1 to the most that the limits allow
+abbrev pub settings_within : Limits → ℕ → Result ℕ SettingFault
+settings_within limits cap = if nat_le 1 cap && nat_le cap limits.entries then Ok cap else Err BadSetting
+
+-- the same within the stated limits, 65,536 slots
 abbrev pub settings_of : ℕ → Result ℕ SettingFault
-settings_of cap = if nat_le 1 cap && nat_le cap 65536 then Ok cap else Err BadSetting
+settings_of cap = settings_within stated cap

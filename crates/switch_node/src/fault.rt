@@ -7,7 +7,7 @@ use thiserror::Error;
 #[derive(Clone, Copy, Debug, PartialEq, Eq, Error)]
 pub enum SettingFault {
     /// A number lies outside its range.
-    #[error("a cap is 1 to 65,536")]
+    #[error("a cap is 1 to what the limits allow")]
     BadSetting,
 }
 

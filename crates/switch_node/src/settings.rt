@@ -1,13 +1,12 @@
 //! What a switch is opened with, and what is left of it when it stops.
 
 ghost use Rattle.std.specs.Prelude.{◌≡◌, ◌≤◌};
-ghost use Rattle.switch_node.specs.Settings.{settings_of};
+ghost use Rattle.claim_model.specs.Limits.{most_entries};
+ghost use Rattle.switch_node.specs.Settings.{settings_of, settings_within};
 
 use crate::fault::SettingFault;
+use claim_model::Limits;
 use std::marker::Model;
-
-/// The most entries that a switch's settings may allow (own).
-pub const MOST_ENTRIES: u32 = 65_536;
 
 /// How many requests a switch has in its table at most (own).
 #[derive(Clone, Copy, PartialEq, Eq)]
@@ -17,12 +16,13 @@ pub struct SwitchSettings {
 
 impl Model for SwitchSettings {
     ghost use Rattle.std.specs.Prelude.{ℕ, ◌≤◌};
+    ghost use Rattle.claim_model.specs.Limits.{most_entries};
 
     ghost Value = { ℕ };
 
     ghost view = { λ s. s.cap };
 
-    ghost invariant = { λ s. (1 ≤ s.cap) × (s.cap ≤ 65536) };
+    ghost invariant = { λ s. (1 ≤ s.cap) × (s.cap ≤ most_entries) };
 
     ghost inverse = { λ cap. record { cap = cap } };
 }
@@ -35,7 +35,17 @@ impl SwitchSettings {
     pub fn new(cap: u32) -> Result<SwitchSettings, SettingFault>
         ensures { result ≡ settings_of cap }
     {
-        if cap == 0 || cap > MOST_ENTRIES {
+        SwitchSettings::within(Limits::stated(), cap)
+    }
+
+    /// The same within these limits, which say how many requests there may be at most.
+    ///
+    /// # Errors
+    /// `BadSetting` for every other number.
+    pub fn within(limits: Limits, cap: u32) -> Result<SwitchSettings, SettingFault>
+        ensures { result ≡ settings_within limits cap }
+    {
+        if cap == 0 || cap > limits.entries() {
             return Err(SettingFault::BadSetting);
         }
         Ok(SwitchSettings { cap })
@@ -45,7 +55,7 @@ impl SwitchSettings {
     pub fn cap(self) -> u32
         ensures value { result ≡ self }
         ensures least { 1 ≤ result }
-        ensures most { result ≤ 65536 }
+        ensures most { result ≤ most_entries }
     {
         self.cap
     }

@@ -3,7 +3,8 @@ use Rattle.std.proofs.Common.{ℕ, ◌≤◌, Option, Some, None, arith}
 use Rattle.claim_model.specs.Numbered.{numbered}
 use Rattle.claim_model.specs.Node.{Pharmacy, Switch, Payer, Call, Submit, Tick, Take, Stop, Start, Reprice}
 use Rattle.world_core.specs.NodeLists.{NodeLists}
-use Rattle.world_core.specs.Room.{most_sent, most_of, room_asked}
+use Rattle.node_state.specs.Sends.{most_sent}
+use Rattle.world_core.specs.Room.{most_of, room_asked}
 
 one_at_most : {A : Type 0} (o : Option A) → most_of (λ _. 1) o ≤ 1
 one_at_most None = omega arith

@@ -7,15 +7,6 @@ use Rattle.claim_model.specs.World.{Event, Submission, Ticking, Delivery, Stoppi
 use Rattle.node_state.specs.Sends.{most_due}
 use Rattle.world_core.specs.NodeLists.{NodeLists}
 
--- by a pharmacy in a call
-abbrev pub most_sent : Power Journal JournalAtRest → Call → ℕ
-most_sent node (Submit text) = 1
-most_sent node Tick = most_due node
-most_sent node (Take from bytes) = 1
-most_sent node Stop = 1
-most_sent node Start = 1
-most_sent node (Reprice product price) = 1
-
 -- by a node that is there or not
 abbrev pub most_of : {A : Type 0} → (A → ℕ) → Option A → ℕ
 most_of most None = 0

@@ -3,18 +3,17 @@
 ghost use Rattle.std.specs.Prelude.{◌≡◌, ◌≤◌, length, IfOk, OnErr};
 ghost use Rattle.std.specs.Option.{option_copied};
 ghost use Rattle.claim_model.specs.Numbered.{numbered};
-ghost use Rattle.world_setup.specs.Seen.{node_seen, event_seen};
-ghost use Rattle.world_core.specs.Asked.{asked_seen};
+ghost use Rattle.world_setup.specs.Seen.{node_seen, event_seen, lent_seen};
 ghost use Rattle.world_core.specs.Calling.{NodeMakes, NodeRefuses};
 ghost use Rattle.world_core.specs.Room.{room_asked, room_for};
 
-use crate::asked::Asked;
 use crate::nodes::{ask_node, most_due, node_of};
 use bin_routes::Routes;
 use node_state::{PayerNode, PharmacyNode, SwitchNode};
+use octets::Octets;
 use std::alloc::Global;
 use std::marker::Model;
-use world_setup::{Event, Node, Sent, StepFault};
+use world_setup::{Call, Event, Node, Sent, StepFault};
 
 /// All nodes, each kind numbered from 1.
 #[derive(Drop)]
@@ -64,12 +63,12 @@ impl Nodes {
         alloc: Global,
         routes: &Routes,
         node: Node,
-        call: Asked<'_>,
+        call: Call<&Octets>,
     ) -> Result<Vec<Sent>, StepFault>
-        ensures ok { NodeMakes routes.now self.old (node_seen node) (asked_seen call.entry) self.new result }
-        ensures fault { NodeRefuses routes.now self.old (node_seen node) (asked_seen call.entry) result }
+        ensures ok { NodeMakes routes.now self.old (node_seen node) (lent_seen call.entry) self.new result }
+        ensures fault { NodeRefuses routes.now self.old (node_seen node) (lent_seen call.entry) result }
         ensures few { IfOk result
-            (λ sent. length sent.items ≤ room_asked self.old (node_seen node) (asked_seen call.entry)) }
+            (λ sent. length sent.items ≤ room_asked self.old (node_seen node) (lent_seen call.entry)) }
         ensures err { OnErr result (self.new ≡ self.old) }
     {
         match node {

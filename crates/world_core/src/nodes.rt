@@ -3,16 +3,16 @@
 ghost use Rattle.std.specs.Prelude.{◌≡◌, ◌<◌, ◌≤◌, ◌⊎◌, suc, length, IfOk, IfNone, IfSome, OnErr};
 ghost use Rattle.std.specs.Option.{option_copied};
 ghost use Rattle.claim_model.specs.Numbered.{numbered};
+ghost use Rattle.world_setup.specs.Seen.{lent_seen};
 ghost use Rattle.node_state.specs.Outcomes.{Makes, Refuses};
-ghost use Rattle.world_core.specs.Asked.{asked_seen};
 ghost use Rattle.world_core.specs.Calling.{called};
 ghost use Rattle.world_core.specs.Room.{most_of, room_due};
 
-use crate::asked::{Asked, Ruled};
 use bin_routes::Routes;
-use node_state::PharmacyNode;
+use node_state::{Kind, PharmacyNode, Powered};
+use octets::Octets;
 use std::alloc::Global;
-use world_setup::{Sent, StepFault};
+use world_setup::{Call, Sent, StepFault};
 
 /// The place, from 0, of the node of a number, where there are so many nodes.
 fn place_of(number: u16, count: usize) -> Option<usize>
@@ -36,23 +36,23 @@ pub(crate) fn node_of<N>(nodes: &[N], number: u16) -> Option<&N>
 }
 
 /// The node of a number makes a call.
-pub(crate) fn ask_node<N: Ruled>(
-    nodes: &mut Vec<N>,
+pub(crate) fn ask_node<K: Kind>(
+    nodes: &mut Vec<Powered<K>>,
     alloc: Global,
     routes: &Routes,
     number: u16,
-    call: Asked<'_>,
+    call: Call<&Octets>,
 ) -> Result<Vec<Sent>, StepFault>
     ensures ok { Makes (called
-        (λ node. N.ruled routes.now node (asked_seen call.entry)) nodes.old.items number) nodes.new.items result }
+        (λ node. K.step routes.now node (lent_seen call.entry)) nodes.old.items number) nodes.new.items result }
     ensures fault { Refuses (called
-        (λ node. N.ruled routes.now node (asked_seen call.entry)) nodes.old.items number) result }
+        (λ node. K.step routes.now node (lent_seen call.entry)) nodes.old.items number) result }
     ensures few { IfOk result (λ sent. length sent.items
-        ≤ most_of (λ node. N.most node (asked_seen call.entry)) (numbered nodes.old.items number)) }
+        ≤ most_of (λ node. K.most node (lent_seen call.entry)) (numbered nodes.old.items number)) }
     ensures err { OnErr result (nodes.new.items ≡ nodes.old.items) }
 {
     match place_of(number, nodes.len()) {
-        Some(place) => nodes[place].ask(alloc, routes, call),
+        Some(place) => nodes[place].step(alloc, routes, call),
         None => Err(StepFault::NoSuchNode),
     }
 }

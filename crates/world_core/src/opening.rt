@@ -4,6 +4,7 @@ ghost use Rattle.std.specs.Prelude.{◌≡◌, ◌<◌, ◌≤◌, length, map, 
 ghost use Rattle.std.specs.List.{AllByRecursion};
 ghost use Rattle.claim_model.specs.Journal.{PharmacySettings as SettingsSeen};
 ghost use Rattle.claim_recovery.specs.Help.{IsTimely};
+ghost use Rattle.claim_model.specs.Limits.{most_pharmacies, most_payers};
 ghost use Rattle.claim_model.specs.Settings.{IsPharmacySettings, IsBookSettings, opening, pharmacies_from, switches_of, payers_from};
 ghost use Rattle.world_setup.specs.Seen.{settings_seen, payer_seen};
 ghost use Rattle.world_core.specs.Opening.{HasSwitches, HasSerial};
@@ -20,8 +21,8 @@ use world_setup::{PayerSettings, WorldSettings};
 impl Parts {
     /// All nodes of these settings, up and empty, and no packet.
     pub(crate) fn opening(alloc: Global, settings: WorldSettings) -> Result<Parts, AllocError>
-        requires pharmacies { length settings.pharmacies.items ≤ 256 }
-        requires payers { length settings.payers.items ≤ 64 }
+        requires pharmacies { length settings.pharmacies.items ≤ most_pharmacies }
+        requires payers { length settings.payers.items ≤ most_payers }
         requires nodes { AllByRecursion HasSwitches settings.pharmacies.items }
         ensures opened { IfOk result (λ p. p ≡ opening (settings_seen settings)) }
         ensures sized { OnOk result (AllByRecursion IsPharmacySettings settings.pharmacies.items) }
@@ -53,18 +54,17 @@ fn open_pharmacies(
     alloc: Global,
     settings: Vec<PharmacySettings>,
 ) -> Result<Vec<PharmacyNode>, AllocError>
-    requires few { length settings.items ≤ 256 }
+    requires few { length settings.items ≤ most_pharmacies }
     requires nodes { AllByRecursion HasSwitches settings.items }
     ensures opened { IfOk result (λ nodes. nodes.items ≡ pharmacies_from 1 settings.items) }
     ensures sized { OnOk result (AllByRecursion IsPharmacySettings settings.items) }
     ensures timely { OnOk result (AllByRecursion IsTimely settings.items) }
 {
     let mut nodes = Vec::new(alloc);
-    let mut number = 1;
     for each in settings {
         let _cap = each.cap();
+        let number = nodes.len() as u16 + 1;
         nodes.push(PharmacyNode::new(alloc, number, each)?)?;
-        number += 1;
     }
     Ok(nodes)
 }
@@ -85,7 +85,7 @@ fn open_switches(
 
 /// Payers of these settings, numbered from 1.
 fn open_payers(alloc: Global, settings: Vec<PayerSettings>) -> Result<Vec<PayerNode>, AllocError>
-    requires { length settings.items ≤ 64 }
+    requires { length settings.items ≤ most_payers }
     ensures opened { IfOk result (λ nodes. nodes.items ≡ payers_from 1 (map payer_seen settings.items)) }
     ensures serials { OnOk result (AllByRecursion HasSerial settings.items) }
 {

@@ -34,8 +34,11 @@ pub(crate) fn put_events(
     Ok(())
 }
 
-/// Makes an event, and appends its line.
-fn put_event(
+/// Makes the event of this number, from 1, and appends its line: that of a refused one has the refusal's name.
+///
+/// # Errors
+/// Where memory is refused. The event may have been made then.
+pub fn put_event(
     out: &mut Vec<u8>,
     world: &mut World,
     number: u64,

@@ -20,6 +20,7 @@ mod words;
 
 pub use book_rows::put_row;
 pub use entries::put_entry;
+pub use events::put_event;
 pub use heads::{put_done, put_head, put_refused};
 pub use places::put_mark;
 pub use report::{put_nodes, put_report};

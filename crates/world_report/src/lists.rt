@@ -1,7 +1,8 @@
 //! The lines of lists: the entries of a journal, counted payments, requests in flight, the rows of a book.
 
-ghost use Rattle.std.specs.Prelude.{map, OnOk};
+ghost use Rattle.std.specs.Prelude.{◌≡◌, [], map, OnOk};
 ghost use Rattle.std.specs.List.{flat_map};
+ghost use Rattle.pharmacy_journal.specs.Listing.{listed_from};
 ghost use Rattle.world_report.specs.Adding.{AddsLines, TellsLines};
 ghost use Rattle.world_report.specs.Rulings.{paid_line};
 ghost use Rattle.world_report.specs.Places.{entry_lines};
@@ -10,16 +11,19 @@ ghost use Rattle.world_report.specs.Nodes.{in_flight_line};
 
 use crate::{put_entry, put_in_flight, put_paid, put_row};
 use payer_book::Book;
-use pharmacy_journal::{CountedPayment, EntryView};
+use pharmacy_journal::{CountedPayment, Teller};
 use std::alloc::AllocError;
 use switch_node::InFlight;
 
-/// Appends the lines of entries.
-pub(crate) fn put_entries(out: &mut Vec<u8>, entries: &[EntryView]) -> Result<(), AllocError>
-    ensures { OnOk result (AddsLines out.old out.new (flat_map entry_lines entries.now)) }
+/// Appends the lines of the entries that a journal has left to tell.
+pub(crate) fn put_entries(out: &mut Vec<u8>, teller: &mut Teller<'_>) -> Result<(), AllocError>
+    ensures lines { OnOk result (AddsLines out.old out.new
+        (flat_map entry_lines (listed_from teller.old.number teller.old.left))) }
+    ensures told { OnOk result (teller.new.left ≡ []) }
+    ensures same { teller.new.entries ≡ teller.old.entries }
 {
-    for entry in entries {
-        put_entry(out, entry)?;
+    'entries: while teller.next()? {
+        put_entry(out, teller.entry())?;
     }
     Ok(())
 }

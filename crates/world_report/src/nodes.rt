@@ -56,8 +56,9 @@ fn put_journal(
 fn put_told(out: &mut Vec<u8>, journal: &JournalReading<'_>) -> Result<(), AllocError>
     ensures { TellsLines out.old out.new (λ ctx. told_lines ctx journal.now) result }
 {
-    let (entries, paid) = journal.told()?;
-    put_entries(out, entries.as_slice())?;
+    let mut teller = journal.teller();
+    put_entries(out, &mut teller)?;
+    let paid = teller.paid()?;
     put_payments(out, paid.as_slice())
 }
 

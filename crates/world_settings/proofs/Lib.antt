@@ -1,2 +1,3 @@
 mod Arrays
 mod Taken
+mod Caps

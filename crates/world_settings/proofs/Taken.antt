@@ -2,6 +2,7 @@
 use Rattle.std.proofs.Common.{◌≡◌, ◌≤◌, length, true, inl, inr, Some, None, refl, arith}
 use Rattle.std.proofs.lemmas.Bool.{and_parts, leb-true, le-leb, cases_Bool}
 use Rattle.claim_model.specs.Journal.{PharmacySettings}
+use Rattle.claim_model.specs.Limits.{most_entries}
 use Rattle.pharmacy_journal.specs.Settings.{AreSettings}
 use Rattle.world_settings.specs.Pharmacies.{is_taken, taken}
 
@@ -17,7 +18,7 @@ passes s are few =
       le-leb 1 s.tries tries,
       le-leb s.tries 1000 are.tries_in_limit,
       le-leb 1 s.cap cap,
-      le-leb s.cap 65536 are.entries_in_limit,
+      le-leb s.cap most_entries are.entries_in_limit,
       are.plain_qualifier,
       are.plain_provider,
       le-leb (length s.nodes) 4294967295 few,
@@ -43,7 +44,7 @@ are s passed =
       some_try = omega (arith, some_tries);
       tries_in_limit = leb-true s.tries 1000 tries_most;
       some_entry = omega (arith, some_cap);
-      entries_in_limit = leb-true s.cap 65536 cap_most;
+      entries_in_limit = leb-true s.cap most_entries cap_most;
       plain_qualifier = qualifier;
       plain_provider = provider;
     }

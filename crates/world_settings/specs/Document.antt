@@ -5,6 +5,7 @@ use Rattle.input_text.specs.Options.{◌>>=◌}
 use Rattle.toml.specs.Data.{Members}
 use Rattle.toml.specs.Parse.{parse_document}
 use Rattle.bin_routes.specs.Row.{Row}
+use Rattle.claim_model.specs.Limits.{Limits, stated}
 use Rattle.claim_model.specs.Settings.{WorldSettings}
 use Rattle.world_setup.specs.Seen.{payer_seen, settings_seen}
 use Rattle.world_setup.specs.declared.settings.WorldSettings.{WorldSettings as Opened}
@@ -16,6 +17,7 @@ use Rattle.world_settings.specs.Lists.{list_at}
 use Rattle.world_settings.specs.Pharmacies.{pharmacy_in}
 use Rattle.world_settings.specs.Payers.{switch_in, payer_in}
 use Rattle.world_settings.specs.Routes.{route_in}
+use Rattle.world_settings.specs.Limits.{limits_in, allows}
 
 -- what the nodes of a world are opened with, and the rows of its table of routes
 pub record Document : Type 0 where
@@ -37,13 +39,36 @@ document_with table = do
   routes ← list_at route_in (codes "route") table
   Some (record { world = record { pharmacies = pharmacies; switches = switches; payers = map payer_seen payers }; routes = routes })
 
--- the settings that a table spells
+-- settings, where they stay within the limits
+abbrev pub allowed : Limits → Document → Option Document
+allowed limits d = if allows limits d.world then Some d else None
+
+-- the settings that the values of a table spell, within limits
+abbrev pub settings_within : Limits → Members → Option Document
+settings_within limits table = document_with table >>= allowed limits
+
+-- the settings that a table spells, within the stated limits
 abbrev pub settings_of : Members → Option Document
-settings_of table = only_with document_keys table (document_with table)
+settings_of table = only_with document_keys table (settings_within stated table)
+
+-- the keys of a document that may state its limits
+abbrev pub living_keys : List (List ℕ)
+living_keys = codes "limits" ∷ document_keys
+
+-- the settings that the values of a table spell, within the limits that it states
+abbrev pub living_with : Members → Option Document
+living_with table = limits_in table >>= (λ limits. settings_within limits table)
+
+abbrev pub living_of : Members → Option Document
+living_of table = only_with living_keys table (living_with table)
 
 -- the settings that a text spells: it is UTF-8, a TOML document, and its table spells them
 unfoldable pub settings_in : List ℕ → Option Document
 settings_in text = if is_utf8 text then parse_document text >>= settings_of else None
+
+-- the same of a text that may state its limits, as the programs that live read it
+unfoldable pub living_in : List ℕ → Option Document
+living_in text = if is_utf8 text then parse_document text >>= living_of else None
 
 -- settings as the definitions have them
 abbrev pub document_seen : Opened → Document

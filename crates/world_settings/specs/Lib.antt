@@ -4,4 +4,5 @@ pub mod Lists
 pub mod Pharmacies
 pub mod Payers
 pub mod Routes
+pub mod Limits
 pub mod Document

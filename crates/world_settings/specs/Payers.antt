@@ -4,9 +4,10 @@ use Rattle.std.specs.Result.{result_ok}
 use Rattle.input_text.specs.Options.{◌>>=◌}
 use Rattle.toml.specs.Data.{Data, Members, no_members, member, get_member, as_table}
 use Rattle.claim_model.specs.Words.{Plan}
+use Rattle.claim_model.specs.Limits.{widest}
 use Rattle.plan_rules.specs.Terms.{repriced, largest}
-use Rattle.payer_book.specs.Settings.{settings_of}
-use Rattle.switch_node.specs.Settings.{settings_of as switch_settings}
+use Rattle.payer_book.specs.Settings.{settings_within}
+use Rattle.switch_node.specs.Settings.{settings_within as switch_within}
 use Rattle.world_setup.specs.declared.settings.PayerSettings.{PayerSettings}
 use Rattle.world_settings.specs.Values.{number, number_at, number_or}
 use Rattle.world_settings.specs.Keys.{only_with}
@@ -16,7 +17,7 @@ switch_keys = codes "cap" ∷ []
 
 -- the cap of a switch, where a switch takes it
 abbrev pub cap_taken : ℕ → Option ℕ
-cap_taken cap = result_ok (switch_settings cap)
+cap_taken cap = result_ok (switch_within widest cap)
 
 abbrev pub switch_of : Members → Option ℕ
 switch_of table = only_with switch_keys table (number_at (codes "cap") 4294967295 table >>= cap_taken)
@@ -53,7 +54,7 @@ payer_with table = do
   copay ← number_at (codes "copay") largest table
   cap ← number_at (codes "cap") 4294967295 table
   serial ← number_or 1 18446744073709551615 (get_member (codes "serial") table)
-  book ← result_ok (settings_of serial cap)
+  book ← result_ok (settings_within widest serial cap)
   plan ← with_prices (bare_plan fee copay) (get_member (codes "prices") table)
   Some (record { book = book; plan = plan; keys = tt })
 

@@ -5,6 +5,7 @@ use Rattle.input_text.specs.Options.{◌>>=◌}
 use Rattle.toml.specs.Data.{Data, Members, as_table}
 use Rattle.d0_header.specs.Field.{is_plain}
 use Rattle.claim_model.specs.Journal.{PharmacySettings}
+use Rattle.claim_model.specs.Limits.{most_entries}
 use Rattle.world_settings.specs.Values.{number, number_at, text_at, filled}
 use Rattle.world_settings.specs.Keys.{only_with}
 use Rattle.world_settings.specs.Lists.{list_at}
@@ -17,11 +18,11 @@ pharmacy_keys = codes "qualifier" ∷ codes "provider" ∷ codes "nodes" ∷ cod
 abbrev pub identity : ℕ → List ℕ → Members → Option (List ℕ)
 identity width key table = text_at key table >>= filled width
 
--- what a pharmacy takes: waits of 1 to 1,000 ticks, 1 to 1,000 tries, 1 to 65,536 entries, an identity without separators, and as
+-- what a pharmacy takes: waits of 1 to 1,000 ticks, 1 to 1,000 tries, 1 to 16,777,216 entries, an identity without separators, and as
 -- many nodes as its circle of retries has room for
 unfoldable pub is_taken : PharmacySettings → Bool
 is_taken s =
-    (nat_le 1 s.again && nat_le s.again 1000) && (nat_le 1 s.tries && nat_le s.tries 1000) && (nat_le 1 s.cap && nat_le s.cap 65536)
+    (nat_le 1 s.again && nat_le s.again 1000) && (nat_le 1 s.tries && nat_le s.tries 1000) && (nat_le 1 s.cap && nat_le s.cap most_entries)
     && (list_all is_plain s.qualifier && list_all is_plain s.provider) && nat_le (length s.nodes) 4294967295
 
 abbrev pub taken : PharmacySettings → Option PharmacySettings

@@ -6,6 +6,7 @@
 
 mod fault;
 mod keys;
+mod limits;
 mod lists;
 mod payers;
 mod pharmacies;
@@ -16,5 +17,5 @@ mod wanted;
 mod why;
 
 pub use fault::SettingsFault;
-pub use settings::read_settings;
-pub use why::settings_fault;
+pub use settings::{read_living_settings, read_settings};
+pub use why::{living_settings_fault, settings_fault};

@@ -4,13 +4,15 @@ ghost use Rattle.std.specs.Prelude.{◌≡◌, ◌≤◌, None, Some, cond, code
 ghost use Rattle.std.specs.Result.{result_ok};
 ghost use Rattle.toml.specs.Data.{get_member};
 ghost use Rattle.toml.specs.View.{view, table_view};
-ghost use Rattle.payer_book.specs.Settings.{settings_of};
+ghost use Rattle.claim_model.specs.Limits.{widest};
+ghost use Rattle.payer_book.specs.Settings.{settings_within};
 ghost use Rattle.plan_rules.specs.Terms.{largest};
 ghost use Rattle.world_settings.specs.Payers.{bare_plan, cap_taken, payer_in, payer_of, payer_with, priced, switch_in, switch_of, with_price, with_prices};
 
 use crate::keys::has_only;
 use crate::lists::Reader;
 use crate::values::{number_at, number_or, value_at, word, word_at};
+use claim_model::Limits;
 use overpunch::Amount;
 use payer_book::BookSettings;
 use plan_rules::{Plan, PlanFault};
@@ -71,7 +73,7 @@ fn switch_of(table: &Table) -> Option<SwitchSettings>
 fn cap_taken(cap: u32) -> Option<SwitchSettings>
     ensures { result ≡ cap_taken cap }
 {
-    match SwitchSettings::new(cap) {
+    match SwitchSettings::within(Limits::widest(), cap) {
         Ok(settings) => Some(settings),
         Err(_) => None,
     }
@@ -116,9 +118,9 @@ fn payer_with(alloc: Global, table: &Table) -> Result<Option<PayerSettings>, All
 
 /// The settings of a book with this first serial number and this cap, where a book takes them.
 fn book_taken(serial: u64, cap: u32) -> Option<BookSettings>
-    ensures { result ≡ result_ok (settings_of serial cap) }
+    ensures { result ≡ result_ok (settings_within widest serial cap) }
 {
-    match BookSettings::new(serial, cap) {
+    match BookSettings::within(Limits::widest(), serial, cap) {
         Ok(settings) => Some(settings),
         Err(_) => None,
     }

@@ -7,6 +7,7 @@ ghost use Rattle.world_settings.specs.Pharmacies.{identity, pharmacy_in, pharmac
 use crate::keys::has_only;
 use crate::lists::{Reader, Shorts, list_at};
 use crate::values::{filled_to_2, filled_to_15, text_at, word_at};
+use claim_model::Limits;
 use pharmacy_journal::PharmacySettings;
 use std::alloc::{AllocError, Global};
 use toml::{Table, Value};
@@ -108,7 +109,8 @@ fn taken(
     if nodes.len() > MOST_NODES {
         return None;
     }
-    match PharmacySettings::new(qualifier, provider, nodes, again, tries, cap) {
+    let widest = Limits::widest();
+    match PharmacySettings::within(widest, qualifier, provider, nodes, again, tries, cap) {
         Ok(settings) => Some(settings),
         Err(_) => None,
     }

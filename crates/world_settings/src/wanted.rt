@@ -1,5 +1,6 @@
 //! What is wanted at each key, for people.
 
+use claim_model::Limits;
 use std::fmt;
 use std::fmt::{Display, Formatter};
 use toml::Value;
@@ -18,6 +19,10 @@ pub(crate) enum Key {
 pub(crate) enum Wanted {
     /// A whole number within these bounds.
     Number(i64, i64),
+    /// How many entries, slots or rows a node may have.
+    Cap,
+    /// The number of a payer.
+    Payer,
     /// A text of at most so many bytes without a separator.
     Text(usize),
     /// Six digits.
@@ -26,16 +31,18 @@ pub(crate) enum Wanted {
     Pcn,
     /// The numbers of switches.
     Switches,
+    /// The numbers of switches, none over this one.
+    SwitchesTo(i64),
     /// Products and their prices.
     Prices,
     /// An array of tables.
     Tables,
+    /// A table.
+    Table,
 }
 
 /// The largest number of cents, and the largest price.
 const MOST_CENTS: i64 = 99_999_999;
-/// The most entries or rows of a node.
-const MOST_ENTRIES: i64 = 65_536;
 /// The largest serial number.
 const MOST_SERIAL: i64 = 999_999_999_999;
 /// The most digits of a BIN number (101-A1).
@@ -44,8 +51,6 @@ const BIN_DIGITS: usize = 6;
 const MOST_PCN: usize = 10;
 /// The most bytes of a product (407-D7).
 const MOST_PRODUCT: usize = 19;
-/// The most switches and payers of a world.
-const MOST_NODES: i64 = 64;
 
 /// The keys of the whole.
 pub(crate) const TOP: &[Key] = &[
@@ -56,27 +61,44 @@ pub(crate) const TOP: &[Key] = &[
     Key::Needed("payer", Wanted::Tables),
     Key::Needed("route", Wanted::Tables),
 ];
+/// The keys of the whole, where it may state its limits.
+pub(crate) const LIVING_TOP: &[Key] = &[
+    Key::AtWill("limits", Wanted::Table),
+    Key::Needed("again", Wanted::Number(1, 1_000)),
+    Key::Needed("tries", Wanted::Number(1, 1_000)),
+    Key::Needed("pharmacy", Wanted::Tables),
+    Key::Needed("switch", Wanted::Tables),
+    Key::Needed("payer", Wanted::Tables),
+    Key::Needed("route", Wanted::Tables),
+];
+/// The keys of the limits.
+pub(crate) const LIMITS: &[Key] = &[
+    Key::AtWill("pharmacies", Wanted::Number(1, 65_535)),
+    Key::AtWill("switches", Wanted::Number(1, 4_096)),
+    Key::AtWill("payers", Wanted::Number(1, 4_096)),
+    Key::AtWill("entries", Wanted::Number(1, 16_777_216)),
+];
 /// The keys of a pharmacy.
 pub(crate) const PHARMACY: &[Key] = &[
     Key::Needed("qualifier", Wanted::Text(2)),
     Key::Needed("provider", Wanted::Text(15)),
     Key::Needed("nodes", Wanted::Switches),
-    Key::Needed("cap", Wanted::Number(1, MOST_ENTRIES)),
+    Key::Needed("cap", Wanted::Cap),
 ];
 /// The keys of a switch.
-pub(crate) const SWITCH: &[Key] = &[Key::Needed("cap", Wanted::Number(1, MOST_ENTRIES))];
+pub(crate) const SWITCH: &[Key] = &[Key::Needed("cap", Wanted::Cap)];
 /// The keys of a payer.
 pub(crate) const PAYER: &[Key] = &[
     Key::Needed("fee", Wanted::Number(0, MOST_CENTS)),
     Key::Needed("copay", Wanted::Number(0, MOST_CENTS)),
-    Key::Needed("cap", Wanted::Number(1, MOST_ENTRIES)),
+    Key::Needed("cap", Wanted::Cap),
     Key::AtWill("serial", Wanted::Number(1, MOST_SERIAL)),
     Key::AtWill("prices", Wanted::Prices),
 ];
 /// The keys of a route.
 pub(crate) const ROUTE: &[Key] = &[
     Key::Needed("bin", Wanted::Bin),
-    Key::Needed("payer", Wanted::Number(1, MOST_NODES)),
+    Key::Needed("payer", Wanted::Payer),
     Key::AtWill("pcn", Wanted::Pcn),
 ];
 
@@ -102,6 +124,16 @@ impl Key {
 }
 
 impl Wanted {
+    /// What is wanted where settings have these limits.
+    pub(crate) fn within(self, limits: Limits) -> Wanted {
+        match self {
+            Wanted::Cap => Wanted::Number(1, i64::from(limits.entries())),
+            Wanted::Payer => Wanted::Number(1, i64::from(limits.payers())),
+            Wanted::Switches => Wanted::SwitchesTo(i64::from(limits.switches())),
+            other => other,
+        }
+    }
+
     /// Whether a value is what is wanted.
     pub(crate) fn takes(self, value: &Value) -> bool {
         match self {
@@ -119,9 +151,12 @@ impl Wanted {
                     && !ends_in_space(text.as_bytes()),
                 None => false,
             },
-            Wanted::Switches => are_switches(value),
+            Wanted::Cap | Wanted::Payer => value.as_integer().is_some(),
+            Wanted::Switches => are_switches(value, i64::MAX),
+            Wanted::SwitchesTo(most) => are_switches(value, most),
             Wanted::Prices => are_prices(value),
             Wanted::Tables => are_tables(value),
+            Wanted::Table => value.as_table().is_some(),
         }
     }
 }
@@ -137,11 +172,16 @@ impl Display for Wanted {
                     "a text of at most 10 bytes without separators and without a space at its end",
                 )
             }
-            Wanted::Switches => f.write_str("a list of the numbers of switches, one at least"),
+            Wanted::Cap => f.write_str("a cap"),
+            Wanted::Payer => f.write_str("the number of a payer"),
+            Wanted::Switches | Wanted::SwitchesTo(_) => {
+                f.write_str("a list of the numbers of switches, one at least")
+            }
             Wanted::Prices => f.write_str(
                 "a table of products and their prices: 1 to 19 bytes without separators and without a space at the end, and a whole number from 0 to 99999999",
             ),
             Wanted::Tables => f.write_str("an array of tables"),
+            Wanted::Table => f.write_str("a table"),
         }
     }
 }
@@ -169,8 +209,8 @@ fn ends_in_space(text: &[u8]) -> bool {
     text.last() == Some(&b' ')
 }
 
-/// Whether a value is a list of numbers of switches.
-fn are_switches(value: &Value) -> bool {
+/// Whether a value is a list of numbers of switches, none over `most`.
+fn are_switches(value: &Value, most: i64) -> bool {
     let Some(list) = value.as_array() else {
         return false;
     };
@@ -178,7 +218,7 @@ fn are_switches(value: &Value) -> bool {
         && list
             .as_slice()
             .iter()
-            .all(|number| is_within(number, 1, MOST_NODES))
+            .all(|number| is_within(number, 1, most))
 }
 
 /// Whether a value is a table of prices.

@@ -1,21 +1,38 @@
 //! What is wrong in a text of settings, for people.
 
-use crate::fault::SettingsFault;
-use crate::settings::read_settings;
-use crate::wanted::{Key, PAYER, PHARMACY, ROUTE, SWITCH, TOP};
+use crate::limits::limits_in;
+use crate::settings::document_with;
+use crate::wanted::{Key, LIMITS, LIVING_TOP, PAYER, PHARMACY, ROUTE, SWITCH, TOP};
+use claim_model::Limits;
 use std::alloc::{AllocError, Global};
 use toml::de::Error as TomlError;
 use toml::{Table, Value};
-use world_setup::WorldFault;
+use world_setup::{WorldFault, WorldSettings};
 
 /// What is wrong in a text of settings: which key of which table and what is wanted there, or what a world does not take.
 /// `None` where nothing is found.
 pub fn settings_fault(alloc: Global, text: &[u8]) -> Result<Option<String>, AllocError> {
+    fault_in(alloc, text, Reader::Stated)
+}
+
+/// The same of a text that may state its limits, for programs that live.
+pub fn living_settings_fault(alloc: Global, text: &[u8]) -> Result<Option<String>, AllocError> {
+    fault_in(alloc, text, Reader::Living)
+}
+
+/// Who reads a text of settings.
+#[derive(Clone, Copy)]
+enum Reader {
+    /// A program whose limits are the stated ones.
+    Stated,
+    /// A program that takes the limits that a text states.
+    Living,
+}
+
+/// What is wrong in a text of settings for who reads it.
+fn fault_in(alloc: Global, text: &[u8], reader: Reader) -> Result<Option<String>, AllocError> {
     match toml::table_from_slice(alloc, text) {
-        Ok(table) => match document_fault(alloc, &table)? {
-            Some(told) => Ok(Some(told)),
-            None => whole_fault(alloc, text),
-        },
+        Ok(table) => document_fault(alloc, &table, reader),
         Err(error) if error.is_memory() => Err(AllocError),
         Err(error) => Ok(Some(text_fault(alloc, text, &error)?)),
     }
@@ -38,12 +55,22 @@ fn text_fault(alloc: Global, text: &[u8], error: &TomlError) -> Result<String, A
 }
 
 /// What is wrong with settings of which each key is as it is wanted.
-fn whole_fault(alloc: Global, text: &[u8]) -> Result<Option<String>, AllocError> {
-    let settings = match read_settings(alloc, text) {
-        Ok(settings) => settings,
-        Err(SettingsFault::OutOfMemory) => return Err(AllocError),
-        Err(SettingsFault::Settings) => return Ok(None),
+fn whole_fault(
+    alloc: Global,
+    document: &Table,
+    limits: Limits,
+) -> Result<Option<String>, AllocError> {
+    let Some(settings) = document_with(alloc, document)? else {
+        return Ok(None);
     };
+    if has_too_many(&settings, limits) {
+        let (pharmacies, switches) = (limits.pharmacies(), limits.switches());
+        let payers = limits.payers();
+        let told = format!(in alloc;
+            "the settings make no world: there are more than {pharmacies} pharmacies, {switches} switches or {payers} payers"
+        )?;
+        return Ok(Some(told));
+    }
     match settings.checked_routes(alloc) {
         Ok(_) => Ok(None),
         Err(WorldFault::OutOfMemory) => Err(AllocError),
@@ -54,11 +81,30 @@ fn whole_fault(alloc: Global, text: &[u8]) -> Result<Option<String>, AllocError>
     }
 }
 
-/// What is wrong with a key of the whole or of one of its tables.
-fn document_fault(alloc: Global, document: &Table) -> Result<Option<String>, AllocError> {
-    if let Some(told) = table_fault(alloc, "the settings", document, TOP)? {
+/// Whether there are more nodes of a kind than the limits allow.
+fn has_too_many(settings: &WorldSettings, limits: Limits) -> bool {
+    settings.pharmacies.len() > limits.pharmacies() as usize
+        || settings.switches.len() > limits.switches() as usize
+        || settings.payers.len() > limits.payers() as usize
+}
+
+/// What is wrong with a key of the whole or of one of its tables, or else with the whole.
+fn document_fault(
+    alloc: Global,
+    document: &Table,
+    reader: Reader,
+) -> Result<Option<String>, AllocError> {
+    let top = match reader {
+        Reader::Stated => TOP,
+        Reader::Living => LIVING_TOP,
+    };
+    if let Some(told) = table_fault(alloc, "the settings", document, top, Limits::stated())? {
         return Ok(Some(told));
     }
+    if let Some(told) = limits_fault(alloc, document)? {
+        return Ok(Some(told));
+    }
+    let limits = limits_in(document).unwrap_or(Limits::stated());
     let arrays = [
         ("pharmacy", PHARMACY),
         ("switch", SWITCH),
@@ -66,11 +112,22 @@ fn document_fault(alloc: Global, document: &Table) -> Result<Option<String>, All
         ("route", ROUTE),
     ];
     for (name, keys) in arrays {
-        if let Some(told) = tables_fault(alloc, document, name, keys)? {
+        if let Some(told) = tables_fault(alloc, document, name, keys, limits)? {
             return Ok(Some(told));
         }
     }
-    Ok(None)
+    whole_fault(alloc, document, limits)
+}
+
+/// What is wrong with a key of the limits.
+fn limits_fault(alloc: Global, document: &Table) -> Result<Option<String>, AllocError> {
+    let Some(value) = document.get("limits") else {
+        return Ok(None);
+    };
+    match value.as_table() {
+        Some(table) => table_fault(alloc, "[limits]", table, LIMITS, Limits::stated()),
+        None => Ok(None),
+    }
 }
 
 /// What is wrong with a key of one of the tables of an array.
@@ -79,6 +136,7 @@ fn tables_fault(
     document: &Table,
     name: &str,
     keys: &[Key],
+    limits: Limits,
 ) -> Result<Option<String>, AllocError> {
     let Some(value) = document.get(name) else {
         return Ok(None);
@@ -87,7 +145,7 @@ fn tables_fault(
         return Ok(None);
     };
     for (passed, value) in list.as_slice().iter().enumerate() {
-        if let Some(told) = item_fault(alloc, name, passed, value, keys)? {
+        if let Some(told) = item_fault(alloc, name, passed, value, keys, limits)? {
             return Ok(Some(told));
         }
     }
@@ -101,13 +159,14 @@ fn item_fault(
     passed: usize,
     value: &Value,
     keys: &[Key],
+    limits: Limits,
 ) -> Result<Option<String>, AllocError> {
     let Some(table) = value.as_table() else {
         return Ok(None);
     };
     let number = passed.saturating_add(1);
     let place = format!(in alloc; "[[{name}]] {number}")?;
-    table_fault(alloc, place.as_str(), table, keys)
+    table_fault(alloc, place.as_str(), table, keys, limits)
 }
 
 /// What is wrong with a key of a table: one that is not known, one that is missing, or the value of one.
@@ -116,6 +175,7 @@ fn table_fault(
     place: &str,
     table: &Table,
     keys: &[Key],
+    limits: Limits,
 ) -> Result<Option<String>, AllocError> {
     for (name, _value) in table.iter() {
         let name = name.as_str();
@@ -125,7 +185,7 @@ fn table_fault(
         }
     }
     for key in keys {
-        if let Some(told) = key_fault(alloc, place, table, *key)? {
+        if let Some(told) = key_fault(alloc, place, table, *key, limits)? {
             return Ok(Some(told));
         }
     }
@@ -148,8 +208,9 @@ fn key_fault(
     place: &str,
     table: &Table,
     key: Key,
+    limits: Limits,
 ) -> Result<Option<String>, AllocError> {
-    let (name, wanted) = (key.name(), key.wanted());
+    let (name, wanted) = (key.name(), key.wanted().within(limits));
     match table.get(name) {
         Some(value) => {
             if wanted.takes(value) {

@@ -2,3 +2,4 @@ pub mod Seen
 pub mod Refused
 pub mod Names
 pub mod Taken
+pub mod Identities

@@ -1,5 +1,6 @@
 -- Nodes, calls, packets, events and settings as the model sees them.
-use Rattle.std.specs.Prelude.{map}
+use Rattle.std.specs.Prelude.{ℕ, List, map}
+use Rattle.std.specs.Borrow.{Bor}
 use Rattle.claim_model.specs.Node as model
 use Rattle.claim_model.specs.World as world
 use Rattle.claim_model.specs.Settings as opened
@@ -20,14 +21,22 @@ node_seen (node.Pharmacy number) = model.Pharmacy number
 node_seen (node.Switch number) = model.Switch number
 node_seen (node.Payer number) = model.Payer number
 
--- a call, with its texts as lists of bytes
-abbrev pub call_seen : Call → model.Call
-call_seen (call.Submit text) = model.Submit text
-call_seen call.Tick = model.Tick
-call_seen (call.Take from bytes) = model.Take (node_seen from) bytes
-call_seen call.Stop = model.Stop
-call_seen call.Start = model.Start
-call_seen (call.Plan product price) = model.Reprice product price
+-- a call, each of its texts read as this list of bytes
+abbrev pub call_as : {O : Type 0} → (O → List ℕ) → Call O → model.Call
+call_as read (call.Submit text) = model.Submit (read text)
+call_as read call.Tick = model.Tick
+call_as read (call.Take from bytes) = model.Take (node_seen from) (read bytes)
+call_as read call.Stop = model.Stop
+call_as read call.Start = model.Start
+call_as read (call.Plan product price) = model.Reprice (read product) price
+
+-- a call with texts of its own
+abbrev pub call_seen : Call (List ℕ) → model.Call
+call_seen c = call_as (λ text. text) c
+
+-- a call with the texts of another
+abbrev pub lent_seen : Call (Bor (List ℕ)) → model.Call
+lent_seen c = call_as (λ text. text.now) c
 
 -- what a node sends
 abbrev pub sent_seen : Sent → model.Sent

@@ -3,6 +3,7 @@ use Rattle.std.specs.Prelude.{Bool, ◌||◌, not, nat_lt, Option, length}
 use Rattle.std.specs.List.{list_all}
 use Rattle.std.specs.Option.{option_or, option_map}
 use Rattle.bin_routes.specs.Fault.{first_fault}
+use Rattle.claim_model.specs.Limits.{most_pharmacies, most_switches, most_payers}
 use Rattle.claim_model.specs.Settings.{SettingsFault, settings_fault, is_empty, has_nodes}
 use Rattle.claim_model.specs.Settings as model
 use Rattle.world_setup.specs.declared.settings.WorldSettings.{WorldSettings}
@@ -16,9 +17,10 @@ named model.TooMany = fault.TooMany
 named model.NoNode = fault.NoNode
 named model.SameProvider = fault.SameProvider
 
--- more nodes of a kind than a world takes
+-- more nodes of a kind than any settings may have
 abbrev pub too_many : WorldSettings → Bool
-too_many s = nat_lt 256 (length s.pharmacies.items) || (nat_lt 64 (length s.switches.items) || nat_lt 64 (length s.payers.items))
+too_many s =
+    nat_lt most_pharmacies (length s.pharmacies.items) || (nat_lt most_switches (length s.switches.items) || nat_lt most_payers (length s.payers.items))
 
 -- each pharmacy has switches to send to, all of which are there
 abbrev pub all_have_nodes : WorldSettings → Bool

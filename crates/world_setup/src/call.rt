@@ -1,13 +1,16 @@
 //! Calls on one node, and what a node sends.
 
+ghost use Rattle.std.specs.Prelude.{◌≡◌};
+ghost use Rattle.world_setup.specs.Seen.{call_seen, lent_seen};
+
 use crate::node::Node;
 use octets::Octets;
 
-/// A call on one node (own).
+/// A call on one node, with texts of its own; or with those of another, as `Call<&Octets>` (own).
 #[derive(Debug, Drop, PartialEq, Eq)]
-pub enum Call {
+pub enum Call<O = Octets> {
     /// A pharmacy submits the request with this text.
-    Submit(Octets),
+    Submit(O),
     /// One tick of a pharmacy's time.
     Tick,
     /// A node takes a packet.
@@ -15,7 +18,7 @@ pub enum Call {
         /// Who sent the packet.
         from: Node,
         /// The packet's bytes.
-        bytes: Octets,
+        bytes: O,
     },
     /// A node stops.
     Stop,
@@ -24,10 +27,29 @@ pub enum Call {
     /// A payer changes its plan.
     Plan {
         /// The product.
-        product: Octets,
+        product: O,
         /// Its price in ten-thousandths of a dollar a unit, or `None` to take it off the plan.
         price: Option<u32>,
     },
+}
+
+impl Call {
+    /// The same call, its texts lent.
+    pub fn lent(&self) -> Call<&Octets>
+        ensures { lent_seen result ≡ call_seen self.now }
+    {
+        match self {
+            Call::Submit(text) => Call::Submit(text),
+            Call::Tick => Call::Tick,
+            Call::Take { from, bytes } => Call::Take { from: *from, bytes },
+            Call::Stop => Call::Stop,
+            Call::Start => Call::Start,
+            Call::Plan { product, price } => Call::Plan {
+                product,
+                price: *price,
+            },
+        }
+    }
 }
 
 /// What a node sends.

@@ -1,42 +1,44 @@
 //! Whether settings name nodes of which a world can be made.
 
-ghost use Rattle.std.specs.Prelude.{◌≡◌};
-ghost use Rattle.std.specs.List.{list_all, list_any};
-ghost use Rattle.claim_model.specs.Settings.{is_switch, has_nodes, same_provider, some_provider_twice};
+ghost use Rattle.std.specs.Prelude.{◌≡◌, IfOk};
+ghost use Rattle.std.specs.List.{list_all};
+ghost use Rattle.claim_model.specs.Settings.{is_switch, has_nodes};
 ghost use Rattle.world_setup.specs.Taken.{too_many, lacks_node, nodes_fault};
 
+use crate::identity::some_provider_twice;
 use crate::settings::WorldSettings;
 use crate::world_fault::WorldFault;
+use claim_model::Limits;
 use pharmacy_journal::PharmacySettings;
-
-/// The most pharmacies (own).
-const MOST_PHARMACIES: usize = 256;
-/// The most switches, and the most payers (own).
-const MOST_OTHERS: usize = 64;
+use std::alloc::{AllocError, Global};
 
 /// What is wrong with the nodes of settings.
-pub(crate) fn nodes_fault(settings: &WorldSettings) -> Option<WorldFault>
-    ensures { result ≡ nodes_fault settings.now }
+pub(crate) fn nodes_fault(
+    alloc: Global,
+    settings: &WorldSettings,
+) -> Result<Option<WorldFault>, AllocError>
+    ensures { IfOk result (λ fault. fault ≡ nodes_fault settings.now) }
 {
     if is_too_many(settings) {
-        return Some(WorldFault::TooMany);
+        return Ok(Some(WorldFault::TooMany));
     }
     if lacks_node(settings) {
-        return Some(WorldFault::NoNode);
+        return Ok(Some(WorldFault::NoNode));
     }
-    if some_provider_twice(settings.pharmacies.as_slice()) {
-        return Some(WorldFault::SameProvider);
+    if some_provider_twice(alloc, settings.pharmacies.as_slice())? {
+        return Ok(Some(WorldFault::SameProvider));
     }
-    None
+    Ok(None)
 }
 
-/// Whether there are more nodes of a kind than a world takes.
+/// Whether there are more nodes of a kind than any settings may have.
 fn is_too_many(settings: &WorldSettings) -> bool
     ensures { result ≡ too_many settings.now }
 {
-    settings.pharmacies.len() > MOST_PHARMACIES
-        || settings.switches.len() > MOST_OTHERS
-        || settings.payers.len() > MOST_OTHERS
+    let most = Limits::widest();
+    settings.pharmacies.len() > most.pharmacies() as usize
+        || settings.switches.len() > most.switches() as usize
+        || settings.payers.len() > most.payers() as usize
 }
 
 /// Whether there is no node of a kind, or a pharmacy has no switch to send to, or one that is not there.
@@ -80,30 +82,4 @@ fn is_switch(number: u16, switches: usize) -> bool
     ensures { result ≡ is_switch switches number }
 {
     number > 0 && number as usize <= switches
-}
-
-/// Whether two pharmacies have one identity.
-fn some_provider_twice(pharmacies: &[PharmacySettings]) -> bool
-    ensures { result ≡ some_provider_twice pharmacies.now }
-{
-    for (place, settings) in pharmacies.iter().enumerate() {
-        if has_provider(&pharmacies[place + 1..], settings) {
-            return true;
-        }
-    }
-    false
-}
-
-/// Whether one of these pharmacies has the identity of another.
-fn has_provider(pharmacies: &[PharmacySettings], settings: &PharmacySettings) -> bool
-    ensures { result ≡ list_any (same_provider settings.now) pharmacies.now }
-{
-    pharmacies.iter().any(|other| is_same(settings, other))
-}
-
-/// Whether two pharmacies have the same identity.
-fn is_same(settings: &PharmacySettings, other: &PharmacySettings) -> bool
-    ensures { result ≡ same_provider settings.now other.now }
-{
-    settings.qualifier() == other.qualifier() && settings.provider() == other.provider()
 }

@@ -6,6 +6,7 @@ mod call;
 mod checks;
 mod event;
 mod fault;
+mod identity;
 mod link;
 mod naming;
 mod node;

@@ -3,6 +3,7 @@
 ghost use Rattle.std.specs.Prelude.{◌≡◌, ◌≤◌, ◌⊎◌, length, None, Some, IfOk, IfErr, OnOk};
 ghost use Rattle.bin_routes.specs.Fault.{first_fault};
 ghost use Rattle.bin_routes.specs.Table.{routes_of};
+ghost use Rattle.claim_model.specs.Limits.{most_payers};
 ghost use Rattle.claim_model.specs.Settings.{settings_fault};
 ghost use Rattle.world_setup.specs.Seen.{settings_seen};
 ghost use Rattle.world_setup.specs.Taken.{rows_fault, world_fault};
@@ -28,7 +29,7 @@ impl WorldSettings {
         ensures rows { OnOk result (first_fault (length self.now.payers.items) self.now.routes.items ≡ None) }
         ensures fault { IfErr result (λ fault. (fault ≡ OutOfMemory) ⊎ (world_fault self.now ≡ Some fault)) }
     {
-        if let Some(fault) = nodes_fault(self) {
+        if let Some(fault) = nodes_fault(alloc, self)? {
             return Err(fault);
         }
         table(alloc, self)
@@ -37,7 +38,7 @@ impl WorldSettings {
 
 /// The table of routes of settings whose nodes have no fault.
 fn table(alloc: Global, settings: &WorldSettings) -> Result<Routes, WorldFault>
-    requires { length settings.now.payers.items ≤ 64 }
+    requires { length settings.now.payers.items ≤ most_payers }
     ensures made { IfOk result (λ routes. routes ≡ routes_of settings.now.routes.items) }
     ensures taken { OnOk result (rows_fault settings.now ≡ None) }
     ensures rows { OnOk result (first_fault (length settings.now.payers.items) settings.now.routes.items ≡ None) }

@@ -14,8 +14,8 @@ pub enum WorldFault {
     /// Memory was refused.
     #[error("out of memory")]
     OutOfMemory,
-    /// There are more than 256 pharmacies, 64 switches or 64 payers (own).
-    #[error("there are more than 256 pharmacies, 64 switches or 64 payers")]
+    /// There are more than 65,535 pharmacies, 4,096 switches or 4,096 payers (own).
+    #[error("there are more than 65,535 pharmacies, 4,096 switches or 4,096 payers")]
     TooMany,
     /// There is no pharmacy, no switch or no payer, or a pharmacy's list of switches is empty or names one that is
     /// not there.

@@ -8,7 +8,7 @@
         said = pharmacy.submit(billing)      # on disk when it returns; bytes do as well
         for packet in said.sent:             # packet.to, packet.data: your carrier's from here on
             ...
-        pharmacy.answer(said.number)         # None until the answer has come
+        pharmacy.answer(said.number)         # None until the answer has come; Answer.read() says what it rules
         pharmacy.payments()                  # what it counts as paid
 
 The node is the proved library `libvogrilas`; these modules are its caller, and are tested, not proved. A node may be used from
@@ -16,7 +16,7 @@ any thread: a lock lets one call in at a time.
 """
 
 from ._file_node import FileNode
-from ._messages import Billing, Header, Reversal, WrongField
+from ._messages import Answer, Billing, Header, Reversal, Ruling, WrongField
 from ._node import (
     Audit,
     Code,
@@ -36,6 +36,7 @@ from ._node import (
 )
 
 __all__ = [
+    "Answer",
     "Audit",
     "Billing",
     "Code",
@@ -46,6 +47,7 @@ __all__ = [
     "Payment",
     "Refused",
     "Reversal",
+    "Ruling",
     "Said",
     "VogrilasError",
     "WrongField",

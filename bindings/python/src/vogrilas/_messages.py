@@ -138,6 +138,46 @@ class Reversal(Message):
         return found.proved(cls(found.header(), found.number("402-D2"), found.text("407-D7"), fill))
 
 
+@dataclass(frozen=True)
+class Ruling:
+    """What an answer rules of a transaction. Amounts are cents; what a ruling does not have is None, and codes are of a rejection alone."""
+
+    ruling: str
+    """`paid`, `duplicate` (paid before, and not again), `reversed` or `rejected`."""
+    authorization: Optional[str] = None
+    """503-F3: four digits of the payer, and twelve of its serial."""
+    prescription: Optional[int] = None
+    """402-D2."""
+    cost: Optional[int] = None
+    """Ingredient cost paid, 506-F6."""
+    fee: Optional[int] = None
+    """Dispensing fee paid, 507-F7."""
+    copay: Optional[int] = None
+    """What the patient pays, 505-F5."""
+    total: Optional[int] = None
+    """Total paid, 509-F9: cost and fee, less the copay."""
+    codes: tuple[str, ...] = ()
+    """Reject codes, 511-FB."""
+
+
+@dataclass(frozen=True)
+class Answer:
+    """An answer of a payer, or of a switch that has no route."""
+
+    rulings: tuple[Ruling, ...]
+    """Of each transaction in turn."""
+
+    @classmethod
+    def read(cls, message: bytes) -> Answer:
+        """What an answer rules, as claimdecode reads it. ValueError where it is none."""
+        told = decoded(message)
+        found = [one for one in told.get("findings", []) if one["finding"] == "ruling"]
+        if told["kind"] != "answer" or not found or len(found) != len(told["findings"]):
+            raise ValueError("no answer")
+        names = ("ruling", "authorization", "prescription", "cost", "fee", "copay", "total")
+        return cls(tuple(Ruling(*(one.get(name) for name in names), tuple(one.get("codes", "").split())) for one in found))
+
+
 class _Found:
     """What claimdecode finds in a message."""
 

@@ -1,13 +1,13 @@
 //! The names of the columns of each table.
 
 ghost use Rattle.std.specs.Prelude.{OnOk};
-ghost use Rattle.log_audit.specs.Adding.{Adds};
-ghost use Rattle.log_audit.specs.Rows.{head_text};
+ghost use Rattle.table_text.specs.Adding.{Adds};
+ghost use Rattle.table_text.specs.Rows.{head_text};
 ghost use Rattle.log_audit.specs.Tables.{table_names};
-ghost use Rattle.log_audit.specs.declared.tables.table.Table.TheVariants.{Payments, Entries, Rows, Packets};
+ghost use Rattle.log_audit.specs.declared.tables.table.Table.TheVariants.{Payments, Entries, Rows, Packets, Counted as CountedTable};
 
-use crate::tables::layout::put_head;
 use std::alloc::AllocError;
+use table_text::put_head;
 
 /// Appends the names of the columns of payments.
 pub(crate) fn put_payment_names(out: &mut Vec<u8>) -> Result<(), AllocError>
@@ -35,6 +35,11 @@ pub(crate) fn put_payment_names(out: &mut Vec<u8>) -> Result<(), AllocError>
             b"fee_cents",
             b"copay_cents",
             b"paid_cents",
+            b"cardholder",
+            b"product",
+            b"quantity_thousandths",
+            b"submitted_cost_cents",
+            b"submitted_fee_cents",
         ],
     )
 }
@@ -72,6 +77,9 @@ pub(crate) fn put_row_names(out: &mut Vec<u8>) -> Result<(), AllocError>
             b"ruling",
             b"authorization",
             b"reject_codes",
+            b"prescription",
+            b"date_of_service",
+            b"paid_cents",
         ],
     )
 }
@@ -91,6 +99,24 @@ pub(crate) fn put_packet_names(out: &mut Vec<u8>) -> Result<(), AllocError>
             b"pharmacy",
             b"number",
             b"bytes",
+        ],
+    )
+}
+
+/// Appends the names of the columns of payments that pharmacies count.
+pub(crate) fn put_counted_names(out: &mut Vec<u8>) -> Result<(), AllocError>
+    ensures { OnOk result (Adds out.old out.new (head_text (table_names CountedTable))) }
+{
+    put_head(
+        out,
+        &[
+            b"pharmacy",
+            b"payer",
+            b"authorization",
+            b"cost_cents",
+            b"fee_cents",
+            b"copay_cents",
+            b"paid_cents",
         ],
     )
 }

@@ -2,16 +2,16 @@
 
 ghost use Rattle.std.specs.Prelude.{◌≡◌, ◌≤◌, length, OnOk};
 ghost use Rattle.log_audit.specs.Tables.{journal_rows};
-ghost use Rattle.log_audit.specs.Adding.{AddsRow, AddsRows, TellsRows};
+ghost use Rattle.table_text.specs.Adding.{AddsRow, AddsRows};
+ghost use Rattle.log_audit.specs.Adding.{TellsRows};
 ghost use Rattle.log_audit.specs.Entries.{names, count_named, cents_of, state_word, shown_seen, shown_row, entry_row, entry_rows};
 
-use crate::tables::fields::Field;
 use crate::tables::kinds::kind_word;
-use crate::tables::layout::{Style, put_row};
 use claim_profile::{Auth, Ruling};
 use node_state::JournalReading;
 use pharmacy_journal::{CountedPayment, EntryView};
 use std::alloc::AllocError;
+use table_text::{Field, Style, put_row};
 
 /// What is told of an entry.
 #[derive(Clone, Copy)]

@@ -3,12 +3,12 @@
 ghost use Rattle.std.specs.Prelude.{◌≡◌};
 ghost use Rattle.claim_profile.specs.Readable.{readable_header};
 ghost use Rattle.world_setup.specs.Seen.{node_seen};
-ghost use Rattle.log_audit.specs.Seen.{field_seen};
+ghost use Rattle.table_text.specs.Seen.{field_seen};
 ghost use Rattle.log_audit.specs.Kinds.{kind_word, kind_in, date_in, letters_of, number_of, node_member};
 
-use crate::tables::fields::Field;
 use claim_profile::{TransactionCode, code_of};
 use payer_book::Row;
+use table_text::Field;
 use world_setup::Node;
 
 /// What a request of this code (103-A3) is: a billing or a reversal. Of another code, which no entry and no row has, it

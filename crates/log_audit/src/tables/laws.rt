@@ -10,11 +10,11 @@ ghost use Rattle.payer_book.specs.declared.book.PaymentView.{PaymentView};
 ghost use Rattle.log_audit.specs.Tables.{HasColumns};
 ghost use Rattle.log_audit.specs.Payments.{payment_row};
 ghost use Rattle.log_audit.specs.Entries.{entry_row};
+ghost use Rattle.log_audit.specs.CountedRows.{counted_row};
 ghost use Rattle.log_audit.specs.Rulings.{At, ruling_row};
 ghost use Rattle.log_audit.specs.Packets.{packet_row};
 ghost use Rattle.log_audit.specs.declared.tables.payments.PaidAt.{PaidAt};
-ghost use Rattle.log_audit.specs.Rows.{ListsAreSeparated};
-ghost use Rattle.log_audit.specs.declared.tables.table.Table.TheVariants.{Payments, Entries, Rows, Packets};
+ghost use Rattle.log_audit.specs.declared.tables.table.Table.TheVariants.{Payments, Entries, Rows, Packets, Counted as CountedTable};
 
 /// Each row of a table has the columns that the line of names before the rows has, in its order.
 pub fn rows_have_their_columns()
@@ -24,9 +24,5 @@ pub fn rows_have_their_columns()
     ensures rows { (at : At) (ruling : Ruling) → HasColumns (ruling_row at ruling) Rows }
     ensures packets { (ctx : Context) (number event : ℕ) (p : Packet)
         → HasColumns (packet_row ctx number event p) Packets }
-{}
-
-/// Rows that were written as JSON are, as a list, their objects with commas between them.
-pub fn lists_are_separated()
-    ensures { ListsAreSeparated }
+    ensures counted { (pharmacy : ℕ) (c : Counted) → HasColumns (counted_row pharmacy c) CountedTable }
 {}

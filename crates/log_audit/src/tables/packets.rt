@@ -4,15 +4,15 @@ ghost use Rattle.std.specs.Prelude.{◌≡◌, map, slice_get, OnOk};
 ghost use Rattle.bin_routes.specs.Table.{RouteMaps};
 ghost use Rattle.claim_model.specs.Bytes.{bytes_with, envelope_in};
 ghost use Rattle.world_setup.specs.Seen.{packet_seen};
-ghost use Rattle.log_audit.specs.Adding.{AddsRow, TellsRow, TellsRows};
+ghost use Rattle.table_text.specs.Adding.{AddsRow};
+ghost use Rattle.log_audit.specs.Adding.{TellsRow, TellsRows};
 ghost use Rattle.log_audit.specs.Packets.{packet_rows, sent_row, packet_row, loaded_row, carried_seen, load_of, kind_word};
 
-use crate::tables::fields::Field;
 use crate::tables::kinds::node_field;
-use crate::tables::layout::{Style, put_row};
 use claim_model::envelopes_know_no_place;
 use envelope::{Envelope, EnvelopeFault, Kind};
 use std::alloc::AllocError;
+use table_text::{Field, Style, put_row};
 use world_setup::Packet;
 
 /// Appends a row for each packet, with the event that sent it.

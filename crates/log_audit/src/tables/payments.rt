@@ -1,20 +1,23 @@
 //! The payments of a book.
 
-ghost use Rattle.std.specs.Prelude.{◌≡◌, OnOk, is_some};
+ghost use Rattle.std.specs.Prelude.{◌≡◌, ◌≤◌, OnOk, is_some};
 ghost use Rattle.pharmacy_journal.specs.Counting.{has_auth};
-ghost use Rattle.log_audit.specs.Adding.{AddsRow, AddsRows, TellsRows};
+ghost use Rattle.table_text.specs.Adding.{AddsRow, AddsRows};
+ghost use Rattle.log_audit.specs.Adding.{TellsRows};
 ghost use Rattle.log_audit.specs.Payments.{state_word, reversing, shown_seen, texts_seen, fill_shown, cents_of, shown_row, payment_row, found_payment, ruling_payment, row_payments, book_payments};
 
-use crate::tables::fields::Field;
+use crate::tables::claims;
+use crate::tables::claims::{ClaimTexts, claim_of};
 use crate::tables::kinds::date_of;
-use crate::tables::layout::{Style, put_row};
-use claim_profile::{Amounts, Auth, Fill, Ruling};
+use claim_profile::{Amounts, Auth, Claim, Fill, Ruling};
 use envelope::TxnId;
 use payer_book::{Book, PaymentView, Row};
 use std::alloc::AllocError;
 use std::collections::BTreeSet;
+use table_text::{Field, Style, put_row};
 
-/// Where a payment was made: which transaction of which request, its authorization and its date of service (401-D1).
+/// Where a payment was made: which transaction of which request, its authorization, its date of service (401-D1), and the
+/// billing.
 #[derive(Drop)]
 pub(crate) struct PaidAt {
     pub(crate) payer: u16,
@@ -22,6 +25,7 @@ pub(crate) struct PaidAt {
     pub(crate) transaction: u64,
     pub(crate) auth: Auth,
     pub(crate) date: [u8; 8],
+    pub(crate) claim: Option<Claim>,
 }
 
 /// What is told of a payment.
@@ -38,6 +42,7 @@ pub(crate) struct Shown<'a> {
     pub(crate) fill: FillTexts<'a>,
     pub(crate) date: &'a [u8],
     pub(crate) cents: Cents,
+    pub(crate) claim: ClaimTexts<'a>,
 }
 
 /// A fill, by its fields.
@@ -103,6 +108,7 @@ fn put_ruling_payment(
     transaction: u64,
     ruling: &Ruling,
 ) -> Result<(), AllocError>
+    requires { 1 ≤ transaction }
     ensures { TellsRows style out.old out.new
         (λ ctx. ruling_payment ctx (has_auth counted.now.keys) book.now row.now transaction ruling.now) result }
 {
@@ -114,6 +120,7 @@ fn put_ruling_payment(
                 transaction,
                 auth,
                 date: date_of(row),
+                claim: claim_of(row.request(), transaction),
             };
             put_found(out, style, &at, book.payment(auth), counted.contains(&auth))
         }
@@ -162,6 +169,7 @@ fn put_payment(
         fill: texts_of(&payment.fill),
         date: &at.date,
         cents: cents_of(payment.amounts),
+        claim: claims::texts_of(&at.claim),
     };
     put_shown(out, style, &shown)
 }
@@ -173,6 +181,7 @@ fn put_shown(out: &mut Vec<u8>, style: Style, shown: &Shown<'_>) -> Result<(), A
 {
     let fill = shown.fill;
     let cents = shown.cents;
+    let claim = shown.claim;
     let fields = [
         Field::number(b"payer", shown.payer),
         Field::number(b"pharmacy", shown.pharmacy),
@@ -193,6 +202,11 @@ fn put_shown(out: &mut Vec<u8>, style: Style, shown: &Shown<'_>) -> Result<(), A
         Field::number(b"fee_cents", cents.fee),
         Field::number(b"copay_cents", cents.copay),
         Field::number(b"paid_cents", cents.paid),
+        Field::text(b"cardholder", claim.cardholder),
+        Field::text(b"product", claim.product),
+        Field::number_or_nothing(b"quantity_thousandths", claim.quantity),
+        Field::number_or_nothing(b"submitted_cost_cents", claim.cost),
+        Field::number_or_nothing(b"submitted_fee_cents", claim.fee),
     ];
     put_row(out, style, &fields)
 }

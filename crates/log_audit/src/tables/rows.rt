@@ -1,27 +1,34 @@
 //! The rows of a book.
 
-ghost use Rattle.std.specs.Prelude.{◌≡◌, ◌∷◌, [], ◌++◌, codes, OnOk, IfOk};
+ghost use Rattle.std.specs.Prelude.{◌≡◌, ◌∷◌, [], ◌++◌, codes, None, OnOk, IfOk};
 ghost use Rattle.std.specs.List.{flat_map};
 ghost use Rattle.claim_profile.specs.Reject.{code_text};
-ghost use Rattle.log_audit.specs.Adding.{AddsRow, AddsRows};
+ghost use Rattle.table_text.specs.Adding.{AddsRow, AddsRows};
 ghost use Rattle.log_audit.specs.Rulings.{codes_text, at_seen, answered_row, ruling_row, row_rulings, book_rulings, ruled_at};
 
-use crate::tables::fields::Field;
-use crate::tables::kinds::kind_of;
-use crate::tables::layout::{Style, put_row};
+use crate::tables::kinds::{date_of, kind_of};
 use claim_profile::{Code, Ruling};
 use envelope::TxnId;
 use payer_book::{Book, Row};
 use std::alloc::{AllocError, Global};
+use table_text::{Field, Style, put_row};
 
 /// Which transaction of which request a ruling is about.
 #[derive(Clone, Copy)]
-pub(crate) struct RuledAt {
+pub(crate) struct RuledAt<'a> {
     pub(crate) payer: u64,
     pub(crate) pharmacy: u64,
     pub(crate) number: u64,
     pub(crate) kind: &'static [u8],
     pub(crate) transaction: u64,
+    pub(crate) date: &'a [u8],
+}
+
+/// What is told of an answer beside its ruling: the prescription (402-D2), and the total (509-F9) of a payment that it made.
+#[derive(Clone, Copy)]
+struct Told {
+    prescription: Option<u64>,
+    paid: Option<u64>,
 }
 
 /// Appends a row for each transaction of each row of a book, oldest first.
@@ -49,12 +56,13 @@ fn put_row_rulings(
 {
     let (payer, id) = (book.payer().get(), row.id());
     let kind = kind_of(row);
+    let date = date_of(row);
     let rulings = row.rulings();
     for (passed, ruling) in rulings.iter().enumerate() {
         put_ruling(
             out,
             style,
-            &ruled_at(payer, id, kind, passed as u64 + 1),
+            &ruled_at(payer, id, kind, passed as u64 + 1, &date),
             ruling,
         )?;
     }
@@ -62,8 +70,14 @@ fn put_row_rulings(
 }
 
 /// Which transaction of which request it is.
-fn ruled_at(payer: u16, id: TxnId, kind: &'static [u8], transaction: u64) -> RuledAt
-    ensures { at_seen result ≡ ruled_at payer id kind.now transaction }
+fn ruled_at<'a>(
+    payer: u16,
+    id: TxnId,
+    kind: &'static [u8],
+    transaction: u64,
+    date: &'a [u8],
+) -> RuledAt<'a>
+    ensures { at_seen result ≡ ruled_at payer id kind.now transaction date.now }
 {
     RuledAt {
         payer: u64::from(payer),
@@ -71,6 +85,7 @@ fn ruled_at(payer: u16, id: TxnId, kind: &'static [u8], transaction: u64) -> Rul
         number: id.number(),
         kind,
         transaction,
+        date,
     }
 }
 
@@ -78,20 +93,46 @@ fn ruled_at(payer: u16, id: TxnId, kind: &'static [u8], transaction: u64) -> Rul
 fn put_ruling(
     out: &mut Vec<u8>,
     style: Style,
-    at: &RuledAt,
+    at: &RuledAt<'_>,
     ruling: &Ruling,
 ) -> Result<(), AllocError>
     ensures { OnOk result (AddsRow style out.old out.new (ruling_row (at_seen at.now) ruling.now)) }
 {
     match *ruling {
-        Ruling::Paid { auth, .. } => put_answered(out, style, at, b"paid", &auth.digits(), b""),
-        Ruling::Duplicate { auth, .. } => {
-            put_answered(out, style, at, b"duplicate", &auth.digits(), b"")
+        Ruling::Paid {
+            auth,
+            prescription,
+            amounts,
+        } => {
+            let told = Told {
+                prescription: Some(prescription),
+                paid: Some(u64::from(amounts.total())),
+            };
+            put_answered(out, style, at, b"paid", &auth.digits(), b"", told)
         }
-        Ruling::Reversed { auth, .. } => {
-            put_answered(out, style, at, b"reversed", &auth.digits(), b"")
+        Ruling::Duplicate {
+            auth,
+            prescription,
+            ..
+        } => {
+            let told = unpaid(Some(prescription));
+            put_answered(out, style, at, b"duplicate", &auth.digits(), b"", told)
+        }
+        Ruling::Reversed { auth, prescription } => {
+            let told = unpaid(Some(prescription));
+            put_answered(out, style, at, b"reversed", &auth.digits(), b"", told)
         }
         Ruling::Rejected { rejects } => put_rejected(out, style, at, rejects.as_slice()),
+    }
+}
+
+/// What is told of an answer that made no payment.
+fn unpaid(prescription: Option<u64>) -> Told
+    ensures { result ≡ record { prescription = prescription; paid = None } }
+{
+    Told {
+        prescription,
+        paid: None,
     }
 }
 
@@ -99,14 +140,22 @@ fn put_ruling(
 fn put_rejected(
     out: &mut Vec<u8>,
     style: Style,
-    at: &RuledAt,
+    at: &RuledAt<'_>,
     rejects: &[Code],
 ) -> Result<(), AllocError>
     ensures { OnOk result (AddsRow style out.old out.new
-        (answered_row (at_seen at.now) (codes "rejected") [] (codes_text rejects.now))) }
+        (answered_row (at_seen at.now) (codes "rejected") [] (codes_text rejects.now) None None)) }
 {
     let told = codes_text(*out.allocator(), rejects)?;
-    put_answered(out, style, at, b"rejected", b"", told.as_slice())
+    put_answered(
+        out,
+        style,
+        at,
+        b"rejected",
+        b"",
+        told.as_slice(),
+        unpaid(None),
+    )
 }
 
 /// Appends the row of a transaction that was answered like this.
@@ -114,13 +163,14 @@ fn put_rejected(
 fn put_answered(
     out: &mut Vec<u8>,
     style: Style,
-    at: &RuledAt,
+    at: &RuledAt<'_>,
     ruling: &'static [u8],
     authorization: &[u8],
     rejects: &[u8],
+    told: Told,
 ) -> Result<(), AllocError>
     ensures { OnOk result (AddsRow style out.old out.new
-        (answered_row (at_seen at.now) ruling.now authorization.now rejects.now)) }
+        (answered_row (at_seen at.now) ruling.now authorization.now rejects.now told.prescription told.paid)) }
 {
     let fields = [
         Field::number(b"payer", at.payer),
@@ -131,6 +181,9 @@ fn put_answered(
         Field::word(b"ruling", ruling),
         Field::text(b"authorization", authorization),
         Field::text(b"reject_codes", rejects),
+        Field::number_or_nothing(b"prescription", told.prescription),
+        Field::text(b"date_of_service", at.date),
+        Field::number_or_nothing(b"paid_cents", told.paid),
     ];
     put_row(out, style, &fields)
 }

@@ -5,7 +5,7 @@ ghost use Rattle.claim_model.specs.World.{world_after, run};
 ghost use Rattle.world_setup.specs.Seen.{event_seen};
 ghost use Rattle.world_core.specs.Parts.{context_of};
 ghost use Rattle.world_core.specs.Stepping.{outcome_in};
-ghost use Rattle.log_audit.specs.Adding.{Adds};
+ghost use Rattle.table_text.specs.Adding.{Adds};
 ghost use Rattle.log_audit.specs.Senders.{sent_by, senders_from};
 
 use std::alloc::{AllocError, Global};

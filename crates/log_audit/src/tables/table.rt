@@ -3,15 +3,18 @@
 ghost use Rattle.std.specs.Prelude.{◌≡◌, OnOk};
 ghost use Rattle.std.specs.List.{flat_map};
 ghost use Rattle.world_core.specs.Parts.{context_of};
-ghost use Rattle.log_audit.specs.Adding.{Adds, AddsRows, TellsRows};
-ghost use Rattle.log_audit.specs.Rows.{head_text};
+ghost use Rattle.table_text.specs.Adding.{Adds, AddsRows};
+ghost use Rattle.log_audit.specs.Adding.{TellsRows};
+ghost use Rattle.table_text.specs.Rows.{head_text};
 ghost use Rattle.pharmacy_journal.specs.Counting.{has_auth};
-ghost use Rattle.log_audit.specs.Tables.{node_payments, node_entries, node_rulings, world_payments, table_rows, table_names, table_csv, table_json, table_name, table_member, table_members};
+ghost use Rattle.log_audit.specs.Tables.{node_payments, node_entries, node_counted_rows, node_rulings, world_payments, table_rows, table_names, table_csv, table_json, table_name, table_member, table_members};
 
-use crate::tables::columns::{put_entry_names, put_packet_names, put_payment_names, put_row_names};
+use crate::tables::columns::{
+    put_counted_names, put_entry_names, put_packet_names, put_payment_names, put_row_names,
+};
 use crate::tables::counted::counted_auths;
+use crate::tables::counting::put_journal_counted;
 use crate::tables::entries::put_journal;
-use crate::tables::layout::{Style, put_list};
 use crate::tables::packets::put_packets;
 use crate::tables::payments::put_book_payments;
 use crate::tables::rows::put_book_rulings;
@@ -19,6 +22,7 @@ use claim_profile::Auth;
 use node_state::{PayerNode, PharmacyNode};
 use std::alloc::{AllocError, Global};
 use std::collections::BTreeSet;
+use table_text::{Style, put_list};
 use world_core::World;
 
 /// Which table.
@@ -32,6 +36,8 @@ pub enum Table {
     Rows,
     /// Each packet that was sent.
     Packets,
+    /// Each payment that a pharmacy counts.
+    Counted,
 }
 
 impl Table {
@@ -44,6 +50,7 @@ impl Table {
             Table::Entries => b"entries",
             Table::Rows => b"rows",
             Table::Packets => b"packets",
+            Table::Counted => b"counted",
         }
     }
 }
@@ -75,7 +82,8 @@ pub(crate) fn put_json(
     put_member(alloc, out, world, senders, Table::Payments)?;
     put_member(alloc, out, world, senders, Table::Entries)?;
     put_member(alloc, out, world, senders, Table::Rows)?;
-    put_member(alloc, out, world, senders, Table::Packets)
+    put_member(alloc, out, world, senders, Table::Packets)?;
+    put_member(alloc, out, world, senders, Table::Counted)
 }
 
 /// Appends a table as a member of an object of JSON, behind a comma.
@@ -119,6 +127,7 @@ fn put_names(out: &mut Vec<u8>, table: Table) -> Result<(), AllocError>
         Table::Entries => put_entry_names(out),
         Table::Rows => put_row_names(out),
         Table::Packets => put_packet_names(out),
+        Table::Counted => put_counted_names(out),
     }
 }
 
@@ -139,6 +148,7 @@ fn put_table(
         Table::Entries => put_entries(alloc, out, style, world.pharmacies()),
         Table::Rows => put_rows(alloc, out, style, world.payers()),
         Table::Packets => put_packets(out, style, world.packets(), senders),
+        Table::Counted => put_counted(alloc, out, style, world.pharmacies()),
     }
 }
 
@@ -185,6 +195,22 @@ fn put_entries(
     for node in nodes {
         let journal = node.journal(alloc)?;
         put_journal(out, style, &journal)?;
+    }
+    Ok(())
+}
+
+/// Appends the payments that these pharmacies count.
+fn put_counted(
+    alloc: Global,
+    out: &mut Vec<u8>,
+    style: Style,
+    nodes: &[PharmacyNode],
+) -> Result<(), AllocError>
+    ensures { TellsRows style out.old out.new (λ ctx. flat_map (node_counted_rows ctx) nodes.now) result }
+{
+    for node in nodes {
+        let journal = node.journal(alloc)?;
+        put_journal_counted(out, style, &journal)?;
     }
     Ok(())
 }

@@ -1,6 +1,7 @@
 //! The ledger of a pharmacy.
 
 ghost use Rattle.std.specs.Prelude.{◌≡◌, ◌≤◌, length, MatchOption};
+ghost use Rattle.claim_model.specs.Limits.{most_entries};
 ghost use Rattle.node_logged.specs.Ledgers.{IsEntryOf, IsOfNone, is_answer};
 
 use crate::till::Receipt;
@@ -40,7 +41,7 @@ impl Ledger {
     /// How many entries the journal has.
     pub(crate) fn entries(&self) -> usize
         ensures value { result ≡ length self.now.entries }
-        ensures small { result ≤ 65536 }
+        ensures small { result ≤ most_entries }
     {
         self.journal.entries()
     }

@@ -1,6 +1,6 @@
 //! The payments of a book in the order of their serial numbers, with the place of each fill's standing one.
 
-ghost use Rattle.std.specs.Prelude.{◌≡◌, ◌+◌, ◌≤◌, [], ◌∷◌, ◌++◌, map, find, filter, length, slice_get, option_and_then, None, IsSome, OnOk};
+ghost use Rattle.std.specs.Prelude.{◌≡◌, ◌+◌, ◌<◌, ◌≤◌, [], ◌∷◌, ◌++◌, map, find, filter, length, slice_get, option_and_then, None, IsSome, OnOk};
 ghost use Rattle.std.specs.Option.{option_copied};
 ghost use Rattle.claim_model.specs.Payments.{same_auth};
 ghost use Rattle.payer_book.specs.declared.book.payment.Payment.TheVariants.{Standing as Stands};
@@ -20,14 +20,13 @@ use std::alloc::{AllocError, Global};
 use std::collections::HashMap;
 use std::marker::Model;
 
-/// How many fill numbers there are: 0 to 99 (403-D3, one or two digits).
-const FILLS: u16 = 100;
-
-/// The payments of a payer, whose first one has the serial number `first`, and where each fill's standing one is.
+/// The payments of a payer, whose first one has the serial number `first`, and where each fill's standing one is. Each fill
+/// number (403-D3) that was paid is below `numbers`.
 #[derive(Drop)]
 pub(crate) struct Payments {
     payer: PayerNo,
     first: u64,
+    numbers: u16,
     list: Vec<Payment>,
     standing: HashMap<Fill, usize, HashStart>,
 }
@@ -47,7 +46,7 @@ impl Model for Payments {
       room = min (vec_capacity p.list - vec_len p.list) (spare p.standing);
     } };
 
-    ghost invariant = { λ p. IsIndexed p.payer p.first p.list.items (get ⟦<Fill as PartialEq>⟧.eq p.standing) };
+    ghost invariant = { λ p. IsIndexed p.payer p.first p.numbers p.list.items (get ⟦<Fill as PartialEq>⟧.eq p.standing) };
 }
 
 impl Payments {
@@ -61,6 +60,7 @@ impl Payments {
         Payments {
             payer,
             first,
+            numbers: 0,
             list: Vec::new(alloc),
             standing: HashMap::with_hasher(alloc, keys.start()),
         }
@@ -132,7 +132,7 @@ impl Payments {
                 let first = u16::from(number);
                 self.matching_from(reversal, changes, first, first + 1)
             }
-            None => self.matching_from(reversal, changes, 0, FILLS),
+            None => self.matching_from(reversal, changes, 0, self.numbers),
         }
     }
 
@@ -200,6 +200,7 @@ impl Payments {
         ensures room { self.old.room ≤ self.new.room + 1 }
     {
         let place = self.list.len();
+        self.numbers = above(self.numbers, payment.claim().fill.fill);
         let _ = self.standing.insert(payment.claim().fill, place);
         self.list.push_reserved(Payment::Standing(payment));
     }
@@ -219,6 +220,15 @@ impl Payments {
             self.list[place] = Payment::Reversed(payment.copy().reverse(by));
         }
     }
+}
+
+/// The bound of the fill numbers below it, and of one more.
+fn above(numbers: u16, number: u8) -> u16
+    ensures others { numbers ≤ result }
+    ensures number { number < result }
+    ensures most { numbers ≤ 100 → number ≤ 99 → result ≤ 100 }
+{
+    numbers.max(u16::from(number) + 1)
 }
 
 /// The standing payment at a place.

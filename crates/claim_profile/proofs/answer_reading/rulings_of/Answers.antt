@@ -8,7 +8,7 @@ use Rattle.claim_profile.proofs.answer_reading.rulings_of.Goals as goal
 
 pub loop-group-init : goal.loop-group-init
 loop-group-init c = record {
-  read = rw c.new-rulings.ensures.items (begins (rulings_in c.args.header.now (groups_of c.args.from.bytes.now)));
+  read = rw c.clear.ensures.items (begins (rulings_in c.args.header.now (groups_of c.args.from.bytes.now)));
   left = c.requires;
 }
 

@@ -1,7 +1,7 @@
 use Rattle.std.proofs.Common.{◌++◌}
 use Rattle.std.specs.Prelude.{codes}
 use Rattle.input_text.proofs.Joining.{lists_join}
-use Rattle.log_audit.specs.Rows.{list_text}
+use Rattle.table_text.specs.Rows.{list_text}
 use Rattle.log_audit.proofs.object.put_reasons.Goals as goal
 
 pub returns : goal.returns

@@ -3,11 +3,11 @@ use Rattle.claim_model.specs.Logs.{NodeLog}
 use Rattle.std.specs.Prelude.{slice_index}
 use Rattle.run_merge.specs.LogSeen.{logs_seen}
 use Rattle.run_merge.specs.declared.log.NodeLog.{NodeLog as Kept}
-use Rattle.log_audit.specs.Members.{Row}
+use Rattle.table_text.specs.Members.{Row}
 use Rattle.log_audit.specs.Payments.{told_from}
-use Rattle.log_audit.specs.Rows.{rows_text}
+use Rattle.table_text.specs.Rows.{rows_text}
 use Rattle.log_audit.specs.Telling.{log_row}
-use Rattle.log_audit.specs.declared.tables.layout.Style.TheVariants.{Json}
+use Rattle.table_text.specs.declared.layout.Style.TheVariants.{Json}
 use Rattle.log_audit.proofs.Going.{goes_on, is_done}
 use Rattle.log_audit.proofs.object.put_rows.Goals as goal
 

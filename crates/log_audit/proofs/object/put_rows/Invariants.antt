@@ -2,9 +2,9 @@ use Rattle.std.proofs.Common.{◌≡◌, ◌++◌, [], ◌∷◌, drop}
 use Rattle.std.specs.Prelude.{slice_index}
 use Rattle.run_merge.specs.LogSeen.{logs_seen}
 use Rattle.log_audit.specs.Payments.{told_from}
-use Rattle.log_audit.specs.Rows.{rows_text}
+use Rattle.table_text.specs.Rows.{rows_text}
 use Rattle.log_audit.specs.Telling.{log_row, log_rows}
-use Rattle.log_audit.specs.declared.tables.layout.Style.TheVariants.{Json}
+use Rattle.table_text.specs.declared.layout.Style.TheVariants.{Json}
 use Rattle.log_audit.proofs.object.put_rows.Given as goal
 
 -- the rows so far, and then those of the logs that are left

@@ -11,5 +11,5 @@ returns-in-Ok-clause-judged c =
     IfOk-weaker c.reported.result
     (λ report. IsTold audited.settings (logs_seen audited.logs.items) report.legal)
     (λ report. IsReported c.args.settings.now (map (λ bytes. bytes.items) c.args.logs.now) report.legal)
-    (λ report told. record { settings = audited.settings; logs = logs_seen audited.logs.items; read = c.in-Ok.ensures; told = told })
+    (λ report told. record { settings = audited.settings; logs = logs_seen audited.logs.items; read = c.in-Ok.ensures.read; told = told })
     c.reported.ensures.judged

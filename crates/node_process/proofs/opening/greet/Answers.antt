@@ -1,7 +1,8 @@
 use Rattle.std.proofs.Common.{is_ok, ◌∷◌}
+use Rattle.node_service.specs.Answering.{ready_line}
 use Rattle.node_service.specs.Serving.{cleared}
 use Rattle.node_process.specs.Acts.{Say}
-use Rattle.node_process.specs.Safe.{owner_seen, Serves, ready_line}
+use Rattle.node_process.specs.Safe.{owner_seen, Serves}
 use Rattle.node_process.proofs.Moments.{greet_runs, greet_all, when_done}
 use Rattle.node_process.proofs.opening.greet.Goals as goal
 

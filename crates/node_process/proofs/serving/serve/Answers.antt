@@ -16,7 +16,7 @@ returns-in_err-serve_heard-clause-each g c = rw c.in_ok-count.ensures.heard (tur
 
 pub keep_records-requires : goal.keep_records-requires
 keep_records-requires g c =
-    rw c.in_ok-count.ensures.heard (turn_serves (owner_seen c.args.owner.now) (g.M.Machine.acts c.loop.machine) c.loop.service c.serve_heard.new.service c.loop.pending.items (take c.in_ok-count.count c.hear.new.buffer) c.loop.invariant c.in_ok-serve_heard.ensures.served)
+    rw c.in_ok-count.ensures.heard (turn_serves (owner_seen c.args.owner.now) (g.M.Machine.acts c.loop.machine) c.loop.service c.serve_heard.new.service c.loop.pending.items (take c.in_ok-count.count c.hear.new.buffer) c.loop.invariant c.in_ok-serve_heard.ensures.served c.in_ok-serve_heard.ensures.fits)
 
 pub loop-preserved : goal.loop-preserved
 loop-preserved g c =

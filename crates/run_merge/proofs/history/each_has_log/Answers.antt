@@ -1,10 +1,29 @@
-use Rattle.std.proofs.Common.{◌≡◌, ◌<◌, length, sym, ap, ◌∙◌, arith}
+use Rattle.std.proofs.Common.{◌≡◌, ◌<◌, ◌≤◌, ℕ, length, sym, ap, subst, ◌∙◌, arith}
+use Rattle.std.proofs.lemmas.List.{length-map}
+use Rattle.claim_model.specs.Limits.{most_pharmacies, most_switches, most_payers}
 use Rattle.claim_model.specs.Node.{Node}
-use Rattle.world_setup.specs.Seen.{node_seen}
+use Rattle.claim_model.proofs.Given.{passed}
+use Rattle.world_setup.specs.Seen.{node_seen, payer_seen, settings_seen}
 use Rattle.run_merge.specs.Naming.{name_at, has_log}
 use Rattle.run_merge.specs.LogSeen.{logs_seen}
 use Rattle.run_merge.proofs.Covering.{count_of, name_in, have_all, have_not}
 use Rattle.run_merge.proofs.history.each_has_log.Goals as goal
+
+pub name_at-requires-clause-pharmacies : goal.name_at-requires-clause-pharmacies
+name_at-requires-clause-pharmacies c =
+    let most : length c.args.settings.now.pharmacies.items ≤ most_pharmacies = (passed (settings_seen c.args.settings.now) c.requires).pharmacies in
+    omega (arith, most)
+
+pub name_at-requires-clause-switches : goal.name_at-requires-clause-switches
+name_at-requires-clause-switches c =
+    let most : length c.args.settings.now.switches.items ≤ most_switches = (passed (settings_seen c.args.settings.now) c.requires).switches in
+    omega (arith, most)
+
+pub name_at-requires-clause-place : goal.name_at-requires-clause-place
+name_at-requires-clause-place c =
+    let most : length c.args.settings.now.payers.items ≤ most_payers =
+    subst (λ (n : ℕ). n ≤ most_payers) (length-map c.args.settings.now.payers.items payer_seen) (passed (settings_seen c.args.settings.now) c.requires).payers in
+    omega (arith, most)
 
 pub returns-then-not-has_log : goal.returns-then-not-has_log
 returns-then-not-has_log c =

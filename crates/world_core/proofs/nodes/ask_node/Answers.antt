@@ -1,8 +1,7 @@
 use Rattle.std.proofs.Common.{◌≡◌, ◌<◌, length, map, inl, inr, Some, slice_get, arith}
 use Rattle.std.proofs.lemmas.Result.{IfOk-weaker, IfErr-weaker}
-use Rattle.world_setup.specs.Seen.{sent_seen}
+use Rattle.world_setup.specs.Seen.{sent_seen, lent_seen}
 use Rattle.world_setup.specs.Refused.{refusal_of}
-use Rattle.world_core.specs.Asked.{asked_seen}
 use Rattle.world_core.proofs.Calls.{node_at, called_done, called_refused, called_nobody, most_at}
 use Rattle.world_core.proofs.nodes.ask_node.Goals as goal
 
@@ -16,16 +15,16 @@ pub returns-in-Some-clause-ok : goal.returns-in-Some-clause-ok
 returns-in-Some-clause-ok g c =
     let within : c.in-Some.place < length c.args.nodes.now.items = omega (arith, c.in-Some.ensures.place.1, c.len.ensures) in
     let there : slice_get c.args.nodes.now.items c.in-Some.place ≡ Some c.index_mut.result.now = node_at _ _ _ _ within c.index_mut.ensures.value in
-    IfOk-weaker c.ask.result _ _ (λ sent h. called_done (λ node. g.N.Ruled.ruled c.args.routes.now node (asked_seen c.args.call)) c.args.nodes.now.items c.args.number c.in-Some.place c.index_mut.result.now c.ask.new.self (map sent_seen sent.items) c.in-Some.ensures.place.0 there h) c.ask.ensures.ok
+    IfOk-weaker c.step.result _ _ (λ sent h. called_done (λ node. g.K.Kind.step c.args.routes.now node (lent_seen c.args.call)) c.args.nodes.now.items c.args.number c.in-Some.place c.index_mut.result.now c.step.new.self (map sent_seen sent.items) c.in-Some.ensures.place.0 there h) c.step.ensures.ok
 
 pub returns-in-Some-clause-fault : goal.returns-in-Some-clause-fault
 returns-in-Some-clause-fault g c =
     let within : c.in-Some.place < length c.args.nodes.now.items = omega (arith, c.in-Some.ensures.place.1, c.len.ensures) in
     let there : slice_get c.args.nodes.now.items c.in-Some.place ≡ Some c.index_mut.result.now = node_at _ _ _ _ within c.index_mut.ensures.value in
-    IfErr-weaker c.ask.result _ _ (λ fault h. called_refused (λ node. g.N.Ruled.ruled c.args.routes.now node (asked_seen c.args.call)) c.args.nodes.now.items c.args.number c.in-Some.place c.index_mut.result.now (refusal_of fault) c.in-Some.ensures.place.0 there h) c.ask.ensures.fault
+    IfErr-weaker c.step.result _ _ (λ fault h. called_refused (λ node. g.K.Kind.step c.args.routes.now node (lent_seen c.args.call)) c.args.nodes.now.items c.args.number c.in-Some.place c.index_mut.result.now (refusal_of fault) c.in-Some.ensures.place.0 there h) c.step.ensures.fault
 
 pub returns-in-Some-clause-few : goal.returns-in-Some-clause-few
 returns-in-Some-clause-few g c =
     let within : c.in-Some.place < length c.args.nodes.now.items = omega (arith, c.in-Some.ensures.place.1, c.len.ensures) in
     let there : slice_get c.args.nodes.now.items c.in-Some.place ≡ Some c.index_mut.result.now = node_at _ _ _ _ within c.index_mut.ensures.value in
-    IfOk-weaker c.ask.result _ _ (λ sent h. most_at (λ node. g.N.Ruled.most node (asked_seen c.args.call)) c.args.nodes.now.items c.args.number c.in-Some.place c.index_mut.result.now (length sent.items) c.in-Some.ensures.place.0 there h) c.ask.ensures.few
+    IfOk-weaker c.step.result _ _ (λ sent h. most_at (λ node. g.K.Kind.most node (lent_seen c.args.call)) c.args.nodes.now.items c.args.number c.in-Some.place c.index_mut.result.now (length sent.items) c.in-Some.ensures.place.0 there h) c.step.ensures.few

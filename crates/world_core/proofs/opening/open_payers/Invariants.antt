@@ -9,7 +9,7 @@ use Rattle.world_core.proofs.opening.open_payers.Given as goal
 abbrev pub invariant-loop-each : goal.invariant-loop-each
 invariant-loop-each l = record {
   some : 0 < l.number;
-  few : l.number + length (into_iter_items l.each-iterator) ≤ 65;
+  few : l.number + length (into_iter_items l.each-iterator) ≤ 4097;
   opened : l.nodes.items ++ payers_from l.number (map payer_seen (into_iter_items l.each-iterator)) ≡ payers_from 1 (map payer_seen l.fn.settings.items);
   serials : AllByRecursion HasSerial (into_iter_items l.each-iterator) → AllByRecursion HasSerial l.fn.settings.items;
 }

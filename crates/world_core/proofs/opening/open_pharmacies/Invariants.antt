@@ -8,10 +8,9 @@ use Rattle.world_core.proofs.opening.open_pharmacies.Given as goal
 
 abbrev pub invariant-loop-each : goal.invariant-loop-each
 invariant-loop-each l = record {
-  some : 0 < l.number;
-  few : l.number + length (into_iter_items l.each-iterator) ≤ 257;
+  few : length l.nodes.items + length (into_iter_items l.each-iterator) ≤ 65535;
   nodes_left : AllByRecursion HasSwitches (into_iter_items l.each-iterator);
-  opened : l.nodes.items ++ pharmacies_from l.number (into_iter_items l.each-iterator) ≡ pharmacies_from 1 l.fn.settings.items;
+  opened : l.nodes.items ++ pharmacies_from (length l.nodes.items + 1) (into_iter_items l.each-iterator) ≡ pharmacies_from 1 l.fn.settings.items;
   sized : AllByRecursion IsPharmacySettings (into_iter_items l.each-iterator) → AllByRecursion IsPharmacySettings l.fn.settings.items;
   timely : AllByRecursion IsTimely (into_iter_items l.each-iterator) → AllByRecursion IsTimely l.fn.settings.items;
 }

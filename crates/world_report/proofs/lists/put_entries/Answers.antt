@@ -1,10 +1,27 @@
+use Rattle.std.proofs.Common.{◌++◌, Bool, true, false, List, sym, ap, ◌∙◌, subst}
+use Rattle.std.specs.List.{flat_map}
+use Rattle.claim_model.specs.Journal.{Kept}
+use Rattle.pharmacy_journal.specs.Listing.{Listed, listed_from}
+use Rattle.pharmacy_journal.specs.Telling.{TellsNext}
+use Rattle.world_report.specs.Words.{lines_text}
 use Rattle.world_report.specs.Places.{entry_lines}
-use Rattle.world_report.proofs.Joining.{blocks_go_on, blocks_are_done}
+use Rattle.world_report.proofs.Joining.{block_goes_on, block_ends}
 use Rattle.world_report.proofs.lists.put_entries.Goals as goal
 
-pub loop-entry-preserved : goal.loop-entry-preserved
-loop-entry-preserved c =
-    blocks_go_on entry_lines c.loop-entry.out.items c.put_entry.new.out.items _ c.args.entries.now c.loop-entry.entry-index c.entry-item.result c.loop-entry-test.true c.entry-item.is c.in_ok-put_entry.ensures c.loop-entry.invariant
+pub entries-preserved : goal.entries-preserved
+entries-preserved c =
+    let l = c.entries in
+    let t = c.next.new.self in
+    let told : TellsNext l.teller t true = subst (λ (more : Bool). TellsNext l.teller t more) c.if-branch.true c.in_ok-next.ensures.next in
+    record {
+      lines = block_goes_on l.out.items c.put_entry.new.out.items _ (entry_lines t.entry) (flat_map entry_lines (listed_from t.number t.left))
+          (c.in_ok-put_entry.ensures ∙ ap (λ (e : Listed). l.out.items ++ lines_text (entry_lines e)) c.entry.ensures)
+          (sym (ap (λ (es : List Listed). l.out.items ++ lines_text (flat_map entry_lines es)) told.0) ∙ l.invariant.lines);
+      same = c.next.ensures.same ∙ l.invariant.same;
+    }
 
-pub returns : goal.returns
-returns c = blocks_are_done entry_lines c.loop-entry.out.items _ c.args.entries.now c.loop-entry.entry-index c.loop-entry-test.false c.loop-entry.invariant
+pub returns-clause-lines : goal.returns-clause-lines
+returns-clause-lines c =
+    let l = c.entries in
+    let told : TellsNext l.teller c.next.new.self false = subst (λ (more : Bool). TellsNext l.teller c.next.new.self more) c.if-branch.false c.in_ok-next.ensures.next in
+    block_ends l.out.items _ (sym (ap (λ (ks : List Kept). l.out.items ++ lines_text (flat_map entry_lines (listed_from l.teller.number ks))) told.0) ∙ l.invariant.lines)

@@ -1,7 +1,7 @@
 use Rattle.std.proofs.Common.{◌++◌, refl, ap, ◌∙◌}
 use Rattle.std.proofs.lemmas.Result.{on_ok_weaker}
-use Rattle.log_audit.specs.Members.{Row}
-use Rattle.log_audit.specs.Rows.{row_text}
+use Rattle.table_text.specs.Members.{Row}
+use Rattle.table_text.specs.Rows.{row_text}
 use Rattle.log_audit.specs.Entries.{shown_row}
 use Rattle.log_audit.proofs.Joining.{cons_alike}
 use Rattle.log_audit.proofs.tables.entries.put_shown.Goals as goal

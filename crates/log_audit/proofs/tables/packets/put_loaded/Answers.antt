@@ -1,8 +1,8 @@
 use Rattle.std.proofs.Common.{◌++◌, List, ℕ, refl, ap, ◌∙◌}
 use Rattle.std.specs.Prelude.{codes}
 use Rattle.std.proofs.lemmas.Result.{on_ok_weaker}
-use Rattle.log_audit.specs.Members.{Row}
-use Rattle.log_audit.specs.Rows.{row_text}
+use Rattle.table_text.specs.Members.{Row}
+use Rattle.table_text.specs.Rows.{row_text}
 use Rattle.log_audit.specs.Kinds.{text_member}
 use Rattle.log_audit.specs.Packets.{loaded_row}
 use Rattle.log_audit.proofs.Joining.{cons_alike}

@@ -2,7 +2,7 @@ use Rattle.std.proofs.Common.{◌≡◌, ◌+◌, ◌++◌, drop, map}
 use Rattle.bin_routes.specs.Table.{RouteMaps}
 use Rattle.claim_model.specs.Bytes.{bytes_with}
 use Rattle.world_setup.specs.Seen.{packet_seen}
-use Rattle.log_audit.specs.Rows.{rows_text}
+use Rattle.table_text.specs.Rows.{rows_text}
 use Rattle.log_audit.specs.Payments.{told_from}
 use Rattle.log_audit.specs.Packets.{packet_told}
 use Rattle.log_audit.proofs.tables.packets.put_packets.Given as goal

@@ -1,7 +1,7 @@
 use Rattle.std.proofs.Common.{◌≡◌, ◌+◌, ◌++◌, drop}
 use Rattle.bin_routes.specs.Table.{RouteMaps}
 use Rattle.claim_model.specs.Bytes.{bytes_with}
-use Rattle.log_audit.specs.Rows.{rows_text}
+use Rattle.table_text.specs.Rows.{rows_text}
 use Rattle.pharmacy_journal.specs.Counting.{has_auth}
 use Rattle.log_audit.specs.Payments.{ruling_payment, told_from}
 use Rattle.log_audit.proofs.tables.payments.put_row_payments.Given as goal

@@ -1,7 +1,7 @@
 use Rattle.std.proofs.Common.{◌++◌, refl, ap, ◌∙◌}
 use Rattle.std.proofs.lemmas.Result.{on_ok_weaker}
-use Rattle.log_audit.specs.Members.{Row}
-use Rattle.log_audit.specs.Rows.{row_text}
+use Rattle.table_text.specs.Members.{Row}
+use Rattle.table_text.specs.Rows.{row_text}
 use Rattle.log_audit.specs.Rulings.{answered_row}
 use Rattle.log_audit.proofs.Joining.{cons_alike}
 use Rattle.log_audit.proofs.tables.rows.put_answered.Goals as goal
@@ -12,5 +12,6 @@ returns c =
     on_ok_weaker c.put_row.result
     (λ last. last ∙ ap (λ (row : Row). c.args.out.now.items ++ row_text c.args.style row)
     (cons_alike c.number.ensures (cons_alike c.number-2.ensures (cons_alike c.number-3.ensures (cons_alike c.word.ensures
-    (cons_alike c.number-4.ensures (cons_alike c.word-2.ensures (cons_alike c.text.ensures (cons_alike c.text-2.ensures refl)))))))))
+    (cons_alike c.number-4.ensures (cons_alike c.word-2.ensures (cons_alike c.text.ensures (cons_alike c.text-2.ensures
+    (cons_alike c.number_or_nothing.ensures (cons_alike c.text-3.ensures (cons_alike c.number_or_nothing-2.ensures refl))))))))))))
     c.put_row.ensures

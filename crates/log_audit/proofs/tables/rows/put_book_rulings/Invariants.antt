@@ -1,6 +1,6 @@
 use Rattle.std.proofs.Common.{◌≡◌, ◌++◌, drop}
 use Rattle.std.specs.List.{flat_map}
-use Rattle.log_audit.specs.Rows.{rows_text}
+use Rattle.table_text.specs.Rows.{rows_text}
 use Rattle.log_audit.specs.Rulings.{row_rulings}
 use Rattle.log_audit.proofs.tables.rows.put_book_rulings.Given as goal
 

@@ -5,7 +5,7 @@ use Rattle.log_audit.proofs.tables.rows.put_row_rulings.Goals as goal
 
 pub loop-passed-preserved : goal.loop-passed-preserved
 loop-passed-preserved c =
-    let put = rw (c.ruled_at.ensures, c.get-payer.ensures.value, c.payer.ensures, c.id-id.ensures, c.kind_of-kind.ensures) at c.in_ok-put_ruling.ensures in
+    let put = rw (c.ruled_at.ensures, c.get-payer.ensures.value, c.payer.ensures, c.id-id.ensures, c.kind_of-kind.ensures, c.date_of-date.ensures) at c.in_ok-put_ruling.ensures in
     told_goes_on c.args.style (ruling_rows c.args.book.now.payer c.args.row.now) c.loop-passed.out.items c.put_ruling.new.out.items _ c.rulings-rulings.result.now c.loop-passed.passed
     c.index-rulings-passed.result c.loop-passed-test.true c.index-rulings-passed.is (one_row c.args.style c.loop-passed.out.items c.put_ruling.new.out.items _ put) c.loop-passed.invariant
 

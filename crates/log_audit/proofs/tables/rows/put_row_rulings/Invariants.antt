@@ -1,5 +1,5 @@
 use Rattle.std.proofs.Common.{◌≡◌, ◌+◌, ◌++◌, drop}
-use Rattle.log_audit.specs.Rows.{rows_text}
+use Rattle.table_text.specs.Rows.{rows_text}
 use Rattle.log_audit.specs.Payments.{told_from}
 use Rattle.log_audit.specs.Rulings.{ruling_rows}
 use Rattle.log_audit.proofs.tables.rows.put_row_rulings.Given as goal

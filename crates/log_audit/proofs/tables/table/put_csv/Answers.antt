@@ -1,6 +1,6 @@
 use Rattle.std.proofs.lemmas.Result.{on_ok_weaker}
-use Rattle.log_audit.specs.Rows.{rows_text, head_text}
-use Rattle.log_audit.specs.declared.tables.layout.Style.TheVariants.{Csv}
+use Rattle.table_text.specs.Rows.{rows_text, head_text}
+use Rattle.table_text.specs.declared.layout.Style.TheVariants.{Csv}
 use Rattle.world_core.specs.Parts.{context_of}
 use Rattle.log_audit.specs.Tables.{table_names, table_rows, table_csv}
 use Rattle.input_text.proofs.Joining.{lists_join}

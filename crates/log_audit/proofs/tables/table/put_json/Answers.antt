@@ -2,7 +2,7 @@ use Rattle.std.proofs.Common.{◌++◌}
 use Rattle.std.proofs.lemmas.Result.{on_ok_weaker}
 use Rattle.world_core.specs.Parts.{context_of}
 use Rattle.log_audit.specs.Tables.{table_member, table_members}
-use Rattle.log_audit.specs.declared.tables.table.Table.TheVariants.{Payments, Entries, Rows, Packets}
+use Rattle.log_audit.specs.declared.tables.table.Table.TheVariants.{Payments, Entries, Rows, Packets, Counted as CountedTable}
 use Rattle.input_text.proofs.Joining.{lists_join}
 use Rattle.log_audit.proofs.tables.table.put_json.Goals as goal
 
@@ -11,9 +11,10 @@ unfolding table_members
 returns c =
     let w = c.args.world.now in
     let text = table_member (context_of w) w.world c.args.senders.now in
-    let end = c.put_member-4.new.out.items in
-    on_ok_weaker c.put_member-4.result
-    (λ last. lists_join c.args.out.now.items c.put_member.new.out.items end (text Payments) (text Entries ++ (text Rows ++ text Packets)) c.in_ok-put_member.ensures
-    (lists_join c.put_member.new.out.items c.put_member-2.new.out.items end (text Entries) (text Rows ++ text Packets) c.in_ok-put_member-2.ensures
-    (lists_join c.put_member-2.new.out.items c.put_member-3.new.out.items end (text Rows) (text Packets) c.in_ok-put_member-3.ensures last)))
-    c.put_member-4.ensures
+    let end = c.put_member-5.new.out.items in
+    on_ok_weaker c.put_member-5.result
+    (λ last. lists_join c.args.out.now.items c.put_member.new.out.items end (text Payments) (text Entries ++ (text Rows ++ (text Packets ++ text CountedTable))) c.in_ok-put_member.ensures
+    (lists_join c.put_member.new.out.items c.put_member-2.new.out.items end (text Entries) (text Rows ++ (text Packets ++ text CountedTable)) c.in_ok-put_member-2.ensures
+    (lists_join c.put_member-2.new.out.items c.put_member-3.new.out.items end (text Rows) (text Packets ++ text CountedTable) c.in_ok-put_member-3.ensures
+    (lists_join c.put_member-3.new.out.items c.put_member-4.new.out.items end (text Packets) (text CountedTable) c.in_ok-put_member-4.ensures last))))
+    c.put_member-5.ensures

@@ -2,7 +2,7 @@ use Rattle.std.proofs.Common.{◌≡◌, ◌++◌, drop}
 use Rattle.std.specs.List.{flat_map}
 use Rattle.bin_routes.specs.Table.{RouteMaps}
 use Rattle.claim_model.specs.Bytes.{bytes_with}
-use Rattle.log_audit.specs.Rows.{rows_text}
+use Rattle.table_text.specs.Rows.{rows_text}
 use Rattle.pharmacy_journal.specs.Counting.{has_auth}
 use Rattle.log_audit.specs.Tables.{node_payments}
 use Rattle.log_audit.proofs.tables.table.put_paid.Given as goal

@@ -3,7 +3,7 @@ use Rattle.std.specs.List.{flat_map}
 use Rattle.std.proofs.lemmas.Result.{on_ok_weaker}
 use Rattle.claim_model.specs.Words.{Auth}
 use Rattle.world_core.specs.Parts.{context_of}
-use Rattle.log_audit.specs.Rows.{rows_text}
+use Rattle.table_text.specs.Rows.{rows_text}
 use Rattle.pharmacy_journal.specs.Counting.{has_auth}
 use Rattle.log_audit.specs.Tables.{node_payments, is_counted}
 use Rattle.log_audit.proofs.tables.table.put_payments.Goals as goal

@@ -5,14 +5,14 @@ use Rattle.node_state.proofs.state.NodeState.step.Goals.{in-Pharmacy, in-Switch,
 
 pub returns-clause-ok : goal.returns-clause-ok
 returns-clause-ok c = elim c.match-self.branch [
-  | in-Pharmacy w ↦ rw (w.result-is, w.self-inside-is, ← c.self.view_is, w.in-Pharmacy.is) (done_as OfPharmacy _ _ _ _ (w.step.ensures.ok c.args.routes.now))
-  | in-Switch w ↦ rw (w.result-is, w.self-inside-is, ← c.self.view_is, w.in-Switch.is) (done_as OfSwitch _ _ _ _ w.step-in-Switch.ensures.ok)
-  | in-Payer w ↦ rw (w.result-is, w.self-inside-is, ← c.self.view_is, w.in-Payer.is) (done_as OfPayer _ _ _ _ w.step-in-Payer.ensures.ok)
+  | in-Pharmacy w ↦ rw (w.result-is, w.self-inside-is, ← c.self.view_is, w.in-Pharmacy.is, ← c.lent-call.ensures) (done_as OfPharmacy _ _ _ _ w.step.ensures.ok)
+  | in-Switch w ↦ rw (w.result-is, w.self-inside-is, ← c.self.view_is, w.in-Switch.is, ← c.lent-call.ensures) (done_as OfSwitch _ _ _ _ w.step-in-Switch.ensures.ok)
+  | in-Payer w ↦ rw (w.result-is, w.self-inside-is, ← c.self.view_is, w.in-Payer.is, ← c.lent-call.ensures) (done_as OfPayer _ _ _ _ w.step-in-Payer.ensures.ok)
 ]
 
 pub returns-clause-fault : goal.returns-clause-fault
 returns-clause-fault c = elim c.match-self.branch [
-  | in-Pharmacy w ↦ rw (w.result-is, ← c.self.view_is, w.in-Pharmacy.is) (refused_as OfPharmacy _ _ (w.step.ensures.fault c.args.routes.now))
-  | in-Switch w ↦ rw (w.result-is, ← c.self.view_is, w.in-Switch.is) (refused_as OfSwitch _ _ w.step-in-Switch.ensures.fault)
-  | in-Payer w ↦ rw (w.result-is, ← c.self.view_is, w.in-Payer.is) (refused_as OfPayer _ _ w.step-in-Payer.ensures.fault)
+  | in-Pharmacy w ↦ rw (w.result-is, ← c.self.view_is, w.in-Pharmacy.is, ← c.lent-call.ensures) (refused_as OfPharmacy _ _ w.step.ensures.fault)
+  | in-Switch w ↦ rw (w.result-is, ← c.self.view_is, w.in-Switch.is, ← c.lent-call.ensures) (refused_as OfSwitch _ _ w.step-in-Switch.ensures.fault)
+  | in-Payer w ↦ rw (w.result-is, ← c.self.view_is, w.in-Payer.is, ← c.lent-call.ensures) (refused_as OfPayer _ _ w.step-in-Payer.ensures.fault)
 ]

@@ -1,6 +1,7 @@
 use Rattle.std.proofs.Common.{ℕ, ◌≤◌, length, sym, subst}
 use Rattle.std.proofs.lemmas.Bool.{not-false}
 use Rattle.std.proofs.lemmas.List.{length-map}
+use Rattle.claim_model.specs.Limits.{most_payers}
 use Rattle.claim_model.specs.World.{World}
 use Rattle.claim_model.proofs.Given.{passed}
 use Rattle.world_setup.specs.Seen.{payer_seen, settings_seen}
@@ -12,7 +13,7 @@ pub opening-requires-clause-pharmacies : goal.opening-requires-clause-pharmacies
 opening-requires-clause-pharmacies c = (passed (settings_seen c.args.settings) c.in_ok-routes.ensures.nodes).pharmacies
 
 pub opening-requires-clause-payers : goal.opening-requires-clause-payers
-opening-requires-clause-payers c = subst (λ (n : ℕ). n ≤ 64) (length-map c.args.settings.payers.items payer_seen) (passed (settings_seen c.args.settings) c.in_ok-routes.ensures.nodes).payers
+opening-requires-clause-payers c = subst (λ (n : ℕ). n ≤ most_payers) (length-map c.args.settings.payers.items payer_seen) (passed (settings_seen c.args.settings) c.in_ok-routes.ensures.nodes).payers
 
 pub opening-requires-clause-nodes : goal.opening-requires-clause-nodes
 opening-requires-clause-nodes c = all_have_switches (length c.args.settings.switches.items) c.args.settings.pharmacies.items (not-false _ (passed (settings_seen c.args.settings) c.in_ok-routes.ensures.nodes).nodes)

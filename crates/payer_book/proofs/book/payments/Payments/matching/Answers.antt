@@ -1,5 +1,7 @@
-use Rattle.std.proofs.Common.{◌+◌, ap, ◌∙◌}
-use Rattle.payer_book.specs.Ledger.{standing_in}
+use Rattle.std.proofs.Common.{◌+◌, ap, ◌∙◌, subst}
+use Rattle.std.specs.List.{AllByRecursion}
+use Rattle.payer_book.specs.Ledger.{Ledger, standing_in}
+use Rattle.payer_book.specs.PaymentPlaces.{IsBelow}
 use Rattle.payer_book.specs.Matches.{tally, matches_between}
 use Rattle.payer_book.proofs.Matching.{matches_one, matches_any}
 use Rattle.payer_book.proofs.book.payments.Payments.matching.Goals as goal
@@ -13,4 +15,5 @@ returns-in-Some c =
 pub returns-in-None : goal.returns-in-None
 returns-in-None c =
     let ss = standing_in c.args.self.now.payments in
-    c.matching_from-in-None.ensures.value ∙ ap tally (matches_any c.args.reversal.now c.args.changes.now ss c.matching_from-in-None.ensures.ledger.numbers)
+    let below = subst (λ (l : Ledger). AllByRecursion (IsBelow c.self.inside.numbers) (standing_in l.payments)) c.self.view_is c.self.invariant.below in
+    c.matching_from-in-None.ensures.value ∙ ap tally (matches_any c.args.reversal.now c.args.changes.now c.self.inside.numbers ss below)

@@ -1,4 +1,5 @@
-use Rattle.std.proofs.Common.{◌≡◌, ◌+◌, ◌≤◌, List, None, length, sym, ap, subst, arith}
+use Rattle.std.proofs.Common.{◌≡◌, ◌+◌, ◌<◌, ◌≤◌, List, None, length, sym, ap, subst, arith}
+use Rattle.claim_model.specs.Words.{Claim}
 use Rattle.payer_book.specs.declared.book.payment.Payment.{Payment}
 use Rattle.payer_book.specs.Ledger.{Ledger, standing_in, standing_of}
 use Rattle.payer_book.proofs.Lists.{ok_holds}
@@ -14,6 +15,11 @@ invariant_of-self c =
     let room = subst (λ (l : Ledger). 1 ≤ l.room) (sym c.self.view_is) c.requires.room in
     let updates = ok_holds c.insert.result _ (c.insert.ensures.succeeds (omega (arith, room))) c.insert.ensures.updates in
     let at : c.len-place.result ≡ length ps = omega (arith, c.len-place.ensures, c.self.inside.list.ok.0) in
+    let number = c.requires.number in
+    let above = c.above-self-inside in
+    let same = ap (λ (x : Claim). x.fill.fill) c.claim.ensures in
+    let few : above.result ≤ 100 = above.ensures.most c.self.invariant.few (omega (arith, number, same)) in
+    let below : c.args.payment.claim.fill.fill < above.result = omega (arith, above.ensures.number, same) in
     rw c.push_reserved.ensures.items
-    (indexed_more c.self.inside.payer c.self.inside.first ps _ _ c.args.payment c.self.invariant auth c.requires.number none
-    (more_by ps c.args.payment c.claim.result.now.fill c.len-place.result _ _ (ap (λ x. x.fill) c.claim.ensures) at updates.0))
+    (indexed_more c.self.inside.payer c.self.inside.first c.self.inside.numbers above.result ps _ _ c.args.payment c.self.invariant auth few above.ensures.others below none
+    (more_by ps c.args.payment c.claim-2.result.now.fill c.len-place.result _ _ (ap (λ x. x.fill) c.claim-2.ensures) at updates.0))

@@ -1,0 +1,5 @@
+pub mod Adding
+pub mod Snocs
+pub mod Ledgers
+pub mod Comparisons
+pub mod Continuing

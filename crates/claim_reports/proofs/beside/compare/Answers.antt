@@ -1,0 +1,9 @@
+use Rattle.std.specs.Ordering.{nat_cmp}
+use Rattle.std.specs.BTreeMap.{get}
+use Rattle.claim_reports.proofs.Comparisons.{found_is}
+use Rattle.claim_reports.proofs.beside.compare.Goals as goal
+
+pub returns : goal.returns
+returns c =
+    found_is c.args.counted.now c.args.entries.now c.args.made.now (get nat_cmp c.in_ok-open.open) (get nat_cmp c.in_ok-known.known) (get nat_cmp c.in_ok-paid.paid) _ _
+    c.in_ok-open.ensures c.in_ok-known.ensures c.in_ok-paid.ensures (rw c.new-found.ensures.items at c.in_ok-put_counted.ensures) c.in_ok-put_made.ensures

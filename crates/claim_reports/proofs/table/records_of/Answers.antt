@@ -1,0 +1,53 @@
+use Rattle.std.proofs.Common.{Bor, ◌≡◌, ◌∙◌, ◌∷◌, [], ℕ, List, Some, inl, inr, map, refl, rules, sym}
+use Rattle.std.specs.Prelude.{Option}
+use Rattle.std.proofs.lemmas.List.{map-append}
+use Rattle.csv.specs.Reading.{Reached, default_config, strip_bom}
+use Rattle.csv.specs.Records.{fields_of}
+use Rattle.csv.specs.declared.parser.State.TheVariants as state
+use Rattle.csv.proofs.ReadFacts.{rows-end, rows-more}
+use Rattle.claim_reports.proofs.table.records_of.Goals as goal
+
+-- the bytes of a slice are known
+abbrev known : Bor (List ℕ) → Option (List ℕ)
+known bytes = Some bytes.now
+
+pub loop-record-init : goal.loop-record-init
+unfolding Reached
+loop-record-init c =
+    let made = c.from_reader-reader.ensures in
+    let plain = c.has_headers.ensures in
+    rw (c.into_iter-record-iterator.ensures.into_iter_gives ∙ refl, c.into_byte_records-record-items.ensures.rdr, c.new-records.ensures.items) (record {
+      plain = rw plain at made.trim ∙ c.new.ensures.trim;
+      ready = inr (inr (rw plain at made.has_headers, made.headers));
+      goes_on = c.into_byte_records-record-items.ensures.left;
+      config = rw plain at made.config ∙ c.new.ensures.config;
+      unread = strip_bom c.args.text.now;
+      source = made.source;
+      reached = (sym made.state, refl);
+    })
+
+pub loop-record-preserved : goal.loop-record-preserved
+loop-record-preserved c =
+    let so_far = c.loop-record.invariant in
+    let step = rw (c.in-Some.is, c.in-Ok.is) at ((c.next.ensures.steps so_far.goes_on so_far.plain).0 so_far.ready) in
+    let more = rows-more known c.loop-record.record-iterator.rdr c.next.new.self.rdr (fields_of c.in-Ok.record) default_config state.StartRecord (strip_bom c.args.text.now)
+    so_far.unread (map fields_of c.loop-record.records.items) so_far.config so_far.source so_far.reached step.0 in
+    record {
+      plain = step.0.3 ∙ so_far.plain;
+      ready = inl step.1;
+      goes_on = step.2;
+      config = step.0.2 ∙ so_far.config;
+      unread = more.0;
+      source = more.1;
+      reached = rw (c.in_ok-push-in-Ok.ensures.items, map-append fields_of c.loop-record.records.items (c.in-Ok.record ∷ [])) more.2;
+    }
+
+pub returns : goal.returns
+returns c =
+    let so_far = c.loop-record.invariant in
+    let step = rw c.in-None.is at ((c.next.ensures.steps so_far.goes_on so_far.plain).0 so_far.ready) in (
+      c.loop-record.record-iterator.rdr.state,
+      so_far.unread,
+      so_far.reached,
+      rows-end known c.loop-record.record-iterator.rdr c.next.new.self.rdr [] default_config so_far.unread so_far.config so_far.source step,
+    )

@@ -1,0 +1,210 @@
+//! What a pharmacy counts beside what a payer paid.
+
+ghost use Rattle.std.specs.Prelude.{◌≡◌, ◌++◌, ℕ, IfOk, OnOk};
+ghost use Rattle.std.specs.List.{flat_map};
+ghost use Rattle.std.specs.Ordering.{nat_cmp};
+ghost use Rattle.std.specs.BTreeMap.{get};
+ghost use Rattle.claim_reports.specs.Comparing.{made_under, entry_under, counted_under, is_open_entry, Findings, told, counted_finding, made_finding};
+
+use crate::fault::ReportFault;
+use std::alloc::{AllocError, Global};
+use std::collections::BTreeMap;
+
+/// A payment that a pharmacy counts.
+#[derive(Clone, Copy)]
+pub struct Counted {
+    /// Its authorization (503-F3), as a number.
+    pub auth: u64,
+    /// Its total (509-F9) in cents.
+    pub cents: u64,
+}
+
+/// A payment of a payer's book.
+#[derive(Clone, Copy)]
+pub struct Made {
+    /// Its authorization (503-F3), as a number.
+    pub auth: u64,
+    /// The number of the pharmacy's billing.
+    pub number: u64,
+    /// Its total (509-F9) in cents.
+    pub cents: u64,
+    /// The number of the pharmacy's reversal, where it was reversed.
+    pub reversed_by: Option<u64>,
+}
+
+/// An entry of a pharmacy's journal.
+#[derive(Clone, Copy)]
+pub struct Entry {
+    /// Its number.
+    pub number: u64,
+    /// Whether it has no answer yet.
+    pub open: bool,
+}
+
+/// What differs about an authorization. The last word of `Reversed` and `NotCounted` is whether the answer that would settle
+/// it may still be on its way: the pharmacy's entry is open.
+#[derive(Clone, Copy, PartialEq, Eq)]
+pub enum Finding {
+    /// The pharmacy counts it, with so many cents, and the payer has not paid it.
+    NotPaid(u64, u64),
+    /// The pharmacy counts other cents, which come first, than the payer paid.
+    Differs(u64, u64, u64),
+    /// The pharmacy counts it, with so many cents, and the payer has reversed it.
+    Reversed(u64, u64, bool),
+    /// It stands at the payer, with so many cents, and the pharmacy does not count it.
+    NotCounted(u64, u64, bool),
+}
+
+/// What the pharmacy counts and the payer has not, or has otherwise, in the order in which the pharmacy counts them; then what
+/// stands at the payer and the pharmacy does not count, in the order of the book.
+///
+/// # Errors
+/// Want of memory.
+pub fn compare(
+    alloc: Global,
+    counted: &[Counted],
+    entries: &[Entry],
+    made: &[Made],
+) -> Result<Vec<Finding>, ReportFault>
+    ensures { IfOk result (λ found. Findings counted.now entries.now made.now found.items) }
+{
+    let open = entries_by_number(alloc, entries)?;
+    let paid = made_by_auth(alloc, made)?;
+    let known = counted_by_auth(alloc, counted)?;
+    let mut found = Vec::new(alloc);
+    put_counted(&mut found, &open, &paid, counted)?;
+    put_made(&mut found, &open, &known, made)?;
+    Ok(found)
+}
+
+/// The entries by their numbers.
+fn entries_by_number(alloc: Global, entries: &[Entry]) -> Result<BTreeMap<u64, Entry>, ReportFault>
+    ensures { IfOk result (λ by. (number : ℕ) → get nat_cmp by number ≡ entry_under number entries.now) }
+{
+    let mut by = BTreeMap::new(alloc);
+    for entry in entries {
+        by.insert(entry.number, *entry)?;
+    }
+    Ok(by)
+}
+
+/// The payments of a book by their authorizations.
+fn made_by_auth(alloc: Global, made: &[Made]) -> Result<BTreeMap<u64, Made>, ReportFault>
+    ensures { IfOk result (λ by. (auth : ℕ) → get nat_cmp by auth ≡ made_under auth made.now) }
+{
+    let mut by = BTreeMap::new(alloc);
+    for payment in made {
+        by.insert(payment.auth, *payment)?;
+    }
+    Ok(by)
+}
+
+/// The payments that a pharmacy counts by their authorizations.
+fn counted_by_auth(
+    alloc: Global,
+    counted: &[Counted],
+) -> Result<BTreeMap<u64, Counted>, ReportFault>
+    ensures { IfOk result (λ by. (auth : ℕ) → get nat_cmp by auth ≡ counted_under auth counted.now) }
+{
+    let mut by = BTreeMap::new(alloc);
+    for payment in counted {
+        by.insert(payment.auth, *payment)?;
+    }
+    Ok(by)
+}
+
+/// Adds what is found of each payment that the pharmacy counts.
+fn put_counted(
+    found: &mut Vec<Finding>,
+    open: &BTreeMap<u64, Entry>,
+    paid: &BTreeMap<u64, Made>,
+    counted: &[Counted],
+) -> Result<(), AllocError>
+    ensures { OnOk result (found.new.items ≡ found.old.items
+        ++ flat_map (λ c. told (counted_finding (get nat_cmp open.now) (get nat_cmp paid.now) c)) counted.now) }
+{
+    for payment in counted {
+        put(found, counted_finding(open, paid, payment))?;
+    }
+    Ok(())
+}
+
+/// Adds what is found of each payment of the book.
+fn put_made(
+    found: &mut Vec<Finding>,
+    open: &BTreeMap<u64, Entry>,
+    known: &BTreeMap<u64, Counted>,
+    made: &[Made],
+) -> Result<(), AllocError>
+    ensures { OnOk result (found.new.items ≡ found.old.items
+        ++ flat_map (λ m. told (made_finding (get nat_cmp open.now) (get nat_cmp known.now) m)) made.now) }
+{
+    for payment in made {
+        put(found, made_finding(open, known, payment))?;
+    }
+    Ok(())
+}
+
+/// Adds a finding, where there is one.
+fn put(found: &mut Vec<Finding>, finding: Option<Finding>) -> Result<(), AllocError>
+    ensures { OnOk result (found.new.items ≡ found.old.items ++ told finding) }
+{
+    match finding {
+        Some(finding) => {
+            found.push(finding)?;
+            Ok(())
+        }
+        None => Ok(()),
+    }
+}
+
+/// What is found of a payment that the pharmacy counts.
+#[tactic(auto, unfolding(crate::specs::Comparing::counted_finding))]
+fn counted_finding(
+    open: &BTreeMap<u64, Entry>,
+    paid: &BTreeMap<u64, Made>,
+    counted: &Counted,
+) -> Option<Finding>
+    ensures { result ≡ counted_finding (get nat_cmp open.now) (get nat_cmp paid.now) counted.now }
+{
+    let Some(made) = paid.get(&counted.auth) else {
+        return Some(Finding::NotPaid(counted.auth, counted.cents));
+    };
+    match made.reversed_by {
+        Some(number) => {
+            let is_open = is_open(open, number);
+            Some(Finding::Reversed(counted.auth, counted.cents, is_open))
+        }
+        None => {
+            if made.cents == counted.cents {
+                return None;
+            }
+            Some(Finding::Differs(counted.auth, counted.cents, made.cents))
+        }
+    }
+}
+
+/// What is found of a payment of the book.
+fn made_finding(
+    open: &BTreeMap<u64, Entry>,
+    known: &BTreeMap<u64, Counted>,
+    made: &Made,
+) -> Option<Finding>
+    ensures { result ≡ made_finding (get nat_cmp open.now) (get nat_cmp known.now) made.now }
+{
+    if made.reversed_by.is_some() || known.contains_key(&made.auth) {
+        return None;
+    }
+    let is_open = is_open(open, made.number);
+    Some(Finding::NotCounted(made.auth, made.cents, is_open))
+}
+
+/// Whether the entry of a number has no answer yet.
+fn is_open(open: &BTreeMap<u64, Entry>, number: u64) -> bool
+    ensures { result ≡ is_open_entry (get nat_cmp open.now number) }
+{
+    match open.get(&number) {
+        Some(entry) => entry.open,
+        None => false,
+    }
+}

@@ -1,0 +1,73 @@
+//! Payments, and which of them a report is about.
+
+ghost use Rattle.std.specs.Prelude.{◌≡◌, filter, IfOk};
+ghost use Rattle.claim_reports.specs.Totals.{is_number, is_chosen};
+
+use crate::fault::ReportFault;
+use std::alloc::Global;
+
+/// A payment of a table.
+#[derive(Clone, Copy)]
+pub struct Paid {
+    /// The payer that made it.
+    pub payer: u64,
+    /// The pharmacy that asked for it.
+    pub pharmacy: u64,
+    /// Its date of service (401-D1) as a number, CCYYMMDD.
+    pub day: u64,
+    /// Its total (509-F9) in cents.
+    pub cents: u64,
+    /// Whether it was reversed.
+    pub reversed: bool,
+}
+
+/// Which payments a report is about.
+#[derive(Clone, Copy)]
+pub struct Choice {
+    /// Those of this payer; of all where it is none.
+    pub payer: Option<u64>,
+    /// Those that this pharmacy asked for; or any.
+    pub pharmacy: Option<u64>,
+    /// The first date of service, CCYYMMDD.
+    pub from: u64,
+    /// The last one.
+    pub to: u64,
+}
+
+/// The payments that are chosen, in their order.
+///
+/// # Errors
+/// Want of memory.
+pub fn chosen(alloc: Global, choice: &Choice, paid: &[Paid]) -> Result<Vec<Paid>, ReportFault>
+    ensures { IfOk result (λ kept. kept.items ≡ filter (is_chosen choice.now) paid.now) }
+{
+    let mut kept = Vec::new(alloc);
+    for payment in paid {
+        if choice.has(payment) {
+            kept.push(*payment)?;
+        }
+    }
+    Ok(kept)
+}
+
+impl Choice {
+    /// Whether it is about a payment.
+    fn has(&self, payment: &Paid) -> bool
+        ensures { result ≡ is_chosen self.now payment.now }
+    {
+        is_number(self.payer, payment.payer)
+            && is_number(self.pharmacy, payment.pharmacy)
+            && self.from <= payment.day
+            && payment.day <= self.to
+    }
+}
+
+/// Whether a number is the one that is wanted, where one is.
+fn is_number(wanted: Option<u64>, number: u64) -> bool
+    ensures { result ≡ is_number wanted number }
+{
+    match wanted {
+        Some(wanted) => number == wanted,
+        None => true,
+    }
+}

@@ -1,0 +1,183 @@
+//! The ledger of a payer and a pharmacy: what was paid, what was reversed, and what stands.
+
+ghost use Rattle.std.specs.Prelude.{◌≡◌, ◌+◌, [], List, IfOk};
+ghost use Rattle.std.specs.Ordering.{nat_cmp};
+ghost use Rattle.std.specs.BTreeMap.{get};
+ghost use Rattle.claim_reports.specs.declared.ledger.Move.{Move};
+ghost use Rattle.claim_reports.specs.Ledger.{IsLedgerOf, Pays, Reverses, Takes, TakesAll, IsPeriod, standing_in};
+
+use crate::fault::ReportFault;
+use std::alloc::Global;
+use std::collections::BTreeMap;
+
+/// A ruling that moves money.
+#[derive(Clone, Copy, PartialEq, Eq)]
+pub enum Move {
+    /// A payment under an authorization, by its number, of so many cents.
+    Paid(u64, u64),
+    /// A reversal of the payment under an authorization.
+    Reversed(u64),
+}
+
+/// A payment of a ledger.
+#[derive(Clone, Copy, PartialEq, Eq)]
+pub struct Held {
+    /// Its total (F9) in cents.
+    pub cents: u64,
+    /// Whether it was reversed.
+    pub reversed: bool,
+}
+
+/// The payments of some rulings, and what those that stand come to.
+#[derive(Drop)]
+pub struct Ledger {
+    payments: BTreeMap<u64, Held>,
+    standing: u64,
+}
+
+/// What rulings moved: what they paid, and what they took back, in cents.
+#[derive(Clone, Copy)]
+pub struct Moved {
+    /// The totals of their payments.
+    pub paid: u64,
+    /// The totals of the payments that they reverse.
+    pub reversed: u64,
+}
+
+/// A period of a ledger, in cents.
+#[derive(Clone, Copy)]
+pub struct Period {
+    /// What stood at its beginning.
+    pub begin: u64,
+    /// What was moved in it.
+    pub moved: Moved,
+    /// What stood at its end.
+    pub end: u64,
+}
+
+/// The period of these rulings behind those before them.
+///
+/// # Errors
+/// `PaidAgain` and `NotStanding` with the number of a ruling, from the first of all; `TooLarge`; want of memory.
+pub fn period_of(alloc: Global, before: &[Move], moves: &[Move]) -> Result<Period, ReportFault>
+    // What stood and what stands are the payments that no ruling up to there reversed.
+    ensures figures { IfOk result (λ period. IsPeriod before.now moves.now period) }
+    // So the period closes.
+    ensures closes { IfOk result (λ period.
+        period.begin + period.moved.paid ≡ period.end + period.moved.reversed) }
+{
+    let mut ledger = Ledger::new(alloc);
+    ledger.take_all(0, before)?;
+    let begin = ledger.standing();
+    let moved = ledger.take_all(before.len() as u64, moves)?;
+    let end = ledger.standing();
+    Ok(Period { begin, moved, end })
+}
+
+impl Ledger {
+    /// A ledger of no rulings.
+    pub fn new(alloc: Global) -> Ledger
+        ensures { IsLedgerOf [] result }
+    {
+        Ledger {
+            payments: BTreeMap::new(alloc),
+            standing: 0,
+        }
+    }
+
+    /// What stands, in cents.
+    pub fn standing(&self) -> u64
+        ensures { result ≡ self.now.standing }
+    {
+        self.standing
+    }
+
+    /// Takes rulings behind so many others, and gives what they moved.
+    ///
+    /// # Errors
+    /// `PaidAgain` and `NotStanding` with the number of a ruling; `TooLarge`; want of memory.
+    pub fn take_all(&mut self, passed: u64, moves: &[Move]) -> Result<Moved, ReportFault>
+        ensures { (before : List Move) → IsLedgerOf before self.old
+            → IfOk result (λ moved. TakesAll before moves.now self.old self.new moved) }
+    {
+        let mut paid = 0u64;
+        let mut reversed = 0u64;
+        for (place, ruling) in moves.iter().enumerate() {
+            let number = passed.saturating_add(place as u64).saturating_add(1);
+            let moved = self.take(number, *ruling)?;
+            let Some(more) = paid.checked_add(moved.paid) else {
+                return Err(ReportFault::TooLarge);
+            };
+            paid = more;
+            let Some(more) = reversed.checked_add(moved.reversed) else {
+                return Err(ReportFault::TooLarge);
+            };
+            reversed = more;
+        }
+        Ok(Moved { paid, reversed })
+    }
+
+    /// Takes a ruling of this number, and gives what it moved.
+    fn take(&mut self, number: u64, ruling: Move) -> Result<Moved, ReportFault>
+        ensures { IfOk result (λ moved. Takes self.old self.new ruling moved) }
+    {
+        match ruling {
+            Move::Paid(auth, cents) => self.pay(number, auth, cents),
+            Move::Reversed(auth) => self.reverse(number, auth),
+        }
+    }
+
+    /// Takes a payment.
+    fn pay(&mut self, number: u64, auth: u64, cents: u64) -> Result<Moved, ReportFault>
+        ensures { IfOk result (λ moved. Pays self.old self.new auth cents moved) }
+    {
+        if self.payments.contains_key(&auth) {
+            return Err(ReportFault::PaidAgain(number));
+        }
+        let Some(standing) = self.standing.checked_add(cents) else {
+            return Err(ReportFault::TooLarge);
+        };
+        let held = Held {
+            cents,
+            reversed: false,
+        };
+        self.payments.insert(auth, held)?;
+        self.standing = standing;
+        Ok(Moved {
+            paid: cents,
+            reversed: 0,
+        })
+    }
+
+    /// Takes a reversal.
+    fn reverse(&mut self, number: u64, auth: u64) -> Result<Moved, ReportFault>
+        ensures { IfOk result (λ moved. Reverses self.old self.new auth moved) }
+    {
+        let Some(cents) = self.standing_at(auth) else {
+            return Err(ReportFault::NotStanding(number));
+        };
+        let Some(standing) = self.standing.checked_sub(cents) else {
+            return Err(ReportFault::NotStanding(number));
+        };
+        let held = Held {
+            cents,
+            reversed: true,
+        };
+        self.payments.insert(auth, held)?;
+        self.standing = standing;
+        Ok(Moved {
+            paid: 0,
+            reversed: cents,
+        })
+    }
+
+    /// What the payment of an authorization comes to, where it stands.
+    fn standing_at(&self, auth: u64) -> Option<u64>
+        ensures { result ≡ standing_in (get nat_cmp self.now.payments auth) }
+    {
+        match self.payments.get(&auth) {
+            Some(held) if !held.reversed => Some(held.cents),
+            _ => None,
+        }
+    }
+}

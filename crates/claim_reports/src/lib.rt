@@ -1,0 +1,27 @@
+//! Reports that accountants use, made of the tables that an audit writes: totals of payments, what a payer sends a pharmacy,
+//! what a pharmacy counts beside what a payer paid, and what callers were told beside a run.
+#![tactic(auto)]
+
+mod beside;
+mod choice;
+mod comparing;
+mod fault;
+mod ledger;
+mod numbers;
+mod receipts;
+mod remitting;
+mod settling;
+mod table;
+mod totalling;
+mod totals;
+
+pub use beside::{Counted, Entry, Finding, Made, compare};
+pub use choice::{Choice, Paid, chosen};
+pub use comparing::{Between, Comparison, compare_tables};
+pub use fault::ReportFault;
+pub use ledger::{Held, Ledger, Move, Moved, Period, period_of};
+pub use receipts::receipts_beside;
+pub use remitting::{Remittance, remittance_lines, remittance_sums};
+pub use settling::{Settled, settle};
+pub use totalling::totals_table;
+pub use totals::{By, Sums, totals_of};

@@ -1,0 +1,153 @@
+//! Tables as they are read: rows of fields under the names of columns.
+
+ghost use Rattle.std.specs.Prelude.{◌≡◌, map, IfOk};
+ghost use Rattle.csv.specs.Reading.{AreRecords, default_config, strip_bom};
+ghost use Rattle.csv.specs.Records.{fields_of};
+ghost use Rattle.csv.specs.declared.parser.State.TheVariants as state;
+
+use crate::fault::ReportFault;
+use csv::{ByteRecord, Error, ErrorKind, ReaderBuilder};
+use input_text::read_decimal;
+use std::alloc::Global;
+
+/// The most digits of a number in a table.
+const DIGITS: usize = 18;
+
+/// A table, by its place among those that were given, counted from 1.
+#[derive(Drop)]
+pub(crate) struct Table {
+    number: u64,
+    /// The names of the columns, and the rows behind them.
+    records: Vec<ByteRecord>,
+}
+
+/// A column of a table.
+#[derive(Clone, Copy)]
+pub(crate) struct Column {
+    place: usize,
+    name: &'static str,
+}
+
+/// A row of a table.
+#[derive(Clone, Copy)]
+pub(crate) struct TableRow<'a> {
+    table: u64,
+    /// Its place behind the names, counted from 1.
+    pub(crate) number: u64,
+    record: &'a ByteRecord,
+}
+
+/// The records of a text of CSV, the names among them.
+fn records_of(alloc: Global, number: u64, text: &[u8]) -> Result<Vec<ByteRecord>, ReportFault>
+    // They are those that a reader of CSV gives, each and in order.
+    ensures { IfOk result (λ records.
+        AreRecords default_config state.StartRecord (strip_bom text.now) (map fields_of records.items)) }
+{
+    let reader = ReaderBuilder::new()
+        .has_headers(false)
+        .from_reader(alloc, text);
+    let mut records = Vec::new(alloc);
+    for record in reader.into_byte_records() {
+        match record {
+            Ok(record) => records.push(record)?,
+            Err(fault) => return Err(fault_of(number, &fault)),
+        }
+    }
+    Ok(records)
+}
+
+/// Why a text is no table of this number.
+fn fault_of(number: u64, fault: &Error) -> ReportFault {
+    match fault.kind() {
+        ErrorKind::OutOfMemory => ReportFault::OutOfMemory,
+        _ => ReportFault::NotCsv(number),
+    }
+}
+
+impl Table {
+    /// The table of this number among those that were given.
+    pub(crate) fn read(alloc: Global, number: u64, text: &[u8]) -> Result<Table, ReportFault> {
+        let records = records_of(alloc, number, text)?;
+        Ok(Table { number, records })
+    }
+
+    /// The column of a name.
+    pub(crate) fn column(&self, name: &'static str) -> Result<Column, ReportFault> {
+        if let Some(names) = self.records.first() {
+            for place in 0..names.len() {
+                if is_field(names.get(place), name.as_bytes()) {
+                    return Ok(Column { place, name });
+                }
+            }
+        }
+        Err(ReportFault::NoColumn(self.number, name))
+    }
+
+    /// How many rows it has behind the names.
+    pub(crate) fn count(&self) -> usize {
+        self.records.len().saturating_sub(1)
+    }
+
+    /// The row at a place behind the names, from 0.
+    pub(crate) fn row(&self, place: usize) -> Option<TableRow<'_>> {
+        let record = self.records.get(place.saturating_add(1))?;
+        Some(TableRow {
+            table: self.number,
+            number: (place as u64).saturating_add(1),
+            record,
+        })
+    }
+}
+
+/// Whether there is a field, and it is this.
+fn is_field(field: Option<&[u8]>, wanted: &[u8]) -> bool {
+    match field {
+        Some(field) => field == wanted,
+        None => false,
+    }
+}
+
+impl<'a> TableRow<'a> {
+    /// The text of a column; of a column that is not there it is empty.
+    pub(crate) fn text(&self, column: Column) -> &'a [u8] {
+        self.record.get(column.place).unwrap_or(b"")
+    }
+
+    /// The number of a column.
+    pub(crate) fn number(&self, column: Column) -> Result<u64, ReportFault> {
+        match read_decimal(self.text(column), DIGITS) {
+            Some(number) => Ok(number),
+            None => Err(self.bad(column)),
+        }
+    }
+
+    /// The number of a column that may be empty.
+    pub(crate) fn optional_number(&self, column: Column) -> Result<Option<u64>, ReportFault> {
+        if self.text(column).is_empty() {
+            return Ok(None);
+        }
+        Ok(Some(self.number(column)?))
+    }
+
+    /// Which of two words a column has: whether it is the second.
+    pub(crate) fn word(
+        &self,
+        column: Column,
+        first: &[u8],
+        second: &[u8],
+    ) -> Result<bool, ReportFault> {
+        let text = self.text(column);
+        if text == second {
+            return Ok(true);
+        }
+        if text == first {
+            return Ok(false);
+        }
+        Err(self.bad(column))
+    }
+
+    /// That a column has no value of its kind.
+    pub(crate) fn bad(&self, column: Column) -> ReportFault {
+        ReportFault::BadValue(self.table, self.number, column.name)
+    }
+}

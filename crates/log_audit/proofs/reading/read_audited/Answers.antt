@@ -1,0 +1,24 @@
+use Rattle.std.proofs.Common.{◌≡◌, ◌∙◌, ap, subst, Some, ℕ, List}
+use Rattle.std.proofs.lemmas.Result.{err_from_is_err_and}
+use Rattle.sha2.specs.Sha256.{sha256}
+use Rattle.world_settings.specs.Document.{document_seen, living_in}
+use Rattle.log_audit.specs.Given.{bytes_of}
+use Rattle.log_audit.specs.Refused.{AreNoLogs}
+use Rattle.log_audit.proofs.Refusing.{world_refused, logs_refused}
+use Rattle.log_audit.proofs.reading.read_audited.Goals as goal
+
+pub returns-in_err-check_world-clause-refused : goal.returns-in_err-check_world-clause-refused
+returns-in_err-check_world-clause-refused c =
+    let p = err_from_is_err_and c.from_residual-in_err-check_world.result c.from_residual-in_err-check_world.ensures.1 in
+    let s = c.in_ok-settings.settings in
+    rw (p.1, p.2) (world_refused c.args.text.items (bytes_of c.args.logs.now) s c.in_err-check_world.field-0.0
+    (subst (λ (text : List ℕ). living_in text ≡ Some (document_seen s)) c.as_slice.ensures.value c.in_ok-settings.ensures.read) c.in_err-check_world.ensures.refused)
+
+pub returns-in_err-logs-clause-refused : goal.returns-in_err-logs-clause-refused
+returns-in_err-logs-clause-refused c =
+    let p = err_from_is_err_and c.from_residual-in_err-logs.result c.from_residual-in_err-logs.ensures.1 in
+    let s = c.in_ok-settings.settings in
+    let why = c.in_err-logs.field-0.0 in
+    rw (p.1, p.2) (logs_refused c.args.text.items (bytes_of c.args.logs.now) s why
+    (subst (λ (text : List ℕ). living_in text ≡ Some (document_seen s)) c.as_slice.ensures.value c.in_ok-settings.ensures.read) c.in_ok-check_world.ensures.taken
+    (subst (λ (digest : List ℕ). AreNoLogs digest (bytes_of c.args.logs.now) why) (c.of-digest.ensures ∙ ap sha256 c.as_slice-2.ensures.value) c.in_err-logs.ensures.refused))

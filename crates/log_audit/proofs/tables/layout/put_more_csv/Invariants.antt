@@ -1,9 +1,0 @@
-use Rattle.std.proofs.Common.{◌≡◌, ◌∷◌, ◌++◌, drop, map}
-use Rattle.std.specs.List.{flat_map}
-use Rattle.log_audit.specs.Seen.{field_seen}
-use Rattle.log_audit.specs.Rows.{csv_member}
-use Rattle.log_audit.proofs.tables.layout.put_more_csv.Given as goal
-
--- the text so far, and then that of the fields that are left
-abbrev pub invariant-loop-field : goal.invariant-loop-field
-invariant-loop-field l = l.out.items ++ flat_map (λ member. 44 ∷ csv_member member) (map field_seen (drop l.field-index l.fields)) ≡ l.initial.out.items ++ flat_map (λ member. 44 ∷ csv_member member) (map field_seen (l.fields))

@@ -1,8 +1,0 @@
-use Rattle.std.proofs.Common.{◌≡◌, ◌++◌, drop}
-use Rattle.std.specs.List.{flat_map}
-use Rattle.log_audit.specs.Quoting.{json_byte}
-use Rattle.log_audit.proofs.tables.quoting.put_json_letters.Given as goal
-
--- the text so far, and then that of the bytes that are left
-abbrev pub invariant-loop-byte : goal.invariant-loop-byte
-invariant-loop-byte l = l.out.items ++ flat_map json_byte (drop l.byte-index l.bytes) ≡ l.initial.out.items ++ flat_map json_byte (l.bytes)

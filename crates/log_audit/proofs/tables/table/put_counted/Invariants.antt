@@ -1,0 +1,13 @@
+use Rattle.std.proofs.Common.{◌≡◌, ◌++◌, drop}
+use Rattle.std.specs.List.{flat_map}
+use Rattle.bin_routes.specs.Table.{RouteMaps}
+use Rattle.claim_model.specs.Bytes.{bytes_with}
+use Rattle.table_text.specs.Rows.{rows_text}
+use Rattle.log_audit.specs.Tables.{node_counted_rows}
+use Rattle.log_audit.proofs.tables.table.put_counted.Given as goal
+
+-- the rows so far, and then those of the journals that are left
+abbrev pub invariant-loop-node : goal.invariant-loop-node
+invariant-loop-node l =
+    (routes : RouteMaps) → l.out.items ++ rows_text l.style (flat_map (node_counted_rows (bytes_with routes)) (drop l.node-index l.nodes))
+    ≡ l.initial.out.items ++ rows_text l.style (flat_map (node_counted_rows (bytes_with routes)) l.nodes)

@@ -1,0 +1,8 @@
+use Rattle.std.proofs.Common.{drop}
+use Rattle.serde_json.specs.View.{items_view}
+use Rattle.message_encoding.specs.Parts.{AreAlike}
+use Rattle.message_encoding.proofs.described.first_other.Given as goal
+
+-- where what is left is told alike, all is
+abbrev pub invariant-loop-place : goal.invariant-loop-place
+invariant-loop-place l = AreAlike (items_view (drop l.place l.parts)) (items_view (drop l.place l.others)) → AreAlike (items_view l.fn.parts) (items_view l.fn.others)

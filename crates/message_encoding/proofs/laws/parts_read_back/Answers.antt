@@ -1,0 +1,5 @@
+use Rattle.message_encoding.proofs.There.{all_back}
+use Rattle.message_encoding.proofs.laws.parts_read_back.Goals as goal
+
+pub returns : goal.returns
+returns c = all_back

@@ -1,6 +1,0 @@
-use Rattle.std.proofs.Common.{◌≡◌, take, map}
-use Rattle.node_handle.specs.Payments.{counted_plain}
-use Rattle.node_handle.proofs.payments.counted_list.Given as goal
-
-abbrev pub invariant-loop-payment : goal.invariant-loop-payment
-invariant-loop-payment l = l.list.items ≡ map counted_plain (take l.payment-index l.paid)

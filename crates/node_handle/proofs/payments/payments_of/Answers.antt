@@ -1,5 +1,0 @@
-use Rattle.bin_routes.specs.Table.{routes_of}
-use Rattle.node_handle.proofs.payments.payments_of.Goals as goal
-
-pub returns : goal.returns
-returns c = rw (← c.state.ensures) (c.payments_at.ensures (routes_of c.args.node.now.settings.routes.items))

@@ -1,0 +1,579 @@
+-- Whatever happens to a node over bytes, happens to the process of the model.
+use Rattle.std.proofs.Common.{◌≡◌, ◌⊎◌, inl, inr, ℕ, zero, suc, ◌+◌, ◌-◌, ◌<◌, ◌≤◌, Bool, true, false, not, ◌&&◌, cond, List, [], ◌∷◌, ◌++◌, length, take, drop, Option, Some, None, option_map, Err, refl, sym, ap, ◌∙◌, subst, arith, append_assoc, append-nil, length-append}
+use Rattle.std.proofs.lemmas.Bool.{cases_lt}
+use Rattle.std.proofs.lemmas.List.{take_all, take_at, take-append-drop, take-append-le}
+use Rattle.std.proofs.Math.Seq.{take-append-add}
+use Rattle.sha2.specs.Sha256.{sha256}
+use Rattle.bin_routes.specs.Table.{routes_of}
+use Rattle.claim_model.specs.Bytes.{bytes_with}
+use Rattle.claim_model.specs.Context.{Context}
+use Rattle.claim_model.specs.Node.{Node, Call, Outcome, Done, Refused}
+use Rattle.claim_model.specs.Nodes.{AnyNode, node_at}
+use Rattle.claim_model.specs.Settings.{WorldSettings, opening}
+use Rattle.claim_model.specs.Logs.{Logged, NodeLog, replay, Makes as MakesLog}
+use Rattle.claim_model.proofs.Options.{map_some, same_some}
+use Rattle.crash_safety.specs.Network.{Process, crashed, replayed}
+use Rattle.crash_safety.specs.Network.{file as model_file}
+use Rattle.world_setup.specs.Seen.{call_seen, settings_seen}
+use Rattle.world_setup.specs.declared.settings.WorldSettings.{WorldSettings as Settings}
+use Rattle.world_settings.specs.Document.{Document, document_seen}
+use Rattle.node_logged.specs.Setting.{context_of}
+use Rattle.kept_logs.specs.declared.fault.LogFault.TheVariants.{Short}
+use Rattle.kept_logs.specs.Logs.{Reading, log_text, log_in}
+use Rattle.kept_logs.specs.Fits.{FitsNode, FitsLog}
+use Rattle.kept_logs.specs.Cuts.{calls_within}
+use Rattle.kept_logs.proofs.LogsBack.{log_length, reads_back, reads_short}
+use Rattle.node_service.specs.Asking.{Asked, Calls, Tells as Asks, asked_of}
+use Rattle.node_service.specs.Serving.{Serving, after_call, after_asked, after_line}
+use Rattle.node_service.specs.Lines.{after_lines, lines_calls}
+use Rattle.node_service.specs.Opened.{Spells, IsBegun, IsOpened, MakesAll}
+use Rattle.node_service.proofs.Lines.{digest_length, is_opened_serving, lines_serve}
+use Rattle.node_service.proofs.Crashes.{longer_text}
+use Rattle.node_process.specs.Acts.{Act, Found, Cut, Append, Sync, Say, Hear, found, file, has_failed, kept, said}
+use Rattle.node_process.specs.Heard.{whole_lines}
+use Rattle.node_process.specs.Safe.{IsStartOf, asked, log_of, FitsInput, IsCovered, IsRead, GoesWell, IsSafe, IsUnopened, IsRun, Whose}
+use Rattle.node_process.specs.Histories.{Happening, Does, Dies, acts_of, left_of, file_or, file_of, on_disk, IsLeft, IsHistory, Step, Crashes, Restarts, steps_from, process_after, HasCalls, ReadsCalls, IsAlive, IsToldBy, IsProcess, IsCourse}
+use Rattle.node_process.proofs.Left.{IsCutOf, HasLeft, first_of, start_length, taken_length, calls_fit, cut_reads, text_cut, nothing_cut, begins_with, same_calls, left_reads, front_fits, same_reading, not_short}
+use Rattle.node_process.proofs.Spoken.{told_by, told_nothing, told_still}
+use Rattle.node_process.proofs.Stepping.{steps_append, makes_of, makes_all, syncs_of, syncs_all}
+
+-- ---- the text of an input
+
+call_settings : (s : Serving) (call : Call) (o : Outcome AnyNode) → (after_call s call o).settings ≡ s.settings
+unfolding after_call
+call_settings s call (Done next sent) = refl
+call_settings s call (Refused why) = refl
+
+asked_settings : (s : Serving) (a : Option Asked) → (after_asked s a).settings ≡ s.settings
+asked_settings s None = refl
+asked_settings s (Some (Calls call)) = call_settings s (call_seen call) _
+asked_settings s (Some (Asks question)) = refl
+
+line_settings : (s : Serving) (line : List ℕ) → (after_line s line).settings ≡ s.settings
+unfolding after_line
+line_settings s line = asked_settings s (asked_of line)
+
+lines_settings : (s : Serving) (lines : List (List ℕ)) → (after_lines s lines).settings ≡ s.settings
+lines_settings s [] = refl
+lines_settings s (line ∷ lines) = lines_settings (after_line s line) lines ∙ line_settings s line
+
+-- what a node makes hangs on the document alone
+abbrev MakesOf : Node → List Logged → Document → Type 0
+MakesOf node calls d = (before : AnyNode) → node_at (opening d.world) node ≡ Some before → MakesLog (bytes_with (routes_of d.routes)) before calls
+
+abbrev opens_of : Node → Document → Option AnyNode
+opens_of node d = node_at (opening d.world) node
+
+-- bytes are the text of a log of these calls, which its node makes
+record IsTextOf (whose : Whose) (settings : Settings) (bytes : List ℕ) (calls : List Logged) : Type 0 where
+  text : bytes ≡ log_text (sha256 whose.settings) (record { node = whose.node; calls = calls })
+  fits : FitsLog (record { node = whose.node; calls = calls })
+  before : AnyNode
+  opens : node_at (opening (settings_seen settings)) whose.node ≡ Some before
+  makes : MakesLog (context_of settings) before calls
+
+input_text : (whose : Whose) (settings : Settings) (bytes : List ℕ) (whole : ℕ) (start : Serving) (input : List ℕ) → Spells whose.settings settings → IsOpened whose.settings whose.node bytes whole start → FitsInput start input
+    → (log : List Logged) × IsTextOf whose settings (log_of start (take whole bytes) input) (log ++ lines_calls start (whole_lines input))
+input_text whose settings bytes whole start input spells o fits =
+    let opened = is_opened_serving whose.settings whose.node bytes whole start o in
+    let log = opened.0 in
+    let calls = log.calls ++ lines_calls start (whole_lines input) in
+    let i = lines_serve (sha256 whose.settings) (take whole bytes) log start (whole_lines input) opened.1 fits in
+    let own : log.node ≡ whose.node = sym opened.1.named ∙ o.named in
+    let same : document_seen (asked start input).settings ≡ document_seen settings =
+    ap document_seen (lines_settings start (whole_lines input)) ∙ same_some (document_seen start.settings) (document_seen settings) (sym o.spells.spelled ∙ spells.spelled) in
+    let makes : MakesOf whose.node calls (document_seen settings) = subst (MakesOf whose.node calls) same (subst (λ (n : Node). MakesAll (asked start input).settings n calls) own i.makes) in
+    let first = map_some (λ (n : AnyNode). replay (context_of (asked start input).settings) n calls) (opens_of log.node (document_seen (asked start input).settings)) (asked start input).state i.state in
+    let opens : opens_of whose.node (document_seen settings) ≡ Some first.0 = sym (ap (λ (n : Node). opens_of n (document_seen settings)) own) ∙ (sym (ap (opens_of log.node) same) ∙ first.1) in (
+      log.calls,
+      record {
+        text = i.text ∙ ap (λ (n : Node). log_text (sha256 whose.settings) (record { node = n; calls = calls })) own;
+        fits = subst (λ (n : Node). FitsLog (record { node = n; calls = calls })) own i.fits;
+        before = first.0;
+        opens = opens;
+        makes = makes first.0 opens;
+      },
+    )
+
+-- ---- beginnings
+
+all_of : (bytes : List ℕ) → IsStartOf bytes bytes
+all_of bytes = record { rest = []; is = append-nil bytes }
+
+start_with : (front bytes more : List ℕ) → IsStartOf front bytes → IsStartOf front (bytes ++ more)
+start_with front bytes more s = record { rest = s.rest ++ more; is = sym (append_assoc front s.rest more) ∙ ap (λ (x : List ℕ). x ++ more) s.is }
+
+start_taken : (front bytes : List ℕ) (n : ℕ) → IsStartOf front bytes → length front ≤ n → IsStartOf front (take n bytes)
+start_taken front bytes n s le =
+    let m = n - length front in
+    let e : n ≡ length front + m = omega (arith, le) in
+    record { rest = take m s.rest; is = sym (ap (take n) (sym s.is) ∙ (ap (λ k. take k (front ++ s.rest)) e ∙ take-append-add front s.rest m)) }
+
+take_none : (n : ℕ) → take {A = ℕ} n [] ≡ []
+take_none zero = refl
+take_none (suc n) = refl
+
+read_file : (left : List ℕ) (t : List Act) → IsRead t → file_or left t ≡ file t
+read_file left [] r = absurd r
+read_file left (act ∷ t) r = refl
+
+lives : (ctx : Context) (s : WorldSettings) (node : Node) (t : List Act) (p : Process) → IsRead t → IsAlive ctx s node t p → p.memory ≡ replayed ctx s node (model_file p)
+lives ctx s node [] p r m = absurd r
+lives ctx s node (act ∷ t) p r m = m
+
+heads : (a b : Act) (s t : List Act) → a ∷ s ≡ b ∷ t → (a ≡ b) × (s ≡ t)
+heads a b s t e = (cc, cc)
+
+-- ---- between two happenings
+
+record IsInner (whose : Whose) (settings : Settings) (h : List Happening) (p : Process) : Type 0 where
+  disk : HasCalls (sha256 whose.settings) whose.node (on_disk h) p.synced
+  under : IsStartOf (on_disk h) (file_of h)
+  lies : IsCutOf (sha256 whose.settings) whose.node (file_of h) (model_file p)
+  -- what was found has the first of these calls
+  first : List Logged
+  more : List Logged
+  goes : model_file p ≡ first ++ more
+  was : IsCutOf (sha256 whose.settings) whose.node (left_of h) first
+  keeps : (kept (acts_of h) ≡ []) ⊎ (kept (acts_of h) ≡ on_disk h)
+  memory : IsAlive (context_of settings) (settings_seen settings) whose.node (acts_of h) p
+  told : IsToldBy whose.node p.synced (said (acts_of h))
+
+nothing_read : (digest : List ℕ) (node : Node) (bytes : List ℕ) (calls : List Logged) → length digest ≡ 32 → bytes ≡ [] → ReadsCalls digest node bytes calls → calls ≡ []
+nothing_read digest node bytes calls d none (inr short) = short.1
+nothing_read digest node bytes calls d none (inl read) =
+    absurd (not_short (record { log = record { node = node; calls = calls }; whole = read.0 }) (sym read.1 ∙ (ap (log_in digest) none ∙ reads_short digest (record { node = node; calls = [] }) 0 d (omega arith))))
+
+short_small : (digest : List ℕ) (node : Node) (bytes : List ℕ) (calls : List Logged) → length digest ≡ 32 → IsCutOf digest node bytes calls → log_in digest bytes ≡ Err Short → length bytes < 46
+short_small digest node bytes calls d c short =
+    let log : NodeLog = record { node = node; calls = c.all } in
+    let text = log_text digest log in
+    elim (cases_lt c.size 46) [
+      | inl small ↦ let a = ap length c.is in let b = taken_length c.size text in omega (arith, small, a, b)
+      | inr large ↦ let back = reads_back digest log c.size d c.fits large in absurd (not_short _ (sym back.read ∙ (sym (ap (log_in digest) c.is) ∙ short)))
+    ]
+
+-- what was said is told by calls that are on the disk
+covered_told : (whose : Whose) (settings : Settings) (acts : List Act) (disk : List ℕ) (start : Serving) (whole : ℕ) (synced : List Logged) → Spells whose.settings settings → (o : IsOpened whose.settings whose.node (found acts) whole start)
+    → FitsLog (record { node = whose.node; calls = synced }) → HasCalls (sha256 whose.settings) whose.node disk synced → (kept acts ≡ []) ⊎ (kept acts ≡ disk) → (said acts ≡ []) ⊎ IsCovered start (take whole (found acts)) acts → IsToldBy whose.node synced (said acts)
+covered_told whose settings acts disk start whole synced spells o fits has keeps (inl silent) = told_nothing whose.node synced (said acts) silent
+covered_told whose settings acts disk start whole synced spells o fits has keeps (inr c) = by_disk has keeps
+  where
+    d : length (sha256 whose.settings) ≡ 32
+    d = digest_length whose.settings
+
+    text : (log : List Logged) × IsTextOf whose settings (log_of start (take whole (found acts)) c.input) (log ++ lines_calls start (whole_lines c.input))
+    text = input_text whose settings (found acts) whole start c.input spells o c.fits
+
+    no_less : (bytes : List ℕ) → kept acts ≡ bytes → bytes ≡ [] → ⊥
+    no_less bytes e none =
+        let long = log_length (sha256 whose.settings) (record { node = whose.node; calls = text.0 ++ lines_calls start (whole_lines c.input) }) d in
+        let a = ap length text.1.text in
+        let b = start_length _ (kept acts) c.logged in
+        let n = ap length (e ∙ none) in
+        omega (arith, long, a, b, n)
+
+    by_disk : HasCalls (sha256 whose.settings) whose.node disk synced → (kept acts ≡ []) ⊎ (kept acts ≡ disk) → IsToldBy whose.node synced (said acts)
+    by_disk has (inl none) = absurd (no_less [] none refl)
+    by_disk (inr none) (inr same) = absurd (no_less disk same none.0)
+    by_disk (inl is) (inr same) =
+        let calls = text.0 ++ lines_calls start (whole_lines c.input) in
+        let own = log_text (sha256 whose.settings) (record { node = whose.node; calls = calls }) in
+        let start_of : IsStartOf own (log_text (sha256 whose.settings) (record { node = whose.node; calls = synced })) = subst (IsStartOf own) (same ∙ is) (subst (λ (x : List ℕ). IsStartOf x (kept acts)) text.1.text c.logged) in
+        told_by whose.node start c.input (said acts) text.0 synced _ o.silent (begins_with (sha256 whose.settings) whose.node calls synced (length own) d text.1.fits fits refl (first_of own _ start_of)) c.sent
+
+-- ---- what happens
+
+-- one thing more, and the steps that it is
+abbrev GoesOn : Whose → Settings → List Happening → Process → Type 0
+GoesOn whose settings h p = (steps : List Step) × IsInner whose settings h (steps_from (context_of settings) (settings_seen settings) whose.node p steps)
+
+module _ (whose : Whose) (settings : Settings) (spells : Spells whose.settings settings) (fits_node : FitsNode whose.node) (h : List Happening) (p : Process) (i : IsInner whose settings h p) where
+  abbrev digest : List ℕ
+  digest = sha256 whose.settings
+
+  d : length digest ≡ 32
+  d = digest_length whose.settings
+
+  abbrev node : Node
+  node = whose.node
+
+  abbrev t : List Act
+  t = acts_of h
+
+  fits : FitsLog (record { node = node; calls = model_file p })
+  fits = calls_fit digest node (file_of h) (model_file p) i.lies
+
+  fits_synced : FitsLog (record { node = node; calls = p.synced })
+  fits_synced = record { node = fits.node; calls = front_fits p.synced p.unsynced fits.calls }
+
+  reads : ReadsCalls digest node (file_of h) (model_file p)
+  reads = cut_reads digest node (file_of h) (model_file p) d i.lies
+
+  found_step : (bytes : List ℕ) → acts_of h ≡ [] → bytes ≡ left_of h → GoesOn whose settings (Does (Found bytes) ∷ h) p
+  found_step bytes none is =
+      let same : file_of h ≡ bytes = ap (file_or (left_of h)) none ∙ sym is in (
+        Restarts ∷ [],
+        record {
+          disk = i.disk;
+          under = subst (IsStartOf (on_disk h)) same i.under;
+          lies = subst (λ (b : List ℕ). IsCutOf digest node b (model_file p)) same i.lies;
+          first = i.first;
+          more = i.more;
+          goes = i.goes;
+          was = i.was;
+          keeps = inl refl;
+          memory = refl;
+          told = i.told;
+        },
+      )
+
+  -- what stands behind the whole records is cut off
+  cut_step : (size : ℕ) (done : Bool) (start : Serving) (whole : ℕ) → IsOpened whose.settings node (found t) whole start → found t ≡ left_of h → t ≡ Found (found t) ∷ [] → take size (found t) ≡ take whole (found t)
+      → GoesOn whose settings (Does (Cut size done) ∷ h) p
+  cut_step size done start whole o is only cuts = by_begun o.begun lies_found
+    where
+      file_found : file t ≡ found t
+      file_found = ap file only
+
+      lies_found : IsCutOf digest node (found t) (model_file p)
+      lies_found = subst (λ (b : List ℕ). IsCutOf digest node b (model_file p)) (ap (file_or (left_of h)) only) i.lies
+
+      under_found : IsStartOf (on_disk h) (found t)
+      under_found = subst (IsStartOf (on_disk h)) (ap (file_or (left_of h)) only) i.under
+
+      cut_file : take size (file t) ≡ take whole (found t)
+      cut_file = ap (take size) file_found ∙ cuts
+
+      -- where nothing that is synced is cut
+      with_file : take size (on_disk h) ≡ on_disk h → IsStartOf (on_disk h) (take size (file t)) → IsCutOf digest node (take size (file t)) (model_file p) → GoesOn whose settings (Does (Cut size done) ∷ h) p
+      with_file same under lies = (
+        [],
+        record {
+          disk = subst (λ (b : List ℕ). HasCalls digest node b p.synced) (sym same) i.disk;
+          under = subst (λ (b : List ℕ). IsStartOf b (take size (file t))) (sym same) under;
+          lies = lies;
+          first = i.first;
+          more = i.more;
+          goes = i.goes;
+          was = i.was;
+          keeps = inl (ap (λ (acts : List Act). take size (kept acts)) only ∙ take_none size);
+          memory = subst (λ (acts : List Act). IsAlive (context_of settings) (settings_seen settings) node acts p) only i.memory;
+          told = i.told;
+        },
+      )
+
+      -- a log whose head is there
+      of_calls : take size (file t) ≡ log_text digest (record { node = node; calls = model_file p }) → GoesOn whose settings (Does (Cut size done) ∷ h) p
+      of_calls e = with_file same (subst (λ (b : List ℕ). IsStartOf (on_disk h) (take size b)) (sym file_found) (start_taken (on_disk h) (found t) size under_found short)) (subst (λ (b : List ℕ). IsCutOf digest node b (model_file p)) (sym e) (text_cut digest node (model_file p) d fits))
+        where
+          text_short : length (log_text digest (record { node = node; calls = model_file p })) ≤ size
+          text_short = let a = ap length e in let b = taken_length size (file t) in omega (arith, a, b)
+
+          by_disk : HasCalls digest node (on_disk h) p.synced → length (on_disk h) ≤ size
+          by_disk (inl is) =
+              let a = ap length is in
+              let b = log_length digest (record { node = node; calls = p.synced }) d in
+              let c = log_length digest (record { node = node; calls = model_file p }) d in
+              let e = longer_text 1 p.synced p.unsynced in
+              omega (arith, a, b, c, e, text_short)
+          by_disk (inr none) = let a = ap length none.0 in omega (arith, a)
+
+          short : length (on_disk h) ≤ size
+          short = by_disk i.disk
+
+          same : take size (on_disk h) ≡ on_disk h
+          same = take_all size (on_disk h) short
+
+      -- and one that has none
+      of_nothing : log_in digest (found t) ≡ Err Short → whole ≡ 0 → model_file p ≡ [] → GoesOn whose settings (Does (Cut size done) ∷ h) p
+      of_nothing short zero_kept none = by_disk i.disk
+        where
+          cut_none : take size (file t) ≡ []
+          cut_none = cut_file ∙ ap (λ n. take n (found t)) zero_kept
+
+          lies : IsCutOf digest node (take size (file t)) (model_file p)
+          lies = subst (λ (b : List ℕ). IsCutOf digest node b (model_file p)) (sym cut_none) (subst (IsCutOf digest node []) (sym none) (nothing_cut digest node fits_node))
+
+          by_disk : HasCalls digest node (on_disk h) p.synced → GoesOn whose settings (Does (Cut size done) ∷ h) p
+          by_disk (inl is) =
+              let a = ap length is in
+              let b = log_length digest (record { node = node; calls = p.synced }) d in
+              let c = short_small digest node (found t) (model_file p) d lies_found short in
+              let e = start_length (on_disk h) (found t) under_found in
+              absurd (omega (arith, a, b, c, e))
+          by_disk (inr nothing) =
+              with_file (ap (take size) nothing.0 ∙ (take_none size ∙ sym nothing.0)) (subst (λ (b : List ℕ). IsStartOf b (take size (file t))) (sym nothing.0) (record { rest = take size (file t); is = refl })) lies
+
+      by_begun : IsBegun digest node (found t) o.log whole start.records → IsCutOf digest node (found t) (model_file p) → GoesOn whose settings (Does (Cut size done) ∷ h) p
+      by_begun (inl read) c = by_reading (cut_reads digest node (found t) (model_file p) d c)
+        where
+          by_reading : ReadsCalls digest node (found t) (model_file p) → GoesOn whose settings (Does (Cut size done) ∷ h) p
+          by_reading (inl own) =
+              let r = same_reading (record { log = o.log; whole = whole }) (record { log = record { node = node; calls = model_file p }; whole = own.0 }) (sym read.0 ∙ own.1) in
+              of_calls (cut_file ∙ (sym (append-nil (take whole (found t))) ∙ (ap (λ (x : List ℕ). take whole (found t) ++ x) (sym read.1) ∙ (o.text ∙ ap (λ (x : Reading). log_text digest x.log) r))))
+          by_reading (inr short) = absurd (not_short (record { log = o.log; whole = whole }) (sym read.0 ∙ short.0))
+      by_begun (inr begun) c = by_reading (cut_reads digest node (found t) (model_file p) d c)
+        where
+          by_reading : ReadsCalls digest node (found t) (model_file p) → GoesOn whose settings (Does (Cut size done) ∷ h) p
+          by_reading (inl own) = absurd (not_short (record { log = record { node = node; calls = model_file p }; whole = own.0 }) (sym own.1 ∙ begun.0))
+          by_reading (inr short) = of_nothing begun.0 begun.1.1.0 short.1
+
+  file_there : IsRead t → file_of h ≡ file t
+  file_there r = read_file (left_of h) t r
+
+  reads_file : IsRead t → ReadsCalls digest node (file t) (model_file p)
+  reads_file r = subst (λ (b : List ℕ). ReadsCalls digest node b (model_file p)) (file_there r) reads
+
+  -- calls are recorded
+  append_step : (bytes : List ℕ) (done : Bool) (calls : List Logged) → GoesWell t → kept t ≡ file t → IsTextOf whose settings (file t ++ bytes) calls → GoesOn whose settings (Does (Append bytes done) ∷ h) p
+  append_step bytes done calls well synced text = with_new begins
+    where
+      -- the file is the text of what the process has recorded
+      on_file : (file t ≡ log_text digest (record { node = node; calls = model_file p })) ⊎ ((file t ≡ []) × (model_file p ≡ []))
+      on_file = by_kept i.keeps
+        where
+          nothing : file t ≡ [] → (file t ≡ log_text digest (record { node = node; calls = model_file p })) ⊎ ((file t ≡ []) × (model_file p ≡ []))
+          nothing none = inr (none, nothing_read digest node (file t) (model_file p) d none (reads_file well.0))
+
+          by_disk : file t ≡ on_disk h → HasCalls digest node (on_disk h) p.synced → (file t ≡ log_text digest (record { node = node; calls = model_file p })) ⊎ ((file t ≡ []) × (model_file p ≡ []))
+          by_disk same (inl is) =
+              let e = same_calls digest node p.synced (model_file p) (file t) d fits_synced (same ∙ is) (reads_file well.0) in
+              inl (same ∙ (is ∙ ap (λ (cs : List Logged). log_text digest (record { node = node; calls = cs })) e))
+          by_disk same (inr none) = nothing (same ∙ none.0)
+
+          by_kept : (kept t ≡ []) ⊎ (kept t ≡ on_disk h) → (file t ≡ log_text digest (record { node = node; calls = model_file p })) ⊎ ((file t ≡ []) × (model_file p ≡ []))
+          by_kept (inl none) = nothing (sym synced ∙ none)
+          by_kept (inr same) = by_disk (sym synced ∙ same) i.disk
+
+      begins : (new : List Logged) × (model_file p ++ new ≡ calls)
+      begins = by_file on_file
+        where
+          by_file : (file t ≡ log_text digest (record { node = node; calls = model_file p })) ⊎ ((file t ≡ []) × (model_file p ≡ [])) → (new : List Logged) × (model_file p ++ new ≡ calls)
+          by_file (inr none) = (calls, ap (λ (x : List Logged). x ++ calls) none.1)
+          by_file (inl is) =
+              let own = log_text digest (record { node = node; calls = model_file p }) in
+              let e : own ≡ take (length own) (log_text digest (record { node = node; calls = calls })) = sym (ap (take (length own)) (sym text.text ∙ ap (λ (x : List ℕ). x ++ bytes) is) ∙ take_at own bytes (length own) refl) in
+              let k = calls_within (length own) (record { node = node; calls = calls }) in
+              let first : model_file p ≡ take k calls = begins_with digest node (model_file p) calls (length own) d fits text.fits refl e in
+              (drop k calls, ap (λ (x : List Logged). x ++ drop k calls) first ∙ take-append-drop k calls)
+
+      with_new : (new : List Logged) × (model_file p ++ new ≡ calls) → GoesOn whose settings (Does (Append bytes done) ∷ h) p
+      with_new (new, all) =
+          let ctx = context_of settings in
+          let s = settings_seen settings in
+          let alive : p.memory ≡ Some (replay ctx text.before (model_file p)) = lives ctx s node t p well.0 i.memory ∙ ap (option_map (λ (before : AnyNode). replay ctx before (model_file p))) text.opens in
+          let q = steps_from ctx s node p (makes_of new) in
+          let m = makes_all ctx s node text.before p (model_file p) new alive (subst (MakesLog ctx text.before) (sym all) text.makes) in
+          let grown : model_file q ≡ model_file p ++ new = ap (λ (x : List Logged). x ++ q.unsynced) m.synced ∙ (ap (λ (x : List Logged). p.synced ++ x) m.unsynced ∙ sym (append_assoc p.synced p.unsynced new)) in
+          let is : model_file q ≡ calls = grown ∙ all in (
+            makes_of new,
+            record {
+              disk = subst (HasCalls digest node (on_disk h)) (sym m.synced) i.disk;
+              under = start_with (on_disk h) (file t) bytes (subst (IsStartOf (on_disk h)) (file_there well.0) i.under);
+              lies = subst (λ (b : List ℕ). IsCutOf digest node b (model_file q)) (sym text.text) (subst (IsCutOf digest node (log_text digest (record { node = node; calls = calls }))) (sym is) (text_cut digest node calls d text.fits));
+              first = i.first;
+              more = i.more ++ new;
+              goes = grown ∙ (ap (λ (x : List Logged). x ++ new) i.goes ∙ append_assoc i.first i.more new);
+              was = i.was;
+              keeps = i.keeps;
+              memory = m.memory ∙ (ap (λ (x : List Logged). Some (replay ctx text.before x)) (sym grown) ∙ sym (ap (option_map (λ (before : AnyNode). replay ctx before (model_file q))) text.opens));
+              told = subst (λ (x : List Logged). IsToldBy node x (said t)) (sym m.synced) i.told;
+            },
+          )
+
+  -- what is recorded is synced
+  sync_step : (done : Bool) (calls : List Logged) → GoesWell t → IsTextOf whose settings (file t) calls → GoesOn whose settings (Does (Sync done) ∷ h) p
+  sync_step false calls well text = (
+    [],
+    record {
+      disk = i.disk;
+      under = subst (IsStartOf (on_disk h)) (file_there well.0) i.under;
+      lies = subst (λ (b : List ℕ). IsCutOf digest node b (model_file p)) (file_there well.0) i.lies;
+      first = i.first;
+      more = i.more;
+      goes = i.goes;
+      was = i.was;
+      keeps = i.keeps;
+      memory = lives (context_of settings) (settings_seen settings) node t p well.0 i.memory;
+      told = i.told;
+    },
+  )
+  sync_step true calls well text =
+      let ctx = context_of settings in
+      let s = settings_seen settings in
+      let q : Process = record { memory = p.memory; synced = model_file p; unsynced = [] } in
+      let own : calls ≡ model_file p = same_calls digest node calls (model_file p) (file t) d text.fits text.text (reads_file well.0) in
+      let disk : cond (true && not (has_failed t)) (file t) (on_disk h) ≡ file t = ap (λ b. cond (true && not b) (file t) (on_disk h)) well.1 in
+      let keeps : cond (true && not (has_failed t)) (file t) (kept t) ≡ file t = ap (λ b. cond (true && not b) (file t) (kept t)) well.1 in
+      let all : model_file q ≡ model_file p = append-nil (model_file p) in
+      let after : IsInner whose settings (Does (Sync true) ∷ h) q = record {
+        disk = inl (disk ∙ (text.text ∙ ap (λ (cs : List Logged). log_text digest (record { node = node; calls = cs })) own));
+        under = subst (λ (b : List ℕ). IsStartOf b (file t)) (sym disk) (all_of (file t));
+        lies = subst (λ (b : List ℕ). IsCutOf digest node b (model_file q)) (file_there well.0) (subst (IsCutOf digest node (file_of h)) (sym all) i.lies);
+        first = i.first;
+        more = i.more;
+        goes = all ∙ i.goes;
+        was = i.was;
+        keeps = inr (keeps ∙ sym disk);
+        memory = lives ctx s node t p well.0 i.memory ∙ ap (replayed ctx s node) (sym all);
+        told = told_still node p.synced p.unsynced (said t) i.told;
+      } in
+      (syncs_of p.unsynced, subst (IsInner whose settings (Does (Sync true) ∷ h)) (sym (syncs_all ctx s node p.memory p.synced p.unsynced)) after)
+
+  -- words that are on the disk are said
+  say_step : (bytes : List ℕ) (done : Bool) → GoesWell t → IsToldBy node p.synced (said t ++ bytes) → GoesOn whose settings (Does (Say bytes done) ∷ h) p
+  say_step bytes done well told = (
+    [],
+    record {
+      disk = i.disk;
+      under = subst (IsStartOf (on_disk h)) (file_there well.0) i.under;
+      lies = subst (λ (b : List ℕ). IsCutOf digest node b (model_file p)) (file_there well.0) i.lies;
+      first = i.first;
+      more = i.more;
+      goes = i.goes;
+      was = i.was;
+      keeps = i.keeps;
+      memory = lives (context_of settings) (settings_seen settings) node t p well.0 i.memory;
+      told = told;
+    },
+  )
+
+  hear_step : (bytes : List ℕ) → GoesWell t → GoesOn whose settings (Does (Hear bytes) ∷ h) p
+  hear_step bytes well = (
+    [],
+    record {
+      disk = i.disk;
+      under = subst (IsStartOf (on_disk h)) (file_there well.0) i.under;
+      lies = subst (λ (b : List ℕ). IsCutOf digest node b (model_file p)) (file_there well.0) i.lies;
+      first = i.first;
+      more = i.more;
+      goes = i.goes;
+      was = i.was;
+      keeps = i.keeps;
+      memory = lives (context_of settings) (settings_seen settings) node t p well.0 i.memory;
+      told = i.told;
+    },
+  )
+
+  -- the process dies
+  crash_step : (left : List ℕ) → IsStartOf (on_disk h) left → HasLeft digest node left (model_file p) p.synced → GoesOn whose settings (Dies left ∷ h) p
+  crash_step left under l =
+      let k = l.count - length p.synced in
+      let q : Process = crashed p k in
+      let e : l.count ≡ length p.synced + k = let a = l.enough in omega (arith, a) in
+      let is : take l.count (model_file p) ≡ model_file q = ap (λ n. take n (model_file p)) e ∙ take-append-add p.synced p.unsynced k in
+      let lies : IsCutOf digest node left (model_file q) = subst (IsCutOf digest node left) is l.cut in (
+        Crashes k ∷ [],
+        record {
+          disk = i.disk;
+          under = under;
+          lies = lies;
+          first = model_file q;
+          more = [];
+          goes = sym (append-nil (model_file q));
+          was = lies;
+          keeps = inl refl;
+          memory = refl;
+          told = told_nothing node p.synced [] refl;
+        },
+      )
+
+  dies_step : (left : List ℕ) → IsLeft h left → GoesOn whose settings (Dies left ∷ h) p
+  dies_step left (under, inl start) = crash_step left under (left_reads digest node (on_disk h) left (file_of h) (model_file p) p.synced d fits_synced i.disk under start i.lies)
+  dies_step left (under, inr start) =
+      let l = left_reads digest node (on_disk h) left (left_of h) i.first p.synced d fits_synced i.disk under start i.was in
+      let same : take l.count i.first ≡ take l.count (model_file p) = sym (ap (take l.count) i.goes ∙ take-append-le l.count i.first i.more l.most) in
+      let long : length (model_file p) ≡ length i.first + length i.more = ap length i.goes ∙ length-append i.first i.more in
+      crash_step left under (record {
+        count = l.count;
+        cut = subst (IsCutOf digest node left) same l.cut;
+        enough = l.enough;
+        most = let m = l.most in omega (arith, m, long);
+        begins = sym (take_at p.synced p.unsynced (length p.synced) refl);
+      })
+
+  -- each act of a run
+  run_step : (act : Act) → found (act ∷ t) ≡ left_of h → IsRun whose (act ∷ t) → GoesOn whose settings (Does act ∷ h) p
+  run_step act is r = by_act act is r.start r.whole r.opened (r.safe [] (act ∷ t) refl)
+    where
+      by_act : (act : Act) → found (act ∷ t) ≡ left_of h → (start : Serving) (whole : ℕ) → IsOpened whose.settings node (found (act ∷ t)) whole start → IsSafe start (take whole (found (act ∷ t))) (act ∷ t) → GoesOn whose settings (Does act ∷ h) p
+      by_act (Found bytes) is start whole o safe = found_step bytes safe.order is
+      by_act (Cut size done) is start whole o safe = cut_step size done start whole o is safe.order.0 safe.order.1
+      by_act (Append bytes done) is start whole o safe =
+          let log = safe.order.1.1 in
+          let text = input_text whose settings (found t) whole start log.input spells o log.fits in
+          append_step bytes done (text.0 ++ lines_calls start (whole_lines log.input)) safe.order.0 safe.order.1.0 (subst (λ (b : List ℕ). IsTextOf whose settings b (text.0 ++ lines_calls start (whole_lines log.input))) (sym log.is) text.1)
+      by_act (Sync done) is start whole o safe =
+          let log = safe.order.1 in
+          let text = input_text whose settings (found t) whole start log.input spells o log.fits in
+          sync_step done (text.0 ++ lines_calls start (whole_lines log.input)) safe.order.0 (subst (λ (b : List ℕ). IsTextOf whose settings b (text.0 ++ lines_calls start (whole_lines log.input))) (sym log.is) text.1)
+      by_act (Say bytes done) is start whole o safe =
+          say_step bytes done safe.order (covered_told whose settings (Say bytes done ∷ t) (on_disk h) start whole p.synced spells o fits_synced i.disk i.keeps safe.covered)
+      by_act (Hear bytes) is start whole o safe = hear_step bytes safe.order
+
+  unopened_step : (act : Act) → found (act ∷ t) ≡ left_of h → IsUnopened (act ∷ t) → GoesOn whose settings (Does act ∷ h) p
+  unopened_step act is (inl none) = absurd (let wrong : act ∷ t ≡ [] = none in cc)
+  unopened_step act is (inr (bytes, e)) =
+      let parts = heads act (Found bytes) t [] e in
+      subst (λ (a : Act). GoesOn whose settings (Does a ∷ h) p) (sym parts.0) (found_step bytes parts.1 (sym (ap found e) ∙ is))
+
+  next_step : (one : Happening) → IsHistory whose (one ∷ h) → GoesOn whose settings (one ∷ h) p
+  next_step (Does act) (before, (is, inl unopened)) = unopened_step act is unopened
+  next_step (Does act) (before, (is, inr run)) = run_step act is run
+  next_step (Dies left) (before, leaves) = dies_step left leaves
+
+-- ---- all that happens
+
+earlier : (whose : Whose) (one : Happening) (h : List Happening) → IsHistory whose (one ∷ h) → IsHistory whose h
+earlier whose (Does act) h is = is.0
+earlier whose (Dies left) h is = is.0
+
+begun : (whose : Whose) (settings : Settings) → FitsNode whose.node → IsInner whose settings [] (record { memory = None; synced = []; unsynced = [] })
+begun whose settings fits =
+    let none = nothing_cut (sha256 whose.settings) whose.node fits in
+    record {
+      disk = inr (refl, refl);
+      under = all_of [];
+      lies = none;
+      first = [];
+      more = [];
+      goes = refl;
+      was = none;
+      keeps = inl refl;
+      memory = refl;
+      told = told_nothing whose.node [] [] refl;
+    }
+
+goes_on : (whose : Whose) (settings : Settings) (later h : List Happening) (p : Process) → Spells whose.settings settings → FitsNode whose.node → IsInner whose settings h p → IsHistory whose (later ++ h) → GoesOn whose settings (later ++ h) p
+goes_on whose settings [] h p spells numbered i is = ([], i)
+goes_on whose settings (one ∷ later) h p spells numbered i is =
+    let ctx = context_of settings in
+    let s = settings_seen settings in
+    let first = goes_on whose settings later h p spells numbered i (earlier whose one (later ++ h) is) in
+    let next = next_step whose settings spells numbered (later ++ h) (steps_from ctx s whose.node p first.0) first.1 one is in
+    (first.0 ++ next.0, subst (IsInner whose settings (one ∷ (later ++ h))) (sym (steps_append ctx s whose.node p first.0 next.0)) next.1)
+
+before_is : (whose : Whose) (later h : List Happening) → IsHistory whose (later ++ h) → IsHistory whose h
+before_is whose [] h is = is
+before_is whose (one ∷ later) h is = before_is whose later h (earlier whose one (later ++ h) is)
+
+is_process : (whose : Whose) (settings : Settings) (h : List Happening) (p : Process) → IsInner whose settings h p → IsProcess whose settings h p
+is_process whose settings h p i =
+    record { disk = i.disk; lies = cut_reads (sha256 whose.settings) whose.node (file_of h) (model_file p) (digest_length whose.settings) i.lies; memory = i.memory; told = i.told }
+
+pub course : (whose : Whose) (settings : Settings) (later before : List Happening) → Spells whose.settings settings → FitsNode whose.node → IsHistory whose (later ++ before) → IsCourse whose settings before (later ++ before)
+course whose settings later before spells fits is =
+    let ctx = context_of settings in
+    let s = settings_seen settings in
+    let none : Process = record { memory = None; synced = []; unsynced = [] } in
+    let nil : before ++ [] ≡ before = append-nil before in
+    let first : GoesOn whose settings before none = subst (λ (h : List Happening). GoesOn whose settings h none) nil
+    (goes_on whose settings before [] none spells fits (begun whose settings fits) (subst (IsHistory whose) (sym nil) (before_is whose later before is))) in
+    let then = goes_on whose settings later before (process_after ctx s whose.node first.0) spells fits first.1 is in
+    record {
+      steps = first.0;
+      more = then.0;
+      first = is_process whose settings before (process_after ctx s whose.node first.0) first.1;
+      last = subst (IsProcess whose settings (later ++ before)) (sym (steps_append ctx s whose.node none first.0 then.0)) (is_process whose settings (later ++ before) (steps_from ctx s whose.node (process_after ctx s whose.node first.0) then.0) then.1);
+    }

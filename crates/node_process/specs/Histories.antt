@@ -1,0 +1,195 @@
+-- The processes of one node, one after another, and what is left of the file of its log where one dies; and the process of the model that they are.
+use Rattle.std.specs.Prelude.{◌≡◌, ◌⊎◌, ⊤, ℕ, not, ◌&&◌, cond, flat_map, false, map, List, [], ◌∷◌, ◌++◌, take, Some, None, Ok, Err}
+use Rattle.std.specs.List.{AllByRecursion}
+use Rattle.sha2.specs.Sha256.{sha256}
+use Rattle.claim_model.specs.Context.{Context}
+use Rattle.claim_model.specs.Node.{Node, Call, Sent}
+use Rattle.claim_model.specs.Nodes.{AnyNode, same_node, asked}
+use Rattle.claim_model.specs.World.{Event, Packet, packet_from}
+use Rattle.claim_model.specs.Settings.{WorldSettings}
+use Rattle.claim_model.specs.Logs.{Logged, posted_by}
+use Rattle.crash_safety.specs.Network.{Process, Network, Move, after, calls, one_synced, crashed, restarted, replayed}
+use Rattle.crash_safety.specs.Network as model
+use Rattle.crash_safety.specs.Runs.{IsAmong}
+use Rattle.world_setup.specs.Seen.{settings_seen}
+use Rattle.world_setup.specs.declared.settings.WorldSettings.{WorldSettings as Settings}
+use Rattle.node_logged.specs.Setting.{context_of}
+use Rattle.kept_logs.specs.declared.fault.LogFault.TheVariants.{Short}
+use Rattle.kept_logs.specs.Logs.{log_text, log_in}
+use Rattle.node_service.specs.Asking.{Asked, Calls, Tells as Asks}
+use Rattle.node_service.specs.Answering.{ready_line, sent_line, refused_line}
+use Rattle.node_service.specs.Serving.{last_line, told_of}
+use Rattle.node_process.specs.Acts.{Act, Found, Cut, Append, Sync, Say, Hear, found, file, has_failed, said}
+use Rattle.node_process.specs.Safe.{IsStartOf, IsUnopened, IsRun, Whose}
+
+-- ---- bytes
+
+-- what happens to a node: its process asks something of the system; or it dies, by itself or with its machine, and a start will find these bytes
+pub data Happening : Type 0 where
+  Does : Act → Happening
+  Dies : (left : List ℕ) → Happening
+
+-- what the process that lives has asked of the system, the newest first
+abbrev pub acts_of : List Happening → List Act
+acts_of [] = []
+acts_of (Does act ∷ before) = act ∷ acts_of before
+acts_of (Dies left ∷ before) = []
+
+-- what the last death left
+abbrev pub left_of : List Happening → List ℕ
+left_of [] = []
+left_of (Does act ∷ before) = left_of before
+left_of (Dies left ∷ before) = left
+
+-- the file as the system has it
+abbrev pub file_or : List ℕ → List Act → List ℕ
+file_or left [] = left
+file_or left (act ∷ before) = file (act ∷ before)
+
+abbrev pub file_of : List Happening → List ℕ
+file_of history = file_or (left_of history) (acts_of history)
+
+-- the bytes that are on the disk for certain
+abbrev pub on_disk : List Happening → List ℕ
+on_disk [] = []
+on_disk (Does (Found bytes) ∷ before) = on_disk before
+on_disk (Does (Cut size done) ∷ before) = take size (on_disk before)
+on_disk (Does (Append bytes done) ∷ before) = on_disk before
+on_disk (Does (Sync done) ∷ before) = cond (done && not (has_failed (acts_of before))) (file (acts_of before)) (on_disk before)
+on_disk (Does (Say bytes done) ∷ before) = on_disk before
+on_disk (Does (Hear bytes) ∷ before) = on_disk before
+on_disk (Dies left ∷ before) = on_disk before
+
+-- a death leaves what is on the disk for certain, and behind that a beginning of what the system had; or of what it had when the process began,
+-- since what was cut off may be there again
+abbrev pub IsLeft : List Happening → List ℕ → Type 0
+IsLeft before left = IsStartOf (on_disk before) left × (IsStartOf left (file_of before) ⊎ IsStartOf left (left_of before))
+
+-- each process finds what the one before it left, and at each moment is a run of its node (`serve_all`), or has done nothing but to read the log
+abbrev pub IsHistory : Whose → List Happening → Type 0
+IsHistory whose [] = ⊤
+IsHistory whose (Does act ∷ before) =
+    IsHistory whose before × ((found (act ∷ acts_of before) ≡ left_of before) × (IsUnopened (act ∷ acts_of before) ⊎ IsRun whose (act ∷ acts_of before)))
+IsHistory whose (Dies left ∷ before) = IsHistory whose before × IsLeft before left
+
+-- what a process has asked, as what happens
+abbrev pub happenings : List Act → List Happening
+happenings acts = map Does acts
+
+-- it began with what the last death left
+abbrev pub BeginsWith : List ℕ → List Act → Type 0
+BeginsWith left acts = (acts ≡ []) ⊎ (found acts ≡ left)
+
+-- ---- the process
+
+-- what a process of the model does
+pub data Step : Type 0 where
+  -- it makes a call in memory, and its record is appended
+  Makes : Call → Step
+  -- the first record that is not synced is synced
+  Syncs : Step
+  -- it dies; of the records that are not synced the first so many are still there
+  Crashes : (left : ℕ) → Step
+  -- a process reads the log, and replays it
+  Restarts : Step
+
+abbrev pub step : Context → WorldSettings → Node → Process → Step → Process
+step ctx s node p (Makes call) = calls ctx p call p.memory
+step ctx s node p Syncs = one_synced p p.unsynced
+step ctx s node p (Crashes left) = crashed p left
+step ctx s node p Restarts = restarted ctx s node p
+
+abbrev pub steps_from : Context → WorldSettings → Node → Process → List Step → Process
+steps_from ctx s node p [] = p
+steps_from ctx s node p (one ∷ more) = steps_from ctx s node (step ctx s node p one) more
+
+-- the process that steps lead to, from an empty disk
+abbrev pub process_after : Context → WorldSettings → Node → List Step → Process
+process_after ctx s node steps = steps_from ctx s node (record { memory = None; synced = []; unsynced = [] }) steps
+
+-- ---- that they are the same
+
+-- bytes are the text of a log of these calls; or there is no log yet
+abbrev pub HasCalls : List ℕ → Node → List ℕ → List Logged → Type 0
+HasCalls digest node bytes calls = (bytes ≡ log_text digest (record { node = node; calls = calls })) ⊎ ((bytes ≡ []) × (calls ≡ []))
+
+-- bytes are read as a log of these calls; or there is no whole head of a log yet
+abbrev pub ReadsCalls : List ℕ → Node → List ℕ → List Logged → Type 0
+ReadsCalls digest node bytes calls =
+    ((whole : ℕ) × (log_in digest bytes ≡ Ok (record { log = record { node = node; calls = calls }; whole = whole })))
+    ⊎ ((log_in digest bytes ≡ Err Short) × (calls ≡ []))
+
+-- who lives has in memory what the log as it lies makes of the node
+abbrev pub IsAlive : Context → WorldSettings → Node → List Act → Process → Type 0
+IsAlive ctx s node [] p = p.memory ≡ None
+IsAlive ctx s node (act ∷ before) p = p.memory ≡ replayed ctx s node (model.file p)
+
+-- what is written: the line of a packet, or a line that sends nothing
+pub data Word : Type 0 where
+  Sends : Sent → Word
+  Tells : List ℕ → Word
+
+abbrev pub word_text : Word → List ℕ
+word_text (Sends sent) = sent_line sent
+word_text (Tells text) = text
+
+-- the answer to a question; to a call there is none
+abbrev pub answer_to : Context → AnyNode → Node → Asked → List ℕ
+answer_to ctx state node (Calls call) = []
+answer_to ctx state node (Asks question) = told_of ctx state node question
+
+-- the lines that send nothing: how many calls a log has, why a call was refused, how one ended, and answers to questions
+pub data SendsNothing (text : List ℕ) : Type 0 where
+  IsReady : (calls : ℕ) → text ≡ ready_line calls → SendsNothing text
+  IsRefused : (name : List ℕ) → text ≡ refused_line name → SendsNothing text
+  IsLast : (call : Call) (next : AnyNode) → text ≡ last_line call next → SendsNothing text
+  IsTold : (ctx : Context) (state : AnyNode) (node : Node) (asked : Asked) → text ≡ answer_to ctx state node asked → SendsNothing text
+
+-- a packet is one that these calls of the node sent
+abbrev pub IsWordOf : Node → List Logged → Word → Type 0
+IsWordOf node calls (Sends sent) = IsAmong (posted_by node calls) (packet_from node sent)
+IsWordOf node calls (Tells text) = SendsNothing text
+
+-- bytes begin lines of which each packet is one that these calls sent
+pub record IsToldBy (node : Node) (calls : List Logged) (text : List ℕ) : Type 0 where
+  pub words : List Word
+  pub each : AllByRecursion (IsWordOf node calls) words
+  pub spelled : IsStartOf text (flat_map word_text words)
+
+-- what a node has on its disk, in its file and in its memory is what the process of the model has, and what its process has said is what the
+-- synced calls of that process sent
+pub record IsProcess (whose : Whose) (settings : Settings) (history : List Happening) (p : Process) : Type 0 where
+  pub disk : HasCalls (sha256 whose.settings) whose.node (on_disk history) p.synced
+  pub lies : ReadsCalls (sha256 whose.settings) whose.node (file_of history) (model.file p)
+  pub memory : IsAlive (context_of settings) (settings_seen settings) whose.node (acts_of history) p
+  pub told : IsToldBy whose.node p.synced (said (acts_of history))
+
+-- so at any two moments, and the steps to the later one go on from those to the first
+pub record IsCourse (whose : Whose) (settings : Settings) (now later : List Happening) : Type 0 where
+  pub steps : List Step
+  pub more : List Step
+  pub first : IsProcess whose settings now (process_after (context_of settings) (settings_seen settings) whose.node steps)
+  pub last : IsProcess whose settings later (process_after (context_of settings) (settings_seen settings) whose.node (steps ++ more))
+
+-- ---- that steps are moves
+
+-- the calls of steps can come over a wire: some event asks the node for each
+abbrev pub CanCome : List Packet → Node → List Step → Type 0
+CanCome wire node [] = ⊤
+CanCome wire node (Makes call ∷ more) = ((event : Event) × (asked wire event ≡ Some (record { node = node; call = call }))) × CanCome wire node more
+CanCome wire node (Syncs ∷ more) = CanCome wire node more
+CanCome wire node (Crashes left ∷ more) = CanCome wire node more
+CanCome wire node (Restarts ∷ more) = CanCome wire node more
+
+-- moves of a network do what these steps do to the process of this node, and nothing else
+pub record AreMoves (ctx : Context) (s : WorldSettings) (n : Network) (node : Node) (steps : List Step) : Type 0 where
+  pub moves : List Move
+  pub own : (after ctx s n moves).at node ≡ steps_from ctx s node (n.at node) steps
+  pub others : (other : Node) → same_node node other ≡ false → (after ctx s n moves).at other ≡ n.at other
+  pub wire : (after ctx s n moves).wire ≡ n.wire
+
+-- a move says this packet, and does nothing else
+pub record IsSaid (ctx : Context) (s : WorldSettings) (n : Network) (node : Node) (p : Packet) : Type 0 where
+  pub move : Move
+  pub own : (other : Node) → (after ctx s n (move ∷ [])).at other ≡ n.at other
+  pub wire : (after ctx s n (move ∷ [])).wire ≡ n.wire ++ p ∷ []

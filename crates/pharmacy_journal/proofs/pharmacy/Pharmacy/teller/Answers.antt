@@ -1,0 +1,13 @@
+use Rattle.std.proofs.Common.{◌≡◌, List, map, ap, ◌∙◌, subst}
+use Rattle.claim_model.specs.Journal.{Journal, JournalAtRest, Kept, stopped}
+use Rattle.pharmacy_journal.specs.Entries.{kept_of}
+use Rattle.pharmacy_journal.specs.Telling.{Begins}
+use Rattle.pharmacy_journal.proofs.StopStart.{stopped-seen}
+use Rattle.pharmacy_journal.proofs.pharmacy.Pharmacy.teller.Goals as goal
+
+pub returns : goal.returns
+returns c =
+    let p = c.self.inside in
+    let entries : map kept_of c.as_slice.result.now ≡ (stopped c.args.self.now).entries =
+    ap (map kept_of) c.as_slice.ensures.value ∙ ap (λ (j : JournalAtRest). j.entries) (stopped-seen p.number p.settings p.timetable p.slots.items) ∙ ap (λ (j : Journal). (stopped j).entries) c.self.view_is in
+    subst (λ (ks : List Kept). Begins ks c.new.result) entries c.new.ensures

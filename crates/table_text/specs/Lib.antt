@@ -1,0 +1,7 @@
+pub mod Members
+pub mod Seen
+pub mod Quoting
+pub mod Values
+pub mod Rows
+pub mod Adding
+pub mod ReadBack

@@ -1,0 +1,4 @@
+# Completions of claimgrow for fish; written by tools/words.
+complete -c claimgrow -l check -d 'tells of each log whether it goes over, and writes none'
+complete -c claimgrow -s h -l help -d 'Print help'
+complete -c claimgrow -s V -l version -d 'Print version'
