@@ -32,6 +32,8 @@ MOST_WAITING_BYTES = 16 << 20
 MOST_LINE_BYTES = 1 << 16
 READ_BYTES = 1 << 16
 MOST_PAYLOAD_BYTES = 8 << 20
+# How the server begins a message that says that nobody hears what was asked.
+UNHEARD = b"NATS/1.0 503"
 
 
 class Message(NamedTuple):
@@ -40,6 +42,8 @@ class Message(NamedTuple):
     subject: str
     reply: str
     payload: bytes
+    # Whether it is the server's word that nobody hears what was asked.
+    is_unheard: bool = False
 
 
 class Broken(Exception):
@@ -114,7 +118,7 @@ class Connection:
         self._subscriptions: dict[int, tuple[str, Callable[[Message], None]]] = {}
         self._numbers = itertools.count(1)
         self._writer: asyncio.StreamWriter | None = None
-        self._replies: dict[str, Callable[[bytes], None]] = {}
+        self._replies: dict[str, tuple[Callable[[bytes], None], Callable[[], None]]] = {}
         self._pongs: collections.deque[asyncio.Future[bool]] = collections.deque()
         # Nobody else's replies come here, and nobody can guess where they come.
         self._inbox = f"{subjects.inbox(access.user or name)}.{secrets.token_hex(8)}"
@@ -191,28 +195,41 @@ class Connection:
         headers: dict[str, str] | None = None,
         is_word: Callable[[bytes], bool] = lambda _: True,
     ) -> bytes | None:
-        """The first reply to a message that is a word on it, or None where none comes in time."""
-        waiting: asyncio.Future[bytes | None] = asyncio.get_running_loop().create_future()
+        """The first reply to a message that is a word on it, or None where none comes in time. As long as nobody hears the message, so that
+        it reached nobody, it is sent again: a node is between two hosts, or its host has no log yet."""
+        loop = asyncio.get_running_loop()
+        waiting: asyncio.Future[bytes | None] = loop.create_future()
 
         def heard(payload: bytes | None) -> None:
             if not waiting.done() and (payload is None or is_word(payload)):
                 waiting.set_result(payload)
 
-        reply = self.ask(subject, payload, heard, headers)
-        late = asyncio.get_running_loop().call_later(seconds, heard, None)
+        def unheard() -> None:
+            loop.call_later(AGAIN_SECONDS, lambda: waiting.done() or self.publish(subject, payload, reply, headers))
+
+        reply = self.ask(subject, payload, heard, headers, unheard)
+        late = loop.call_later(seconds, heard, None)
         try:
             return await waiting
         finally:
             late.cancel()
             self.forget(reply)
 
-    def ask(self, subject: str, payload: bytes, heard: Callable[[bytes], None], headers: dict[str, str] | None = None) -> str:
-        """Sends a message; `heard` is called with each reply to it, until it is forgotten: by the name that is given."""
+    def ask(
+        self,
+        subject: str,
+        payload: bytes,
+        heard: Callable[[bytes], None],
+        headers: dict[str, str] | None = None,
+        unheard: Callable[[], None] = lambda: None,
+    ) -> str:
+        """Sends a message; `heard` is called with each reply to it, and `unheard` where the server says that nobody hears it, until it is
+        forgotten: by the name that is given."""
         if not self._inbox_is_open:
             self._inbox_is_open = True
             self.subscribe(f"{self._inbox}.*", self._replied)
         reply = f"{self._inbox}.{next(self._numbers)}"
-        self._replies[reply] = heard
+        self._replies[reply] = (heard, unheard)
         self.publish(subject, payload, reply, headers)
         return reply
 
@@ -233,8 +250,10 @@ class Connection:
             return False
 
     def _replied(self, message: Message) -> None:
-        heard = self._replies.get(message.subject)
-        if heard is not None:
+        heard, unheard = self._replies.get(message.subject, (None, None))
+        if message.is_unheard and unheard is not None:
+            unheard()
+        elif heard is not None:
             heard(message.payload)
 
     def _send(self, data: bytes) -> None:
@@ -296,7 +315,8 @@ class Connection:
         elif told.get("tls_required"):
             raise Broken("the server demands TLS: say tls://, or give --ca; nothing was sent in the clear")
         hello = {"verbose": False, "pedantic": False, "name": self._name, "lang": "python", "version": "1", "protocol": 1}
-        hello |= {"tls_required": server.is_tls, "headers": bool(told.get("headers"))}
+        has_headers = bool(told.get("headers"))
+        hello |= {"tls_required": server.is_tls, "headers": has_headers, "no_responders": has_headers}
         if self._access.user:
             hello |= {"user": self._access.user, "pass": self._access.password}
         writer.write(f"CONNECT {json.dumps(hello)}\r\nPING\r\n".encode())
@@ -376,7 +396,8 @@ class Connection:
         self.say(f"the server says {what}")
 
     def _message(self, came: bytes, at: int, words: list[bytes], has_headers: bool) -> int:
-        """Takes the message of a line whose payload begins here, where it is whole; its headers, if it has some, are passed over. Where it ends."""
+        """Takes the message of a line whose payload begins here, where it is whole; where it ends. Of its headers, if it has some, only that
+        nobody hears what was asked is of use here."""
         try:
             subject, number, size = words[0].decode(), int(words[1]), int(words[-1])
             head = int(words.pop(-2)) if has_headers else 0
@@ -388,5 +409,6 @@ class Connection:
         if at + size + 2 <= len(came):
             _, handler = self._subscriptions.get(number, ("", None))
             if handler is not None:
-                handler(Message(subject, reply, came[at + head : at + size]))
+                headers, payload = came[at : at + head], came[at + head : at + size]
+                handler(Message(subject, reply, payload, headers.startswith(UNHEARD)))
         return at + size + 2
