@@ -1,8 +1,8 @@
 //! The program `claimpicture`: the input of a replay on standard input, its picture on standard output.
 #![tactic(auto)]
 
+use program_io::{KeptReader, ProgramFault, ReaderSource, Spelled, WriterSink, why_refused};
 use run_picture::{Extent, PictureStop, Wish, draw_replay, wish_of};
-use schedule_cli::{KeptReader, ProgramFault, ReaderSource, Word, WriterSink, why_refused};
 use std::env;
 use std::io::{IsTerminal, Read};
 use std::process::ExitCode;
@@ -65,7 +65,7 @@ fn draw(rt: &HostRuntime, extent: Extent) -> Result<(), Stopped> {
         Ok(()) => Ok(()),
         Err(fault) => {
             let why = match reader.kept() {
-                Some(input) => why_refused(alloc, Word::Replay, input, fault).unwrap_or(None),
+                Some(input) => why_refused(alloc, Spelled::Events, input, fault).unwrap_or(None),
                 None => None,
             };
             Err(Stopped {

@@ -1,10 +1,12 @@
 //! The program `claimswitch`: one word, standard input and standard output.
 #![tactic(auto)]
 
-use schedule_cli::{
-    HashKeys, KeptReader, ProgramFault, ReaderSource, Stop, Word, WriterSink, read_claims_keyed,
-    replay_leaving, why_refused, word_of,
+use claims_read::read_claims_keyed;
+use payer_book::HashKeys;
+use program_io::{
+    KeptReader, ProgramFault, ReaderSource, Spelled, Stop, Word, WriterSink, why_refused, word_of,
 };
+use schedule_replay::replay_leaving;
 use schedule_run::{RunFault, run_schedule_keyed};
 use std::alloc::{AllocError, Global};
 use std::fmt::{Display, Formatter};
@@ -118,13 +120,25 @@ where
         Ok(()) => Ok(()),
         Err(end) => {
             let why = match (end.fault(), reader.kept()) {
-                (Some(fault), Some(input)) => {
-                    why_refused(alloc, word, input, fault).unwrap_or(None)
-                }
+                (Some(fault), Some(input)) => why(alloc, word, input, fault).unwrap_or(None),
                 _ => None,
             };
             Err(Stopped { end, why })
         }
+    }
+}
+
+/// What is wrong in the input that was refused.
+fn why(
+    alloc: Global,
+    word: Word,
+    input: &[u8],
+    fault: ProgramFault,
+) -> Result<Option<String>, AllocError> {
+    match word {
+        Word::Read => claims_read::why_refused(alloc, input, fault),
+        Word::Replay => why_refused(alloc, Spelled::Events, input, fault),
+        Word::Run => why_refused(alloc, Spelled::Commands, input, fault),
     }
 }
 

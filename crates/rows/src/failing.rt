@@ -1,7 +1,10 @@
 //! A flush that fails, and what else of failing reads and writes no program shows: how often a reader is called that never ends.
 
 use case_files::{ALL, Endless, Paper, Pieces, Subject, Told};
-use schedule_cli::{HashKeys, MOST_CALLS, ProgramFault, Word, read_claims_keyed, replay_keyed};
+use claims_read::read_claims_keyed;
+use payer_book::HashKeys;
+use program_io::{MOST_CALLS, ProgramFault, Word};
+use schedule_replay::replay_keyed;
 use std::alloc::Global;
 use std::io::Read;
 

@@ -2,7 +2,7 @@
 use Rattle.std.specs.Prelude.{ℕ, List, Option}
 use Rattle.std.specs.Io.KnownBytes.{Appends}
 use Rattle.svg_text.specs.Picture.{Framed, IsPicture}
-use Rattle.schedule_cli.specs.Stops.{AppendsSome}
+use Rattle.program_io.specs.Stops.{AppendsSome}
 
 -- the file of a picture of some size, with some title, description and elements
 abbrev pub IsDrawn : List ℕ → Type 0

@@ -1,17 +1,15 @@
 //! From the input of a replay to the picture of its run.
 
 ghost use Rattle.std.specs.Prelude.{◌≡◌, ◌≢◌, ◌+◌, ◌≤◌, IfOk, IfErr, IsTrue, IsErrOf, OnOk};
-ghost use Rattle.schedule_cli.specs.Serving.{StopsSoundly};
-ghost use Rattle.schedule_cli.specs.Replays.{replay_of};
-ghost use Rattle.schedule_cli.specs.Stops.{IsUnread};
+ghost use Rattle.program_io.specs.Serving.{StopsSoundly};
+ghost use Rattle.program_io.specs.Scheduled.{scheduled_of};
+ghost use Rattle.program_io.specs.Stops.{IsUnread};
 ghost use Rattle.run_picture.specs.Drawn.{IsDrawn, DrawnBehind, BeginningBehind};
 
 use crate::extent::Extent;
 use crate::mark_run;
 use crate::sheet::picture;
-use schedule_cli::{
-    MOST_CALLS, ProgramFault, Scheduled, Sink, Source, read_scheduled, write_output,
-};
+use program_io::{MOST_CALLS, ProgramFault, Scheduled, Sink, Source, read_scheduled, write_output};
 use std::alloc::{AllocError, Global};
 
 /// Runs the schedule of `source` over the nodes of its settings, and writes the picture of the run to `sink`.
@@ -32,7 +30,7 @@ pub fn draw_replay<S: Source, K: Sink>(
     // A call of the source failed, or the input is too long.
     ensures read { IsErrOf result ProgramFault.Read → IsUnread (S.has_failed source.new) (S.remaining source.old) }
     // Settings are refused only where they open no world, and a line only where it is the first that spells no event.
-    ensures stops { StopsSoundly replay_of result (S.remaining source.old) }
+    ensures stops { StopsSoundly scheduled_of result (S.remaining source.old) }
     // Nothing is written before all is checked, run and drawn.
     ensures quiet { IfErr result (λ fault. fault ≢ ProgramFault.Write → sink.new ≡ sink.old) }
     // What was written is flushed.

@@ -5,7 +5,7 @@ ghost use Rattle.run_picture.specs.Stops.{exit_status};
 
 use clap::Error as ClapError;
 use clap::error::ErrorKind;
-use schedule_cli::ProgramFault;
+use program_io::ProgramFault;
 use std::alloc::AllocError;
 use thiserror::Error;
 

@@ -6,9 +6,9 @@ use Rattle.schedule.specs.Division.{settings_text, schedule_lines}
 use Rattle.schedule.specs.Runs.{RunParts, run_of}
 use Rattle.world_settings.specs.declared.fault.SettingsFault.{SettingsFault}
 use Rattle.world_settings.specs.declared.fault.SettingsFault.TheVariants as settings
-use Rattle.schedule_cli.specs.declared.fault.InputFault.TheVariants.{Line}
-use Rattle.schedule_cli.specs.Replays.{world_in, OpensNone}
-use Rattle.schedule_cli.specs.Stops.{RefusedFor, settings_told}
+use Rattle.program_io.specs.declared.fault.InputFault.TheVariants.{Line}
+use Rattle.program_io.specs.Scheduled.{world_in, OpensNone}
+use Rattle.program_io.specs.Stops.{RefusedFor, settings_told}
 use Rattle.schedule_run.specs.Asked.{asked_from, asked_in}
 
 -- settings that open a world, and lines that spell a run

@@ -13,14 +13,14 @@ use Rattle.world_core.specs.Parts.{WorldParts}
 use Rattle.world_setup.specs.declared.settings.WorldSettings.{WorldSettings}
 use Rattle.world_settings.specs.Document.{document_seen}
 use Rattle.schedule.specs.Division.{settings_text}
-use Rattle.schedule_cli.specs.Replays.{opened_world, world_in}
-use Rattle.schedule_cli.specs.Stops.{RefusedFor, StopsFor, check_told}
-use Rattle.schedule_cli.specs.declared.input.TheConstants.{MOST_INPUT}
-use Rattle.schedule_cli.specs.declared.fault.CheckFault.{CheckFault}
-use Rattle.schedule_cli.specs.declared.fault.CheckFault.TheVariants as check
-use Rattle.schedule_cli.specs.declared.fault.ProgramFault.{ProgramFault}
-use Rattle.schedule_cli.specs.declared.fault.ProgramFault.TheVariants as program
-use Rattle.schedule_cli.proofs.KnownOutput.{Appends-append}
+use Rattle.program_io.specs.Scheduled.{opened_world, world_in}
+use Rattle.program_io.specs.Stops.{RefusedFor, StopsFor, check_told}
+use Rattle.program_io.specs.declared.input.TheConstants.{MOST_INPUT}
+use Rattle.program_io.specs.declared.fault.CheckFault.{CheckFault}
+use Rattle.program_io.specs.declared.fault.CheckFault.TheVariants as check
+use Rattle.program_io.specs.declared.fault.ProgramFault.{ProgramFault}
+use Rattle.program_io.specs.declared.fault.ProgramFault.TheVariants as program
+use Rattle.program_io.proofs.KnownOutput.{Appends-append}
 use Rattle.node_logged.specs.Tills.{Till}
 use Rattle.schedule_run.specs.Told.{AreTold, IsCutOff, IsEmpty, RunCutOff, RunTold, done_line}
 use Rattle.schedule_run.specs.Asked.{asked_in}

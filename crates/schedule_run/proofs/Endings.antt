@@ -13,9 +13,9 @@ use Rattle.node_logged.specs.Tills as tills
 use Rattle.node_logged.specs.TillSeen.{till_seen}
 use Rattle.node_logged.specs.LedgerSeen.{tills_seen}
 use Rattle.node_logged.specs.declared.till.Till.{Till}
-use Rattle.schedule_cli.specs.declared.input.TheConstants.{MOST_INPUT}
-use Rattle.schedule_cli.specs.declared.fault.InputFault.{InputFault}
-use Rattle.schedule_cli.specs.declared.fault.ProgramFault.TheVariants as program
+use Rattle.program_io.specs.declared.input.TheConstants.{MOST_INPUT}
+use Rattle.program_io.specs.declared.fault.InputFault.{InputFault}
+use Rattle.program_io.specs.declared.fault.ProgramFault.TheVariants as program
 use Rattle.schedule_run.specs.declared.fault.RunFault.{RunFault}
 use Rattle.schedule_run.specs.declared.fault.RunFault.TheVariants.{Program, Finish, NoThread}
 use Rattle.schedule_run.specs.Told.{AreTold, IsEmpty, IsTold, RunTold, Tells, TillChanges, done_line}

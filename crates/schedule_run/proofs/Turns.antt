@@ -7,7 +7,7 @@ use Rattle.world_setup.specs.declared.fault.StepFault.{StepFault}
 use Rattle.schedule.specs.declared.commands.Command.{Command}
 use Rattle.world_report.specs.Words.{Line, line_text, lines_text}
 use Rattle.world_report.proofs.JoinedWords.{lines_join, lines_text-append, lines_text-nil, lines_text-one}
-use Rattle.schedule_cli.proofs.KnownOutput.{Appends-append}
+use Rattle.program_io.proofs.KnownOutput.{Appends-append}
 use Rattle.node_logged.specs.Tills.{Till}
 use Rattle.schedule_run.specs.Told.{AreTold, IsCalled, IsRefusal, IsTold, done_line}
 

@@ -6,9 +6,9 @@ use Rattle.world_settings.specs.Document.{document_seen}
 use Rattle.world_core.specs.Parts.{WorldParts}
 use Rattle.schedule.specs.Division.{settings_text, schedule_lines}
 use Rattle.schedule.specs.Runs.{RunParts, run_of}
-use Rattle.schedule_cli.specs.Replays.{world_in, opened_world}
-use Rattle.schedule_cli.specs.declared.fault.InputFault.{InputFault}
-use Rattle.schedule_cli.specs.declared.fault.InputFault.TheVariants.{Settings, Line}
+use Rattle.program_io.specs.Scheduled.{world_in, opened_world}
+use Rattle.program_io.specs.declared.fault.InputFault.{InputFault}
+use Rattle.program_io.specs.declared.fault.InputFault.TheVariants.{Settings, Line}
 
 -- a text spells these settings, and a world takes them
 abbrev pub Opens : List ℕ → WorldSettings → Type 0

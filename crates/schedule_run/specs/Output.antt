@@ -15,12 +15,12 @@ use Rattle.node_logged.specs.declared.judging.finish_fault.FinishFault.{FinishFa
 use Rattle.node_logged.specs.declared.judging.finish_fault.FinishFault.TheVariants as finish
 use Rattle.world_report.specs.Words.{Line, lines_text}
 use Rattle.world_report.specs.Nodes.{world_lines}
-use Rattle.schedule_cli.specs.Stops.{IsTaken, StopsFor}
-use Rattle.schedule_cli.specs.declared.input.TheConstants.{MOST_INPUT}
-use Rattle.schedule_cli.specs.declared.fault.InputFault.{InputFault}
-use Rattle.schedule_cli.specs.declared.fault.InputFault.TheVariants.{Settings}
-use Rattle.schedule_cli.specs.declared.fault.ProgramFault.{ProgramFault}
-use Rattle.schedule_cli.specs.declared.fault.ProgramFault.TheVariants.{OutOfMemory, Read, Input, Write}
+use Rattle.program_io.specs.Stops.{IsTaken, StopsFor}
+use Rattle.program_io.specs.declared.input.TheConstants.{MOST_INPUT}
+use Rattle.program_io.specs.declared.fault.InputFault.{InputFault}
+use Rattle.program_io.specs.declared.fault.InputFault.TheVariants.{Settings}
+use Rattle.program_io.specs.declared.fault.ProgramFault.{ProgramFault}
+use Rattle.program_io.specs.declared.fault.ProgramFault.TheVariants.{OutOfMemory, Read, Input, Write}
 use Rattle.schedule_run.specs.declared.fault.RunFault.{RunFault}
 use Rattle.schedule_run.specs.declared.fault.RunFault.TheVariants.{Program, Finish, NoThread}
 use Rattle.schedule_run.specs.declared.fault.Unjudged.TheVariants as unjudged

@@ -5,12 +5,13 @@ ghost use Rattle.world_setup.specs.Taken.{world_fault};
 ghost use Rattle.world_settings.specs.Document.{document_seen};
 ghost use Rattle.schedule.specs.Division.{settings_text};
 ghost use Rattle.schedule.specs.Runs.{run_seen};
-ghost use Rattle.schedule_cli.specs.Replays.{world_in, opened_by, opened_world, OpensNone};
-ghost use Rattle.schedule_cli.specs.Stops.{RefusedFor};
+ghost use Rattle.program_io.specs.Scheduled.{world_in, opened_by, opened_world, OpensNone};
+ghost use Rattle.program_io.specs.Stops.{RefusedFor};
 ghost use Rattle.schedule_run.specs.Asked.{asked_in, Opens};
 
+use payer_book::HashKeys;
+use program_io::{CheckFault, InputFault};
 use schedule::{Run, ScheduleFault, divide, read_run};
-use schedule_cli::{CheckFault, HashKeys, InputFault};
 use std::alloc::Global;
 use world_settings::{SettingsFault, read_settings};
 use world_setup::{WorldFault, WorldSettings};
@@ -44,7 +45,7 @@ pub(crate) fn asked_of(alloc: Global, keys: &HashKeys, input: &[u8]) -> Result<A
 }
 
 /// The settings that a text spells, where they open a world, with these keys.
-#[tactic(auto, unfolding(schedule_cli::specs::Replays::world_in))]
+#[tactic(auto, unfolding(program_io::specs::Scheduled::world_in))]
 fn settings_of(alloc: Global, keys: &HashKeys, text: &[u8]) -> Result<WorldSettings, SettingsFault>
     ensures opens { IfOk result (λ settings. Opens text.now settings) }
     ensures taken { IfOk result (λ settings. world_fault settings ≡ None) }

@@ -1,13 +1,13 @@
 //! Why a run stopped, and the line that says so.
 
 ghost use Rattle.std.specs.Prelude.{◌≡◌};
-ghost use Rattle.schedule_cli.specs.declared.fault.ProgramFault.TheVariants.{OutOfMemory};
-ghost use Rattle.schedule_cli.specs.Stops.{check_told};
+ghost use Rattle.program_io.specs.declared.fault.ProgramFault.TheVariants.{OutOfMemory};
+ghost use Rattle.program_io.specs.Stops.{check_told};
 ghost use Rattle.schedule_run.specs.declared.fault.RunFault.TheVariants.{Program};
 ghost use Rattle.schedule_run.specs.Output.{start_told, finish_told};
 
 use node_threads::{FinishFault, StartFault};
-use schedule_cli::{CheckFault, InputFault, ProgramFault};
+use program_io::{CheckFault, InputFault, ProgramFault};
 use std::alloc::{AllocError, AllocFailed};
 use thiserror::Error;
 use world_setup::WorldFault;

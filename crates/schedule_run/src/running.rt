@@ -9,18 +9,18 @@ ghost use Rattle.schedule.specs.Runs.{run_seen};
 ghost use Rattle.node_logged.specs.LedgerSeen.{tills_seen};
 ghost use Rattle.schedule_run.specs.Told.{IsEmpty, RunCutOff, RunTold, done_line};
 ghost use Rattle.schedule_run.specs.Output.{IsReported, IsStopped, Runs, EndsAs, is_early, is_start, Writes, WritesLines, JudgedLast, nodes_text};
-ghost use Rattle.schedule_cli.specs.Stops.{AppendsSome};
+ghost use Rattle.program_io.specs.Stops.{AppendsSome};
 
 use crate::asked::{Asked, asked_of};
 use crate::commands::make_commands;
 use crate::fault::RunFault;
 use crate::lines::put_done;
 use node_threads::{Gate, System, Till, Workers};
-use schedule::{Command, Run};
-use schedule_cli::{
-    HashKeys, MOST_CALLS, ProgramFault, ReaderSource, Sink, Source, WriterSink, read_all,
-    write_output,
+use payer_book::HashKeys;
+use program_io::{
+    MOST_CALLS, ProgramFault, ReaderSource, Sink, Source, WriterSink, read_all, write_output,
 };
+use schedule::{Command, Run};
 use std::alloc::{AllocError, Global};
 use std::io::{Read, Write};
 use std::sync::{Arc, Wait};

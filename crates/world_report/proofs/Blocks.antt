@@ -1,10 +1,9 @@
--- The parts of the whole report behind one another.
+-- The lines of all nodes behind one another.
 use Rattle.std.proofs.Common.{◌≡◌, ℕ, List, ◌++◌}
 use Rattle.claim_model.specs.Context.{Context}
-use Rattle.claim_model.specs.World.{World, Event, run}
+use Rattle.claim_model.specs.World.{World}
 use Rattle.world_report.specs.Words.{lines_text}
 use Rattle.world_report.specs.Nodes.{pharmacy_lines, switch_lines, payer_lines, lines_from, world_lines}
-use Rattle.world_report.specs.Events.{event_lines, run_lines}
 use Rattle.world_report.proofs.Joining.{lines_join}
 
 -- pharmacies, switches and payers
@@ -13,9 +12,3 @@ pub nodes_join : (ctx : Context) (w : World) (a b c d : List ℕ) → b ≡ a ++
 unfolding world_lines
 nodes_join ctx w a b c d one two three =
     lines_join a b d (lines_from (pharmacy_lines ctx) 1 w.pharmacies) _ one (lines_join b c d (lines_from switch_lines 1 w.switches) (lines_from (payer_lines ctx) 1 w.payers) two three)
-
--- the events and the nodes after them
-pub report_joins : (ctx : Context) (w : World) (events : List Event) (a b c : List ℕ) → b ≡ a ++ lines_text (event_lines ctx w 1 events) → c ≡ b ++ lines_text (world_lines ctx (run ctx w events))
-    → c ≡ a ++ lines_text (run_lines ctx w events)
-unfolding run_lines
-report_joins ctx w events a b c one two = lines_join a b c (event_lines ctx w 1 events) (world_lines ctx (run ctx w events)) one two

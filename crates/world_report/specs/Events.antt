@@ -1,36 +1,12 @@
--- The lines of events, and the whole report.
-use Rattle.std.specs.Prelude.{ℕ, ◌+◌, ◌-◌, List, [], ◌∷◌, ◌++◌, length}
-use Rattle.claim_model.specs.Context.{Context}
+-- The line of an event.
+use Rattle.std.specs.Prelude.{ℕ, ◌+◌, ◌-◌, length}
 use Rattle.claim_model.specs.Node.{Outcome, Done, Refused}
-use Rattle.claim_model.specs.Settings.{WorldSettings, opening}
-use Rattle.claim_model.specs.World.{World, Event, step, world_after, run}
-use Rattle.world_setup.specs.declared.event.Event.{Event as EventGiven}
+use Rattle.claim_model.specs.World.{World}
 use Rattle.world_setup.specs.Names.{refusal_name}
-use Rattle.world_core.specs.Parts.{WorldParts}
-use Rattle.world_core.specs.Stepping.{outcome_in}
-use Rattle.world_report.specs.Words.{Line, lines_text}
+use Rattle.world_report.specs.Words.{Line}
 use Rattle.world_report.specs.Heads.{done_line, refused_line, numbers_from}
-use Rattle.world_report.specs.Nodes.{world_lines}
 
 -- the line of an event, before which so many packets were sent: the numbers of the packets that it added to them, or the name of the refusal
 abbrev pub event_line : ℕ → ℕ → Outcome World → Line
 event_line number posted (Done next sent) = done_line number (numbers_from (posted + 1) (length next.packets - posted))
 event_line number posted (Refused why) = refused_line number (refusal_name why)
-
--- the line that an event has in a world as it stands
-abbrev pub line_in : WorldParts → ℕ → EventGiven → Line
-line_in w number event = event_line number (length w.world.packets) (outcome_in w event)
-
--- a line for each event, made or refused
-abbrev pub event_lines : Context → World → ℕ → List Event → List Line
-event_lines ctx w number [] = []
-event_lines ctx w number (event ∷ events) =
-    event_line number (length w.packets) (step ctx w event) ∷ event_lines ctx (world_after w (step ctx w event)) (number + 1) events
-
--- the report on a world that some events are run in: a line for each event, and then each node as it is after all of them
-unfoldable pub run_lines : Context → World → List Event → List Line
-run_lines ctx w events = event_lines ctx w 1 events ++ world_lines ctx (run ctx w events)
-
--- the whole report, of events from the opening world
-abbrev pub report : Context → WorldSettings → List Event → List ℕ
-report ctx settings events = lines_text (run_lines ctx (opening settings) events)

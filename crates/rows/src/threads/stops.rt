@@ -1,7 +1,7 @@
 //! Why `run` stops, as it is told on standard error.
 
 use case_files::{Subject, Told};
-use schedule_cli::{InputFault, ProgramFault};
+use program_io::{InputFault, ProgramFault};
 use schedule_run::{RunFault, Unjudged};
 use std::alloc::Global;
 

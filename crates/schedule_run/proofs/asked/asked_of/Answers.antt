@@ -1,7 +1,7 @@
 use Rattle.std.proofs.lemmas.Result.{err_from_is_err_and}
 use Rattle.world_settings.specs.Document.{document_seen}
 use Rattle.schedule.specs.Runs.{run_seen}
-use Rattle.schedule_cli.specs.Replays.{opened_world}
+use Rattle.program_io.specs.Scheduled.{opened_world}
 use Rattle.schedule_run.proofs.AskedRuns.{asked_is, asked_stops, asked_never}
 use Rattle.schedule_run.proofs.asked.asked_of.Goals as goal
 

@@ -2,9 +2,9 @@ use Rattle.std.proofs.Common.{◌≡◌, ◌≤◌, Result, length, ap, sym, ◌
 use Rattle.std.specs.Prelude.{is_ok}
 use Rattle.std.proofs.lemmas.Result.{err_from_is_err_and, on_err_weaker, on_ok_weaker, IfErr-weaker}
 use Rattle.schedule.specs.Runs.{RunParts, run_seen}
-use Rattle.schedule_cli.specs.declared.input.TheConstants.{MOST_INPUT}
-use Rattle.schedule_cli.specs.declared.fault.InputFault.{InputFault}
-use Rattle.schedule_cli.specs.Stops.{StopsFor, check_told}
+use Rattle.program_io.specs.declared.input.TheConstants.{MOST_INPUT}
+use Rattle.program_io.specs.declared.fault.InputFault.{InputFault}
+use Rattle.program_io.specs.Stops.{StopsFor, check_told}
 use Rattle.schedule_run.specs.Asked.{asked_in}
 use Rattle.schedule_run.specs.Output.{StopsRun}
 use Rattle.schedule_run.proofs.Endings.{known_is, started_stops}

@@ -1,0 +1,77 @@
+-- What is printed of the book's own answer is what is printed of the model's, and lines follow one another.
+use Rattle.std.proofs.Common.{◌≡◌, ℕ, List, [], ◌∷◌, ◌++◌, Result, Ok, Err, IfOk, IfErr, refl, sym, ap, ◌∙◌, append_assoc, append-nil}
+use Rattle.std.specs.Prelude.{codes, decimal}
+use Rattle.bin_routes.specs.Table.{RouteMaps}
+use Rattle.schedule.proofs.EventLists.{joined}
+use Rattle.claim_model.specs.Refusal.{Refusal}
+use Rattle.claim_model.specs.Rows.{Book}
+use Rattle.claim_model.specs.Book.{Answered}
+use Rattle.payer_book.specs.Faults.{RefusedFor}
+use Rattle.payer_book.specs.declared.book.Reply.{Reply}
+use Rattle.payer_book.specs.declared.fault.BookFault.{BookFault}
+use Rattle.payer_book.specs.declared.fault.BookFault.TheVariants.{OutOfMemory, Unreadable, NotOurs, NumberReused, BookFull, SerialsUsedUp}
+use Rattle.claims_read.specs.declared.entries.Entry.{Entry}
+use Rattle.program_io.specs.declared.fault.CheckFault.{CheckFault}
+use Rattle.program_io.specs.declared.fault.CheckFault.TheVariants as check
+use Rattle.program_io.specs.declared.fault.InputFault.TheVariants.{Line}
+use Rattle.claims_read.specs.Entries.{by_line, entries_in, entries_of}
+use Rattle.claims_read.specs.Sample.{sample_routes, opening_book}
+use Rattle.program_io.specs.Stops.{RefusedFor as InputRefusedFor}
+use Rattle.claims_read.specs.Lines.{told, line_of, book_after, said_to, answer_lines, lines_behind, lines_for, output_of}
+use Rattle.claims_read.specs.Said.{said_text}
+
+-- the same text, unless memory ran out
+pub said_is_told : (said : Result Reply BookFault) (after : Book) (answer : Result Answered Refusal)
+    → IfOk said (λ reply. answer ≡ Ok (record { book = after; bytes = reply.bytes.items; kept = reply.kept })) → IfErr said (λ fault. RefusedFor fault answer)
+    → (said ≡ Err OutOfMemory → ⊥) → said_text said ≡ told answer
+said_is_told (Ok reply) after answer is why known = sym (ap told is)
+said_is_told (Err OutOfMemory) after answer is why known = absurd (known refl)
+said_is_told (Err Unreadable) after answer is why known = sym (ap told why)
+said_is_told (Err NotOurs) after answer is why known = sym (ap told why)
+said_is_told (Err NumberReused) after answer is why known = sym (ap told why)
+said_is_told (Err BookFull) after answer is why known = sym (ap told why)
+said_is_told (Err SerialsUsedUp) after answer is why known = sym (ap told why)
+
+-- number, text and newline behind what was there
+pub line_joined : (front first second third said : List ℕ) (number : ℕ) (answer : Result Answered Refusal)
+    → first ≡ front ++ decimal number → second ≡ first ++ said → third ≡ second ++ codes "\n" → said ≡ told answer → third ≡ front ++ line_of number answer
+unfolding line_of
+line_joined front first second third said number answer one two three is =
+    three
+    ∙ (ap (λ (xs : List ℕ). xs ++ codes "\n") (two ∙ (ap (λ (xs : List ℕ). xs ++ said) one ∙ append_assoc front (decimal number) said))
+    ∙ (append_assoc front (decimal number ++ said) (codes "\n")
+    ∙ ap (λ (xs : List ℕ). front ++ xs) (append_assoc (decimal number) said (codes "\n") ∙ ap (λ (xs : List ℕ). decimal number ++ (xs ++ codes "\n")) is)))
+
+-- one line more
+pub lines_go_on : (maps : RouteMaps) (book next : Book) (entry : Entry) (front more : List ℕ) (left : Result (List Entry) ℕ)
+    → more ≡ front ++ line_of entry.id.number (said_to maps book entry) → next ≡ book_after book (said_to maps book entry)
+    → lines_behind maps next more left ≡ lines_behind maps book front (joined (entry ∷ []) left)
+lines_go_on maps book next entry front more (Err number) line after = refl
+lines_go_on maps book next entry front more (Ok entries) line after =
+    let one = line_of entry.id.number (said_to maps book entry) in
+    ap (λ (xs : List ℕ). Ok (xs ++ answer_lines maps next entries)) line
+    ∙ (ap (λ (xs : List ℕ). Ok xs) (append_assoc front one (answer_lines maps next entries))
+    ∙ ap (λ (b : Book). Ok (front ++ (one ++ answer_lines maps b entries))) after)
+
+-- a line that spells none
+pub lines_stop : (maps : RouteMaps) (book : Book) (front : List ℕ) (number : ℕ) (read : Result (List Entry) ℕ) → Err number ≡ lines_behind maps book front read → by_line read ≡ Err (Line number)
+lines_stop maps book front number (Ok entries) e = absurd cc
+lines_stop maps book front number (Err other) e = let same : number ≡ other = cc in ap (λ n. Err (Line n)) (sym same)
+
+-- no line is left
+pub lines_are_done : (maps : RouteMaps) (book : Book) (front : List ℕ) → lines_behind maps book front (Ok []) ≡ Ok front
+lines_are_done maps book front = ap (λ (xs : List ℕ). Ok xs) (append-nil front)
+
+-- an input whose entries are refused has no output
+pub output_refused : (fault : CheckFault) (input : List ℕ) → InputRefusedFor fault (entries_of input) → InputRefusedFor fault (output_of input)
+unfolding output_of
+output_refused check.OutOfMemory input h = tt
+output_refused (check.Input why) input h = ap lines_for h
+
+pub output_is : (input output : List ℕ) → lines_behind sample_routes opening_book [] (entries_in input) ≡ Ok output → output_of input ≡ Ok output
+unfolding output_of
+output_is input output told = by_entries (entries_in input) told
+  where
+    by_entries : (read : Result (List Entry) ℕ) → lines_behind sample_routes opening_book [] read ≡ Ok output → lines_for (by_line read) ≡ Ok output
+    by_entries (Err number) e = absurd cc
+    by_entries (Ok entries) e = cc

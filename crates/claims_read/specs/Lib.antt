@@ -1,0 +1,4 @@
+pub mod Entries
+pub mod Sample
+pub mod Lines
+pub mod Said
