@@ -13,17 +13,17 @@ use Rattle.world_report.specs.Words.{line_text, lines_text}
 use Rattle.world_report.specs.Events.{event_line}
 use Rattle.world_report.specs.Nodes.{world_lines}
 use Rattle.world_report.proofs.JoinedWords.{lines_join, lines_text-nil}
+use Rattle.world_report.proofs.Joining.{lines_join as blocks_join}
 use Rattle.schedule.specs.Division.{schedule_lines}
 use Rattle.schedule.specs.Reading.{NumberedLine, events_of}
 use Rattle.schedule.proofs.EventLists.{joined}
 use Rattle.program_io.specs.declared.fault.CheckFault.{CheckFault}
 use Rattle.program_io.specs.declared.fault.CheckFault.TheVariants as check
-use Rattle.program_io.specs.declared.fault.InputFault.{InputFault}
 use Rattle.program_io.specs.Stops.{RefusedFor}
 use Rattle.program_io.specs.Scheduled.{scheduled_of}
 use Rattle.program_io.proofs.OpenedWorlds.{scheduled_is}
 use Rattle.schedule_replay.specs.Events.{event_lines, run_lines}
-use Rattle.schedule_replay.specs.Replays.{report_from, report_of, replay_of, IsAfter, IsRun, IsRunOf}
+use Rattle.schedule_replay.specs.Replays.{report_of, replay_of, IsRun, IsRunOf}
 
 -- what a text and a world come to with the events of some lines, the first of this number: the events' lines behind the text, and the world after them
 abbrev pub run_on : Context → List ℕ → World → ℕ → Result (List Event) ℕ → Result (List ℕ × World) ℕ
@@ -92,7 +92,7 @@ refused_too (check.Input why) input is = ap report_of is
 report_joins : (ctx : Context) (w : World) (events : List SeenEvent) (b c : List ℕ) → b ≡ [] ++ lines_text (event_lines ctx w 1 events) → c ≡ b ++ lines_text (world_lines ctx (run ctx w events))
     → c ≡ lines_text (run_lines ctx w events)
 unfolding run_lines
-report_joins ctx w events b c one two = lines_join [] b c (event_lines ctx w 1 events) (world_lines ctx (run ctx w events)) one two
+report_joins ctx w events b c one two = blocks_join [] b c (event_lines ctx w 1 events) (world_lines ctx (run ctx w events)) one two
 
 -- the lines of the nodes behind those of the events
 pub run_is_told : (input told report : List ℕ) (after : WorldParts) → IsRunOf input told after → report ≡ told ++ lines_text (world_lines (context_of after) after.world) → replay_of input ≡ Ok report

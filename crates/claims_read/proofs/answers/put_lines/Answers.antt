@@ -1,4 +1,4 @@
-use Rattle.std.proofs.Common.{◌≡◌, List, Result, ℕ, sym, ap, ◌∙◌}
+use Rattle.std.proofs.Common.{◌≡◌, List, sym, ap, ◌∙◌}
 use Rattle.input_text.specs.Lines.{LinesLeft, numbered_lines}
 use Rattle.schedule.specs.Reading.{NumberedLine, told_lines, spelled_in}
 use Rattle.schedule.proofs.EventLists.{line_skipped, line_taken, line_bad, no_lines}

@@ -1,7 +1,6 @@
 use Rattle.std.proofs.Common.{◌≡◌, ◌+◌, ◌<◌, List, refl, sym, ap, ◌∙◌, subst, arith}
 use Rattle.std.specs.Str.Lines.{lines}
 use Rattle.input_text.specs.Lines.{LinesLeft, numbered_lines}
-use Rattle.world_setup.specs.declared.event.Event.{Event}
 use Rattle.world_core.specs.Parts.{context_of}
 use Rattle.schedule.specs.Events.{event_of}
 use Rattle.schedule.specs.Reading.{NumberedLine, told_lines, spelled_in, events_of}

@@ -1,4 +1,6 @@
 use Rattle.std.proofs.lemmas.Result.{err_from_is_err_and}
+use Rattle.program_io.specs.declared.fault.CheckFault.TheVariants as check
+use Rattle.program_io.specs.declared.fault.InputFault.TheVariants.{Line}
 use Rattle.program_io.proofs.OpenedWorlds.{scheduled_stops, scheduled_never}
 use Rattle.schedule_replay.proofs.RunLines.{refused_too}
 use Rattle.schedule_replay.proofs.replaying.ran.Goals as goal
@@ -20,4 +22,4 @@ pub returns-clause-fault : goal.returns-clause-fault
 returns-clause-fault c =
     let opens = rw (c.as_slice-2.ensures.value, c.in_ok-parts.ensures.settings, c.as_slice.ensures.value) at c.in_ok-world.ensures.made in
     let spells = rw (c.in_ok-parts.ensures.schedule, c.as_slice.ensures.value) at (rw c.in-Err-Line.field-0-is at c.in-Err-Line.ensures.refused) in
-    rw c.in-Err-Line.field-0-is (refused_too _ c.args.input.items (scheduled_stops c.args.input.items c.in_ok-world.world c.in-Err-Line.number opens spells))
+    rw c.in-Err-Line.field-0-is (refused_too (check.Input (Line c.in-Err-Line.number)) c.args.input.items (scheduled_stops c.args.input.items c.in_ok-world.world c.in-Err-Line.number opens spells))
