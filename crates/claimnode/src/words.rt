@@ -4,7 +4,7 @@ use crate::finding::Finding;
 use clap::error::ErrorKind;
 use clap::{Arg, ArgAction, ArgMatches, Command, value_parser};
 use command_line::{End, VERSION};
-use node_service::node_in;
+use schedule::node_in;
 use std::alloc::{AllocError, Global};
 use world_setup::Node;
 

@@ -2,7 +2,7 @@
 use Rattle.std.proofs.Common.{◌≡◌, ℕ, ◌+◌, Bool, true, false, ◌&&◌, not, List, [], ◌∷◌, ◌++◌, length, take, drop, Some, None, Option, Ok, Err, IsSome, inr, codes, refl, sym, ap, ◌∙◌, subst, arith, nat_le, nat_lt, cond}
 use Rattle.std.specs.Prelude.{is_some, bytes_eq, if◌then◌else◌}
 use Rattle.std.specs.List.{list_all, position, position_or_len}
-use Rattle.std.specs.Option.{option_map}
+use Rattle.std.specs.Option.{option_map, option_or}
 use Rattle.std.proofs.lemmas.Bool.{eqb-true, false≢true, lt-ltb}
 use Rattle.std.proofs.lemmas.List.{length-append, take-append-drop}
 use Rattle.std.proofs.lemmas.List.Folds.{list_all-append}
@@ -15,7 +15,7 @@ use Rattle.input_text.specs.Printing.{printed, unprinted}
 use Rattle.world_setup.specs.declared.node.Node.{Node}
 use Rattle.world_setup.specs.declared.node.Node.TheVariants.{Pharmacy, Switch, Payer}
 use Rattle.world_setup.specs.declared.call.Call.TheVariants.{Submit, Take}
-use Rattle.node_service.specs.Names.{node_in, node_with, number_in}
+use Rattle.schedule.specs.Nodes.{behind, known_number, node_in, node_number, numbered, pharmacy_in, switch_in, payer_in}
 use Rattle.node_service.specs.Asking.{Calls, asked_of, call_of, taking}
 use Rattle.node_handle.specs.Saying.{Said}
 use Rattle.node_handle.specs.Hosting.{Hosting}
@@ -51,44 +51,19 @@ pub asks_request : (request : List ℕ) → unprinted (printed request) ≡ Ok r
 unfolding asked_of call_of
 asks_request request back = rw (parted (codes "submit") (printed request) refl) (rw back refl)
 
-abbrev pick : Bool → Bool → Bool → Option ℕ → Option Node
-pick a b c number = if a then option_map Pharmacy number else if b then option_map Switch number else if c then option_map Payer number else None
-
-nobody : (a b c : Bool) → pick a b c None ≡ None
-nobody true b c = refl
-nobody false true c = refl
-nobody false false true = refl
-nobody false false false = refl
-
-letters_inner : (letters : List ℕ) (number : Option ℕ) (node : Node) → node_with letters number ≡ Some node → list_all is_inner letters ≡ true
-letters_inner letters number node named =
-    by_words (bytes_eq letters (codes "ph")) (bytes_eq letters (codes "sw")) (bytes_eq letters (codes "pr")) refl refl refl named
-  where
-    same : (word : List ℕ) → bytes_eq letters word ≡ true → list_all is_inner word ≡ true → list_all is_inner letters ≡ true
-    same word e inner = subst (λ (l : List ℕ). list_all is_inner l ≡ true) (sym ((bytes_eq-Decides letters word).0 e)) inner
-
-    by_words : (a b c : Bool) → bytes_eq letters (codes "ph") ≡ a → bytes_eq letters (codes "sw") ≡ b → bytes_eq letters (codes "pr") ≡ c → pick a b c number ≡ Some node → list_all is_inner letters ≡ true
-    by_words true b c ea eb ec picked = same (codes "ph") ea refl
-    by_words false true c ea eb ec picked = same (codes "sw") eb refl
-    by_words false false true ea eb ec picked = same (codes "pr") ec refl
-    by_words false false false ea eb ec picked = absurd (false≢true (ap is_some picked))
-
 no_number : (x y t : Bool) (value : ℕ) → t ≡ false → (if x && y && t then Some value else None) ≡ None
 no_number true true t value e = ap (λ (s : Bool). if s then Some value else None) e
 no_number true false t value e = refl
 no_number false y t value e = refl
 
-digits_of_number : (letters digits : List ℕ) (node : Node) → node_with letters (number_in digits) ≡ Some node → list_all is_digit digits ≡ true
-digits_of_number letters digits node named = by_test (list_all is_digit digits) refl
+digits_of_number : (digits : List ℕ) (number : ℕ) → node_number digits ≡ Some number → list_all is_digit digits ≡ true
+digits_of_number digits number named = by_test (list_all is_digit digits) refl
   where
-    small : ℕ → Option ℕ
-    small number = if nat_le number 65535 then Some number else None
-
     by_test : (t : Bool) → list_all is_digit digits ≡ t → list_all is_digit digits ≡ true
     by_test true e = e
     by_test false e =
-        let gone : number_in digits ≡ None = ap (λ (o : Option ℕ). o >>= small) (no_number (nat_le 1 (length digits)) (nat_le (length digits) 5) (list_all is_digit digits) (decimal_value digits) e) in
-        absurd (false≢true (ap is_some (sym (ap (node_with letters) gone ∙ nobody (bytes_eq letters (codes "ph")) (bytes_eq letters (codes "sw")) (bytes_eq letters (codes "pr"))) ∙ named)))
+        let gone : node_number digits ≡ None = ap (option_map known_number) (no_number (nat_le 1 (length digits)) (nat_le (length digits) 5) (list_all is_digit digits) (decimal_value digits) e) in
+        absurd (false≢true (ap is_some (sym gone ∙ named)))
 
 both : (x y : Bool) → (x && y) ≡ true → (x ≡ true) × (y ≡ true)
 both true y e = (refl, e)
@@ -107,12 +82,36 @@ digits_inner (d ∷ rest) all =
     let parts = both (is_digit d) (list_all is_digit rest) all in
     rw (inner_digit d parts.0, digits_inner rest parts.1) refl
 
+-- a word of letters without a space and a number has none
+numbered_inner : (letters word : List ℕ) (number : ℕ) → list_all is_inner letters ≡ true → numbered letters word ≡ Some number → list_all is_inner word ≡ true
+numbered_inner letters word number inner named = by_test (bytes_eq front letters) refl
+  where
+    front : List ℕ
+    front = take (length letters) word
+
+    rest : List ℕ
+    rest = drop (length letters) word
+
+    found : Bool → Option ℕ
+    found t = (if t then Some rest else None) >>= node_number
+
+    by_test : (t : Bool) → bytes_eq front letters ≡ t → list_all is_inner word ≡ true
+    by_test false e = absurd (false≢true (ap is_some (sym (ap found e) ∙ named)))
+    by_test true e =
+        let same = subst (λ (l : List ℕ). list_all is_inner l ≡ true) (sym ((bytes_eq-Decides front letters).0 e)) inner in
+        let digits = digits_inner rest (digits_of_number rest number (sym (ap found e) ∙ named)) in
+        subst (λ (w : List ℕ). list_all is_inner w ≡ true) (take-append-drop (length letters) word) (list_all-append is_inner front rest ∙ rw (same, digits) refl)
+
 name_inner : (from : List ℕ) (node : Node) → node_in from ≡ Some node → list_all is_inner from ≡ true
 unfolding node_in
-name_inner from node named =
-    let letters = letters_inner (take 2 from) (number_in (drop 2 from)) node named in
-    let digits = digits_inner (drop 2 from) (digits_of_number (take 2 from) (drop 2 from) node named) in
-    subst (λ (word : List ℕ). list_all is_inner word ≡ true) (take-append-drop 2 from) (list_all-append is_inner (take 2 from) (drop 2 from) ∙ rw (letters, digits) refl)
+name_inner from node named = by_kinds (pharmacy_in from) (switch_in from) (payer_in from) refl refl refl named
+  where
+    by_kinds : (a b c : Option ℕ) → pharmacy_in from ≡ a → switch_in from ≡ b → payer_in from ≡ c
+        → option_or (option_map Pharmacy a) (option_or (option_map Switch b) (option_map Payer c)) ≡ Some node → list_all is_inner from ≡ true
+    by_kinds (Some n) b c ea eb ec picked = numbered_inner (codes "ph") from n refl ea
+    by_kinds None (Some n) c ea eb ec picked = numbered_inner (codes "sw") from n refl eb
+    by_kinds None None (Some n) ea eb ec picked = numbered_inner (codes "pr") from n refl ec
+    by_kinds None None None ea eb ec picked = absurd (false≢true (ap is_some picked))
 
 pub asks_packet : (from : List ℕ) (node : Node) (packet : List ℕ) → node_in from ≡ Some node → unprinted (printed packet) ≡ Ok packet → asked_of (take_line from packet) ≡ Some (Calls (Take node packet))
 unfolding asked_of call_of taking

@@ -3,7 +3,7 @@
 ghost use Rattle.std.specs.Prelude.{◌≡◌, IfOk, IfErr, IsSome, is_some};
 ghost use Rattle.std.specs.declared.option.Option.TheVariants.{None, Some};
 ghost use Rattle.world_setup.specs.Seen.{node_seen};
-ghost use Rattle.node_service.specs.Names.{node_in};
+ghost use Rattle.schedule.specs.Nodes.{node_in};
 ghost use Rattle.node_service.specs.Opened.{IsOpened};
 ghost use Rattle.node_service.specs.Serving.{Serving};
 ghost use Rattle.world_setup.specs.declared.node.Node.{Node};
@@ -19,7 +19,8 @@ use crate::reading::copy_out;
 use crate::refusal::{Refusal, refusal_of};
 use crate::seed::keys_of;
 use kept_logs::LogFault;
-use node_service::{Service, ServiceFault, node_in};
+use node_service::{Service, ServiceFault};
+use schedule::node_in;
 use std::alloc::Global;
 use std::mem::replace;
 

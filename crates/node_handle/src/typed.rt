@@ -4,7 +4,7 @@ ghost use Rattle.std.specs.Prelude.{◌≡◌, ℕ, IfOk, List, Ok, Some};
 ghost use Rattle.input_text.specs.Printing.{printed, unprinted};
 ghost use Rattle.world_setup.specs.declared.node.Node.{Node};
 ghost use Rattle.world_setup.specs.declared.call.Call.TheVariants.{Submit, Take};
-ghost use Rattle.node_service.specs.Names.{node_in};
+ghost use Rattle.schedule.specs.Nodes.{node_in};
 ghost use Rattle.node_service.specs.Asking.{Calls, asked_of};
 ghost use Rattle.node_handle.specs.Calls.{Serves};
 ghost use Rattle.node_handle.specs.Typed.{Takes, submit_line, take_line};
@@ -12,7 +12,7 @@ ghost use Rattle.node_handle.specs.Typed.{Takes, submit_line, take_line};
 use crate::handle::NodeHandle;
 use crate::refusal::Refusal;
 use input_text::put_printed;
-use node_service::node_in;
+use schedule::node_in;
 use std::alloc::{AllocError, Global};
 
 impl NodeHandle {

@@ -3,7 +3,7 @@ use Rattle.std.specs.Prelude.{ℕ, List, ◌++◌, codes, decimal}
 use Rattle.std.specs.List.{flat_map}
 use Rattle.input_text.specs.Printing.{printed}
 use Rattle.claim_model.specs.Node.{Sent}
-use Rattle.node_service.specs.Names.{node_text}
+use Rattle.schedule.specs.Nodes.{node_text}
 
 -- a node is served: how many calls its log has
 abbrev pub ready_line : ℕ → List ℕ

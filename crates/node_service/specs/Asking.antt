@@ -9,7 +9,7 @@ use Rattle.input_text.specs.Printing.{unprinted}
 use Rattle.schedule.specs.Events.{product_in, price_in}
 use Rattle.world_setup.specs.declared.call.Call as declared
 use Rattle.world_setup.specs.declared.call.Call.TheVariants.{Submit, Tick, Take, Stop, Start, Plan}
-use Rattle.node_service.specs.Names.{node_in}
+use Rattle.schedule.specs.Nodes.{node_in}
 use Rattle.node_service.specs.declared.asking.Asked as value
 use Rattle.node_service.specs.declared.asking.Asked.TheVariants as asked
 use Rattle.node_service.specs.declared.asking.Question.{Question}

@@ -1,4 +1,3 @@
-pub mod Names
 pub mod Asking
 pub mod Answering
 pub mod Listing

@@ -4,8 +4,8 @@ ghost use Rattle.std.specs.Prelude.{◌≡◌, ◌++◌, map, IfOk, OnOk};
 ghost use Rattle.world_setup.specs.Seen.{sent_seen};
 ghost use Rattle.node_service.specs.Answering.{answer_line, done_line, number_line, ready_line, refused_line, sent_line, sent_lines};
 
-use crate::names::put_node;
 use input_text::{put_decimal, put_printed};
+use schedule::put_node;
 use std::alloc::{AllocError, Global};
 use world_setup::Sent;
 

@@ -4,10 +4,9 @@ ghost use Rattle.std.specs.Prelude.{◌≡◌, IfOk};
 ghost use Rattle.std.specs.Option.{option_map};
 ghost use Rattle.node_service.specs.Asking.{asked_of, asked_seen, call_of, call_with, plain_call, plain_question, plan_change, question_of, question_with, range_in, submission, taking};
 
-use crate::names::node_in;
 use input_text::{PrintedFault, read_decimal, split_word, unprint};
 use octets::Octets;
-use schedule::{price_in, product_in};
+use schedule::{node_in, price_in, product_in};
 use std::alloc::{AllocError, Global};
 use world_setup::Call;
 

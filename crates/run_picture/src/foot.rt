@@ -1,12 +1,13 @@
 //! What stands below the rows: the payments that each pharmacy counts, and those of each book.
 
-use crate::lettering::{put_dollars, put_node, put_txn};
+use crate::lettering::{put_dollars, put_txn};
 use crate::measures::{LINE, MARGIN, on, width_of};
 use crate::plan::Plan;
 use claim_profile::{Auth, Ruling};
 use input_text::put_decimal;
 use payer_book::{Book, Row};
 use pharmacy_journal::CountedPayment;
+use schedule::put_node;
 use std::alloc::{AllocError, Global};
 use svg_text::{Anchor, Drawing, Face, Point};
 use world_core::World;

@@ -3,22 +3,9 @@
 use claim_profile::{Code, Ruling};
 use envelope::TxnId;
 use input_text::{put_decimal, put_printed};
+use schedule::put_node;
 use std::alloc::AllocError;
 use world_setup::{Event, Node};
-
-/// Appends the name of a node, as schedules have it.
-pub(crate) fn put_node(out: &mut Vec<u8>, node: Node) -> Result<(), AllocError> {
-    match node {
-        Node::Pharmacy(number) => put_named(out, b"ph", number),
-        Node::Switch(number) => put_named(out, b"sw", number),
-        Node::Payer(number) => put_named(out, b"pr", number),
-    }
-}
-
-fn put_named(out: &mut Vec<u8>, letters: &[u8], number: u16) -> Result<(), AllocError> {
-    out.extend_from_slice(letters)?;
-    put_decimal(out, u64::from(number))
-}
 
 /// What a node is, in a word.
 pub(crate) fn kind_of(node: Node) -> &'static [u8] {

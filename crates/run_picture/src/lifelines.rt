@@ -1,9 +1,10 @@
 //! Lifelines: whole while a node is up, dotted while it is stopped.
 
 use crate::Mark;
-use crate::lettering::{kind_of, put_node};
+use crate::lettering::kind_of;
 use crate::measures::{NAME_HEIGHT, NAME_WIDTH, NAMES, back, on};
 use crate::plan::Plan;
+use schedule::put_node;
 use std::alloc::AllocError;
 use svg_text::{Anchor, Drawing, Face, Fill, Point, Size, Stroke};
 use world_setup::Node;

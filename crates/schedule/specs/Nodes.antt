@@ -1,8 +1,9 @@
--- The names of nodes in a schedule.
-use Rattle.std.specs.Prelude.{ℕ, List, length, take, drop, nat_le, codes, bytes_eq, Option, Some, None, if◌then◌else◌}
+-- The names of nodes, as schedules, lines of nodes and pictures have them: `ph1` a pharmacy, `sw1` a switch, `pr1` a payer.
+use Rattle.std.specs.Prelude.{ℕ, List, ◌++◌, length, take, drop, decimal, nat_le, codes, bytes_eq, Option, Some, None, if◌then◌else◌}
 use Rattle.std.specs.Option.{option_map, option_or}
 use Rattle.input_text.specs.Options.{◌>>=◌}
 use Rattle.input_text.specs.Decimals.{decimal_number}
+use Rattle.claim_model.specs.Node as model
 use Rattle.world_setup.specs.declared.node.Node.{Node}
 use Rattle.world_setup.specs.declared.node.Node.TheVariants.{Pharmacy, Switch, Payer}
 
@@ -34,3 +35,9 @@ payer_in word = numbered (codes "pr") word
 -- a node of any kind
 unfoldable pub node_in : List ℕ → Option Node
 node_in word = option_or (option_map Pharmacy (pharmacy_in word)) (option_or (option_map Switch (switch_in word)) (option_map Payer (payer_in word)))
+
+-- the name of a node, as the model has it
+abbrev pub node_text : model.Node → List ℕ
+node_text (model.Pharmacy number) = codes "ph" ++ decimal number
+node_text (model.Switch number) = codes "sw" ++ decimal number
+node_text (model.Payer number) = codes "pr" ++ decimal number

@@ -20,6 +20,7 @@ pub use commands::Command;
 pub use division::{Division, divide};
 pub use events::event_of;
 pub use fault::{ScheduleFault, TextFault};
+pub use nodes::{node_in, put_node};
 pub use plans::{price_in, product_in};
 pub use reading::read_schedule;
 pub use runs::{Run, read_run};

@@ -1,10 +1,12 @@
-//! The names of nodes in a schedule.
+//! The names of nodes: read in schedules and in lines of nodes, and written there and in pictures.
 
-ghost use Rattle.std.specs.Prelude.{◌≡◌};
+ghost use Rattle.std.specs.Prelude.{◌≡◌, ◌++◌, OnOk};
 ghost use Rattle.std.specs.Option.{option_map};
-ghost use Rattle.schedule.specs.Nodes.{behind, known_number, node_in, node_number, numbered, payer_in, pharmacy_in, switch_in};
+ghost use Rattle.world_setup.specs.Seen.{node_seen};
+ghost use Rattle.schedule.specs.Nodes.{behind, known_number, node_in, node_number, node_text, numbered, payer_in, pharmacy_in, switch_in};
 
-use input_text::read_decimal;
+use input_text::{put_decimal, read_decimal};
+use std::alloc::AllocError;
 use world_setup::Node;
 
 /// The most digits of a node's number (own).
@@ -12,9 +14,10 @@ const MOST_DIGITS: usize = 5;
 /// The largest number that a node can have.
 const LAST_NODE: u64 = 65_535;
 
-/// The node that a word names.
+/// The node that a word names: two letters and 1 to 5 digits (own), as `ph1`, `sw1`, `pr1`. A number over 65,535 is read as 0, which is
+/// nobody's.
 #[tactic(auto, unfolding(crate::specs::Nodes::node_in))]
-pub(crate) fn node_in(word: &[u8]) -> Option<Node>
+pub fn node_in(word: &[u8]) -> Option<Node>
     ensures { result ≡ node_in word.now }
 {
     if let Some(number) = pharmacy_in(word) {
@@ -27,6 +30,22 @@ pub(crate) fn node_in(word: &[u8]) -> Option<Node>
         Some(number) => Some(Node::Payer(number)),
         None => None,
     }
+}
+
+/// Appends the name of a node.
+///
+/// # Errors
+/// Where memory is refused. A part of the name may have been appended then.
+pub fn put_node(out: &mut Vec<u8>, node: Node) -> Result<(), AllocError>
+    ensures { OnOk result (out.new.items ≡ out.old.items ++ node_text (node_seen node)) }
+{
+    let (letters, number) = match node {
+        Node::Pharmacy(number) => (b"ph", number),
+        Node::Switch(number) => (b"sw", number),
+        Node::Payer(number) => (b"pr", number),
+    };
+    out.extend_from_slice(letters)?;
+    put_decimal(out, u64::from(number))
 }
 
 /// The number of the pharmacy that a word names.

@@ -10,10 +10,10 @@ ghost use Rattle.world_report.specs.Places.{place_mark};
 ghost use Rattle.schedule_run.specs.Told.{is_unreadable, done_line, number_line, refusal_line, pharmacy_word, answer_lines, open_lines, settled_lines, open_line, settled_line, IsLineOf};
 
 use claim_profile::{AnswerFault, Ruling, read_answer};
-use input_text::put_decimal;
+use schedule::put_node;
 use std::alloc::{AllocError, Global};
 use world_report::{end_line, put_mark, put_number, put_ruling, put_word};
-use world_setup::StepFault;
+use world_setup::{Node, StepFault};
 
 /// Appends the line of a command that was made, or of its refusal.
 pub(crate) fn put_outcome(
@@ -176,8 +176,7 @@ fn put_settled_place(
 fn put_pharmacy(out: &mut Vec<u8>, pharmacy: u16) -> Result<(), AllocError>
     ensures { OnOk result (out.new.items ≡ out.old.items ++ pharmacy_word pharmacy) }
 {
-    out.extend_from_slice(b"ph")?;
-    put_decimal(out, u64::from(pharmacy))
+    put_node(out, Node::Pharmacy(pharmacy))
 }
 
 /// Appends the number of a request, and the place where it has several.

@@ -1,5 +1,6 @@
 //! The line of an event.
 
+use crate::nodes::put_node;
 use input_text::{put_decimal, put_printed};
 use std::alloc::AllocError;
 use world_setup::{Event, Node};
@@ -9,13 +10,13 @@ pub(super) fn put_event(out: &mut Vec<u8>, event: &Event) -> Result<(), AllocErr
     match event {
         Event::Submit { pharmacy, text } => {
             put(out, b"submit ")?;
-            put_name(out, b"ph", *pharmacy)?;
+            put_node(out, Node::Pharmacy(*pharmacy))?;
             put(out, b" ")?;
             put_printed(out, text.as_slice())?;
         }
         Event::Tick { pharmacy } => {
             put(out, b"tick ")?;
-            put_name(out, b"ph", *pharmacy)?;
+            put_node(out, Node::Pharmacy(*pharmacy))?;
         }
         Event::Deliver { packet } => {
             put(out, b"deliver ")?;
@@ -43,21 +44,6 @@ fn put(out: &mut Vec<u8>, bytes: &[u8]) -> Result<(), AllocError> {
     out.extend_from_slice(bytes)
 }
 
-/// Appends a node by letters and its number.
-fn put_name(out: &mut Vec<u8>, letters: &[u8], number: u16) -> Result<(), AllocError> {
-    put(out, letters)?;
-    put_decimal(out, u64::from(number))
-}
-
-/// Appends a node of any kind.
-fn put_node(out: &mut Vec<u8>, node: Node) -> Result<(), AllocError> {
-    match node {
-        Node::Pharmacy(number) => put_name(out, b"ph", number),
-        Node::Switch(number) => put_name(out, b"sw", number),
-        Node::Payer(number) => put_name(out, b"pr", number),
-    }
-}
-
 /// Appends a change of a plan.
 fn put_plan(
     out: &mut Vec<u8>,
@@ -66,7 +52,7 @@ fn put_plan(
     price: Option<u32>,
 ) -> Result<(), AllocError> {
     put(out, b"plan ")?;
-    put_name(out, b"pr", payer)?;
+    put_node(out, Node::Payer(payer))?;
     put(out, b" ")?;
     put_product(out, product)?;
     match price {
