@@ -2,3 +2,4 @@ pub mod EventLists
 mod Fronts
 mod Commas
 mod RunLists
+pub mod Names
