@@ -32,8 +32,8 @@ use Rattle.node_service.proofs.Crashes.{longer_text}
 use Rattle.node_process.specs.Acts.{Act, Found, Cut, Append, Sync, Say, Hear, found, file, has_failed, kept, said}
 use Rattle.node_process.specs.Heard.{whole_lines}
 use Rattle.node_process.specs.Safe.{IsStartOf, asked, log_of, FitsInput, IsCovered, IsRead, GoesWell, IsSafe, IsUnopened, IsRun, Whose}
-use Rattle.node_process.specs.Histories.{Happening, Does, Dies, acts_of, left_of, file_or, file_of, on_disk, IsLeft, IsHistory, Step, Crashes, Restarts, steps_from, process_after, HasCalls, ReadsCalls, IsAlive, IsToldBy, IsProcess, IsCourse}
-use Rattle.node_process.proofs.Left.{IsCutOf, HasLeft, first_of, start_length, taken_length, calls_fit, cut_reads, text_cut, nothing_cut, begins_with, same_calls, left_reads, front_fits, same_reading, not_short}
+use Rattle.node_process.specs.Histories.{zeros, Happening, Does, Dies, acts_of, left_of, file_or, file_of, on_disk, IsLeft, IsHistory, Step, Crashes, Restarts, steps_from, process_after, HasCalls, ReadsCalls, IsAlive, IsToldBy, IsProcess, IsCourse}
+use Rattle.node_process.proofs.Left.{IsTornOf, HasLeft, first_of, start_length, taken_length, untorn, torn_fits, torn_reads, zeros_read, text_cut, nothing_cut, begins_with, same_calls, left_reads, front_fits, same_reading, not_short}
 use Rattle.node_process.proofs.Spoken.{told_by, told_nothing, told_still}
 use Rattle.node_process.proofs.Stepping.{steps_append, makes_of, makes_all, syncs_of, syncs_all}
 
@@ -129,12 +129,12 @@ heads a b s t e = (cc, cc)
 record IsInner (whose : Whose) (settings : Settings) (h : List Happening) (p : Process) : Type 0 where
   disk : HasCalls (sha256 whose.settings) whose.node (on_disk h) p.synced
   under : IsStartOf (on_disk h) (file_of h)
-  lies : IsCutOf (sha256 whose.settings) whose.node (file_of h) (model_file p)
+  lies : IsTornOf (sha256 whose.settings) whose.node (file_of h) (model_file p)
   -- what was found has the first of these calls
   first : List Logged
   more : List Logged
   goes : model_file p ≡ first ++ more
-  was : IsCutOf (sha256 whose.settings) whose.node (left_of h) first
+  was : IsTornOf (sha256 whose.settings) whose.node (left_of h) first
   keeps : (kept (acts_of h) ≡ []) ⊎ (kept (acts_of h) ≡ on_disk h)
   memory : IsAlive (context_of settings) (settings_seen settings) whose.node (acts_of h) p
   told : IsToldBy whose.node p.synced (said (acts_of h))
@@ -144,14 +144,21 @@ nothing_read digest node bytes calls d none (inr short) = short.1
 nothing_read digest node bytes calls d none (inl read) =
     absurd (not_short (record { log = record { node = node; calls = calls }; whole = read.0 }) (sym read.1 ∙ (ap (log_in digest) none ∙ reads_short digest (record { node = node; calls = [] }) 0 d (omega arith))))
 
-short_small : (digest : List ℕ) (node : Node) (bytes : List ℕ) (calls : List Logged) → length digest ≡ 32 → IsCutOf digest node bytes calls → log_in digest bytes ≡ Err Short → length bytes < 46
-short_small digest node bytes calls d c short =
-    let log : NodeLog = record { node = node; calls = c.all } in
-    let text = log_text digest log in
-    elim (cases_lt c.size 46) [
-      | inl small ↦ let a = ap length c.is in let b = taken_length c.size text in omega (arith, small, a, b)
-      | inr large ↦ let back = reads_back digest log c.size d c.fits large in absurd (not_short _ (sym back.read ∙ (sym (ap (log_in digest) c.is) ∙ short)))
-    ]
+short_small : (digest : List ℕ) (node : Node) (bytes : List ℕ) (calls : List Logged) → length digest ≡ 32 → IsTornOf digest node bytes calls → log_in digest bytes ≡ Err Short → length bytes < 46
+short_small digest node bytes calls d t short = by_end t.ends
+  where
+    log : NodeLog
+    log = record { node = node; calls = t.cut.all }
+
+    by_end : (t.lost ≡ 0) ⊎ (t.front ≡ log_text digest (record { node = node; calls = calls })) → length bytes < 46
+    by_end (inr text) = absurd (not_short _ (sym (zeros_read digest node t.front bytes calls t.lost d (torn_fits digest node bytes calls t) t.is text) ∙ short))
+    by_end (inl none) =
+        let c = t.cut in
+        let same : bytes ≡ take c.size (log_text digest log) = t.is ∙ (ap (λ n. t.front ++ zeros n) none ∙ (append-nil t.front ∙ c.is)) in
+        elim (cases_lt c.size 46) [
+          | inl small ↦ let a = ap length same in let b = taken_length c.size (log_text digest log) in omega (arith, small, a, b)
+          | inr large ↦ let back = reads_back digest log c.size d c.fits large in absurd (not_short _ (sym back.read ∙ (sym (ap (log_in digest) same) ∙ short)))
+        ]
 
 -- what was said is told by calls that are on the disk
 covered_told : (whose : Whose) (settings : Settings) (acts : List Act) (disk : List ℕ) (start : Serving) (whole : ℕ) (synced : List Logged) → Spells whose.settings settings → (o : IsOpened whose.settings whose.node (found acts) whole start)
@@ -202,13 +209,13 @@ module _ (whose : Whose) (settings : Settings) (spells : Spells whose.settings s
   t = acts_of h
 
   fits : FitsLog (record { node = node; calls = model_file p })
-  fits = calls_fit digest node (file_of h) (model_file p) i.lies
+  fits = torn_fits digest node (file_of h) (model_file p) i.lies
 
   fits_synced : FitsLog (record { node = node; calls = p.synced })
   fits_synced = record { node = fits.node; calls = front_fits p.synced p.unsynced fits.calls }
 
   reads : ReadsCalls digest node (file_of h) (model_file p)
-  reads = cut_reads digest node (file_of h) (model_file p) d i.lies
+  reads = torn_reads digest node (file_of h) (model_file p) d i.lies
 
   found_step : (bytes : List ℕ) → acts_of h ≡ [] → bytes ≡ left_of h → GoesOn whose settings (Does (Found bytes) ∷ h) p
   found_step bytes none is =
@@ -217,7 +224,7 @@ module _ (whose : Whose) (settings : Settings) (spells : Spells whose.settings s
         record {
           disk = i.disk;
           under = subst (IsStartOf (on_disk h)) same i.under;
-          lies = subst (λ (b : List ℕ). IsCutOf digest node b (model_file p)) same i.lies;
+          lies = subst (λ (b : List ℕ). IsTornOf digest node b (model_file p)) same i.lies;
           first = i.first;
           more = i.more;
           goes = i.goes;
@@ -236,8 +243,8 @@ module _ (whose : Whose) (settings : Settings) (spells : Spells whose.settings s
       file_found : file t ≡ found t
       file_found = ap file only
 
-      lies_found : IsCutOf digest node (found t) (model_file p)
-      lies_found = subst (λ (b : List ℕ). IsCutOf digest node b (model_file p)) (ap (file_or (left_of h)) only) i.lies
+      lies_found : IsTornOf digest node (found t) (model_file p)
+      lies_found = subst (λ (b : List ℕ). IsTornOf digest node b (model_file p)) (ap (file_or (left_of h)) only) i.lies
 
       under_found : IsStartOf (on_disk h) (found t)
       under_found = subst (IsStartOf (on_disk h)) (ap (file_or (left_of h)) only) i.under
@@ -246,7 +253,7 @@ module _ (whose : Whose) (settings : Settings) (spells : Spells whose.settings s
       cut_file = ap (take size) file_found ∙ cuts
 
       -- where nothing that is synced is cut
-      with_file : take size (on_disk h) ≡ on_disk h → IsStartOf (on_disk h) (take size (file t)) → IsCutOf digest node (take size (file t)) (model_file p) → GoesOn whose settings (Does (Cut size done) ∷ h) p
+      with_file : take size (on_disk h) ≡ on_disk h → IsStartOf (on_disk h) (take size (file t)) → IsTornOf digest node (take size (file t)) (model_file p) → GoesOn whose settings (Does (Cut size done) ∷ h) p
       with_file same under lies = (
         [],
         record {
@@ -265,7 +272,7 @@ module _ (whose : Whose) (settings : Settings) (spells : Spells whose.settings s
 
       -- a log whose head is there
       of_calls : take size (file t) ≡ log_text digest (record { node = node; calls = model_file p }) → GoesOn whose settings (Does (Cut size done) ∷ h) p
-      of_calls e = with_file same (subst (λ (b : List ℕ). IsStartOf (on_disk h) (take size b)) (sym file_found) (start_taken (on_disk h) (found t) size under_found short)) (subst (λ (b : List ℕ). IsCutOf digest node b (model_file p)) (sym e) (text_cut digest node (model_file p) d fits))
+      of_calls e = with_file same (subst (λ (b : List ℕ). IsStartOf (on_disk h) (take size b)) (sym file_found) (start_taken (on_disk h) (found t) size under_found short)) (subst (λ (b : List ℕ). IsTornOf digest node b (model_file p)) (sym e) (untorn digest node _ (model_file p) (text_cut digest node (model_file p) d fits)))
         where
           text_short : length (log_text digest (record { node = node; calls = model_file p })) ≤ size
           text_short = let a = ap length e in let b = taken_length size (file t) in omega (arith, a, b)
@@ -292,8 +299,8 @@ module _ (whose : Whose) (settings : Settings) (spells : Spells whose.settings s
           cut_none : take size (file t) ≡ []
           cut_none = cut_file ∙ ap (λ n. take n (found t)) zero_kept
 
-          lies : IsCutOf digest node (take size (file t)) (model_file p)
-          lies = subst (λ (b : List ℕ). IsCutOf digest node b (model_file p)) (sym cut_none) (subst (IsCutOf digest node []) (sym none) (nothing_cut digest node fits_node))
+          lies : IsTornOf digest node (take size (file t)) (model_file p)
+          lies = subst (λ (b : List ℕ). IsTornOf digest node b (model_file p)) (sym cut_none) (subst (IsTornOf digest node []) (sym none) (untorn digest node [] [] (nothing_cut digest node fits_node)))
 
           by_disk : HasCalls digest node (on_disk h) p.synced → GoesOn whose settings (Does (Cut size done) ∷ h) p
           by_disk (inl is) =
@@ -305,15 +312,15 @@ module _ (whose : Whose) (settings : Settings) (spells : Spells whose.settings s
           by_disk (inr nothing) =
               with_file (ap (take size) nothing.0 ∙ (take_none size ∙ sym nothing.0)) (subst (λ (b : List ℕ). IsStartOf b (take size (file t))) (sym nothing.0) (record { rest = take size (file t); is = refl })) lies
 
-      by_begun : IsBegun digest node (found t) o.log whole start.records → IsCutOf digest node (found t) (model_file p) → GoesOn whose settings (Does (Cut size done) ∷ h) p
-      by_begun (inl read) c = by_reading (cut_reads digest node (found t) (model_file p) d c)
+      by_begun : IsBegun digest node (found t) o.log whole start.records → IsTornOf digest node (found t) (model_file p) → GoesOn whose settings (Does (Cut size done) ∷ h) p
+      by_begun (inl read) c = by_reading (torn_reads digest node (found t) (model_file p) d c)
         where
           by_reading : ReadsCalls digest node (found t) (model_file p) → GoesOn whose settings (Does (Cut size done) ∷ h) p
           by_reading (inl own) =
               let r = same_reading (record { log = o.log; whole = whole }) (record { log = record { node = node; calls = model_file p }; whole = own.0 }) (sym read.0 ∙ own.1) in
               of_calls (cut_file ∙ (sym (append-nil (take whole (found t))) ∙ (ap (λ (x : List ℕ). take whole (found t) ++ x) (sym read.1) ∙ (o.text ∙ ap (λ (x : Reading). log_text digest x.log) r))))
           by_reading (inr short) = absurd (not_short (record { log = o.log; whole = whole }) (sym read.0 ∙ short.0))
-      by_begun (inr begun) c = by_reading (cut_reads digest node (found t) (model_file p) d c)
+      by_begun (inr begun) c = by_reading (torn_reads digest node (found t) (model_file p) d c)
         where
           by_reading : ReadsCalls digest node (found t) (model_file p) → GoesOn whose settings (Does (Cut size done) ∷ h) p
           by_reading (inl own) = absurd (not_short (record { log = record { node = node; calls = model_file p }; whole = own.0 }) (sym own.1 ∙ begun.0))
@@ -371,7 +378,7 @@ module _ (whose : Whose) (settings : Settings) (spells : Spells whose.settings s
             record {
               disk = subst (HasCalls digest node (on_disk h)) (sym m.synced) i.disk;
               under = start_with (on_disk h) (file t) bytes (subst (IsStartOf (on_disk h)) (file_there well.0) i.under);
-              lies = subst (λ (b : List ℕ). IsCutOf digest node b (model_file q)) (sym text.text) (subst (IsCutOf digest node (log_text digest (record { node = node; calls = calls }))) (sym is) (text_cut digest node calls d text.fits));
+              lies = subst (λ (b : List ℕ). IsTornOf digest node b (model_file q)) (sym text.text) (subst (IsTornOf digest node (log_text digest (record { node = node; calls = calls }))) (sym is) (untorn digest node _ calls (text_cut digest node calls d text.fits)));
               first = i.first;
               more = i.more ++ new;
               goes = grown ∙ (ap (λ (x : List Logged). x ++ new) i.goes ∙ append_assoc i.first i.more new);
@@ -389,7 +396,7 @@ module _ (whose : Whose) (settings : Settings) (spells : Spells whose.settings s
     record {
       disk = i.disk;
       under = subst (IsStartOf (on_disk h)) (file_there well.0) i.under;
-      lies = subst (λ (b : List ℕ). IsCutOf digest node b (model_file p)) (file_there well.0) i.lies;
+      lies = subst (λ (b : List ℕ). IsTornOf digest node b (model_file p)) (file_there well.0) i.lies;
       first = i.first;
       more = i.more;
       goes = i.goes;
@@ -410,7 +417,7 @@ module _ (whose : Whose) (settings : Settings) (spells : Spells whose.settings s
       let after : IsInner whose settings (Does (Sync true) ∷ h) q = record {
         disk = inl (disk ∙ (text.text ∙ ap (λ (cs : List Logged). log_text digest (record { node = node; calls = cs })) own));
         under = subst (λ (b : List ℕ). IsStartOf b (file t)) (sym disk) (all_of (file t));
-        lies = subst (λ (b : List ℕ). IsCutOf digest node b (model_file q)) (file_there well.0) (subst (IsCutOf digest node (file_of h)) (sym all) i.lies);
+        lies = subst (λ (b : List ℕ). IsTornOf digest node b (model_file q)) (file_there well.0) (subst (IsTornOf digest node (file_of h)) (sym all) i.lies);
         first = i.first;
         more = i.more;
         goes = all ∙ i.goes;
@@ -428,7 +435,7 @@ module _ (whose : Whose) (settings : Settings) (spells : Spells whose.settings s
     record {
       disk = i.disk;
       under = subst (IsStartOf (on_disk h)) (file_there well.0) i.under;
-      lies = subst (λ (b : List ℕ). IsCutOf digest node b (model_file p)) (file_there well.0) i.lies;
+      lies = subst (λ (b : List ℕ). IsTornOf digest node b (model_file p)) (file_there well.0) i.lies;
       first = i.first;
       more = i.more;
       goes = i.goes;
@@ -445,7 +452,7 @@ module _ (whose : Whose) (settings : Settings) (spells : Spells whose.settings s
     record {
       disk = i.disk;
       under = subst (IsStartOf (on_disk h)) (file_there well.0) i.under;
-      lies = subst (λ (b : List ℕ). IsCutOf digest node b (model_file p)) (file_there well.0) i.lies;
+      lies = subst (λ (b : List ℕ). IsTornOf digest node b (model_file p)) (file_there well.0) i.lies;
       first = i.first;
       more = i.more;
       goes = i.goes;
@@ -463,7 +470,7 @@ module _ (whose : Whose) (settings : Settings) (spells : Spells whose.settings s
       let q : Process = crashed p k in
       let e : l.count ≡ length p.synced + k = let a = l.enough in omega (arith, a) in
       let is : take l.count (model_file p) ≡ model_file q = ap (λ n. take n (model_file p)) e ∙ take-append-add p.synced p.unsynced k in
-      let lies : IsCutOf digest node left (model_file q) = subst (IsCutOf digest node left) is l.cut in (
+      let lies : IsTornOf digest node left (model_file q) = subst (IsTornOf digest node left) is l.torn in (
         Crashes k ∷ [],
         record {
           disk = i.disk;
@@ -479,19 +486,26 @@ module _ (whose : Whose) (settings : Settings) (spells : Spells whose.settings s
         },
       )
 
-  dies_step : (left : List ℕ) → IsLeft h left → GoesOn whose settings (Dies left ∷ h) p
-  dies_step left (under, inl start) = crash_step left under (left_reads digest node (on_disk h) left (file_of h) (model_file p) p.synced d fits_synced i.disk under start i.lies)
-  dies_step left (under, inr start) =
-      let l = left_reads digest node (on_disk h) left (left_of h) i.first p.synced d fits_synced i.disk under start i.was in
-      let same : take l.count i.first ≡ take l.count (model_file p) = sym (ap (take l.count) i.goes ∙ take-append-le l.count i.first i.more l.most) in
-      let long : length (model_file p) ≡ length i.first + length i.more = ap length i.goes ∙ length-append i.first i.more in
-      crash_step left under (record {
-        count = l.count;
-        cut = subst (IsCutOf digest node left) same l.cut;
-        enough = l.enough;
-        most = let m = l.most in omega (arith, m, long);
-        begins = sym (take_at p.synced p.unsynced (length p.synced) refl);
-      })
+  dies_step : (left : List ℕ) → IsLeft whose h left → GoesOn whose settings (Dies left ∷ h) p
+  dies_step left leaves = by_had leaves.had
+    where
+      under : IsStartOf (on_disk h) left
+      under = subst (IsStartOf (on_disk h)) (sym leaves.is) (start_with (on_disk h) leaves.front (zeros leaves.lost) leaves.kept)
+
+      by_had : IsStartOf leaves.front (file_of h) ⊎ IsStartOf leaves.front (left_of h) → GoesOn whose settings (Dies left ∷ h) p
+      by_had (inl start) =
+          crash_step left under (left_reads digest node (on_disk h) leaves.front left (file_of h) (model_file p) p.synced leaves.lost d fits_synced i.disk leaves.kept start leaves.is leaves.ends i.lies)
+      by_had (inr start) =
+          let l = left_reads digest node (on_disk h) leaves.front left (left_of h) i.first p.synced leaves.lost d fits_synced i.disk leaves.kept start leaves.is leaves.ends i.was in
+          let same : take l.count i.first ≡ take l.count (model_file p) = sym (ap (take l.count) i.goes ∙ take-append-le l.count i.first i.more l.most) in
+          let long : length (model_file p) ≡ length i.first + length i.more = ap length i.goes ∙ length-append i.first i.more in
+          crash_step left under (record {
+            count = l.count;
+            torn = subst (IsTornOf digest node left) same l.torn;
+            enough = l.enough;
+            most = let m = l.most in omega (arith, m, long);
+            begins = sym (take_at p.synced p.unsynced (length p.synced) refl);
+          })
 
   -- each act of a run
   run_step : (act : Act) → found (act ∷ t) ≡ left_of h → IsRun whose (act ∷ t) → GoesOn whose settings (Does act ∷ h) p
@@ -531,7 +545,7 @@ earlier whose (Dies left) h is = is.0
 
 begun : (whose : Whose) (settings : Settings) → FitsNode whose.node → IsInner whose settings [] (record { memory = None; synced = []; unsynced = [] })
 begun whose settings fits =
-    let none = nothing_cut (sha256 whose.settings) whose.node fits in
+    let none = untorn (sha256 whose.settings) whose.node [] [] (nothing_cut (sha256 whose.settings) whose.node fits) in
     record {
       disk = inr (refl, refl);
       under = all_of [];
@@ -560,7 +574,7 @@ before_is whose (one ∷ later) h is = before_is whose later h (earlier whose on
 
 is_process : (whose : Whose) (settings : Settings) (h : List Happening) (p : Process) → IsInner whose settings h p → IsProcess whose settings h p
 is_process whose settings h p i =
-    record { disk = i.disk; lies = cut_reads (sha256 whose.settings) whose.node (file_of h) (model_file p) (digest_length whose.settings) i.lies; memory = i.memory; told = i.told }
+    record { disk = i.disk; lies = torn_reads (sha256 whose.settings) whose.node (file_of h) (model_file p) (digest_length whose.settings) i.lies; memory = i.memory; told = i.told }
 
 pub course : (whose : Whose) (settings : Settings) (later before : List Happening) → Spells whose.settings settings → FitsNode whose.node → IsHistory whose (later ++ before) → IsCourse whose settings before (later ++ before)
 course whose settings later before spells fits is =

@@ -1,5 +1,5 @@
 -- What is read of the beginning of a log's text that a death has left.
-use Rattle.std.proofs.Common.{◌≡◌, inl, inr, ℕ, zero, suc, ◌+◌, ◌-◌, ◌<◌, ◌≤◌, Bool, true, false, cond, nat_lt, List, [], ◌∷◌, ◌++◌, length, take, drop, Result, Ok, Err, refl, sym, ap, ◌∙◌, subst, arith, append_assoc, append-nil, length-append}
+use Rattle.std.proofs.Common.{◌≡◌, inl, inr, ℕ, zero, suc, ◌+◌, ◌-◌, ◌<◌, ◌≤◌, ◌⊎◌, Bool, true, false, cond, nat_lt, List, [], ◌∷◌, ◌++◌, length, take, drop, Result, Ok, Err, refl, sym, ap, ◌∙◌, subst, arith, append_assoc, append-nil, length-append}
 use Rattle.std.proofs.lemmas.Bool.{cases_lt}
 use Rattle.std.proofs.lemmas.Bool.Decides.{nat_tests}
 use Rattle.std.proofs.lemmas.List.{length-take-le, take_all, take_at, take-append-drop, take-append-le, take-take}
@@ -13,10 +13,12 @@ use Rattle.kept_logs.specs.Frames.{frame_text}
 use Rattle.kept_logs.specs.Logs.{Reading, calls_text, log_text, log_in}
 use Rattle.kept_logs.specs.Fits.{FitsNode, FitsLogged, FitsLog}
 use Rattle.kept_logs.specs.Cuts.{whole_within, calls_within}
+use Rattle.kept_logs.proofs.FramesBack.{take_over}
 use Rattle.kept_logs.proofs.CallsBack.{all_within}
 use Rattle.kept_logs.proofs.LogsBack.{log_length, reads_back, reads_short, reads_whole}
 use Rattle.node_process.specs.Safe.{IsStartOf}
-use Rattle.node_process.specs.Histories.{HasCalls, ReadsCalls}
+use Rattle.node_process.specs.Histories.{zeros, IsWholeLog, HasCalls, ReadsCalls}
+use Rattle.node_process.proofs.Zeros.{zeros_length, reads_zeros}
 
 -- ---- more bytes have no fewer whole records
 
@@ -53,6 +55,15 @@ pub taken_length : {A : Type 0} (n : ℕ) (xs : List A) → length (take n xs) �
 taken_length zero xs = omega arith
 taken_length (suc n) [] = omega arith
 taken_length (suc n) (x ∷ xs) = let inner = taken_length n xs in omega (arith, inner)
+
+pub take_zeros : (m n : ℕ) → m ≤ n → take m (zeros n) ≡ zeros m
+take_zeros zero n h = refl
+take_zeros (suc m) zero h = absurd (omega (arith, h))
+take_zeros (suc m) (suc n) h = ap (λ (x : List ℕ). 0 ∷ x) (take_zeros m n (omega (arith, h)))
+
+more_zeros : (m n : ℕ) → zeros m ++ zeros n ≡ zeros (m + n)
+more_zeros zero n = let e : n ≡ 0 + n = omega arith in ap (λ k. zeros k) e
+more_zeros (suc m) n = let e : suc (m + n) ≡ suc m + n = omega arith in ap (λ (x : List ℕ). 0 ∷ x) (more_zeros m n) ∙ ap (λ k. zeros k) e
 
 -- a list that is the first elements of another is its first by its own length
 own_first : {A : Type 0} (xs ys : List A) (m : ℕ) → xs ≡ take m ys → xs ≡ take (length xs) ys
@@ -152,12 +163,69 @@ same_calls digest node xs ys bytes d fits is (inr none) =
     let a : NodeLog = record { node = node; calls = xs } in
     absurd (not_short (record { log = a; whole = length (log_text digest a) }) (sym (ap (log_in digest) is ∙ reads_whole digest a d fits) ∙ none.0))
 
+-- bytes that begin the text of a log and end with a record of it are the text of its first calls
+whole_front : (digest : List ℕ) (node : Node) (front : List ℕ) (calls : List Logged) → length digest ≡ 32 → IsCutOf digest node front calls → IsWholeLog digest front → front ≡ log_text digest (record { node = node; calls = calls })
+whole_front digest node front calls d c (log, reads) =
+    let all : NodeLog = record { node = node; calls = c.all } in
+    let text = log_text digest all in
+    elim (cases_lt c.size 46) [
+      | inl small ↦ absurd (not_short (record { log = log; whole = length front }) (sym reads ∙ (ap (log_in digest) c.is ∙ reads_short digest all c.size d small)))
+      | inr large ↦
+          let back = reads_back digest all c.size d c.fits large in
+          let k = calls_within c.size all in
+          let within : NodeLog = record { node = node; calls = take k c.all } in
+          let own = log_text digest within in
+          let r = same_reading (record { log = log; whole = length front }) (record { log = within; whole = length own }) (sym reads ∙ (ap (log_in digest) c.is ∙ back.read)) in
+          let long : length front ≡ length own = ap (λ (x : Reading). x.whole) r in
+          let first : take k c.all ≡ calls = ap (λ n. take n c.all) (c.whole large) ∙ (ap (take (length calls)) c.are ∙ take_at calls c.more (length calls) refl) in
+          let short : length own ≤ c.size = back.stand in
+          sym (take_all (length own) front (omega (arith, long)))
+          ∙ (ap (take (length own)) c.is
+          ∙ (take-take (length own) c.size text short
+          ∙ (back.text ∙ ap (λ (cs : List Logged). log_text digest (record { node = node; calls = cs })) first)))
+    ]
+
+-- ---- zeros behind them
+
+-- bytes are such first bytes of a log's text, and behind them nothing; or they end with a record, and zeros stand behind it
+pub record IsTornOf (digest : List ℕ) (node : Node) (bytes : List ℕ) (calls : List Logged) : Type 0 where
+  pub front : List ℕ
+  pub lost : ℕ
+  pub is : bytes ≡ front ++ zeros lost
+  pub cut : IsCutOf digest node front calls
+  pub ends : (lost ≡ 0) ⊎ (front ≡ log_text digest (record { node = node; calls = calls }))
+
+pub untorn : (digest : List ℕ) (node : Node) (bytes : List ℕ) (calls : List Logged) → IsCutOf digest node bytes calls → IsTornOf digest node bytes calls
+untorn digest node bytes calls c = record { front = bytes; lost = 0; is = sym (append-nil bytes); cut = c; ends = inl refl }
+
+pub torn_fits : (digest : List ℕ) (node : Node) (bytes : List ℕ) (calls : List Logged) → IsTornOf digest node bytes calls → FitsLog (record { node = node; calls = calls })
+torn_fits digest node bytes calls t = calls_fit digest node t.front calls t.cut
+
+no_zeros : (front bytes : List ℕ) (n : ℕ) → bytes ≡ front ++ zeros n → n ≡ 0 → bytes ≡ front
+no_zeros front bytes n is none = is ∙ (ap (λ m. front ++ zeros m) none ∙ append-nil front)
+
+-- zeros behind the text of a log
+pub zeros_read : (digest : List ℕ) (node : Node) (front bytes : List ℕ) (calls : List Logged) (n : ℕ) → length digest ≡ 32 → FitsLog (record { node = node; calls = calls })
+    → bytes ≡ front ++ zeros n → front ≡ log_text digest (record { node = node; calls = calls })
+    → log_in digest bytes ≡ Ok (record { log = record { node = node; calls = calls }; whole = length front })
+zeros_read digest node front bytes calls n d fits is text =
+    let log : NodeLog = record { node = node; calls = calls } in
+    ap (log_in digest) (is ∙ ap (λ (x : List ℕ). x ++ zeros n) text)
+    ∙ (reads_zeros digest log n d fits ∙ ap (λ (x : List ℕ). let r : Reading = record { log = log; whole = length x } in Ok r) (sym text))
+
+pub torn_reads : (digest : List ℕ) (node : Node) (bytes : List ℕ) (calls : List Logged) → length digest ≡ 32 → IsTornOf digest node bytes calls → ReadsCalls digest node bytes calls
+torn_reads digest node bytes calls d t = by_end t.ends
+  where
+    by_end : (t.lost ≡ 0) ⊎ (t.front ≡ log_text digest (record { node = node; calls = calls })) → ReadsCalls digest node bytes calls
+    by_end (inl none) = subst (λ (b : List ℕ). ReadsCalls digest node b calls) (sym (no_zeros t.front bytes t.lost t.is none)) (cut_reads digest node t.front calls d t.cut)
+    by_end (inr text) = inl (length t.front, zeros_read digest node t.front bytes calls t.lost d (torn_fits digest node bytes calls t) t.is text)
+
 -- ---- what a death leaves
 
 -- bytes that were left have the first of these calls, and no fewer than were synced
 pub record HasLeft (digest : List ℕ) (node : Node) (left : List ℕ) (calls synced : List Logged) : Type 0 where
   pub count : ℕ
-  pub cut : IsCutOf digest node left (take count calls)
+  pub torn : IsTornOf digest node left (take count calls)
   pub enough : length synced ≤ count
   pub most : count ≤ length calls
   pub begins : synced ≡ take (length synced) calls
@@ -184,9 +252,17 @@ synced_within digest node disk bytes calls synced n d c fits (inl is) start larg
       own_first synced c.all (calls_within size log) are ∙ (ap (take (length synced)) c.are ∙ take-append-le (length synced) calls c.more within),
     )
 
-pub left_reads : (digest : List ℕ) (node : Node) (disk left bytes : List ℕ) (calls synced : List Logged) → length digest ≡ 32 → FitsLog (record { node = node; calls = synced }) → HasCalls digest node disk synced
-    → IsStartOf disk left → IsStartOf left bytes → IsCutOf digest node bytes calls → HasLeft digest node left calls synced
-left_reads digest node disk left bytes calls synced d fits has under start c =
+-- the same of bytes without zeros
+record HasFront (digest : List ℕ) (node : Node) (left : List ℕ) (calls synced : List Logged) : Type 0 where
+  count : ℕ
+  cut : IsCutOf digest node left (take count calls)
+  enough : length synced ≤ count
+  most : count ≤ length calls
+  begins : synced ≡ take (length synced) calls
+
+front_reads : (digest : List ℕ) (node : Node) (disk left bytes : List ℕ) (calls synced : List Logged) → length digest ≡ 32 → FitsLog (record { node = node; calls = synced }) → HasCalls digest node disk synced
+    → IsStartOf disk left → IsStartOf left bytes → IsCutOf digest node bytes calls → HasFront digest node left calls synced
+front_reads digest node disk left bytes calls synced d fits has under start c =
     let log : NodeLog = record { node = node; calls = c.all } in
     let text = log_text digest log in
     let n = length left in
@@ -217,7 +293,7 @@ left_reads digest node disk left bytes calls synced d fits has under start c =
           }
     ]
   where
-    by_disk : HasCalls digest node disk synced → length left < 46 → left ≡ take (length left) (log_text digest (record { node = node; calls = c.all })) → HasLeft digest node left calls synced
+    by_disk : HasCalls digest node disk synced → length left < 46 → left ≡ take (length left) (log_text digest (record { node = node; calls = c.all })) → HasFront digest node left calls synced
     by_disk (inl e) small is =
         let size = log_length digest (record { node = node; calls = synced }) d in
         let long = ap length e in
@@ -231,4 +307,83 @@ left_reads digest node disk left bytes calls synced d fits has under start c =
           enough = omega (arith, e);
           most = omega arith;
           begins = none.1 ∙ sym (ap (λ m. take m calls) e);
+        }
+
+-- what is on the disk stands before the zeros
+before_zeros : (digest : List ℕ) (node : Node) (disk front : List ℕ) (calls synced : List Logged) (n : ℕ) → length digest ≡ 32 → FitsLog (record { node = node; calls = calls }) → FitsLog (record { node = node; calls = synced })
+    → HasCalls digest node disk synced → front ≡ log_text digest (record { node = node; calls = calls }) → IsStartOf disk (front ++ zeros n) → IsStartOf disk front
+before_zeros digest node disk front calls synced n d fits first (inr none) text start = record { rest = front; is = ap (λ (x : List ℕ). x ++ front) none.0 }
+before_zeros digest node disk front calls synced n d fits first (inl is) text start =
+    let lost : List ℕ = zeros n in
+    let size = length disk in
+    let disk_is : disk ≡ take size (front ++ lost) = first_of disk (front ++ lost) start in
+    elim (cases_lt (length front) size) [
+      | inl more ↦
+          let m = size - length front in
+          let most : m ≤ n = let a = start_length disk (front ++ lost) start in let b = length-append front lost in let e = zeros_length n in omega (arith, a, b, e) in
+          let over : disk ≡ front ++ zeros m = disk_is ∙ (take_over front lost size (omega (arith, more)) ∙ ap (λ (x : List ℕ). front ++ x) (take_zeros m n most)) in
+          let own : NodeLog = record { node = node; calls = synced } in
+          let log : NodeLog = record { node = node; calls = calls } in
+          let r = same_reading (record { log = own; whole = length (log_text digest own) }) (record { log = log; whole = length front })
+          (sym (reads_whole digest own d first) ∙ (ap (log_in digest) (sym is) ∙ zeros_read digest node front disk calls m d fits over text)) in
+          let same : length (log_text digest own) ≡ length front = ap (λ (x : Reading). x.whole) r in
+          let long : size ≡ length (log_text digest own) = ap length is in
+          absurd (omega (arith, more, same, long))
+      | inr short ↦ record { rest = drop size front; is = ap (λ (x : List ℕ). x ++ drop size front) (disk_is ∙ take-append-le size front lost short) ∙ take-append-drop size front }
+    ]
+
+-- some of the bytes that were there, and zeros where the others were
+pub left_reads : (digest : List ℕ) (node : Node) (disk front left bytes : List ℕ) (calls synced : List Logged) (lost : ℕ) → length digest ≡ 32 → FitsLog (record { node = node; calls = synced }) → HasCalls digest node disk synced
+    → IsStartOf disk front → IsStartOf front bytes → left ≡ front ++ zeros lost → (lost ≡ 0) ⊎ IsWholeLog digest front → IsTornOf digest node bytes calls → HasLeft digest node left calls synced
+left_reads digest node disk front left bytes calls synced lost d fits has under start is ends t = elim (cases_lt (length t.front) (length front)) [
+  | inl more ↦ by_zeros more t.ends
+  | inr short ↦ within short
+]
+  where
+    starts : IsStartOf front (t.front ++ zeros t.lost)
+    starts = subst (IsStartOf front) t.is start
+
+    -- no further than the records
+    within : length front ≤ length t.front → HasLeft digest node left calls synced
+    within short =
+        let same : front ≡ take (length front) t.front = first_of front (t.front ++ zeros t.lost) starts ∙ take-append-le (length front) t.front (zeros t.lost) short in
+        let begins : IsStartOf front t.front = record { rest = drop (length front) t.front; is = ap (λ (x : List ℕ). x ++ drop (length front) t.front) same ∙ take-append-drop (length front) t.front } in
+        let l = front_reads digest node disk front t.front calls synced d fits has under begins t.cut in
+        record {
+          count = l.count;
+          torn = record { front = front; lost = lost; is = is; cut = l.cut; ends = by_end l.count l.cut ends };
+          enough = l.enough;
+          most = l.most;
+          begins = l.begins;
+        }
+      where
+        by_end : (count : ℕ) → IsCutOf digest node front (take count calls) → (lost ≡ 0) ⊎ IsWholeLog digest front → (lost ≡ 0) ⊎ (front ≡ log_text digest (record { node = node; calls = take count calls }))
+        by_end count c (inl none) = inl none
+        by_end count c (inr whole) = inr (whole_front digest node front (take count calls) d c whole)
+
+    -- and some of the zeros
+    by_zeros : length t.front < length front → (t.lost ≡ 0) ⊎ (t.front ≡ log_text digest (record { node = node; calls = calls })) → HasLeft digest node left calls synced
+    by_zeros more (inl none) =
+        let a = start_length front (t.front ++ zeros t.lost) starts in
+        let b = length-append t.front (zeros t.lost) in
+        let c = zeros_length t.lost in
+        absurd (omega (arith, a, b, c, none, more))
+    by_zeros more (inr text) =
+        let more_lost : List ℕ = zeros t.lost in
+        let n = length front - length t.front in
+        let most : n ≤ t.lost = let a = start_length front (t.front ++ more_lost) starts in let b = length-append t.front more_lost in let c = zeros_length t.lost in omega (arith, a, b, c) in
+        let over : front ≡ t.front ++ zeros n =
+        first_of front (t.front ++ more_lost) starts ∙ (take_over t.front more_lost (length front) (omega (arith, more)) ∙ ap (λ (x : List ℕ). t.front ++ x) (take_zeros n t.lost most)) in
+        let all : left ≡ t.front ++ zeros (n + lost) =
+        is ∙ (ap (λ (x : List ℕ). x ++ zeros lost) over ∙ (append_assoc t.front (zeros n) (zeros lost) ∙ ap (λ (x : List ℕ). t.front ++ x) (more_zeros n lost))) in
+        let fits_all = torn_fits digest node bytes calls t in
+        let disk_under : IsStartOf disk t.front = before_zeros digest node disk t.front calls synced n d fits_all fits has text (subst (IsStartOf disk) over under) in
+        let l = front_reads digest node disk t.front t.front calls synced d fits has disk_under (record { rest = []; is = append-nil t.front }) t.cut in
+        let whole : take (length calls) calls ≡ calls = take_all (length calls) calls (omega arith) in
+        record {
+          count = length calls;
+          torn = subst (IsTornOf digest node left) (sym whole) (record { front = t.front; lost = n + lost; is = all; cut = t.cut; ends = inr text });
+          enough = let a = l.enough in let b = l.most in omega (arith, a, b);
+          most = omega arith;
+          begins = l.begins;
         }

@@ -20,7 +20,7 @@ use Rattle.node_service.specs.Serving.{Serving, after_call, after_asked, after_l
 use Rattle.node_service.specs.Lines.{after_lines, logged_of, logged_asked, line_calls, lines_calls}
 use Rattle.node_process.specs.Heard.{whole_lines}
 use Rattle.node_process.specs.Safe.{IsStartOf, words_of}
-use Rattle.node_process.specs.Histories.{Word, Sends, Tells, word_text, SendsNothing, IsReady, IsRefused, IsLast, IsTold, IsWordOf, IsToldBy}
+use Rattle.node_process.specs.Histories.{Word, Sends, Tells, word_text, SendsNothing, IsReady, IsRefused, IsNoLine, IsLast, IsTold, IsWordOf, IsToldBy}
 
 -- ---- packets of more calls
 
@@ -101,10 +101,10 @@ call_spoken node s call (Done next sent) =
           (sym (flat_map-append word_text (map Sends sent) (Tells last ∷ [])
           ∙ (ap (λ (t : List ℕ). t ++ flat_map word_text (Tells last ∷ [])) (sent_text sent) ∙ ap (λ (t : List ℕ). sent_lines sent ++ t) (append-nil last))));
     }
-call_spoken node s call (Refused why) = one_word node [] s.out (refused_line (refusal_name why)) (IsRefused (refusal_name why) refl)
+call_spoken node s call (Refused why) = one_word node [] s.out (refused_line (refusal_name why)) (IsRefused why refl)
 
 asked_spoken : (node : Node) (s : Serving) (a : Option Asked) → IsSpoken node (logged_asked s a) s.out (after_asked s a).out
-asked_spoken node s None = one_word node [] s.out (refused_line (codes "Line")) (IsRefused (codes "Line") refl)
+asked_spoken node s None = one_word node [] s.out (refused_line (codes "Line")) (IsNoLine refl)
 asked_spoken node s (Some (Calls call)) = call_spoken node s (call_seen call) (node_step (context_of s.settings) s.state (call_seen call))
 asked_spoken node s (Some (Asks question)) =
     let text = told_of (context_of s.settings) s.state s.node question in

@@ -1,21 +1,23 @@
 -- The processes of one node, one after another, and what is left of the file of its log where one dies; and the process of the model that they are.
-use Rattle.std.specs.Prelude.{◌≡◌, ◌⊎◌, ⊤, ℕ, not, ◌&&◌, cond, flat_map, false, map, List, [], ◌∷◌, ◌++◌, take, Some, None, Ok, Err}
+use Rattle.std.specs.Prelude.{◌≡◌, ◌⊎◌, ⊤, ℕ, not, ◌&&◌, cond, flat_map, false, map, List, [], ◌∷◌, ◌++◌, take, replicate, codes, Some, None, Ok, Err}
 use Rattle.std.specs.List.{AllByRecursion}
 use Rattle.sha2.specs.Sha256.{sha256}
 use Rattle.claim_model.specs.Context.{Context}
+use Rattle.claim_model.specs.Refusal.{Refusal}
 use Rattle.claim_model.specs.Node.{Node, Call, Sent}
 use Rattle.claim_model.specs.Nodes.{AnyNode, same_node, asked}
 use Rattle.claim_model.specs.World.{Event, Packet, packet_from}
 use Rattle.claim_model.specs.Settings.{WorldSettings}
-use Rattle.claim_model.specs.Logs.{Logged, posted_by}
+use Rattle.claim_model.specs.Logs.{Logged, NodeLog, posted_by}
 use Rattle.crash_safety.specs.Network.{Process, Network, Move, after, calls, one_synced, crashed, restarted, replayed}
 use Rattle.crash_safety.specs.Network as model
 use Rattle.crash_safety.specs.Runs.{IsAmong}
+use Rattle.world_setup.specs.Names.{refusal_name}
 use Rattle.world_setup.specs.Seen.{settings_seen}
 use Rattle.world_setup.specs.declared.settings.WorldSettings.{WorldSettings as Settings}
 use Rattle.node_logged.specs.Setting.{context_of}
 use Rattle.kept_logs.specs.declared.fault.LogFault.TheVariants.{Short}
-use Rattle.kept_logs.specs.Logs.{log_text, log_in}
+use Rattle.kept_logs.specs.Logs.{log_text, log_in, ReadsAs}
 use Rattle.node_service.specs.Asking.{Asked, Calls, Tells as Asks}
 use Rattle.node_service.specs.Answering.{ready_line, sent_line, refused_line}
 use Rattle.node_service.specs.Serving.{last_line, told_of}
@@ -60,17 +62,31 @@ on_disk (Does (Say bytes done) ∷ before) = on_disk before
 on_disk (Does (Hear bytes) ∷ before) = on_disk before
 on_disk (Dies left ∷ before) = on_disk before
 
+-- so many zeros
+abbrev pub zeros : ℕ → List ℕ
+zeros n = replicate n 0
+
+-- bytes are a log, which ends with its head or its last record
+abbrev pub IsWholeLog : List ℕ → List ℕ → Type 0
+IsWholeLog digest bytes = (log : NodeLog) × ReadsAs digest bytes log
+
 -- a death leaves what is on the disk for certain, and behind that a beginning of what the system had; or of what it had when the process began,
--- since what was cut off may be there again
-abbrev pub IsLeft : List Happening → List ℕ → Type 0
-IsLeft before left = IsStartOf (on_disk before) left × (IsStartOf left (file_of before) ⊎ IsStartOf left (left_of before))
+-- since what was cut off may be there again. Where this ends with a record, zeros may stand behind it: some file systems leave them, however many,
+-- where bytes are lost that were not synced
+pub record IsLeft (whose : Whose) (before : List Happening) (left : List ℕ) : Type 0 where
+  pub front : List ℕ
+  pub lost : ℕ
+  pub is : left ≡ front ++ zeros lost
+  pub kept : IsStartOf (on_disk before) front
+  pub had : IsStartOf front (file_of before) ⊎ IsStartOf front (left_of before)
+  pub ends : (lost ≡ 0) ⊎ IsWholeLog (sha256 whose.settings) front
 
 -- each process finds what the one before it left, and at each moment is a run of its node (`serve_all`), or has done nothing but to read the log
 abbrev pub IsHistory : Whose → List Happening → Type 0
 IsHistory whose [] = ⊤
 IsHistory whose (Does act ∷ before) =
     IsHistory whose before × ((found (act ∷ acts_of before) ≡ left_of before) × (IsUnopened (act ∷ acts_of before) ⊎ IsRun whose (act ∷ acts_of before)))
-IsHistory whose (Dies left ∷ before) = IsHistory whose before × IsLeft before left
+IsHistory whose (Dies left ∷ before) = IsHistory whose before × IsLeft whose before left
 
 -- what a process has asked, as what happens
 abbrev pub happenings : List Act → List Happening
@@ -133,17 +149,18 @@ abbrev pub word_text : Word → List ℕ
 word_text (Sends sent) = sent_line sent
 word_text (Tells text) = text
 
--- the answer to a question; to a call there is none
-abbrev pub answer_to : Context → AnyNode → Node → Asked → List ℕ
-answer_to ctx state node (Calls call) = []
-answer_to ctx state node (Asks question) = told_of ctx state node question
+-- a text answers a question; to a call there is no answer
+abbrev pub IsAnswer : Context → AnyNode → Node → Asked → List ℕ → Type 0
+IsAnswer ctx state node (Calls call) text = ⊥
+IsAnswer ctx state node (Asks question) text = text ≡ told_of ctx state node question
 
--- the lines that send nothing: how many calls a log has, why a call was refused, how one ended, and answers to questions
+-- the lines that send nothing: how many calls a log has, why a call was refused, that a line is none, how a call ended, and answers to questions
 pub data SendsNothing (text : List ℕ) : Type 0 where
   IsReady : (calls : ℕ) → text ≡ ready_line calls → SendsNothing text
-  IsRefused : (name : List ℕ) → text ≡ refused_line name → SendsNothing text
+  IsRefused : (why : Refusal) → text ≡ refused_line (refusal_name why) → SendsNothing text
+  IsNoLine : text ≡ refused_line (codes "Line") → SendsNothing text
   IsLast : (call : Call) (next : AnyNode) → text ≡ last_line call next → SendsNothing text
-  IsTold : (ctx : Context) (state : AnyNode) (node : Node) (asked : Asked) → text ≡ answer_to ctx state node asked → SendsNothing text
+  IsTold : (ctx : Context) (state : AnyNode) (node : Node) (asked : Asked) → IsAnswer ctx state node asked text → SendsNothing text
 
 -- a packet is one that these calls of the node sent
 abbrev pub IsWordOf : Node → List Logged → Word → Type 0
