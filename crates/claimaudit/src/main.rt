@@ -56,10 +56,10 @@ fn run(rt: &HostRuntime) -> Result<bool, Unjudged> {
 /// Says on standard error why there is no table.
 fn say_why_nothing(rt: &HostRuntime, asked: Asked) {
     match asked {
-        Asked::Together(Form::Csv(_)) => {
+        Asked::Together(Form::Csv(_) | Form::Prices) => {
             let _ = eprintln!(rt; "claimaudit: no legal run; without --csv it says why");
         }
-        Asked::Alone(LoneForm::Csv(_)) => {
+        Asked::Alone(LoneForm::Csv(_) | LoneForm::Prices) => {
             let _ = eprintln!(rt;
                 "claimaudit: a node does not make its log; without --csv it says why"
             );

@@ -49,7 +49,7 @@ pub(crate) fn words_of<'a>(alloc: Global, given: &'a [String]) -> Result<Words<'
         .value_name("TABLE")
         .action(ArgAction::Set)
         .help(
-            "writes a table of what the run left as CSV: payments, entries, rows, packets or counted; alone, payments, entries, rows, open or counted",
+            "writes a table of what the run left as CSV: payments, entries, rows, packets, counted or prices; alone, payments, entries, rows, open, counted or prices",
         );
     let settings = Arg::new(alloc, "SETTINGS")
         .required(true)
@@ -120,6 +120,7 @@ fn asked_for(
     match (schedule, json, csv) {
         (false, false, None) => Ok(Asked::Alone(LoneForm::Lines)),
         (false, true, None) => Ok(Asked::Alone(LoneForm::Json)),
+        (false, false, Some("prices")) => Ok(Asked::Alone(LoneForm::Prices)),
         (false, false, Some(name)) => match lone_table_named(name) {
             Some(table) => Ok(Asked::Alone(LoneForm::Csv(table))),
             None => Err(End::Own(Finding::Usage)),
@@ -146,6 +147,7 @@ fn form_of(schedule: bool, json: bool, csv: Option<&str>) -> Result<Form, Unjudg
         (false, false, None) => Ok(Form::Lines),
         (true, false, None) => Ok(Form::Schedule),
         (false, true, None) => Ok(Form::Json),
+        (false, false, Some("prices")) => Ok(Form::Prices),
         (false, false, Some(name)) => match table_named(name) {
             Some(table) => Ok(Form::Csv(table)),
             None => Err(End::Own(Finding::Usage)),

@@ -13,3 +13,6 @@ pub mod Telling
 pub mod Making
 pub mod Reasoning
 pub mod Writing
+pub mod LoneMaking
+mod LastReason
+mod Pricing

@@ -20,8 +20,11 @@ pub mod Lacks
 pub mod Wrongs
 pub mod WrongsSeen
 pub mod Alone
+pub mod Lones
 pub mod AloneSeen
 pub mod Waits
 pub mod WaitsSeen
 pub mod Reasons
+pub mod Prices
 pub mod Telling
+pub mod LoneTelling

@@ -1,5 +1,5 @@
 -- Why logs are those of no legal run.
-use Rattle.std.specs.Prelude.{◌≡◌, ◌≢◌, ℕ, List, [], ◌∷◌, map}
+use Rattle.std.specs.Prelude.{◌≡◌, ◌≢◌, ◌↔◌, false, ℕ, List, [], ◌∷◌, map}
 use Rattle.bin_routes.specs.Table.{routes_of}
 use Rattle.claim_model.specs.Bytes.{bytes_with}
 use Rattle.claim_model.specs.Context.{Context}
@@ -10,7 +10,7 @@ use Rattle.world_setup.specs.declared.settings.WorldSettings.{WorldSettings}
 use Rattle.log_audit.specs.Sentences.{told_lines}
 use Rattle.log_audit.specs.Lacks.{missing_lines}
 use Rattle.log_audit.specs.Wrongs.{wrong_lines}
-use Rattle.log_audit.specs.Waits.{Progress, waiting_lines}
+use Rattle.log_audit.specs.Waits.{Progress, is_stuck, unordered, waiting_lines}
 use Rattle.log_audit.specs.declared.sentences.Manner.{Manner}
 
 -- these lines, or the others where there are none of these
@@ -32,3 +32,14 @@ pub record IsReasons (s : WorldSettings) (logs : List NodeLog) (manner : Manner)
 -- whatever calls were made, some line is told
 abbrev pub SomeReason : Type 0
 SomeReason = (ctx : Context) (s : model.WorldSettings) (logs : List NodeLog) (made : List Progress) → reasons ctx s logs made ≢ []
+
+-- no reason is found: there is one log of each node and no other, each node makes its log, and of the logs after so many calls none has
+-- calls left, or one has a next call that does not wait
+pub record NoneFound (ctx : Context) (s : model.WorldSettings) (logs : List NodeLog) (made : List Progress) : Type 0 where
+  pub logs_are : missing_lines s logs ≡ []
+  pub made_are : wrong_lines ctx s logs ≡ []
+  pub goes_on : is_stuck made ≡ false
+
+-- that no order of the calls is a run is told there and nowhere else
+abbrev pub LastReason : Type 0
+LastReason = (ctx : Context) (s : model.WorldSettings) (logs : List NodeLog) (made : List Progress) → (reasons ctx s logs made ≡ unordered) ↔ NoneFound ctx s logs made

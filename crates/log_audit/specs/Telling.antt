@@ -1,5 +1,6 @@
 -- What is told of logs, in each form.
-use Rattle.std.specs.Prelude.{◌≡◌, ℕ, Bool, true, false, cond, List, [], ◌∷◌, ◌++◌, length, map, slice_index, codes, Ok}
+use Rattle.std.specs.Prelude.{◌≡◌, ◌==◌, ℕ, Bool, true, false, cond, List, [], ◌∷◌, ◌++◌, length, map, slice_index, codes, Ok}
+use Rattle.std.specs.List.{list_any}
 use Rattle.std.specs.Str.Lines.{lines}
 use Rattle.bin_routes.specs.Table.{routes_of}
 use Rattle.claim_model.specs.Context.{Context}
@@ -7,7 +8,7 @@ use Rattle.claim_model.specs.Bytes.{bytes_with}
 use Rattle.claim_model.specs.Settings.{opening}
 use Rattle.claim_model.specs.World.{World, Event, run}
 use Rattle.claim_model.specs.Logs.{NodeLog}
-use Rattle.schedule.specs.Division.{ends_in_newline, scheduled_lines}
+use Rattle.schedule.specs.Division.{ends_in_newline, scheduled_lines, settings_text}
 use Rattle.schedule.specs.Reading.{events_of}
 use Rattle.world_setup.specs.Seen.{event_seen, settings_seen}
 use Rattle.world_setup.specs.declared.event.Event.{Event as Kept}
@@ -24,12 +25,13 @@ use Rattle.log_audit.specs.Payments.{told_from}
 use Rattle.log_audit.specs.Ledger.{ledger_text}
 use Rattle.log_audit.specs.Tables.{table_members}
 use Rattle.log_audit.specs.Tabled.{run_csv}
+use Rattle.log_audit.specs.Prices.{run_prices}
 use Rattle.log_audit.specs.Reasons.{IsReasons}
 use Rattle.log_audit.specs.declared.sentences.Manner.TheVariants.{Line, Member}
 use Rattle.table_text.specs.declared.layout.Style.TheVariants as style
 use Rattle.log_audit.specs.declared.reading.Audited.{Audited}
 use Rattle.log_audit.specs.declared.report.Form.{Form}
-use Rattle.log_audit.specs.declared.report.Form.TheVariants.{Lines, Json, Csv, Schedule}
+use Rattle.log_audit.specs.declared.report.Form.TheVariants.{Lines, Json, Csv, Prices, Schedule}
 
 -- the line of a log: its node, how many calls it has, and how many bytes its torn end has
 abbrev pub log_line : NodeLog → ℕ → List ℕ
@@ -86,12 +88,28 @@ run_object a events =
 abbrev pub divider : List ℕ → List ℕ
 divider settings = cond (ends_in_newline settings) (codes "---\n") (codes "\n---\n")
 
+-- settings with a newline behind their last line
+abbrev pub whole : List ℕ → List ℕ
+whole settings = settings ++ cond (ends_in_newline settings) [] (codes "\n")
+
+abbrev pub is_return : ℕ → Bool
+is_return byte = byte == 13
+
+-- settings without carriage returns are these very bytes, with a newline behind the last line; a division drops those that end lines
+abbrev pub KeepsSettings : List ℕ → List ℕ → Type 0
+KeepsSettings divided settings = list_any is_return settings ≡ false → divided ≡ whole settings
+
+-- an input is divided in two: these settings, and these lines
+pub record IsDivided (text settings written : List ℕ) : Type 0 where
+  pub kept : KeepsSettings (settings_text text) settings
+  pub divides : scheduled_lines text ≡ lines written
+
 -- the input of a replay of events: the settings, a line that divides, and lines, which are those of the schedule and spell these events
 pub record IsSchedule (settings : List ℕ) (events : List Event) (text : List ℕ) : Type 0 where
   pub written : List ℕ
   pub kept : List Kept
   pub is : text ≡ settings ++ (divider settings ++ written)
-  pub divides : scheduled_lines text ≡ lines written
+  pub divided : IsDivided text settings written
   pub spell : events_of (lines written) ≡ Ok kept
   pub are : map event_seen kept ≡ events
 
@@ -100,6 +118,7 @@ abbrev pub IsTextOf : Audited → List Event → Form → List ℕ → Type 0
 IsTextOf a events Lines text = text ≡ run_lines a events
 IsTextOf a events Json text = text ≡ run_object a events
 IsTextOf a events (Csv table) text = text ≡ run_csv a.settings events table
+IsTextOf a events Prices text = text ≡ run_prices a.settings events
 IsTextOf a events Schedule text = IsSchedule a.text.items events text
 
 -- the lines of logs of no legal run: of each log, and why
@@ -119,6 +138,7 @@ abbrev pub IsUntold : Audited → Form → List ℕ → Type 0
 IsUntold a Lines text = IsNoRunLines a text
 IsUntold a Json text = IsNoRunObject a text
 IsUntold a (Csv table) text = text ≡ []
+IsUntold a Prices text = text ≡ []
 IsUntold a Schedule text = IsNoRunLines a text
 
 -- a text is told of some events that are a legal interleaving of the logs

@@ -9,7 +9,8 @@ ghost use Rattle.log_audit.specs.Lacks.{node_line};
 ghost use Rattle.log_audit.specs.Wrongs.{wrong_line};
 ghost use Rattle.log_audit.specs.WrongsSeen.{first_seen};
 ghost use Rattle.log_audit.specs.Alone.{is_made, lone_node};
-ghost use Rattle.log_audit.specs.AloneSeen.{lone_seen};
+ghost use Rattle.log_audit.specs.Lones.{makes};
+ghost use Rattle.log_audit.specs.AloneSeen.{came_seen, lone_seen};
 
 use crate::sentences::{Piece, put_pieces};
 use crate::wrongs::{FirstWrong, make_calls, put_wrong_line};
@@ -21,30 +22,39 @@ use world_setup::{Node, WorldSettings};
 
 /// What a log comes to by itself.
 #[derive(Drop)]
-pub(crate) enum Lone {
+pub(crate) enum Came {
     /// Its node makes it, and is then this one.
     Made(NodeState),
     /// Its node does not make it; the line says why.
     NotMade(Vec<u8>),
 }
 
-impl Lone {
+impl Came {
     /// Whether the node makes the log.
-    pub(crate) fn is_made(&self) -> bool
-        ensures { result ≡ is_made (lone_seen self.now) }
+    fn is_made(&self) -> bool
+        ensures { result ≡ is_made (came_seen self.now) }
     {
         match self {
-            Lone::Made(_) => true,
-            Lone::NotMade(_) => false,
+            Came::Made(_) => true,
+            Came::NotMade(_) => false,
         }
     }
+}
 
-    /// The node, where it makes the log.
-    pub(crate) fn node(&self) -> Option<&NodeState> {
-        match self {
-            Lone::Made(node) => Some(node),
-            Lone::NotMade(_) => None,
-        }
+/// A log, how many bytes its torn end has, and what it comes to by itself.
+#[derive(Drop)]
+pub(crate) struct Lone<'a> {
+    pub(crate) log: &'a NodeLog,
+    pub(crate) torn: u64,
+    pub(crate) came: Came,
+}
+
+impl<'a> Lone<'a> {
+    /// Whether the node makes the log.
+    pub(crate) fn is_made(&self) -> bool
+        ensures { result ≡ makes (lone_seen self.now) }
+    {
+        self.came.is_made()
     }
 }
 
@@ -54,18 +64,18 @@ pub(crate) fn lone_node(
     settings: &WorldSettings,
     routes: &Routes,
     log: &NodeLog,
-) -> Result<Lone, AllocError>
+) -> Result<Came, AllocError>
     requires { settings_fault (settings_seen settings.now) ≡ None }
-    ensures { IfOk result (λ lone. lone_seen lone
+    ensures { IfOk result (λ came. came_seen came
         ≡ lone_node (bytes_with routes.now) (settings_seen settings.now) (log_seen log.now)) }
 {
     if !is_there(settings, log.node()) {
-        return Ok(Lone::NotMade(stranger_line(alloc, log.node())?));
+        return Ok(Came::NotMade(stranger_line(alloc, log.node())?));
     }
     let mut node = NodeState::opening(alloc, settings, log.node())?;
     match make_calls(alloc, routes, &mut node, log.records())? {
-        None => Ok(Lone::Made(node)),
-        Some(first) => Ok(Lone::NotMade(wrong_line(alloc, log.node(), first)?)),
+        None => Ok(Came::Made(node)),
+        Some(first) => Ok(Came::NotMade(wrong_line(alloc, log.node(), first)?)),
     }
 }
 

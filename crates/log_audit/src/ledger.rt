@@ -136,7 +136,7 @@ fn is_answered(entry: &EntryView) -> bool
 }
 
 /// Whether an entry has no answer.
-fn is_open(entry: &EntryView) -> bool
+pub(crate) fn is_open(entry: &EntryView) -> bool
     ensures { result ≡ is_open entry.now }
 {
     entry.rulings().is_empty()

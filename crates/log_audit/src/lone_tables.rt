@@ -1,10 +1,30 @@
 //! The tables of logs one by one.
 
+ghost use Rattle.std.specs.Prelude.{◌≡◌, [], ◌∷◌, cond, IfOk, OnOk};
+ghost use Rattle.std.specs.List.{flat_map};
+ghost use Rattle.bin_routes.specs.Table.{RouteMaps};
+ghost use Rattle.claim_model.specs.Bytes.{bytes_with};
+ghost use Rattle.claim_model.specs.Counted.{counted};
+ghost use Rattle.claim_model.specs.Words.{Auth as AuthSeen};
+ghost use Rattle.node_state.specs.Nodes.{book_of, journal_of};
+ghost use Rattle.pharmacy_journal.specs.Counting.{has_auth};
+ghost use Rattle.run_merge.specs.LogSeen.{log_seen};
+ghost use Rattle.world_setup.specs.Seen.{node_seen};
+ghost use Rattle.table_text.specs.Adding.{Adds, AddsRow, AddsRows};
+ghost use Rattle.table_text.specs.Rows.{head_text};
+ghost use Rattle.log_audit.specs.Adding.{TellsRows};
+ghost use Rattle.log_audit.specs.AloneSeen.{lone_seen, lones_seen};
+ghost use Rattle.log_audit.specs.Kinds.{number_of};
+ghost use Rattle.log_audit.specs.Ledger.{is_open};
+ghost use Rattle.log_audit.specs.Lones.{told_of, open_row, open_rows, journal_open, node_rows, rows_of, counted_in, is_counted, lone_rows};
+ghost use Rattle.log_audit.specs.LoneTelling.{lone_names, lone_csv, lone_name};
+ghost use Rattle.log_audit.specs.Payments.{book_payments};
+ghost use Rattle.log_audit.specs.Rulings.{book_rulings};
+ghost use Rattle.log_audit.specs.Tables.{Joins, names_auth, journal_counted, journal_rows};
+
 use crate::ages::Ages;
-use crate::alone::Lone;
-use crate::object::put_logs;
-use crate::reading::Audited;
-use crate::sentences::{Manner, put_told};
+use crate::alone::{Came, Lone};
+use crate::ledger::is_open;
 use crate::tables::columns::{
     put_counted_names, put_entry_names, put_open_names, put_payment_names, put_row_names,
 };
@@ -20,7 +40,7 @@ use pharmacy_journal::EntryView;
 use run_merge::NodeLog;
 use std::alloc::{AllocError, Global};
 use std::collections::BTreeSet;
-use table_text::{Field, Style, put_list, put_row};
+use table_text::{Field, Style, put_row};
 
 /// Which table of nodes one by one.
 #[derive(Clone, Copy, PartialEq, Eq)]
@@ -37,118 +57,135 @@ pub enum LoneTable {
     Counted,
 }
 
-/// Appends a table as CSV.
-pub(crate) fn put_lone_table(
-    alloc: Global,
-    out: &mut Vec<u8>,
-    audited: &Audited,
-    lones: &[Lone],
-    table: LoneTable,
-) -> Result<(), AllocError> {
-    match table {
-        LoneTable::Payments => put_payment_names(out)?,
-        LoneTable::Entries => put_entry_names(out)?,
-        LoneTable::Rows => put_row_names(out)?,
-        LoneTable::Open => put_open_names(out)?,
-        LoneTable::Counted => put_counted_names(out)?,
-    }
-    put_table(alloc, out, Style::Csv, audited, lones, table)
-}
-
-/// Appends the object of logs one by one: all tables where each node makes its log, else why one does not.
-pub(crate) fn put_lone_object(
-    alloc: Global,
-    out: &mut Vec<u8>,
-    audited: &Audited,
-    lones: &[Lone],
-    made: bool,
-) -> Result<(), AllocError> {
-    put_logs(out, audited.logs.as_slice(), audited.torn.as_slice())?;
-    out.extend_from_slice(b",\n\"alone\":true,\n\"made\":")?;
-    if made {
-        out.extend_from_slice(b"true")?;
-        put_member(alloc, out, audited, lones, b"payments", LoneTable::Payments)?;
-        put_member(alloc, out, audited, lones, b"entries", LoneTable::Entries)?;
-        put_member(alloc, out, audited, lones, b"rows", LoneTable::Rows)?;
-        put_member(alloc, out, audited, lones, b"open", LoneTable::Open)?;
-        put_member(alloc, out, audited, lones, b"counted", LoneTable::Counted)?;
-    } else {
-        out.extend_from_slice(b"false,\n\"reasons\":")?;
-        put_reasons(alloc, out, lones)?;
-    }
-    out.extend_from_slice(b"\n}\n")
-}
-
-/// Appends the lines that say why nodes do not make their logs, as a list of texts.
-fn put_reasons(alloc: Global, out: &mut Vec<u8>, lones: &[Lone]) -> Result<(), AllocError> {
-    let mut why = Vec::new(alloc);
-    for lone in lones {
-        if let Lone::NotMade(line) = lone {
-            put_told(&mut why, Manner::Member, line.as_slice())?;
+impl LoneTable {
+    /// Its name in JSON.
+    pub(crate) fn name(self) -> &'static [u8]
+        ensures { result.now ≡ lone_name self }
+    {
+        match self {
+            LoneTable::Payments => b"payments",
+            LoneTable::Entries => b"entries",
+            LoneTable::Rows => b"rows",
+            LoneTable::Open => b"open",
+            LoneTable::Counted => b"counted",
         }
     }
-    put_list(out, why.as_slice())
 }
 
-/// Appends a table as a member of an object, behind a comma.
-fn put_member(
+/// A table as CSV.
+#[tactic(auto, unfolding(crate::specs::LoneTelling::lone_csv))]
+pub(crate) fn csv_of(
     alloc: Global,
-    out: &mut Vec<u8>,
-    audited: &Audited,
-    lones: &[Lone],
-    name: &[u8],
+    lones: &[Lone<'_>],
     table: LoneTable,
-) -> Result<(), AllocError> {
-    let mut rows = Vec::new(alloc);
-    put_table(alloc, &mut rows, Style::Json, audited, lones, table)?;
-    out.extend_from_slice(b",\n\"")?;
-    out.extend_from_slice(name)?;
-    out.extend_from_slice(b"\":")?;
-    put_list(out, rows.as_slice())
+) -> Result<Vec<u8>, AllocError>
+    ensures { (routes : RouteMaps) → IfOk result (λ text.
+        text.items ≡ lone_csv (bytes_with routes) (lones_seen lones.now) table) }
+{
+    let mut out = Vec::new(alloc);
+    put_names(&mut out, table)?;
+    put_table(alloc, &mut out, Style::Csv, lones, table)?;
+    Ok(out)
+}
+
+/// Appends the names of a table's columns.
+fn put_names(out: &mut Vec<u8>, table: LoneTable) -> Result<(), AllocError>
+    ensures { OnOk result (Adds out.old out.new (head_text (lone_names table))) }
+{
+    match table {
+        LoneTable::Payments => put_payment_names(out),
+        LoneTable::Entries => put_entry_names(out),
+        LoneTable::Rows => put_row_names(out),
+        LoneTable::Open => put_open_names(out),
+        LoneTable::Counted => put_counted_names(out),
+    }
 }
 
 /// Appends the rows of a table.
-fn put_table(
+pub(crate) fn put_table(
     alloc: Global,
     out: &mut Vec<u8>,
     style: Style,
-    audited: &Audited,
-    lones: &[Lone],
+    lones: &[Lone<'_>],
     table: LoneTable,
-) -> Result<(), AllocError> {
+) -> Result<(), AllocError>
+    ensures { TellsRows style out.old out.new (λ ctx. lone_rows ctx (lones_seen lones.now) table) result }
+{
     let counted = counted_by(alloc, lones)?;
-    for (place, log) in audited.logs.iter().enumerate() {
-        if let Some(Lone::Made(node)) = lones.get(place) {
-            put_node(alloc, out, style, log, node, &counted, table)?;
-        }
-    }
-    Ok(())
+    put_lones(alloc, out, style, lones, &counted, table)
 }
 
 /// The authorizations of the payments that pharmacies of these logs count.
-fn counted_by(alloc: Global, lones: &[Lone]) -> Result<BTreeSet<Auth>, AllocError> {
-    let mut counted = BTreeSet::new(alloc);
+fn counted_by(alloc: Global, lones: &[Lone<'_>]) -> Result<BTreeSet<Auth>, AllocError>
+    ensures { (routes : RouteMaps) → IfOk result (λ auths. (a : AuthSeen)
+        → has_auth auths.keys a ≡ is_counted (bytes_with routes) (lones_seen lones.now) a) }
+{
+    let mut auths = BTreeSet::new(alloc);
     for lone in lones {
-        if let Lone::Made(node) = lone {
-            take_node(alloc, &mut counted, node)?;
-        }
+        take_lone(alloc, &mut auths, lone)?;
     }
-    Ok(counted)
+    Ok(auths)
+}
+
+/// Adds the authorizations of the payments that the node of a log counts.
+fn take_lone(alloc: Global, auths: &mut BTreeSet<Auth>, lone: &Lone<'_>) -> Result<(), AllocError>
+    ensures { (routes : RouteMaps) → OnOk result
+        (Joins auths.old.keys auths.new.keys (names_auth (counted_in (bytes_with routes) (lone_seen lone.now)))) }
+{
+    match &lone.came {
+        Came::Made(node) => take_node(alloc, auths, node),
+        Came::NotMade(_) => Ok(()),
+    }
 }
 
 /// Adds the authorizations of the payments that a node counts, if it is a pharmacy.
-fn take_node(
-    alloc: Global,
-    counted: &mut BTreeSet<Auth>,
-    node: &NodeState,
-) -> Result<(), AllocError> {
+fn take_node(alloc: Global, auths: &mut BTreeSet<Auth>, node: &NodeState) -> Result<(), AllocError>
+    ensures { (routes : RouteMaps) → OnOk result
+        (Joins auths.old.keys auths.new.keys (names_auth (told_of (counted (bytes_with routes)) (journal_of node.now)))) }
+{
     match node.journal(alloc)? {
-        Some(journal) => take_journal(counted, &journal),
+        Some(journal) => take_journal(auths, &journal),
         None => Ok(()),
     }
 }
 
-/// Appends the rows of a table that a node has.
+/// Appends the rows of a table that the nodes of these logs have; those with these authorizations are counted.
+fn put_lones(
+    alloc: Global,
+    out: &mut Vec<u8>,
+    style: Style,
+    lones: &[Lone<'_>],
+    counted: &BTreeSet<Auth>,
+    table: LoneTable,
+) -> Result<(), AllocError>
+    ensures { TellsRows style out.old out.new
+        (λ ctx. flat_map (rows_of ctx (has_auth counted.now.keys) table) (lones_seen lones.now)) result }
+{
+    for lone in lones {
+        put_lone(alloc, out, style, lone, counted, table)?;
+    }
+    Ok(())
+}
+
+/// Appends the rows of a table that the node of a log has.
+fn put_lone(
+    alloc: Global,
+    out: &mut Vec<u8>,
+    style: Style,
+    lone: &Lone<'_>,
+    counted: &BTreeSet<Auth>,
+    table: LoneTable,
+) -> Result<(), AllocError>
+    ensures { TellsRows style out.old out.new
+        (λ ctx. rows_of ctx (has_auth counted.now.keys) table (lone_seen lone.now)) result }
+{
+    match &lone.came {
+        Came::Made(node) => put_node(alloc, out, style, lone.log, node, counted, table),
+        Came::NotMade(_) => Ok(()),
+    }
+}
+
+/// Appends the rows of a table that a node has after its log.
 fn put_node(
     alloc: Global,
     out: &mut Vec<u8>,
@@ -157,28 +194,95 @@ fn put_node(
     node: &NodeState,
     counted: &BTreeSet<Auth>,
     table: LoneTable,
-) -> Result<(), AllocError> {
+) -> Result<(), AllocError>
+    ensures { TellsRows style out.old out.new
+        (λ ctx. node_rows ctx (has_auth counted.now.keys) table (log_seen log.now) node.now) result }
+{
     match table {
-        LoneTable::Payments => match node.book(alloc)? {
-            Some(reading) => put_book_payments(out, style, reading.book(), counted),
-            None => Ok(()),
-        },
-        LoneTable::Rows => match node.book(alloc)? {
-            Some(reading) => put_book_rulings(out, style, reading.book()),
-            None => Ok(()),
-        },
-        LoneTable::Entries => match node.journal(alloc)? {
-            Some(journal) => put_journal(out, style, &journal),
-            None => Ok(()),
-        },
-        LoneTable::Open => match node.journal(alloc)? {
-            Some(journal) => put_open(alloc, out, style, log, &journal),
-            None => Ok(()),
-        },
-        LoneTable::Counted => match node.journal(alloc)? {
-            Some(journal) => put_journal_counted(out, style, &journal),
-            None => Ok(()),
-        },
+        LoneTable::Payments => put_payments(alloc, out, style, node, counted),
+        LoneTable::Entries => put_entries(alloc, out, style, node),
+        LoneTable::Rows => put_rows(alloc, out, style, node),
+        LoneTable::Open => put_open_of(alloc, out, style, log, node),
+        LoneTable::Counted => put_counted(alloc, out, style, node),
+    }
+}
+
+/// Appends the payments of a payer.
+fn put_payments(
+    alloc: Global,
+    out: &mut Vec<u8>,
+    style: Style,
+    node: &NodeState,
+    counted: &BTreeSet<Auth>,
+) -> Result<(), AllocError>
+    ensures { TellsRows style out.old out.new
+        (λ ctx. told_of (book_payments ctx (has_auth counted.now.keys)) (book_of node.now)) result }
+{
+    match node.book(alloc)? {
+        Some(reading) => put_book_payments(out, style, reading.book(), counted),
+        None => Ok(()),
+    }
+}
+
+/// Appends the transactions of a payer.
+fn put_rows(
+    alloc: Global,
+    out: &mut Vec<u8>,
+    style: Style,
+    node: &NodeState,
+) -> Result<(), AllocError>
+    ensures { OnOk result (AddsRows style out.old out.new (told_of book_rulings (book_of node.now))) }
+{
+    match node.book(alloc)? {
+        Some(reading) => put_book_rulings(out, style, reading.book()),
+        None => Ok(()),
+    }
+}
+
+/// Appends the entries of a pharmacy.
+fn put_entries(
+    alloc: Global,
+    out: &mut Vec<u8>,
+    style: Style,
+    node: &NodeState,
+) -> Result<(), AllocError>
+    ensures { TellsRows style out.old out.new (λ ctx. told_of (journal_rows ctx) (journal_of node.now)) result }
+{
+    match node.journal(alloc)? {
+        Some(journal) => put_journal(out, style, &journal),
+        None => Ok(()),
+    }
+}
+
+/// Appends the payments that a pharmacy counts.
+fn put_counted(
+    alloc: Global,
+    out: &mut Vec<u8>,
+    style: Style,
+    node: &NodeState,
+) -> Result<(), AllocError>
+    ensures { TellsRows style out.old out.new (λ ctx. told_of (journal_counted ctx) (journal_of node.now)) result }
+{
+    match node.journal(alloc)? {
+        Some(journal) => put_journal_counted(out, style, &journal),
+        None => Ok(()),
+    }
+}
+
+/// Appends the entries without an answer of a pharmacy.
+fn put_open_of(
+    alloc: Global,
+    out: &mut Vec<u8>,
+    style: Style,
+    log: &NodeLog,
+    node: &NodeState,
+) -> Result<(), AllocError>
+    ensures { OnOk result (AddsRows style out.old out.new
+        (told_of (journal_open (number_of (node_seen log.now.node)) log.now.calls.items) (journal_of node.now))) }
+{
+    match node.journal(alloc)? {
+        Some(journal) => put_open(alloc, out, style, log, &journal),
+        None => Ok(()),
     }
 }
 
@@ -189,30 +293,67 @@ fn put_open(
     style: Style,
     log: &NodeLog,
     journal: &JournalReading<'_>,
-) -> Result<(), AllocError> {
+) -> Result<(), AllocError>
+    ensures { OnOk result (AddsRows style out.old out.new
+        (journal_open (number_of (node_seen log.now.node)) log.now.calls.items journal.now)) }
+{
     let entries = journal.list()?;
+    put_open_entries(alloc, out, style, log, entries.as_slice())
+}
+
+/// Appends a row for each of these entries without an answer.
+fn put_open_entries(
+    alloc: Global,
+    out: &mut Vec<u8>,
+    style: Style,
+    log: &NodeLog,
+    entries: &[EntryView],
+) -> Result<(), AllocError>
+    ensures { OnOk result (AddsRows style out.old out.new
+        (flat_map (open_rows (number_of (node_seen log.now.node)) log.now.calls.items) entries.now)) }
+{
     let ages = Ages::of(alloc, log.records())?;
-    for entry in &entries {
-        if entry.rulings().is_empty() {
-            put_open_row(out, style, number_of(log.node()), entry, &ages)?;
-        }
+    let number = number_of(log.node());
+    for entry in entries {
+        put_if_open(out, style, number, entry, ages.age(entry.number()))?;
     }
     Ok(())
 }
 
+/// Appends the row of an entry that is so many ticks old, if it has no answer.
+fn put_if_open(
+    out: &mut Vec<u8>,
+    style: Style,
+    pharmacy: u64,
+    entry: &EntryView,
+    ticks: u64,
+) -> Result<(), AllocError>
+    ensures { OnOk result (AddsRows style out.old out.new
+        (cond (is_open entry.now) (open_row pharmacy entry.now ticks ∷ []) [])) }
+{
+    if is_open(entry) {
+        put_open_row(out, style, pharmacy, entry, ticks)
+    } else {
+        Ok(())
+    }
+}
+
 /// Appends the row of an entry without an answer.
+#[tactic(auto, unfolding(crate::specs::Lones::open_row))]
 fn put_open_row(
     out: &mut Vec<u8>,
     style: Style,
     pharmacy: u64,
     entry: &EntryView,
-    ages: &Ages,
-) -> Result<(), AllocError> {
+    ticks: u64,
+) -> Result<(), AllocError>
+    ensures { OnOk result (AddsRow style out.old out.new (open_row pharmacy entry.now ticks)) }
+{
     let fields = [
         Field::number(b"pharmacy", pharmacy),
         Field::number(b"number", entry.number()),
         Field::word(b"kind", kind_word(entry.code())),
-        Field::number(b"ticks", ages.age(entry.number())),
+        Field::number(b"ticks", ticks),
     ];
     put_row(out, style, &fields)
 }

@@ -5,7 +5,7 @@ ghost use Rattle.bin_routes.specs.Table.{routes_of};
 ghost use Rattle.claim_model.specs.Settings.{is_empty, settings_fault};
 ghost use Rattle.world_setup.specs.Seen.{settings_seen};
 ghost use Rattle.run_merge.specs.LogSeen.{logs_seen};
-ghost use Rattle.log_audit.specs.Reasons.{IsReasons, SomeReason};
+ghost use Rattle.log_audit.specs.Reasons.{IsReasons, LastReason, SomeReason};
 
 use crate::fault::AuditFault;
 use crate::missing::missing_lines;
@@ -70,4 +70,10 @@ fn is_none(text: &[u8]) -> bool
 /// Some reason is told.
 pub fn some_reason_is_told()
     ensures { SomeReason }
+{}
+
+/// That no order of the calls is a run is told only where no other reason is found: one log of each node and no other, each of
+/// which its node makes, and not every next call that is left waits.
+pub fn last_reason_is_last()
+    ensures { LastReason }
 {}

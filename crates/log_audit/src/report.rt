@@ -5,6 +5,7 @@ ghost use Rattle.world_setup.specs.Seen.{event_seen};
 ghost use Rattle.run_merge.specs.LogSeen.{log_seen, logs_seen};
 ghost use Rattle.table_text.specs.Adding.{Adds};
 ghost use Rattle.log_audit.specs.Judged.{IsTold};
+ghost use Rattle.log_audit.specs.Prices.{run_prices};
 ghost use Rattle.log_audit.specs.Tabled.{run_csv};
 ghost use Rattle.log_audit.specs.Telling.{log_line, log_lines, legal_line, run_lines, IsTextOf, IsNoRunLines, IsNoRunObject, IsUntold, IsWritten};
 
@@ -12,6 +13,7 @@ use crate::fault::AuditFault;
 use crate::judging::{Verdict, judge};
 use crate::left::{put_left_counts, put_left_table};
 use crate::object::{no_run_object, run_object, torn_at};
+use crate::prices::run_prices;
 use crate::reading::Audited;
 use crate::reasons::reasons;
 use crate::scheduling::scheduled;
@@ -39,6 +41,8 @@ pub enum Form {
     Json,
     /// A table of what the run left, as CSV; nothing where there is none.
     Csv(Table),
+    /// The price changes of payers, as CSV; nothing where there is no run.
+    Prices,
     /// The input of a replay of the run; the lines where there is none.
     Schedule,
 }
@@ -88,6 +92,7 @@ fn legal_text(
         Form::Lines => run_lines(alloc, audited, events),
         Form::Json => run_object(alloc, audited, events),
         Form::Csv(table) => table_of(alloc, audited, events, table),
+        Form::Prices => prices_of(alloc, &audited, events),
         Form::Schedule => scheduled(alloc, audited.text.as_slice(), events),
     }
 }
@@ -111,6 +116,7 @@ fn no_run_text(alloc: Global, audited: &Audited, form: Form) -> Result<Vec<u8>, 
         Form::Lines => no_run_lines(alloc, audited),
         Form::Json => no_run_told(alloc, audited),
         Form::Csv(_) => Ok(Vec::new(alloc)),
+        Form::Prices => Ok(Vec::new(alloc)),
         Form::Schedule => no_run_lines(alloc, audited),
     }
 }
@@ -127,6 +133,13 @@ fn table_of(
     let mut text = Vec::new(alloc);
     put_left_table(alloc, &mut text, audited.settings, events, table)?;
     Ok(text)
+}
+
+/// The price changes of a run of these events.
+fn prices_of(alloc: Global, audited: &Audited, events: &[Event]) -> Result<Vec<u8>, AuditFault>
+    ensures { IfOk result (λ text. text.items ≡ run_prices audited.now.settings (map event_seen events.now)) }
+{
+    Ok(run_prices(alloc, &audited.settings, events)?)
 }
 
 /// The lines of logs of a legal run.

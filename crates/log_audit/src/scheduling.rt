@@ -1,12 +1,13 @@
 //! A legal run as the input of a replay.
 
 ghost use Rattle.std.specs.Prelude.{◌≡◌, ◌++◌, Ok, map, IsTrue, IfOk, OnOk};
+ghost use Rattle.std.specs.List.{list_any};
 ghost use Rattle.std.specs.Str.Lines.{lines};
-ghost use Rattle.schedule.specs.Division.{ends_in_newline, scheduled_lines};
+ghost use Rattle.schedule.specs.Division.{ends_in_newline};
 ghost use Rattle.schedule.specs.Reading.{events_of};
 ghost use Rattle.world_setup.specs.Seen.{event_seen};
 ghost use Rattle.table_text.specs.Adding.{Adds};
-ghost use Rattle.log_audit.specs.Telling.{divider, IsSchedule};
+ghost use Rattle.log_audit.specs.Telling.{divider, is_return, whole, IsDivided, IsSchedule, KeepsSettings};
 
 use crate::fault::AuditFault;
 use schedule::{TextFault, divide, events_text};
@@ -14,7 +15,7 @@ use std::alloc::{AllocError, Global};
 use world_setup::Event;
 
 /// The input of a replay of these events: the settings, a line `---`, and a line for each event. It is divided again, and
-/// given only where the lines behind the settings are its schedule.
+/// given only where the lines behind the settings are its schedule, and the settings before them are these.
 ///
 /// # Errors
 /// `NoLine` where there is no such text; `OutOfMemory`.
@@ -27,7 +28,7 @@ pub(crate) fn scheduled(
 {
     let written = lines_of(alloc, events)?;
     let text = joined(alloc, settings, written.as_slice())?;
-    if is_divided(alloc, text.as_slice(), written.as_slice())? {
+    if is_divided(alloc, text.as_slice(), settings, written.as_slice())? {
         Ok(text)
     } else {
         Err(AuditFault::NoLine)
@@ -74,10 +75,47 @@ fn ends_in_newline(text: &[u8]) -> bool
     text.last() == Some(&b'\n')
 }
 
-/// Whether an input is divided so that these lines are its schedule.
-fn is_divided(alloc: Global, text: &[u8], written: &[u8]) -> Result<bool, AllocError>
-    ensures { IfOk result (λ yes. IsTrue yes → scheduled_lines text.now ≡ lines written.now) }
+/// Whether an input is divided so that these lines are its schedule, and its settings are kept.
+fn is_divided(
+    alloc: Global,
+    text: &[u8],
+    settings: &[u8],
+    written: &[u8],
+) -> Result<bool, AllocError>
+    ensures { IfOk result (λ yes. IsTrue yes → IsDivided text.now settings.now written.now) }
 {
     let parts = divide(alloc, text)?;
-    Ok(parts.schedule == written)
+    let kept = is_kept(alloc, parts.settings.as_slice(), settings)?;
+    Ok(kept && parts.schedule == written)
+}
+
+/// Whether settings are kept behind a division: they are the same bytes, with a newline behind the last line. Those with
+/// carriage returns are not compared, since a division drops the ones that end lines.
+fn is_kept(alloc: Global, divided: &[u8], settings: &[u8]) -> Result<bool, AllocError>
+    ensures { IfOk result (λ yes. IsTrue yes → KeepsSettings divided.now settings.now) }
+{
+    if has_return(settings) {
+        return Ok(true);
+    }
+    let whole = whole(alloc, settings)?;
+    Ok(divided == whole.as_slice())
+}
+
+/// Whether a carriage return is among bytes.
+fn has_return(text: &[u8]) -> bool
+    ensures { result ≡ list_any is_return text.now }
+{
+    text.iter().any(|byte| *byte == b'\r')
+}
+
+/// Settings with a newline behind their last line.
+fn whole(alloc: Global, settings: &[u8]) -> Result<Vec<u8>, AllocError>
+    ensures { IfOk result (λ text. text.items ≡ whole settings.now) }
+{
+    let mut text = Vec::new(alloc);
+    text.extend_from_slice(settings)?;
+    if !ends_in_newline(settings) {
+        text.push(b'\n')?;
+    }
+    Ok(text)
 }

@@ -1,2 +1,3 @@
 pub mod Separating
 pub mod ReadBack
+pub mod JsonBack

@@ -5,3 +5,4 @@ pub mod Values
 pub mod Rows
 pub mod Adding
 pub mod ReadBack
+pub mod JsonBack

@@ -11,6 +11,6 @@ mod quoting;
 mod values;
 
 pub use fields::{Cell, Field};
-pub use laws::{csv_is_read_back, lists_are_separated};
+pub use laws::{csv_is_read_back, json_is_read_back, lists_are_separated};
 pub use layout::{Style, put_head, put_list, put_row};
 pub use quoting::put_json_text;

@@ -4,6 +4,8 @@ ghost use Rattle.std.specs.Prelude.{OnOk};
 ghost use Rattle.table_text.specs.Adding.{Adds};
 ghost use Rattle.table_text.specs.Rows.{head_text};
 ghost use Rattle.log_audit.specs.Tables.{table_names};
+ghost use Rattle.log_audit.specs.LoneTelling.{lone_names};
+ghost use Rattle.log_audit.specs.declared.lone_tables.LoneTable.TheVariants.{Open};
 ghost use Rattle.log_audit.specs.declared.tables.table.Table.TheVariants.{Payments, Entries, Rows, Packets, Counted as CountedTable};
 
 use std::alloc::AllocError;
@@ -122,6 +124,8 @@ pub(crate) fn put_counted_names(out: &mut Vec<u8>) -> Result<(), AllocError>
 }
 
 /// Appends the names of the columns of entries without an answer.
-pub(crate) fn put_open_names(out: &mut Vec<u8>) -> Result<(), AllocError> {
+pub(crate) fn put_open_names(out: &mut Vec<u8>) -> Result<(), AllocError>
+    ensures { OnOk result (Adds out.old out.new (head_text (lone_names Open))) }
+{
     put_head(out, &[b"pharmacy", b"number", b"kind", b"ticks"])
 }

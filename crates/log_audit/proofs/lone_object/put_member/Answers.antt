@@ -1,0 +1,22 @@
+use Rattle.std.proofs.Common.{◌++◌}
+use Rattle.std.specs.Prelude.{codes}
+use Rattle.std.proofs.lemmas.Result.{on_ok_weaker}
+use Rattle.claim_model.specs.Bytes.{bytes_with}
+use Rattle.input_text.proofs.Joining.{lists_join}
+use Rattle.table_text.specs.Rows.{rows_text, list_text}
+use Rattle.table_text.specs.declared.layout.Style.TheVariants.{Json}
+use Rattle.log_audit.specs.AloneSeen.{lones_seen}
+use Rattle.log_audit.specs.Lones.{lone_rows}
+use Rattle.log_audit.specs.LoneTelling.{lone_member, lone_name}
+use Rattle.log_audit.proofs.lone_object.put_member.Goals as goal
+
+pub returns : goal.returns
+unfolding lone_member
+returns c = λ routes.
+    let json = list_text (rows_text Json (lone_rows (bytes_with routes) (lones_seen c.args.lones.now) c.args.table)) in
+    let name = rw c.name.ensures at c.in_ok-extend_from_slice-2.ensures.items in
+    on_ok_weaker c.put_rows_list.result
+    (λ last. lists_join c.args.out.now.items c.extend_from_slice.new.self.items c.put_rows_list.new.out.items (codes ",\n\"") (lone_name c.args.table ++ (codes "\":" ++ json)) c.in_ok-extend_from_slice.ensures.items
+    (lists_join c.extend_from_slice.new.self.items c.extend_from_slice-2.new.self.items c.put_rows_list.new.out.items (lone_name c.args.table) (codes "\":" ++ json) name
+    (lists_join c.extend_from_slice-2.new.self.items c.extend_from_slice-3.new.self.items c.put_rows_list.new.out.items (codes "\":") json c.in_ok-extend_from_slice-3.ensures.items last)))
+    (c.put_rows_list.ensures routes)
