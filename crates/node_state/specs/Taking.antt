@@ -1,22 +1,31 @@
 -- What the rule of a node that is up makes of a packet that it takes, and of its envelope.
-use Rattle.std.specs.Prelude.{◌≡◌, ℕ, List, Result, Ok, Err}
+use Rattle.std.specs.Prelude.{◌≡◌, ◌≢◌, ℕ, List, Result, Ok, Err}
 use Rattle.std.proofs.Common.{ap}
 use Rattle.envelope.specs.Envelope.{Opened}
 use Rattle.bin_routes.specs.Table.{RouteMaps}
 use Rattle.claim_model.specs.Words.{EnvelopeFault}
 use Rattle.claim_model.specs.Bytes.{bytes_with, envelope_in}
-use Rattle.claim_model.specs.Refusal.{NoEnvelope}
+use Rattle.claim_model.specs.Refusal.{NoEnvelope, Unreadable}
 use Rattle.claim_model.specs.Rows.{Book}
 use Rattle.claim_model.specs.Book.{answered}
 use Rattle.claim_model.specs.Journal.{Journal, JournalAtRest, heard}
 use Rattle.claim_model.specs.Table.{Table, requested, responded}
-use Rattle.claim_model.specs.Node.{Node, Power, Up, Take, Outcome, Refused, pharmacy_step, switch_step, payer_step, after_hearing, pharmacy_takes, switch_takes, after_request, after_response, payer_takes, after_answer}
+use Rattle.claim_model.specs.Node.{Node, Power, Up, Call, Submit, Tick, Take, Stop, Start, Reprice, Outcome, Refused, pharmacy_step, switch_step, payer_step, after_hearing, pharmacy_takes, switch_takes, after_request, after_response, payer_takes, after_answer}
 use Rattle.switch_node.specs.Sent.{content}
 
 -- of a packet: this of its envelope, or a refusal where it is none
 abbrev pub taken : {A : Type 0} → (Opened → Outcome A) → Result Opened EnvelopeFault → Outcome A
 taken takes (Ok envelope) = takes envelope
 taken takes (Err fault) = Refused (NoEnvelope fault)
+
+-- a packet is refused for another cause than that its payload is unreadable, or not at all; of another call this says nothing
+abbrev pub IsReadable : {A : Type 0} → Call → Outcome A → Type 0
+IsReadable (Submit text) outcome = Unit {0}
+IsReadable Tick outcome = Unit {0}
+IsReadable (Take from bytes) outcome = outcome ≢ Refused Unreadable
+IsReadable Stop outcome = Unit {0}
+IsReadable Start outcome = Unit {0}
+IsReadable (Reprice product price) outcome = Unit {0}
 
 -- a pharmacy hears an envelope
 abbrev pub hears : RouteMaps → Journal → Opened → Outcome (Power Journal JournalAtRest)

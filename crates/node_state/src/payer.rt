@@ -51,6 +51,18 @@ impl Kind for Book {
         }
     }
 
+    /// The same: a payer reads a request for what it orders.
+    fn take_known(
+        &mut self,
+        alloc: Global,
+        routes: &Routes,
+        from: Node,
+        envelope: &Envelope<'_>,
+        packet: &Octets,
+    ) -> Result<Vec<Sent>, StepFault> {
+        self.take(alloc, routes, from, envelope, packet)
+    }
+
     /// Changes its plan.
     fn ask(
         &mut self,

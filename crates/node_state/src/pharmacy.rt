@@ -50,6 +50,21 @@ impl Kind for Pharmacy {
         }
     }
 
+    /// The same, where the answer is readable and fits its request.
+    fn take_known(
+        &mut self,
+        alloc: Global,
+        _routes: &Routes,
+        _from: Node,
+        envelope: &Envelope<'_>,
+        packet: &Octets,
+    ) -> Result<Vec<Sent>, StepFault> {
+        match self.hear_known(envelope, packet) {
+            Ok(()) => Ok(Vec::new(alloc)),
+            Err(fault) => Err(hear_fault(fault)),
+        }
+    }
+
     /// Submits a text, or ticks.
     fn ask(
         &mut self,

@@ -1,17 +1,17 @@
 //! One node of one kind, up or at rest.
 
-ghost use Rattle.std.specs.Prelude.{◌≡◌, ◌≤◌, ℕ, List, [], Result, true, length, IfOk, OnErr};
+ghost use Rattle.std.specs.Prelude.{◌≡◌, ◌≢◌, ◌≤◌, ℕ, List, [], Result, true, length, IfOk, OnErr};
 ghost use Rattle.envelope.specs.Envelope.{Opened, envelope_text};
 ghost use Rattle.bin_routes.specs.Table.{RouteMaps};
 ghost use Rattle.claim_model.specs.Words.{EnvelopeFault as ModelFault};
 ghost use Rattle.claim_model.specs.Bytes.{bytes_with, envelope_in};
 ghost use Rattle.claim_model.specs.Node.{Node as ModelNode, Call as ModelCall, Outcome, Done, Refused, Power, Up, AtRest, Take, Stop, Start};
-ghost use Rattle.claim_model.specs.Refusal.{Down, AlreadyUp};
+ghost use Rattle.claim_model.specs.Refusal.{Down, AlreadyUp, Unreadable};
 ghost use Rattle.world_setup.specs.Seen.{node_seen, lent_seen};
 ghost use Rattle.world_setup.specs.Refused.{refusal_of, RefusedAs};
 ghost use Rattle.node_state.specs.Outcomes.{Makes, Refuses};
 ghost use Rattle.node_state.specs.Sends.{asks, is_up};
-ghost use Rattle.node_state.specs.Taking.{taken};
+ghost use Rattle.node_state.specs.Taking.{taken, IsReadable};
 
 use crate::faults::envelope_fault;
 use crate::opening::read_envelope;
@@ -46,6 +46,23 @@ pub trait Kind: Drop + Sized {
         packet: &Octets,
     ) -> Result<Vec<Sent>, StepFault>
         requires { packet.now ≡ envelope_text envelope.now.kind envelope.now.id envelope.now.payload }
+        ensures ok { Makes (takes routes.now self.old (node_seen from) envelope.now) (Up self.new) result }
+        ensures fault { Refuses (takes routes.now self.old (node_seen from) envelope.now) result }
+        ensures few { IfOk result
+            (λ sent. length sent.items ≤ most (Up self.old) (Take (node_seen from) packet.now)) }
+        ensures err { OnErr result (self.new ≡ self.old) };
+
+    /// As `take`, of a packet whose payload is known to be readable.
+    fn take_known(
+        &mut self,
+        alloc: Global,
+        routes: &Routes,
+        from: Node,
+        envelope: &Envelope<'_>,
+        packet: &Octets,
+    ) -> Result<Vec<Sent>, StepFault>
+        requires packet { packet.now ≡ envelope_text envelope.now.kind envelope.now.id envelope.now.payload }
+        requires readable { takes routes.now self.old (node_seen from) envelope.now ≢ Refused Unreadable }
         ensures ok { Makes (takes routes.now self.old (node_seen from) envelope.now) (Up self.new) result }
         ensures fault { Refuses (takes routes.now self.old (node_seen from) envelope.now) result }
         ensures few { IfOk result
@@ -167,6 +184,29 @@ impl<K: Kind> Powered<K> {
         }
     }
 
+    /// As [`step`](Powered::step), where a packet that it takes is known to be readable, as each that a node sent: its request
+    /// or answer is not read again to see that.
+    ///
+    /// # Errors
+    /// As of `step`.
+    pub fn step_known(
+        &mut self,
+        alloc: Global,
+        routes: &Routes,
+        call: Call<&Octets>,
+    ) -> Result<Vec<Sent>, StepFault>
+        requires { IsReadable (lent_seen call) (K.step routes.now self.old (lent_seen call)) }
+        ensures ok { Makes (K.step routes.now self.old (lent_seen call.entry)) self.new result }
+        ensures fault { Refuses (K.step routes.now self.old (lent_seen call.entry)) result }
+        ensures few { IfOk result (λ sent. length sent.items ≤ K.most self.old (lent_seen call.entry)) }
+        ensures err { OnErr result (self.new ≡ self.old) }
+    {
+        match call {
+            Call::Take { from, bytes } => self.take_known(alloc, routes, from, bytes),
+            _ => self.step(alloc, routes, call),
+        }
+    }
+
     /// Takes a packet from a node: opens it, and takes what its envelope has.
     fn take(
         &mut self,
@@ -184,6 +224,29 @@ impl<K: Kind> Powered<K> {
             State::Up(node) => match read_envelope(packet) {
                 Ok(envelope) => node.take(alloc, routes, from, &envelope, packet),
                 Err(fault) => Err(envelope_fault(fault)),
+            },
+            State::AtRest(_) => Err(StepFault::Down),
+        }
+    }
+
+    /// Takes a packet whose payload is known to be readable.
+    fn take_known(
+        &mut self,
+        alloc: Global,
+        routes: &Routes,
+        from: Node,
+        packet: &Octets,
+    ) -> Result<Vec<Sent>, StepFault>
+        requires { K.step routes.now self.old (Take (node_seen from) packet.now) ≢ Refused Unreadable }
+        ensures ok { Makes (K.step routes.now self.old (Take (node_seen from) packet.now)) self.new result }
+        ensures fault { Refuses (K.step routes.now self.old (Take (node_seen from) packet.now)) result }
+        ensures few { IfOk result (λ sent. length sent.items ≤ K.most self.old (Take (node_seen from) packet.now)) }
+        ensures err { OnErr result (self.new ≡ self.old) }
+    {
+        match &mut self.state {
+            State::Up(node) => match read_envelope(packet) {
+                Ok(envelope) => node.take_known(alloc, routes, from, &envelope, packet),
+                Err(refused) => Err(envelope_fault(refused)),
             },
             State::AtRest(_) => Err(StepFault::Down),
         }

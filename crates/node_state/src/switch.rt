@@ -7,6 +7,7 @@ ghost use Rattle.bin_routes.specs.Table.{RouteMaps};
 ghost use Rattle.claim_model.specs.Bytes.{bytes_with};
 ghost use Rattle.claim_model.specs.Node.{Up, switch_step};
 ghost use Rattle.claim_model.specs.Held.{held_in_table};
+ghost use Rattle.switch_node.specs.Steps.{IsReadableRequest, IsReadableResponse};
 ghost use Rattle.node_state.specs.Outcomes.{Makes, Refuses};
 ghost use Rattle.node_state.specs.Sends.{in_flight_at};
 ghost use Rattle.node_state.specs.Taking.{switch_handles, switch_requests, switch_responds, switch_reads};
@@ -48,6 +49,22 @@ impl Kind for Switch {
             request(alloc, self, routes, envelope, packet)
         } else {
             response(alloc, self, envelope, packet)
+        }
+    }
+
+    /// The same, where the request or the response is readable.
+    fn take_known(
+        &mut self,
+        alloc: Global,
+        routes: &Routes,
+        _from: Node,
+        envelope: &Envelope<'_>,
+        packet: &Octets,
+    ) -> Result<Vec<Sent>, StepFault> {
+        if is_request(envelope) {
+            known_request(alloc, self, routes, envelope, packet)
+        } else {
+            known_response(alloc, self, envelope, packet)
         }
     }
 
@@ -114,6 +131,31 @@ fn request(
     }
 }
 
+/// Takes a request that is readable.
+fn known_request(
+    alloc: Global,
+    switch: &mut Switch,
+    routes: &Routes,
+    envelope: &Envelope<'_>,
+    packet: &Octets,
+) -> Result<Vec<Sent>, StepFault>
+    requires packet { packet.now ≡ envelope_text envelope.now.kind envelope.now.id envelope.now.payload }
+    requires readable { IsReadableRequest routes.now switch.old envelope.now }
+    ensures ok { Makes (switch_requests routes.now switch.old envelope.now) (Up switch.new) result }
+    ensures fault { Refuses (switch_requests routes.now switch.old envelope.now) result }
+    ensures few { IfOk result (λ sent. length sent.items ≤ 1) }
+    ensures err { OnErr result (switch.new ≡ switch.old) }
+{
+    let mut sent = Vec::with_capacity(alloc, 1)?;
+    match switch.request_known(routes, envelope, packet) {
+        Ok(routed) => {
+            sent.push_reserved(to_payer_or_back(envelope.id(), routed));
+            Ok(sent)
+        }
+        Err(fault) => Err(request_fault(fault)),
+    }
+}
+
 /// Takes a response: it goes to its pharmacy. The room for what is sent is had first.
 fn response(
     alloc: Global,
@@ -129,6 +171,30 @@ fn response(
 {
     let mut sent = Vec::with_capacity(alloc, 1)?;
     match switch.response_packet(envelope, packet) {
+        Ok(bytes) => {
+            sent.push_reserved(to_pharmacy(envelope.id(), bytes));
+            Ok(sent)
+        }
+        Err(fault) => Err(response_fault(fault)),
+    }
+}
+
+/// Takes a response that is readable.
+fn known_response(
+    alloc: Global,
+    switch: &mut Switch,
+    envelope: &Envelope<'_>,
+    packet: &Octets,
+) -> Result<Vec<Sent>, StepFault>
+    requires packet { packet.now ≡ envelope_text envelope.now.kind envelope.now.id envelope.now.payload }
+    requires readable { IsReadableResponse switch.old envelope.now }
+    ensures ok { (routes : RouteMaps) → Makes (switch_responds routes switch.old envelope.now) (Up switch.new) result }
+    ensures fault { (routes : RouteMaps) → Refuses (switch_responds routes switch.old envelope.now) result }
+    ensures few { IfOk result (λ sent. length sent.items ≤ 1) }
+    ensures err { OnErr result (switch.new ≡ switch.old) }
+{
+    let mut sent = Vec::with_capacity(alloc, 1)?;
+    match switch.response_known(envelope, packet) {
         Ok(bytes) => {
             sent.push_reserved(to_pharmacy(envelope.id(), bytes));
             Ok(sent)

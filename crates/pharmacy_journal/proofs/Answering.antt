@@ -1,13 +1,15 @@
 -- What is heard by a journal as it is kept, and what is submitted to one.
-use Rattle.std.proofs.Common.{◌≡◌, ℕ, ◌+◌, ◌-◌, ◌<◌, List, [], ◌∷◌, ◌++◌, length, set, Option, Some, None, Result, Ok, refl, sym, ap, ◌∙◌, subst}
+use Rattle.std.proofs.Common.{◌≡◌, ℕ, ◌+◌, ◌-◌, ◌<◌, Bool, true, false, cond, not, ◌&&◌, List, [], ◌∷◌, ◌++◌, length, set, Option, Some, None, Result, Ok, Err, refl, sym, ap, ◌∙◌, subst}
+use Rattle.std.specs.Prelude.{◌≢◌}
 use Rattle.std.specs.List.{slice_get}
 use Rattle.bin_routes.specs.Table.{RouteMaps}
 use Rattle.claim_model.specs.Words.{Envelope}
 use Rattle.claim_model.specs.Bytes.{bytes_with}
-use Rattle.claim_model.specs.Refusal.{Refusal}
-use Rattle.claim_model.specs.Journal.{PharmacySettings, Journal, Entry, State, Waits, Has, Sending, heard, submitted, submit_fault}
+use Rattle.claim_model.specs.Readable.{is_request}
+use Rattle.claim_model.specs.Refusal.{Refusal, Unreadable}
+use Rattle.claim_model.specs.Journal.{PharmacySettings, Journal, Entry, State, Waits, Has, Sending, heard, settle_by, submitted, submit_fault}
 use Rattle.pharmacy_journal.specs.Refusing.{IsRefused, IsCause}
-use Rattle.pharmacy_journal.specs.Reading.{header_of}
+use Rattle.pharmacy_journal.specs.Reading.{header_of, settles_with}
 use Rattle.pharmacy_journal.specs.Transactions.{Submission}
 use Rattle.pharmacy_journal.specs.Timetable.{Rounds}
 use Rattle.pharmacy_journal.specs.Sendings.{packet_of}
@@ -31,6 +33,15 @@ hear_refused routes number s t slots e place slot o up mine some is at h =
     let entry = entries_of-at slots t.phases place slot p.0 at p.1 in
     refused_at routes (seen number s t slots) e place (entry_of slot p.0) o mine some is entry
     (subst (λ (request : List ℕ). IsRefused o (state_after request (entry_of slot p.0).state e)) (same_request slot p.0) (h p.0))
+
+-- what is not refused as unreadable has an answer that fits the entry's request
+pub hear_known : (routes : RouteMaps) (number : ℕ) (s : PharmacySettings) (t : Rounds) (slots : List Slot) (e : Envelope) (place : ℕ) (slot : Slot) → IsUp number s t slots → e.id.pharmacy ≡ number → 0 < e.id.number → place ≡ e.id.number - 1 → slice_get slots place ≡ Some slot →
+    heard (bytes_with routes) (seen number s t slots) e ≢ Err Unreadable → (not (is_request e) && settles_with (kept_of slot).request e.payload) ≡ true
+hear_known routes number s t slots e place slot up mine some is at h = by (not (is_request e) && settles_with (kept_of slot).request e.payload) refl
+  where
+    by : (b : Bool) → (not (is_request e) && settles_with (kept_of slot).request e.payload) ≡ b → (not (is_request e) && settles_with (kept_of slot).request e.payload) ≡ true
+    by true fits = fits
+    by false fits = absurd (h (hear_refused routes number s t slots e place slot (Some Unreadable) up mine some is at (λ p. ap (λ (b : Bool). cond b (settle_by e.payload (entry_of slot p).state) (Err Unreadable)) fits)))
 
 -- an answer
 pub hear_settles : (routes : RouteMaps) (number : ℕ) (s : PharmacySettings) (t t' : Rounds) (slots slots' : List Slot) (e : Envelope) (place : ℕ) (slot : Slot) (answer : List ℕ) → IsUp number s t slots → e.id.pharmacy ≡ number → 0 < e.id.number → place ≡ e.id.number - 1 → slice_get slots place ≡ Some slot →

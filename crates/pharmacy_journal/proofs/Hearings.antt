@@ -1,7 +1,8 @@
 -- What an envelope does to a journal.
 use Rattle.std.proofs.Common.{◌≡◌, ℕ, zero, suc, ◌-◌, ◌<◌, ◌≤◌, Bool, true, false, cond, not, ◌&&◌, List, length, set, Option, Some, None, Result, Ok, Err, refl, sym, ap, ◌∙◌, arith, subst, ⊎_elim}
+use Rattle.std.specs.Prelude.{OnOk}
 use Rattle.std.specs.List.{slice_get}
-use Rattle.std.proofs.lemmas.Bool.{ne_eqb, eq-eqb, cases_lt}
+use Rattle.std.proofs.lemmas.Bool.{ne_eqb, eq-eqb, cases_lt, and_parts}
 use Rattle.std.proofs.lemmas.Option.{slice_get_past}
 use Rattle.envelope.specs.Envelope.{Opened}
 use Rattle.envelope.specs.declared.opening.Kind.{Kind}
@@ -15,7 +16,10 @@ use Rattle.claim_model.specs.Refusal.{Refusal, NotMine, NoSuchNumber, Unreadable
 use Rattle.claim_model.specs.Journal.{Journal, Entry, State, Has, heard, settle_with, settle_by}
 use Rattle.pharmacy_journal.specs.Refusing.{IsRefused}
 use Rattle.pharmacy_journal.specs.Reading.{settles_with}
-use Rattle.pharmacy_journal.specs.Hearing.{envelope_seen, state_after, state_by}
+use Rattle.pharmacy_journal.specs.Entries.{is_waiting}
+use Rattle.pharmacy_journal.specs.Hearing.{envelope_seen, answers, IsAnsweredBy, state_after, state_by}
+use Rattle.pharmacy_journal.specs.declared.slot.Slot.{Slot}
+use Rattle.pharmacy_journal.specs.declared.slot.Slot.TheVariants.{Waiting, Settled}
 
 with_kind : (request : List ℕ) (state : State) (payload : List ℕ) (k : Kind) (e : Envelope) → e.kind ≡ k → e.payload ≡ payload → (k ≡ Answer → state_after request state e ≡ state_by request state payload) × (k ≡ Request → state_after request state e ≡ Err Unreadable)
 with_kind request state payload Request e is p = (λ x. absurd cc, λ _. rw is refl)
@@ -78,3 +82,9 @@ heard_settles routes j e place entry answer mine some is at ok =
     heard_is routes j e place entry mine some is at
     ∙ ap (settle_with j e.id.number entry) ok
     ∙ ap (λ (es : List Entry). let k : Journal = record { number = j.number; settings = j.settings; entries = es } in let r : Result Journal Refusal = Ok k in r) (renumbered_place j.entries e.id.number place _ some is)
+
+-- an entry that waits is open to an answer that fits its request
+pub opened_by : {A E : Type 0} (slot : Slot) (o : Opened) (r : Result A E) → answers slot o ≡ true → OnOk r (is_waiting slot ≡ true) → OnOk r (IsAnsweredBy slot o.payload)
+opened_by (Waiting t) o (Ok x) fits waits = (and_parts (not (is_request (envelope_seen o))) (settles_with t.request o.payload) fits).1
+opened_by (Settled t) o (Ok x) fits waits = absurd cc
+opened_by slot o (Err e) fits waits = tt

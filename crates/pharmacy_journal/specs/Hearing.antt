@@ -1,5 +1,5 @@
 -- What an entry becomes by an envelope.
-use Rattle.std.specs.Prelude.{◌≡◌, ℕ, zero, true, suc, cond, not, ◌&&◌, List, [], ◌∷◌, Option, Result, Err}
+use Rattle.std.specs.Prelude.{◌≡◌, ℕ, zero, Bool, true, suc, cond, not, ◌&&◌, List, [], ◌∷◌, Option, Result, Err}
 use Rattle.envelope.specs.Envelope.{Opened, envelope_text}
 use Rattle.claim_model.specs.Words.{Envelope}
 use Rattle.claim_model.specs.Readable.{is_request}
@@ -26,6 +26,10 @@ state_by request state answer = cond (settles_with request answer) (settle_by an
 abbrev pub IsAnsweredBy : Slot → List ℕ → Type 0
 IsAnsweredBy (Waiting t) answer = settles_with t.request answer ≡ true
 IsAnsweredBy (Settled t) answer = ⊥
+
+-- an envelope has an answer that fits the request of an entry
+abbrev pub answers : Slot → Opened → Bool
+answers slot e = not (is_request (envelope_seen e)) && settles_with (kept_of slot).request e.payload
 
 -- the state of an entry after an envelope, or why it is refused
 abbrev pub state_after : List ℕ → State → Envelope → Result State Refusal

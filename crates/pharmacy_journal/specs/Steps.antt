@@ -1,9 +1,9 @@
 -- What a pharmacy makes of a text or an envelope, beside the rules of its journal. These ask no route, so it is so under all of them.
-use Rattle.std.specs.Prelude.{◌≡◌, ℕ, List, [], ◌∷◌, ◌++◌, Result, Ok, IfOk, IfErr, OnOk}
+use Rattle.std.specs.Prelude.{◌≡◌, ◌≢◌, ℕ, List, [], ◌∷◌, ◌++◌, Result, Ok, Err, IfOk, IfErr, OnOk}
 use Rattle.envelope.specs.Envelope.{Opened}
 use Rattle.bin_routes.specs.Table.{RouteMaps}
 use Rattle.claim_model.specs.Bytes.{bytes_with}
-use Rattle.claim_model.specs.Refusal.{Refusal}
+use Rattle.claim_model.specs.Refusal.{Refusal, Unreadable}
 use Rattle.claim_model.specs.Journal.{Journal, Waits, Sending, heard, submitted}
 use Rattle.pharmacy_journal.specs.declared.fault.SubmitFault.{SubmitFault}
 use Rattle.pharmacy_journal.specs.declared.fault.HearFault.{HearFault}
@@ -25,6 +25,10 @@ RefusesToSubmit journal text result = (routes : RouteMaps) → IfErr result (λ 
 -- an envelope is heard, and leaves the journal that the rule leaves
 abbrev pub Hears : Journal → Opened → Journal → Result (Unit {0}) HearFault → Type 0
 Hears old envelope new result = (routes : RouteMaps) → OnOk result (heard (bytes_with routes) old (envelope_seen envelope) ≡ Ok new)
+
+-- the rule refuses an envelope for another cause than that it is unreadable, or not at all
+abbrev pub IsReadableAnswer : Journal → Opened → Type 0
+IsReadableAnswer journal envelope = (routes : RouteMaps) → heard (bytes_with routes) journal (envelope_seen envelope) ≢ Err Unreadable
 
 -- hearing is refused for the cause for which this is; want of memory says nothing of it
 abbrev pub RefusesAs : {A B : Type 0} → Result A Refusal → Result B HearFault → Type 0

@@ -1,14 +1,15 @@
 //! Hearing an answer.
 
 ghost use Rattle.std.specs.Prelude.{◌≡◌, ◌<◌, ◌≤◌, ℕ, length, true, Option, Some, Ok, IfOk, IfSome, OnOk, OnErr, bytes_eq, if◌then◌else◌};
+ghost use Rattle.std.specs.Bool.{OnTrue};
 ghost use Rattle.std.specs.List.{slice_get};
 ghost use Rattle.envelope.specs.Envelope.{longest_payload};
 ghost use Rattle.claim_model.specs.Journal.{Has, settle_by};
 ghost use Rattle.claim_model.specs.Refusal.{AlreadySettled, Differs};
 ghost use Rattle.pharmacy_journal.specs.Refusing.{refusal_to_hear};
 ghost use Rattle.pharmacy_journal.specs.Entries.{entry_of, is_waiting};
-ghost use Rattle.pharmacy_journal.specs.Hearing.{packet_text, IsAnsweredBy, state_told, state_heard, settled_slot, settled_at};
-ghost use Rattle.pharmacy_journal.specs.Steps.{Hears, RefusesToHear, RefusesAs};
+ghost use Rattle.pharmacy_journal.specs.Hearing.{packet_text, answers, IsAnsweredBy, state_told, state_heard, settled_slot, settled_at};
+ghost use Rattle.pharmacy_journal.specs.Steps.{Hears, RefusesToHear, RefusesAs, IsReadableAnswer};
 
 use crate::fault::{HearFault, SettleFault};
 use crate::kept::place_of;
@@ -31,7 +32,7 @@ impl Pharmacy {
         ensures err { OnErr result (self.new ≡ self.old) }
         ensures fault { RefusesToHear self.old envelope.now result }
     {
-        self.settle(envelope, None)
+        self.settle(envelope, None, false)
     }
 
     /// As [`hear`](Pharmacy::hear), of the packet that the envelope was read from. The answer is kept as the packet's
@@ -42,12 +43,32 @@ impl Pharmacy {
         ensures err { OnErr result (self.new ≡ self.old) }
         ensures fault { RefusesToHear self.old envelope.now result }
     {
-        self.settle(envelope, Some(packet))
+        self.settle(envelope, Some(packet), false)
     }
 
-    /// Settles the entry of an answer's number.
-    fn settle(&mut self, envelope: &Envelope<'_>, packet: Option<&Octets>) -> Result<(), HearFault>
-        requires { IfSome packet (λ packet. packet.now ≡ packet_text envelope.now) }
+    /// As [`hear_packet`](Pharmacy::hear_packet), of a packet whose answer is readable and fits its request, as each that is
+    /// for this pharmacy does where nodes sent it: the answer is not read.
+    pub fn hear_known(&mut self, envelope: &Envelope<'_>, packet: &Octets) -> Result<(), HearFault>
+        requires packet { packet.now ≡ packet_text envelope.now }
+        requires readable { IsReadableAnswer self.old envelope.now }
+        ensures ok { Hears self.old envelope.now self.new result }
+        ensures err { OnErr result (self.new ≡ self.old) }
+        ensures fault { RefusesToHear self.old envelope.now result }
+    {
+        self.settle(envelope, Some(packet), true)
+    }
+
+    /// Settles the entry of an answer's number. Where the answer is known to be readable and to fit its request, it is not
+    /// read.
+    #[inline(always)]
+    fn settle(
+        &mut self,
+        envelope: &Envelope<'_>,
+        packet: Option<&Octets>,
+        known: bool,
+    ) -> Result<(), HearFault>
+        requires packet { IfSome packet (λ packet. packet.now ≡ packet_text envelope.now) }
+        requires readable { OnTrue known (IsReadableAnswer self.old envelope.now) }
         ensures ok { Hears self.old envelope.now self.new result }
         ensures err { OnErr result (self.new ≡ self.old) }
         ensures fault { RefusesToHear self.old envelope.now result }
@@ -59,7 +80,7 @@ impl Pharmacy {
         let Some(place) = place_of(id.number(), self.slots.len()) else {
             return Err(HearFault::NoSuchNumber);
         };
-        verdict(&self.slots[place], envelope)?;
+        verdict(&self.slots[place], envelope, known)?;
         let answer = answer_of(*self.slots.allocator(), envelope, packet)?;
         self.timetable.settle(place);
         settle_at(&mut self.slots, place, answer);
@@ -85,17 +106,32 @@ fn answer_of(
     }
 }
 
-/// Whether an envelope settles an entry.
-fn verdict(slot: &Slot, envelope: &Envelope<'_>) -> Result<(), HearFault>
+/// Whether an envelope settles an entry. Where its answer is known to fit the entry's request, it is not read.
+fn verdict(slot: &Slot, envelope: &Envelope<'_>, known: bool) -> Result<(), HearFault>
+    requires { OnTrue known (answers slot.now envelope.now ≡ true) }
     ensures open { OnOk result (IsAnsweredBy slot.now envelope.now.payload) }
     ensures ok { (phase : Option ℕ)
         → OnOk result (state_heard slot.now phase envelope.now ≡ Ok (Has envelope.now.payload)) }
     ensures fault { (phase : Option ℕ) → RefusesAs (state_heard slot.now phase envelope.now) result }
 {
+    if known {
+        return known_verdict(slot, envelope);
+    }
     match envelope.kind() {
         Kind::Request => Err(HearFault::Unreadable),
         Kind::Answer => verdict_on(slot, envelope.payload()),
     }
+}
+
+/// Whether an envelope settles an entry whose request its answer fits.
+fn known_verdict(slot: &Slot, envelope: &Envelope<'_>) -> Result<(), HearFault>
+    requires { answers slot.now envelope.now ≡ true }
+    ensures open { OnOk result (IsAnsweredBy slot.now envelope.now.payload) }
+    ensures ok { (phase : Option ℕ)
+        → OnOk result (state_heard slot.now phase envelope.now ≡ Ok (Has envelope.now.payload)) }
+    ensures fault { (phase : Option ℕ) → RefusesAs (state_heard slot.now phase envelope.now) result }
+{
+    beside(slot, envelope.payload())
 }
 
 /// Whether a payload of kind 2 settles an entry.

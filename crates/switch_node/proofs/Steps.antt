@@ -1,5 +1,6 @@
 -- The model's steps, by what was read and found.
-use Rattle.std.proofs.Common.{◌≡◌, true, false, cond, List, ℕ, Option, Some, Result, Ok, Err, IfOk, ap, ◌∙◌, bytes_eq}
+use Rattle.std.proofs.Common.{◌≡◌, Bool, true, false, cond, List, ℕ, Option, None, Some, Result, Ok, Err, IfOk, refl, sym, ap, subst, ◌∙◌, bytes_eq}
+use Rattle.std.specs.Prelude.{◌≢◌, IsSome}
 use Rattle.bin_routes.specs.Table.{RouteMaps}
 use Rattle.claim_profile.specs.Readable.{readable_header}
 use Rattle.claim_profile.specs.Ruling.{AnswerParts, answer_of}
@@ -8,7 +9,7 @@ use Rattle.claim_model.specs.Words.{RequestHeader, Envelope}
 use Rattle.claim_model.specs.Context.{Context}
 use Rattle.claim_model.specs.Readable.{readable, is_request}
 use Rattle.claim_model.specs.Refusal.{Unreadable, NumberReused}
-use Rattle.claim_model.specs.Table.{Slot, Table, answer_back, requested, requested_readable, requested_by, requested_again, responded, responded_readable}
+use Rattle.claim_model.specs.Table.{Slot, Table, slot_of, answer_back, requested, requested_readable, requested_by, requested_again, responded, responded_readable, responded_by}
 use Rattle.claim_model.specs.Bytes.{bytes_with, answer_in}
 use Rattle.claim_model.proofs.BytesLaws.{readable_alike}
 
@@ -30,6 +31,18 @@ module _ (routes : RouteMaps) (t : Table) (e : Envelope) where
       ap (λ b. cond b (requested_readable (bytes_with routes) t e (readable (bytes_with routes) e.payload)) (Err Unreadable)) is
       ∙ ap (requested_readable (bytes_with routes) t e) (readable_alike routes e.payload ∙ read)
 
+  known-some : (text : Option RequestHeader) → is_request e ≡ true → readable_header e.payload ≡ text → requested (bytes_with routes) t e ≢ Err Unreadable → IsSome (readable_header e.payload)
+  known-some None is read h = absurd (h (requested-read None is read))
+  known-some (Some header) is read h = subst IsSome (sym read) refl
+
+  known-request : (b : Bool) → is_request e ≡ b → requested (bytes_with routes) t e ≢ Err Unreadable → (is_request e ≡ true) × IsSome (readable_header e.payload)
+  known-request false is h = absurd (h (requested-other is))
+  known-request true is h = (is, known-some (readable_header e.payload) is refl h)
+
+  -- a request that is not refused as unreadable
+  pub request-known : requested (bytes_with routes) t e ≢ Err Unreadable → (is_request e ≡ true) × IsSome (readable_header e.payload)
+  request-known h = known-request (is_request e) refl h
+
 -- a known request that has its answer
 pub requested-answered : (ctx : Context) (t : Table) (e : Envelope) (h : RequestHeader) (s : Slot) (answer : List ℕ) → bytes_eq s.request e.payload ≡ true → s.answer ≡ Some answer → requested_by ctx t e h (Some s) ≡ Ok (record { table = t; routed = answer_back ctx e.id answer })
 requested-answered ctx t e h s answer same came =
@@ -47,3 +60,16 @@ module _ (routes : RouteMaps) (t : Table) (e : Envelope) where
   responded-reads r is read =
       ap (λ b. cond b (Err Unreadable) (responded_readable (bytes_with routes) t e (answer_in (answer_of e.payload)))) is
       ∙ ap (λ x. responded_readable (bytes_with routes) t e (answer_in x)) read
+
+module _ (routes : RouteMaps) (t u : Table) (e : Envelope) where
+  known-answer : (r : Result AnswerParts AnswerFault) → is_request e ≡ false → answer_of e.payload ≡ r → responded (bytes_with routes) t e ≢ Err Unreadable → responded (bytes_with routes) u e ≡ responded_by (bytes_with routes) u e (slot_of e.id u.entries)
+  known-answer (Ok parts) is read h = responded-reads routes u e (Ok parts) is read
+  known-answer (Err fault) is read h = absurd (h (responded-reads routes t e (Err fault) is read))
+
+  known-response : (b : Bool) → is_request e ≡ b → responded (bytes_with routes) t e ≢ Err Unreadable → responded (bytes_with routes) u e ≡ responded_by (bytes_with routes) u e (slot_of e.id u.entries)
+  known-response true is h = absurd (h (responded-other routes t e is))
+  known-response false is h = known-answer (answer_of e.payload) is refl h
+
+  -- a response that is not refused as unreadable has an answer, whatever the table has
+  pub response-known : responded (bytes_with routes) t e ≢ Err Unreadable → responded (bytes_with routes) u e ≡ responded_by (bytes_with routes) u e (slot_of e.id u.entries)
+  response-known h = known-response (is_request e) refl h

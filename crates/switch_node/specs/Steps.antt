@@ -1,9 +1,11 @@
 -- What a switch makes of an envelope, beside the rules of its table.
-use Rattle.std.specs.Prelude.{◌≡◌, ℕ, Bool, List, Option, Result, Ok, IfOk, IfErr, if◌then◌else◌}
+use Rattle.std.specs.Prelude.{◌≡◌, ◌≢◌, ℕ, Bool, true, List, Option, Result, Ok, Err, IsSome, IfOk, IfErr, if◌then◌else◌}
 use Rattle.envelope.specs.Envelope.{Opened}
 use Rattle.bin_routes.specs.Table.{RouteMaps}
 use Rattle.claim_model.specs.Words.{RequestHeader}
-use Rattle.claim_model.specs.Refusal.{Refusal}
+use Rattle.claim_profile.specs.Readable.{readable_header}
+use Rattle.claim_model.specs.Refusal.{Refusal, Unreadable}
+use Rattle.claim_model.specs.Readable.{is_request}
 use Rattle.claim_model.specs.Bytes.{bytes_with}
 use Rattle.claim_model.specs.Table.{Table, Slot, Responded, slot_of, filled, requested, requested_by, responded, responded_by}
 use Rattle.switch_node.specs.declared.fault.RequestFault.{RequestFault}
@@ -26,6 +28,18 @@ SendsResponse old envelope new result = IfOk result (λ packet. (routes : RouteM
 
 abbrev pub RefusesResponse : {A : Type 0} → Table → Opened → Result A ResponseFault → Type 0
 RefusesResponse table envelope result = IfErr result (λ fault. (routes : RouteMaps) → RefusesAs (response_refusal fault) (responded (bytes_with routes) table (content envelope)))
+
+-- the rule refuses a request for another cause than that it is unreadable, or not at all
+abbrev pub IsReadableRequest : RouteMaps → Table → Opened → Type 0
+IsReadableRequest routes table envelope = requested (bytes_with routes) table (content envelope) ≢ Err Unreadable
+
+-- a response likewise, whatever the routes are
+abbrev pub IsReadableResponse : Table → Opened → Type 0
+IsReadableResponse table envelope = (routes : RouteMaps) → responded (bytes_with routes) table (content envelope) ≢ Err Unreadable
+
+-- an envelope has a readable request
+abbrev pub HasRequest : Opened → Type 0
+HasRequest envelope = (is_request (content envelope) ≡ true) × IsSome (readable_header envelope.payload)
 
 -- a request has this header: what becomes of it hangs on what the table has of its id
 abbrev pub HasHeader : Opened → RequestHeader → Type 0

@@ -3,11 +3,11 @@
 ghost use Rattle.std.specs.Prelude.{◌≡◌, IfOk, IfErr, OnOk};
 ghost use Rattle.claim_model.specs.Readable.{is_request};
 ghost use Rattle.switch_node.specs.Sent.{content};
-ghost use Rattle.switch_node.specs.Steps.{HasHeader, IsNoRequest, HasAnswer, IsNoAnswer};
+ghost use Rattle.switch_node.specs.Steps.{HasHeader, IsNoRequest, HasAnswer, IsNoAnswer, HasRequest};
 
 use crate::fault::{RequestFault, ResponseFault};
 use claim_profile::{check_answer, check_readable};
-use d0_header::RequestHeader;
+use d0_header::{RequestHeader, request_text_laws};
 use envelope::{Envelope, Kind};
 
 /// The header of the request in an envelope.
@@ -21,6 +21,18 @@ pub fn header_of(envelope: &Envelope<'_>) -> Result<RequestHeader, RequestFault>
     match check_readable(envelope.payload()) {
         Some(framed) => Ok(*framed.header()),
         None => Err(RequestFault::Unreadable),
+    }
+}
+
+/// The header of a request that is known to be readable: it is cut from the front, and what follows is not read.
+pub fn known_header(envelope: &Envelope<'_>) -> RequestHeader
+    requires { HasRequest envelope.now }
+    ensures { HasHeader envelope.now result }
+{
+    request_text_laws();
+    match RequestHeader::read(envelope.payload()) {
+        Ok(header) => header,
+        Err(_) => unreachable!(),
     }
 }
 

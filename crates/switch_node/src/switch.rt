@@ -11,16 +11,17 @@ ghost use Rattle.claim_model.specs.Readable.{same_id};
 ghost use Rattle.switch_node.specs.Ring.{in_flight};
 ghost use Rattle.switch_node.specs.Faults.{RefusesAs, response_refusal, first_or_equal};
 ghost use Rattle.switch_node.specs.Sent.{packet_text};
-ghost use Rattle.switch_node.specs.Steps.{SendsRequest, RefusesRequest, SendsResponse, RefusesResponse, responded_at, KeepsFirst};
+ghost use Rattle.switch_node.specs.Steps.{SendsRequest, RefusesRequest, SendsResponse, RefusesResponse, IsReadableRequest, IsReadableResponse, HasHeader, HasAnswer, responded_at, KeepsFirst};
 
 use crate::fault::{RequestFault, ResponseFault};
 use crate::packets::{packet, payload_in};
-use crate::reading::{expect_answer, header_of};
+use crate::reading::{expect_answer, header_of, known_header};
 use crate::routing::{Routed, first, repeated};
 use crate::settings::SwitchSettings;
 use crate::slot::Slot;
 use crate::table::{InFlight, Table};
 use bin_routes::Routes;
+use d0_header::RequestHeader;
 use envelope::{Envelope, TxnId};
 use octets::Octets;
 use std::alloc::{AllocError, Global};
@@ -84,11 +85,46 @@ impl Switch {
         ensures fault { RefusesRequest routes.now self.old envelope.now result }
         ensures unchanged { OnErr result (self.new ≡ self.old) }
     {
-        let alloc = self.table.allocator();
         let header = header_of(envelope)?;
+        self.go_on(routes, envelope, packet, &header)
+    }
+
+    /// As [`request_packet`](Switch::request_packet), of a packet whose request is readable, as of each packet that a node
+    /// sent: only its header is read.
+    pub fn request_known(
+        &mut self,
+        routes: &Routes,
+        envelope: &Envelope<'_>,
+        packet: &Octets,
+    ) -> Result<Routed, RequestFault>
+        requires packet { packet.now ≡ packet_text envelope.now }
+        requires readable { IsReadableRequest routes.now self.old envelope.now }
+        ensures routed { SendsRequest routes.now self.old envelope.now self.new result }
+        ensures fault { RefusesRequest routes.now self.old envelope.now result }
+        ensures unchanged { OnErr result (self.new ≡ self.old) }
+    {
+        let header = known_header(envelope);
+        self.go_on(routes, envelope, packet, &header)
+    }
+
+    /// Takes a request of this header.
+    fn go_on(
+        &mut self,
+        routes: &Routes,
+        envelope: &Envelope<'_>,
+        packet: &Octets,
+        header: &RequestHeader,
+    ) -> Result<Routed, RequestFault>
+        requires packet { packet.now ≡ packet_text envelope.now }
+        requires header { HasHeader envelope.now header.now }
+        ensures routed { SendsRequest routes.now self.old envelope.now self.new result }
+        ensures fault { RefusesRequest routes.now self.old envelope.now result }
+        ensures unchanged { OnErr result (self.new ≡ self.old) }
+    {
+        let alloc = self.table.allocator();
         match self.table.get(envelope.id()) {
-            Some(slot) => repeated(alloc, routes, envelope, packet, &header, slot),
-            None => Ok(first(&mut self.table, routes, envelope, packet, &header)?),
+            Some(slot) => repeated(alloc, routes, envelope, packet, header, slot),
+            None => Ok(first(&mut self.table, routes, envelope, packet, header)?),
         }
     }
 
@@ -121,6 +157,33 @@ impl Switch {
         ensures unchanged { OnErr result (self.new ≡ self.old) }
     {
         expect_answer(envelope)?;
+        self.go_back(envelope, packet)
+    }
+
+    /// As [`response_packet`](Switch::response_packet), of a packet whose answer is readable, as of each packet that a node
+    /// sent: the answer is not read.
+    pub fn response_known(
+        &mut self,
+        envelope: &Envelope<'_>,
+        packet: &Octets,
+    ) -> Result<Octets, ResponseFault>
+        requires packet { packet.now ≡ packet_text envelope.now }
+        requires readable { IsReadableResponse self.old envelope.now }
+        ensures sent { SendsResponse self.old envelope.now self.new result }
+        ensures fault { RefusesResponse self.old envelope.now result }
+        ensures unchanged { OnErr result (self.new ≡ self.old) }
+    {
+        self.go_back(envelope, packet)
+    }
+
+    /// Takes an answer.
+    fn go_back(&mut self, envelope: &Envelope<'_>, packet: &Octets) -> Result<Octets, ResponseFault>
+        requires packet { packet.now ≡ packet_text envelope.now }
+        requires answer { HasAnswer envelope.now }
+        ensures sent { SendsResponse self.old envelope.now self.new result }
+        ensures fault { RefusesResponse self.old envelope.now result }
+        ensures unchanged { OnErr result (self.new ≡ self.old) }
+    {
         let is_first = waits(&self.table, envelope)?;
         let sent = packet.copy()?;
         if is_first {

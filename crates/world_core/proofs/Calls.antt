@@ -1,9 +1,10 @@
 -- A call on one node of a list, by the node's place.
 use Rattle.std.proofs.Common.{◌≡◌, ℕ, zero, suc, ◌<◌, ◌≤◌, ◌⊎◌, inl, inr, List, [], ◌∷◌, length, Option, Some, None, slice_get, slice_set, get_or, refl, sym, ap, ◌∙◌, subst, arith}
-use Rattle.claim_model.specs.Refusal.{Refusal, NoSuchNode}
+use Rattle.claim_model.specs.Refusal.{Refusal, NoSuchNode, Unreadable}
 use Rattle.claim_model.specs.Numbered.{numbered}
-use Rattle.claim_model.specs.Node.{Sent, Outcome, Done, Refused}
+use Rattle.claim_model.specs.Node.{Sent, Call, Submit, Tick, Take, Stop, Start, Reprice, Outcome, Done, Refused}
 use Rattle.world_setup.specs.Refused.{RefusedAs}
+use Rattle.node_state.specs.Taking.{IsReadable}
 use Rattle.world_core.specs.Calling.{list_after, called_at, called}
 use Rattle.world_core.specs.Room.{most_of}
 
@@ -46,3 +47,12 @@ node_at (x ∷ xs) (suc k) a d h e = node_at xs k a d (omega arith) e
 -- what is at most sent by the node of a number
 pub most_at : {A : Type 0} (most : A → ℕ) (nodes : List A) (n k : ℕ) (node : A) (m : ℕ) → n ≡ suc k → slice_get nodes k ≡ Some node → m ≤ most node → m ≤ most_of most (numbered nodes n)
 most_at most nodes n k node m e h l = rw (numbered_at nodes n k node e h) l
+
+-- the node of a number takes a packet that is readable to it
+pub called_readable : {A : Type 0} (step : A → Outcome A) (nodes : List A) (n k : ℕ) (node : A) (call : Call) → n ≡ suc k → slice_get nodes k ≡ Some node → IsReadable call (called step nodes n) → IsReadable call (step node)
+called_readable step nodes n k node (Submit text) e there h = tt
+called_readable step nodes n k node Tick e there h = tt
+called_readable step nodes n k node (Take from bytes) e there h = λ unreadable. h (called_refused step nodes n k node (Some Unreadable) e there unreadable)
+called_readable step nodes n k node Stop e there h = tt
+called_readable step nodes n k node Start e there h = tt
+called_readable step nodes n k node (Reprice product price) e there h = tt

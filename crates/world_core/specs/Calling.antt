@@ -5,12 +5,13 @@ use Rattle.bin_routes.specs.Table.{RouteMaps}
 use Rattle.claim_model.specs.Bytes.{bytes_with}
 use Rattle.claim_model.specs.Refusal.{NoSuchNode}
 use Rattle.claim_model.specs.Numbered.{numbered, renumbered}
-use Rattle.claim_model.specs.Node.{Node, Call, Outcome, Done, Refused}
+use Rattle.claim_model.specs.Node.{Node, Pharmacy, Switch, Payer, Call, Outcome, Done, Refused, pharmacy_step, switch_step, payer_step}
 use Rattle.claim_model.specs.World.{Packet, on_node, posted}
 use Rattle.world_setup.specs.declared.call.Sent.{Sent}
 use Rattle.world_setup.specs.declared.fault.StepFault.{StepFault}
 use Rattle.world_setup.specs.Seen.{sent_seen}
 use Rattle.node_state.specs.Outcomes.{Refuses}
+use Rattle.node_state.specs.Taking.{IsReadable}
 use Rattle.world_core.specs.NodeLists.{NodeLists, world_of}
 
 abbrev pub list_after : {A : Type 0} → List A → ℕ → Outcome A → Outcome (List A)
@@ -24,6 +25,12 @@ called_at call nodes n (Some node) = list_after nodes n (call node)
 -- the nodes after a call on the one of a number, and what it sent
 unfoldable pub called : {A : Type 0} → (A → Outcome A) → List A → ℕ → Outcome (List A)
 called call nodes n = called_at call nodes n (numbered nodes n)
+
+-- a packet that a node takes is not refused as unreadable
+abbrev pub IsReadableAt : RouteMaps → NodeLists → Node → Call → Type 0
+IsReadableAt routes nodes (Pharmacy n) call = IsReadable call (called (λ node. pharmacy_step (bytes_with routes) node call) nodes.pharmacies n)
+IsReadableAt routes nodes (Switch n) call = IsReadable call (called (λ node. switch_step (bytes_with routes) node call) nodes.switches n)
+IsReadableAt routes nodes (Payer n) call = IsReadable call (called (λ node. payer_step (bytes_with routes) node call) nodes.payers n)
 
 -- a call on a node that is made leaves the world that the model's call leaves, whatever packets it has, and sends what that sends
 abbrev pub NodeMakes : RouteMaps → NodeLists → Node → Call → NodeLists → Result (Vec Sent) StepFault → Type 0

@@ -4,7 +4,7 @@ ghost use Rattle.std.specs.Prelude.{◌≡◌, ◌≤◌, length, IfOk, OnErr};
 ghost use Rattle.std.specs.Option.{option_copied};
 ghost use Rattle.claim_model.specs.Numbered.{numbered};
 ghost use Rattle.world_setup.specs.Seen.{node_seen, event_seen, lent_seen};
-ghost use Rattle.world_core.specs.Calling.{NodeMakes, NodeRefuses};
+ghost use Rattle.world_core.specs.Calling.{IsReadableAt, NodeMakes, NodeRefuses};
 ghost use Rattle.world_core.specs.Room.{room_asked, room_for};
 
 use crate::nodes::{ask_node, most_due, node_of};
@@ -57,7 +57,7 @@ impl Nodes {
         node_of(self.payers.as_slice(), number)
     }
 
-    /// A node makes a call, and gives what it sent.
+    /// A node makes a call, and gives what it sent. A packet that it takes is readable.
     pub(crate) fn call(
         &mut self,
         alloc: Global,
@@ -65,6 +65,7 @@ impl Nodes {
         node: Node,
         call: Call<&Octets>,
     ) -> Result<Vec<Sent>, StepFault>
+        requires { IsReadableAt routes.now self.old (node_seen node) (lent_seen call) }
         ensures ok { NodeMakes routes.now self.old (node_seen node) (lent_seen call.entry) self.new result }
         ensures fault { NodeRefuses routes.now self.old (node_seen node) (lent_seen call.entry) result }
         ensures few { IfOk result

@@ -5,6 +5,7 @@ ghost use Rattle.std.specs.Option.{option_copied};
 ghost use Rattle.claim_model.specs.Numbered.{numbered};
 ghost use Rattle.world_setup.specs.Seen.{lent_seen};
 ghost use Rattle.node_state.specs.Outcomes.{Makes, Refuses};
+ghost use Rattle.node_state.specs.Taking.{IsReadable};
 ghost use Rattle.world_core.specs.Calling.{called};
 ghost use Rattle.world_core.specs.Room.{most_of, room_due};
 
@@ -35,7 +36,7 @@ pub(crate) fn node_of<N>(nodes: &[N], number: u16) -> Option<&N>
     nodes.get(number as usize - 1)
 }
 
-/// The node of a number makes a call.
+/// The node of a number makes a call. A packet that it takes is readable.
 pub(crate) fn ask_node<K: Kind>(
     nodes: &mut Vec<Powered<K>>,
     alloc: Global,
@@ -43,6 +44,8 @@ pub(crate) fn ask_node<K: Kind>(
     number: u16,
     call: Call<&Octets>,
 ) -> Result<Vec<Sent>, StepFault>
+    requires { IsReadable (lent_seen call)
+        (called (λ node. K.step routes.now node (lent_seen call)) nodes.old.items number) }
     ensures ok { Makes (called
         (λ node. K.step routes.now node (lent_seen call.entry)) nodes.old.items number) nodes.new.items result }
     ensures fault { Refuses (called
@@ -52,7 +55,7 @@ pub(crate) fn ask_node<K: Kind>(
     ensures err { OnErr result (nodes.new.items ≡ nodes.old.items) }
 {
     match place_of(number, nodes.len()) {
-        Some(place) => nodes[place].step(alloc, routes, call),
+        Some(place) => nodes[place].step_known(alloc, routes, call),
         None => Err(StepFault::NoSuchNode),
     }
 }

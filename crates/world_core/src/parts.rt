@@ -3,6 +3,7 @@
 ghost use Rattle.std.specs.Prelude.{◌≡◌, ◌+◌, length, map, Some, OnOk, OnErr};
 ghost use Rattle.claim_model.specs.Bytes.{bytes_with};
 ghost use Rattle.claim_model.specs.World.{step};
+ghost use Rattle.claim_model.specs.Promises.{DeliveriesMeet};
 ghost use Rattle.world_setup.specs.Seen.{packet_seen, event_seen};
 ghost use Rattle.node_state.specs.Outcomes.{Refuses};
 ghost use Rattle.world_core.specs.Stepping.{next_of};
@@ -65,7 +66,9 @@ impl Parts {
     }
 
     /// Makes an event: the node that it asks makes its call, and what that sends is posted. The room for it is had before.
+    /// Deliveries meet few refusals, so a packet is not read again to see that it is readable.
     pub(crate) fn step(&mut self, routes: &Routes, event: &Event) -> Result<(), StepFault>
+        requires { DeliveriesMeet (bytes_with routes.now) self.old }
         ensures ok { OnOk result (next_of (step (bytes_with routes.now) self.old (event_seen event.now))
             ≡ Some self.new) }
         ensures fault { Refuses (step (bytes_with routes.now) self.old (event_seen event.now)) result }

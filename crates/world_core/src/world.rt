@@ -14,7 +14,7 @@ ghost use Rattle.world_core.specs.Stepping.{next_of, outcome_in};
 
 use crate::parts::Parts;
 use bin_routes::Routes;
-use claim_model::{bytes_keep_laws, routes_lead_to_payers};
+use claim_model::{bytes_keep_laws, deliveries_meet_few_refusals, routes_lead_to_payers};
 use std::alloc::{AllocError, Global};
 use std::marker::Model;
 use std::ops::Range;
@@ -80,6 +80,7 @@ impl World {
         ensures err { OnErr result (self.new ≡ self.old) }
         ensures routes { self.new.routes ≡ self.old.routes }
     {
+        deliveries_meet_few_refusals();
         let start = self.parts.next_number();
         self.parts.step(&self.routes, event)?;
         let end = self.parts.next_number();

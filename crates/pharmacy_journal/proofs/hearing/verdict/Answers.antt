@@ -1,11 +1,15 @@
 use Rattle.std.proofs.Common.{◌≡◌, ℕ, List, Ok, sym, subst, ◌∙◌}
 use Rattle.std.specs.Prelude.{OnOk, IfErr}
+use Rattle.std.proofs.lemmas.Bool.{OnTrue_at}
 use Rattle.claim_model.specs.Journal.{Has}
 use Rattle.pharmacy_journal.specs.Refusing.{IsRefused, refusal_to_hear}
 use Rattle.pharmacy_journal.specs.Entries.{entry_of, kept_of}
 use Rattle.pharmacy_journal.specs.Hearing.{state_by}
 use Rattle.pharmacy_journal.proofs.Hearings.{state_after-answer, state_after-request}
 use Rattle.pharmacy_journal.proofs.hearing.verdict.Goals as goal
+
+pub known_verdict-requires : goal.known_verdict-requires
+known_verdict-requires c = OnTrue_at c.if-known.true c.requires
 
 pub returns-in-Request-clause-fault : goal.returns-in-Request-clause-fault
 returns-in-Request-clause-fault c = λ phase. state_after-request _ _ c.args.envelope.now (sym c.kind.ensures ∙ c.in-Request.is)

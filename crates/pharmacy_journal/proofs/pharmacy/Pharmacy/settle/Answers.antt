@@ -1,13 +1,18 @@
 use Rattle.std.proofs.Common.{◌≡◌, ℕ, ◌<◌, length, sym, ap, ◌∙◌, arith, refl, subst, List}
+use Rattle.std.specs.Prelude.{◌≢◌, [], true, Err}
+use Rattle.std.proofs.lemmas.Bool.{OnTrue_at, OnTrue_from}
 use Rattle.std.proofs.lemmas.Option.{slice_get_read}
 use Rattle.std.proofs.lemmas.Result.{err_from_is_err_and}
+use Rattle.bin_routes.specs.Table.{routes_of}
 use Rattle.claim_model.specs.Words.{TxnId}
-use Rattle.claim_model.specs.Journal.{Journal}
-use Rattle.pharmacy_journal.specs.Hearing.{envelope_seen, IsAnsweredBy}
+use Rattle.claim_model.specs.Bytes.{bytes_with}
+use Rattle.claim_model.specs.Refusal.{Unreadable}
+use Rattle.claim_model.specs.Journal.{Journal, heard}
+use Rattle.pharmacy_journal.specs.Hearing.{envelope_seen, answers, IsAnsweredBy}
 use Rattle.pharmacy_journal.proofs.Entering.{length-entries_of}
 use Rattle.pharmacy_journal.proofs.Standing.{IsUp-settled}
 use Rattle.pharmacy_journal.proofs.Hearings.{not_mine, no_such_number}
-use Rattle.pharmacy_journal.proofs.Answering.{hear_refused, hear_settles}
+use Rattle.pharmacy_journal.proofs.Answering.{hear_refused, hear_known, hear_settles}
 use Rattle.pharmacy_journal.proofs.pharmacy.Pharmacy.settle.Goals as goal
 
 pub returns-then-pharmacy-self-clause-fault : goal.returns-then-pharmacy-self-clause-fault
@@ -36,6 +41,20 @@ returns-in_err-verdict-clause-fault c = λ routes.
     rw (← c.self.view_is, p.1, p.2)
     (hear_refused routes j.number j.settings j.timetable j.slots.items (envelope_seen c.args.envelope.now) c.in-Some.place c.index.result.now _ c.self.invariant
     (omega (arith, id, c.pharmacy.ensures.value, c.if-pharmacy-self.false)) (omega (arith, own, c.number.ensures.value, c.in-Some.ensures.0.0)) (omega (arith, own, c.number.ensures.value, c.in-Some.ensures.1)) slot c.in_err-verdict.ensures.fault)
+
+pub verdict-requires : goal.verdict-requires
+verdict-requires c =
+    let j = c.self.inside in
+    let e = envelope_seen c.args.envelope.now in
+    let routes = routes_of [] in
+    let id : c.id-id.result.pharmacy ≡ c.args.envelope.now.id.pharmacy = ap (λ (i : TxnId). i.pharmacy) c.id-id.ensures in
+    let own : c.id-id.result.number ≡ c.args.envelope.now.id.number = ap (λ (i : TxnId). i.number) c.id-id.ensures in
+    let within : c.in-Some.place < length j.slots.items = omega (arith, c.in-Some.ensures.0.0, c.in-Some.ensures.0.1, c.in-Some.ensures.1, c.len.ensures) in
+    let slot = slice_get_read j.slots.items _ c.in-Some.place c.index.result.now refl within c.index.ensures in
+    OnTrue_from c.args.known (answers c.index.result.now c.args.envelope.now ≡ true)
+    (λ known. hear_known routes j.number j.settings j.timetable j.slots.items e c.in-Some.place c.index.result.now c.self.invariant
+    (omega (arith, id, c.pharmacy.ensures.value, c.if-pharmacy-self.false)) (omega (arith, own, c.number.ensures.value, c.in-Some.ensures.0.0)) (omega (arith, own, c.number.ensures.value, c.in-Some.ensures.1)) slot
+    (subst (λ (w : Journal). heard (bytes_with routes) w e ≢ Err Unreadable) (sym c.self.view_is) (OnTrue_at known c.requires.readable routes)))
 
 pub settle_at-requires-clause-fits : goal.settle_at-requires-clause-fits
 settle_at-requires-clause-fits c =

@@ -8,6 +8,15 @@ use Rattle.world_core.proofs.Asking.{pharmacy_done, pharmacy_refused, switch_don
 use Rattle.world_core.proofs.Rooms.{pharmacy_room, switch_room, payer_room}
 use Rattle.world_core.proofs.all_nodes.Nodes.call.Goals as goal
 
+pub ask_node-requires : goal.ask_node-requires
+ask_node-requires c = rw (c.in-Pharmacy.is, ← c.self.view_is) at c.requires
+
+pub ask_node-requires-in-Switch : goal.ask_node-requires-in-Switch
+ask_node-requires-in-Switch c = rw (c.in-Switch.is, ← c.self.view_is) at c.requires
+
+pub ask_node-requires-in-Payer : goal.ask_node-requires-in-Payer
+ask_node-requires-in-Payer c = rw (c.in-Payer.is, ← c.self.view_is) at c.requires
+
 pub returns-in-Pharmacy-clause-ok : goal.returns-in-Pharmacy-clause-ok
 returns-in-Pharmacy-clause-ok c = λ packets.
     rw (c.in-Pharmacy.is, ← c.self.view_is)

@@ -5,12 +5,20 @@ use Rattle.claim_model.specs.Nodes.{asked}
 use Rattle.claim_model.specs.World as model
 use Rattle.claim_model.specs.World.{posted}
 use Rattle.world_setup.specs.declared.call.Packet.{Packet}
-use Rattle.world_setup.specs.Seen.{node_seen, sent_seen, packet_seen, event_seen}
+use Rattle.world_setup.specs.Seen.{node_seen, lent_seen, sent_seen, packet_seen, event_seen}
 use Rattle.world_core.specs.Asked.{asked_of}
 use Rattle.world_core.specs.NodeLists.{world_of}
 use Rattle.world_core.specs.Stepping.{next_of}
-use Rattle.world_core.proofs.Stepping.{asks, asks_nobody}
+use Rattle.world_core.proofs.Stepping.{asks, asks_nobody, asks_readable}
 use Rattle.world_core.proofs.parts.Parts.step.Goals as goal
+
+pub call-requires : goal.call-requires
+call-requires c =
+    let event = event_seen c.args.event.now in
+    let packets = map packet_seen c.self.inside.packets.items in
+    let seen : c.as_slice.result.now ≡ c.self.inside.packets.items = c.as_slice.ensures.value ∙ c.in_ok-reserve.ensures.items in
+    let some : Some (asked_of (c.in-Some.node, c.in-Some.call)) ≡ asked packets event = c.in-Some.ensures ∙ ap (λ (ps : List Packet). asked (map packet_seen ps) event) seen in
+    asks_readable c.args.routes.now c.self.inside.nodes packets event (node_seen c.in-Some.node) (lent_seen c.in-Some.call) (rw (← c.self.view_is) at c.requires) some
 
 pub returns-in_default-clause-fault : goal.returns-in_default-clause-fault
 returns-in_default-clause-fault c =
