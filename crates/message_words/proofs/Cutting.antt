@@ -42,3 +42,10 @@ pushed whole place size old new p kind before fits e here bytes is =
     let parts : map part_seen new ≡ map part_seen old ++ record { place = place; bytes = take size (drop place whole); kind = kind } ∷ [] =
     ap (map part_seen) e ∙ map-append part_seen old (p ∷ []) ∙ ap (λ (q : PartSeen). map part_seen old ++ q ∷ []) seen in
     subst (λ (ps : List PartSeen). IsCut (record { whole = whole; place = place + size; parts = ps })) (sym parts) (cut_more whole place size (map part_seen old) kind before fits)
+
+-- and what they are then
+pub pushed_parts : (place : ℕ) (old new : List Part) (p : Part) (kind : PartKind) (bytes : List ℕ) → new ≡ old ++ p ∷ [] → p.place ≡ place → p.bytes.now ≡ bytes → p.kind ≡ kind
+    → map part_seen new ≡ map part_seen old ++ record { place = place; bytes = bytes; kind = kind } ∷ []
+pushed_parts place old new p kind bytes e here is k =
+    let seen : part_seen p ≡ record { place = place; bytes = bytes; kind = kind } = λ i. record { place = here i; bytes = is i; kind = k i } in
+    ap (map part_seen) e ∙ map-append part_seen old (p ∷ []) ∙ ap (λ (q : PartSeen). map part_seen old ++ q ∷ []) seen

@@ -1,4 +1,8 @@
 pub mod Cutting
+pub mod Bytes
+pub mod Heads
+pub mod Bodies
+pub mod Wholes
 pub mod Counting
 pub mod Conditions
 pub mod CauseLaws

@@ -2,6 +2,7 @@
 
 ghost use Rattle.std.specs.Prelude.{◌≡◌, ◌+◌, ◌-◌, ◌≤◌, ◌++◌, [], ◌∷◌, length, take, drop, min, map, IfOk, OnOk};
 ghost use Rattle.message_words.specs.Parts.{AreParts, part_seen};
+ghost use Rattle.message_words.specs.Added.{next_part, some_part, stray_part};
 
 use crate::part::{Part, PartKind};
 use std::alloc::{AllocError, Global};
@@ -33,7 +34,9 @@ impl<'a> Model for Cutter<'a> {
 impl<'a> Cutter<'a> {
     /// A message of which nothing is cut.
     pub(crate) fn new(alloc: Global, whole: &'a [u8]) -> Result<Cutter<'a>, AllocError>
-        ensures { IfOk result (λ c. c.whole ≡ whole.now) }
+        ensures whole { IfOk result (λ c. c.whole ≡ whole.now) }
+        ensures place { IfOk result (λ c. c.place ≡ 0) }
+        ensures parts { IfOk result (λ c. c.parts ≡ []) }
     {
         let parts = Vec::with_capacity(alloc, ROOM)?;
         Ok(Cutter {
@@ -45,7 +48,8 @@ impl<'a> Cutter<'a> {
 
     /// The bytes that are left.
     pub(crate) fn left(&self) -> &'a [u8]
-        ensures { result.now ≡ drop self.now.place self.now.whole }
+        ensures left { result.now ≡ drop self.now.place self.now.whole }
+        ensures within { self.now.place + length result.now ≡ length self.now.whole }
     {
         &self.whole[self.place..]
     }
@@ -57,22 +61,26 @@ impl<'a> Cutter<'a> {
         self.place
     }
 
-    /// Cuts off a part of so many bytes, or of all that are left where they are fewer.
+    /// Cuts off a part of so many bytes.
     pub(crate) fn cut(&mut self, kind: PartKind, count: usize) -> Result<(), AllocError>
+        requires { self.old.place + count ≤ length self.old.whole }
         ensures whole { self.new.whole ≡ self.old.whole }
-        ensures place { OnOk result (self.new.place ≡ min (self.old.place + count) (length self.old.whole)) }
+        ensures place { OnOk result (self.new.place ≡ self.old.place + count) }
+        ensures parts { OnOk result (self.new.parts ≡ self.old.parts ++ next_part self.old kind count ∷ []) }
     {
-        let size = count.min(self.whole.len() - self.place);
         let place = self.place;
-        let bytes = stretch(self.whole, place, size);
+        let bytes = stretch(self.whole, place, count);
         self.parts.push(Part { place, bytes, kind })?;
-        self.place = place + size;
+        self.place = place + count;
         Ok(())
     }
 
     /// The same, but no part of no bytes.
     pub(crate) fn cut_some(&mut self, kind: PartKind, count: usize) -> Result<(), AllocError>
-        ensures { self.new.whole ≡ self.old.whole }
+        requires { self.old.place + count ≤ length self.old.whole }
+        ensures whole { self.new.whole ≡ self.old.whole }
+        ensures place { OnOk result (self.new.place ≡ self.old.place + count) }
+        ensures parts { OnOk result (self.new.parts ≡ self.old.parts ++ some_part self.old kind count) }
     {
         if count == 0 {
             return Ok(());
@@ -82,7 +90,8 @@ impl<'a> Cutter<'a> {
 
     /// The parts, of which the last one is what was left.
     pub(crate) fn finish(mut self) -> Result<Vec<Part<'a>>, AllocError>
-        ensures { IfOk result (λ parts. AreParts self.entry.whole (map part_seen parts.items)) }
+        ensures parts { IfOk result (λ parts. AreParts self.entry.whole (map part_seen parts.items)) }
+        ensures are { IfOk result (λ parts. map part_seen parts.items ≡ self.entry.parts ++ stray_part self.entry) }
     {
         self.cut_rest()?;
         Ok(self.into_parts())
@@ -92,6 +101,7 @@ impl<'a> Cutter<'a> {
     fn cut_rest(&mut self) -> Result<(), AllocError>
         ensures whole { self.new.whole ≡ self.old.whole }
         ensures all { OnOk result (self.new.place ≡ length self.new.whole) }
+        ensures parts { OnOk result (self.new.parts ≡ self.old.parts ++ stray_part self.old) }
     {
         let left = self.whole.len() - self.place;
         if left == 0 {
@@ -103,7 +113,8 @@ impl<'a> Cutter<'a> {
     /// The parts of a message that is cut to its end.
     fn into_parts(self) -> Vec<Part<'a>>
         requires { self.place ≡ length self.whole }
-        ensures { AreParts self.entry.whole (map part_seen result.items) }
+        ensures parts { AreParts self.entry.whole (map part_seen result.items) }
+        ensures are { map part_seen result.items ≡ self.entry.parts }
     {
         let Cutter {
             whole: _,

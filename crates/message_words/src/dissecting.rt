@@ -1,7 +1,9 @@
 //! A whole message in parts, and the transmissions that it carries.
 
-ghost use Rattle.std.specs.Prelude.{◌≡◌, map, IfOk};
+ghost use Rattle.std.specs.Prelude.{◌≡◌, ◌≤◌, ◌+◌, [], ◌++◌, length, map, IfOk, OnOk};
 ghost use Rattle.message_words.specs.Parts.{AreParts, part_seen};
+ghost use Rattle.message_words.specs.Steps.{AreOf, IsOne, one_carried};
+ghost use Rattle.message_words.specs.Added.{next_bytes, stray_part, AddsTransmission};
 
 use crate::cutter::Cutter;
 use crate::layout::Form;
@@ -76,7 +78,9 @@ pub fn dissect<'a>(
     bytes: &'a [u8],
 ) -> Result<Dissected<'a>, AllocError>
     // No byte is left out, none is told twice, and each part stands where it says.
-    ensures { IfOk result (λ d. AreParts bytes.now (map part_seen d.parts.items)) }
+    ensures parts { IfOk result (λ d. AreParts bytes.now (map part_seen d.parts.items)) }
+    // Each part is the one that begins at its place, and what is carried stands behind the head.
+    ensures are { IfOk result (λ d. AreOf kind bytes.now (map part_seen d.parts.items) d.carried.items) }
 {
     let mut cutter = Cutter::new(alloc, bytes)?;
     let mut carried = Vec::new(alloc);
@@ -85,21 +89,42 @@ pub fn dissect<'a>(
     Ok(Dissected { parts, carried })
 }
 
-/// Cuts a message of a kind.
+/// Cuts a message of a kind, of which nothing is cut.
 fn cut_message(
     cutter: &mut Cutter<'_>,
     carried: &mut Vec<Carried>,
     kind: MessageKind,
 ) -> Result<(), AllocError>
-    ensures { cutter.new.whole ≡ cutter.old.whole }
+    requires start { cutter.old.place ≡ 0 }
+    requires no_part { cutter.old.parts ≡ [] }
+    requires none { carried.old.items ≡ [] }
+    ensures whole { cutter.new.whole ≡ cutter.old.whole }
+    ensures parts { OnOk result (AreOf kind cutter.old.whole (cutter.new.parts ++ stray_part cutter.new)
+        carried.new.items) }
 {
-    let size = cutter.left().len();
     match kind {
-        MessageKind::Request => cut_carried(cutter, carried, Form::Request, size),
-        MessageKind::Answer => cut_carried(cutter, carried, Form::Answer, size),
+        MessageKind::Request => cut_whole(cutter, carried, Form::Request),
+        MessageKind::Answer => cut_whole(cutter, carried, Form::Answer),
         MessageKind::Packet => cut_packet(cutter, carried),
         MessageKind::Record => cut_record(cutter, carried),
     }
+}
+
+/// Cuts a message that is a request or an answer.
+fn cut_whole(
+    cutter: &mut Cutter<'_>,
+    carried: &mut Vec<Carried>,
+    form: Form,
+) -> Result<(), AllocError>
+    requires start { cutter.old.place ≡ 0 }
+    requires no_part { cutter.old.parts ≡ [] }
+    requires none { carried.old.items ≡ [] }
+    ensures whole { cutter.new.whole ≡ cutter.old.whole }
+    ensures place { OnOk result (cutter.new.place ≡ length cutter.old.whole) }
+    ensures one { OnOk result (IsOne form cutter.old.whole cutter.new.parts carried.new.items) }
+{
+    let size = cutter.left().len();
+    cut_carried(cutter, carried, form, size)
 }
 
 /// Cuts the next bytes, so many, as a transmission that the message carries.
@@ -109,7 +134,13 @@ pub(crate) fn cut_carried(
     form: Form,
     size: usize,
 ) -> Result<(), AllocError>
-    ensures { cutter.new.whole ≡ cutter.old.whole }
+    requires { cutter.old.place + size ≤ length cutter.old.whole }
+    ensures whole { cutter.new.whole ≡ cutter.old.whole }
+    ensures place { OnOk result (cutter.new.place ≡ cutter.old.place + size) }
+    ensures parts { OnOk result (AddsTransmission form cutter.old.place (next_bytes cutter.old size)
+        cutter.old.parts cutter.new.parts) }
+    ensures carried { OnOk result (carried.new.items
+        ≡ carried.old.items ++ one_carried form cutter.old.place (next_bytes cutter.old size)) }
 {
     let place = cutter.place();
     carried.push(Carried { form, place, size })?;

@@ -1,66 +1,114 @@
 //! Cutting envelopes, journals and books.
 
-ghost use Rattle.std.specs.Prelude.{◌≡◌};
+ghost use Rattle.std.specs.Prelude.{◌≡◌, ◌≤◌, ◌+◌, ◌-◌, [], ◌++◌, length, IfOk, OnOk};
+ghost use Rattle.message_words.specs.Steps.{IsPacket, packet_form, packet_rows, head_parts, width_of, some_carried};
+ghost use Rattle.message_words.specs.Added.{next_bytes, AddsTransmission};
 
 use crate::cutter::Cutter;
 use crate::dissecting::{Carried, cut_carried};
 use crate::layout::Form;
 use crate::marks::Mark;
 use crate::part::PartKind;
-use crate::transmissions::front_of;
+use crate::transmissions::{cut_head, front_of};
 use std::alloc::AllocError;
 
 /// The most bytes of a text in a record.
 const LONGEST: u64 = 32_768;
 
 /// The head of an envelope.
-static PACKET: [(Mark, usize); 6] = [
-    (Mark::Letters, 2),
-    (Mark::FormatVersion, 1),
-    (Mark::Kind, 1),
-    (Mark::Pharmacy, 2),
-    (Mark::Number, 8),
-    (Mark::Length, 4),
+static PACKET: [(PartKind, usize); 6] = [
+    (PartKind::Mark(Mark::Letters), 2),
+    (PartKind::Mark(Mark::FormatVersion), 1),
+    (PartKind::Mark(Mark::Kind), 1),
+    (PartKind::Mark(Mark::Pharmacy), 2),
+    (PartKind::Mark(Mark::Number), 8),
+    (PartKind::Mark(Mark::Length), 4),
 ];
 
 /// The head of a journal.
-static JOURNAL: [(Mark, usize); 4] = [
-    (Mark::Letters, 2),
-    (Mark::FormatVersion, 1),
-    (Mark::Pharmacy, 2),
-    (Mark::Count, 4),
+static JOURNAL: [(PartKind, usize); 4] = [
+    (PartKind::Mark(Mark::Letters), 2),
+    (PartKind::Mark(Mark::FormatVersion), 1),
+    (PartKind::Mark(Mark::Pharmacy), 2),
+    (PartKind::Mark(Mark::Count), 4),
 ];
 
 /// The head of a book.
-static BOOK: [(Mark, usize); 8] = [
-    (Mark::Letters, 2),
-    (Mark::FormatVersion, 1),
-    (Mark::Payer, 2),
-    (Mark::FirstSerial, 8),
-    (Mark::Fee, 4),
-    (Mark::Copay, 4),
-    (Mark::ProductCount, 4),
-    (Mark::Count, 4),
+static BOOK: [(PartKind, usize); 8] = [
+    (PartKind::Mark(Mark::Letters), 2),
+    (PartKind::Mark(Mark::FormatVersion), 1),
+    (PartKind::Mark(Mark::Payer), 2),
+    (PartKind::Mark(Mark::FirstSerial), 8),
+    (PartKind::Mark(Mark::Fee), 4),
+    (PartKind::Mark(Mark::Copay), 4),
+    (PartKind::Mark(Mark::ProductCount), 4),
+    (PartKind::Mark(Mark::Count), 4),
 ];
 
-/// Cuts an envelope. What it carries is cut as its head says, and as what it looks like where the head says neither.
+/// Cuts an envelope. What it carries is cut as its head says, and as a request where the head says neither.
 pub(crate) fn cut_packet(
     cutter: &mut Cutter<'_>,
     carried: &mut Vec<Carried>,
 ) -> Result<(), AllocError>
-    ensures { cutter.new.whole ≡ cutter.old.whole }
+    requires start { cutter.old.place ≡ 0 }
+    requires no_part { cutter.old.parts ≡ [] }
+    requires none { carried.old.items ≡ [] }
+    ensures whole { cutter.new.whole ≡ cutter.old.whole }
+    ensures place { OnOk result (cutter.new.place ≡ length cutter.old.whole) }
+    ensures packet { OnOk result (IsPacket cutter.old.whole cutter.new.parts carried.new.items) }
 {
-    let form = match cutter.left() {
-        [_, _, _, 1, ..] => Form::Request,
-        [_, _, _, 2, ..] => Form::Answer,
-        _ => Form::Request,
-    };
-    cut_marks(cutter, PACKET.as_slice())?;
+    let form = packet_form(cutter.left());
     let size = cutter.left().len();
+    let left = cut_packet_head(cutter, size)?;
+    cut_payload(cutter, carried, form, left)
+}
+
+/// Cuts the head of an envelope, as far as the bytes reach, and gives how many are left of them.
+#[tactic(auto, unfolding(crate::specs::Steps::packet_rows))]
+fn cut_packet_head(cutter: &mut Cutter<'_>, size: usize) -> Result<usize, AllocError>
+    requires { cutter.old.place + size ≤ length cutter.old.whole }
+    ensures whole { cutter.new.whole ≡ cutter.old.whole }
+    ensures left { IfOk result (λ left. left ≡ size - width_of packet_rows) }
+    ensures place { IfOk result (λ left. cutter.new.place + left ≡ cutter.old.place + size) }
+    ensures parts { OnOk result (cutter.new.parts
+        ≡ cutter.old.parts ++ head_parts packet_rows cutter.old.place (next_bytes cutter.old size)) }
+{
+    cut_head(cutter, PACKET.as_slice(), size)
+}
+
+/// Cuts what an envelope carries, where bytes are left.
+fn cut_payload(
+    cutter: &mut Cutter<'_>,
+    carried: &mut Vec<Carried>,
+    form: Form,
+    size: usize,
+) -> Result<(), AllocError>
+    requires { cutter.old.place + size ≤ length cutter.old.whole }
+    ensures whole { cutter.new.whole ≡ cutter.old.whole }
+    ensures place { OnOk result (cutter.new.place ≡ cutter.old.place + size) }
+    ensures parts { OnOk result (AddsTransmission form cutter.old.place (next_bytes cutter.old size)
+        cutter.old.parts cutter.new.parts) }
+    ensures carried { OnOk result (carried.new.items
+        ≡ carried.old.items ++ some_carried form cutter.old.place (next_bytes cutter.old size)) }
+{
     if size == 0 {
         return Ok(());
     }
     cut_carried(cutter, carried, form, size)
+}
+
+/// What an envelope carries by its head, and a request where it says neither.
+fn packet_form(bytes: &[u8]) -> Form
+    ensures { result ≡ packet_form bytes.now }
+{
+    match bytes {
+        [_, _, _, kind, ..] => if *kind == 2 {
+            Form::Answer
+        } else {
+            Form::Request
+        },
+        _ => Form::Request,
+    }
 }
 
 /// Cuts a journal or a book.
@@ -168,13 +216,12 @@ fn cut_text(
     Ok(true)
 }
 
-/// Cuts marks of fixed widths.
-fn cut_marks(cutter: &mut Cutter<'_>, marks: &[(Mark, usize)]) -> Result<(), AllocError>
+/// Cuts marks of fixed widths, as far as the bytes reach.
+fn cut_marks(cutter: &mut Cutter<'_>, marks: &[(PartKind, usize)]) -> Result<(), AllocError>
     ensures { cutter.new.whole ≡ cutter.old.whole }
 {
-    for (mark, width) in marks {
-        cut_mark(cutter, *mark, *width)?;
-    }
+    let size = cutter.left().len();
+    cut_head(cutter, marks, size)?;
     Ok(())
 }
 

@@ -1,0 +1,42 @@
+-- What a cut adds to the parts.
+use Rattle.std.specs.Prelude.{◌≡◌, ℕ, List, ◌++◌, take, drop}
+use Rattle.message_words.specs.declared.layout.Form.{Form}
+use Rattle.message_words.specs.declared.layout.Within.{Within}
+use Rattle.message_words.specs.declared.part.PartKind.{PartKind}
+use Rattle.message_words.specs.declared.part.PartKind.TheVariants.{Stray}
+use Rattle.message_words.specs.Parts.{PartSeen, Cut}
+use Rattle.message_words.specs.Steps.{filled_part, AreBody, AreTransmission, at_first}
+
+-- the next bytes that are left, so many
+abbrev pub next_bytes : Cut → ℕ → List ℕ
+next_bytes c size = take size (drop c.place c.whole)
+
+-- a part of the next bytes
+abbrev pub next_part : Cut → PartKind → ℕ → PartSeen
+next_part c kind size = record { place = c.place; bytes = next_bytes c size; kind = kind }
+
+-- the same, but none of no bytes
+abbrev pub some_part : Cut → PartKind → ℕ → List PartSeen
+some_part c kind size = filled_part kind c.place (next_bytes c size)
+
+-- what is left, where bytes are left, as one part that stands where none should
+abbrev pub stray_part : Cut → List PartSeen
+stray_part c = filled_part Stray c.place (drop c.place c.whole)
+
+-- the parts of a body that stood behind parts that were there, when it was cut up to a place
+pub record IsCutUpTo (form : Form) (first : ℕ) (all : List ℕ) (old : List PartSeen) (within : Within) (place : ℕ) (left : List ℕ) (now : List PartSeen) : Type 0 where
+  pub added : List PartSeen
+  pub are : now ≡ old ++ added
+  pub goes_on : (rest : List PartSeen) → AreBody form within place left rest → AreBody form at_first first all (added ++ rest)
+
+-- behind the parts that were there are those of a body
+pub record AddsBody (form : Form) (place : ℕ) (bytes : List ℕ) (old new : List PartSeen) : Type 0 where
+  pub added : List PartSeen
+  pub are : new ≡ old ++ added
+  pub body : AreBody form at_first place bytes added
+
+-- those of a request or an answer
+pub record AddsTransmission (form : Form) (place : ℕ) (bytes : List ℕ) (old new : List PartSeen) : Type 0 where
+  pub added : List PartSeen
+  pub are : new ≡ old ++ added
+  pub transmission : AreTransmission form place bytes added
