@@ -48,7 +48,7 @@ one_ok form old new size before after start no_part none all adds carried =
     let are : new.parts ≡ adds.added = adds.are ∙ ap (λ (ps : List PartSeen). ps ++ adds.added) no_part in
     record {
       transmission = subst (λ (ps : List PartSeen). AreTransmission form 0 old.whole ps) (sym are)
-      (subst (λ (bs : List ℕ). AreTransmission form 0 bs adds.added) bytes (subst (λ (p : ℕ). AreTransmission form p (next_bytes old size) adds.added) start adds.transmission));
+          (subst (λ (bs : List ℕ). AreTransmission form 0 bs adds.added) bytes (subst (λ (p : ℕ). AreTransmission form p (next_bytes old size) adds.added) start adds.transmission));
       only = carried ∙ ap (λ (cs : List Carried). cs ++ one_carried form old.place (next_bytes old size)) none ∙ ap (λ p. one_carried form p (next_bytes old size)) start ∙ ap (one_carried form 0) bytes;
     }
 
@@ -63,26 +63,26 @@ at_width : (form : Form) (old mid : Cut) (size left width : ℕ) (added : List P
     → AreTransmission form mid.place (next_bytes mid left) added → AreTransmission form width (drop width old.whole) added
 at_width form old mid size left width added start all whole l place t = elim (either width size) [
   | inl fits ↦
-    let place_is : mid.place ≡ width = omega arith in
-    let bytes_are : next_bytes mid left ≡ drop width old.whole =
-    ap (λ (w : List ℕ). take left (drop mid.place w)) whole ∙ ap (λ p. take left (drop p old.whole)) place_is ∙ take_all left (drop width old.whole) (omega (arith, length-drop width old.whole)) in
-    subst (λ (bs : List ℕ). AreTransmission form width bs added) bytes_are (subst (λ (p : ℕ). AreTransmission form p (next_bytes mid left) added) place_is t)
+      let place_is : mid.place ≡ width = omega arith in
+      let bytes_are : next_bytes mid left ≡ drop width old.whole =
+      ap (λ (w : List ℕ). take left (drop mid.place w)) whole ∙ ap (λ p. take left (drop p old.whole)) place_is ∙ take_all left (drop width old.whole) (omega (arith, length-drop width old.whole)) in
+      subst (λ (bs : List ℕ). AreTransmission form width bs added) bytes_are (subst (λ (p : ℕ). AreTransmission form p (next_bytes mid left) added) place_is t)
   | inr short ↦
-    let none : left ≡ 0 = omega arith in
-    none_moves form mid.place width (next_bytes mid left) (drop width old.whole) added (ap (λ n. take n (drop mid.place mid.whole)) none) (drop_all width old.whole (omega arith)) t
+      let none : left ≡ 0 = omega arith in
+      none_moves form mid.place width (next_bytes mid left) (drop width old.whole) added (ap (λ n. take n (drop mid.place mid.whole)) none) (drop_all width old.whole (omega arith)) t
 ]
 
 carried_at_width : (form : Form) (old mid : Cut) (size left width : ℕ) → old.place ≡ 0 → size ≡ length old.whole → mid.whole ≡ old.whole → left ≡ size - width → mid.place + left ≡ old.place + size
     → some_carried form mid.place (next_bytes mid left) ≡ some_carried form width (drop width old.whole)
 carried_at_width form old mid size left width start all whole l place = elim (either width size) [
   | inl fits ↦
-    let place_is : mid.place ≡ width = omega arith in
-    let bytes_are : next_bytes mid left ≡ drop width old.whole =
-    ap (λ (w : List ℕ). take left (drop mid.place w)) whole ∙ ap (λ p. take left (drop p old.whole)) place_is ∙ take_all left (drop width old.whole) (omega (arith, length-drop width old.whole)) in
-    ap (some_carried form mid.place) bytes_are ∙ ap (λ p. some_carried form p (drop width old.whole)) place_is
+      let place_is : mid.place ≡ width = omega arith in
+      let bytes_are : next_bytes mid left ≡ drop width old.whole =
+      ap (λ (w : List ℕ). take left (drop mid.place w)) whole ∙ ap (λ p. take left (drop p old.whole)) place_is ∙ take_all left (drop width old.whole) (omega (arith, length-drop width old.whole)) in
+      ap (some_carried form mid.place) bytes_are ∙ ap (λ p. some_carried form p (drop width old.whole)) place_is
   | inr short ↦
-    let none : left ≡ 0 = omega arith in
-    ap (λ n. some_carried form mid.place (take n (drop mid.place mid.whole))) none ∙ sym (ap (some_carried form width) (drop_all width old.whole (omega arith)))
+      let none : left ≡ 0 = omega arith in
+      ap (λ n. some_carried form mid.place (take n (drop mid.place mid.whole))) none ∙ sym (ap (some_carried form width) (drop_all width old.whole (omega arith)))
 ]
 
 packet_ok : (form : Form) (old mid new : Cut) (size left : ℕ) (before after : List Carried) → old.place ≡ 0 → old.parts ≡ [] → before ≡ [] → size ≡ length old.whole → form ≡ packet_form old.whole

@@ -5,3 +5,6 @@ pub mod Added
 pub mod Found
 pub mod Causes
 pub mod Findings
+pub mod Naming
+pub mod FieldTitles
+pub mod Spelled

@@ -1,6 +1,7 @@
 //! A whole message in parts, and the transmissions that it carries.
 
 ghost use Rattle.std.specs.Prelude.{◌≡◌, ◌≤◌, ◌+◌, [], ◌++◌, length, map, IfOk, OnOk};
+ghost use Rattle.message_words.specs.Naming.{kind_of, kind_name};
 ghost use Rattle.message_words.specs.Parts.{AreParts, part_seen};
 ghost use Rattle.message_words.specs.Steps.{AreOf, IsOne, one_carried};
 ghost use Rattle.message_words.specs.Added.{next_bytes, stray_part, AddsTransmission};
@@ -47,7 +48,9 @@ pub struct Dissected<'a> {
 
 impl MessageKind {
     /// Its name.
-    pub fn name(self) -> &'static str {
+    pub fn name(self) -> &'static str
+        ensures { result.now ≡ kind_name self }
+    {
         match self {
             MessageKind::Request => "request",
             MessageKind::Answer => "answer",
@@ -58,7 +61,9 @@ impl MessageKind {
 
     /// What a message is by its first two bytes: an envelope begins with `PS`, a journal with `PJ`, a book with `PB`,
     /// an answer with `D0`, and a request with six digits. Other bytes are taken for a request.
-    pub fn of(bytes: &[u8]) -> MessageKind {
+    pub fn of(bytes: &[u8]) -> MessageKind
+        ensures { result ≡ kind_of bytes.now }
+    {
         match bytes {
             [b'P', b'S', ..] => MessageKind::Packet,
             [b'P', b'J' | b'B', ..] => MessageKind::Record,

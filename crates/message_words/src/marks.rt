@@ -1,5 +1,8 @@
 //! The numbers and texts of envelopes and records.
 
+ghost use Rattle.std.specs.Prelude.{◌≡◌, true};
+ghost use Rattle.message_words.specs.Naming.{spells_number, is_length, mark_names, is_of_record};
+
 /// What a stretch of an envelope's head or of a record is.
 #[derive(Clone, Copy, Debug, PartialEq, Eq)]
 pub enum Mark {
@@ -37,17 +40,24 @@ pub enum Mark {
 
 impl Mark {
     /// Whether its bytes spell a number.
-    pub fn is_number(self) -> bool {
+    pub fn is_number(self) -> bool
+        ensures { result ≡ spells_number self }
+    {
         !matches!(self, Mark::Letters | Mark::PlanProduct)
     }
 
     /// Whether a transmission may follow it: its transactions are then counted anew.
-    pub fn begins_transmission(self) -> bool {
+    pub fn begins_transmission(self) -> bool
+        ensures { result ≡ is_length self }
+    {
         matches!(self, Mark::Length)
     }
 
     /// Its name for people, and in JSON.
-    pub fn names(self) -> (&'static str, &'static str) {
+    pub fn names(self) -> (&'static str, &'static str)
+        ensures words { result.0.now ≡ (mark_names self).words }
+        ensures key { result.1.now ≡ (mark_names self).key }
+    {
         match self {
             Mark::Letters => ("letters of the format", "letters"),
             Mark::FormatVersion => ("version of the format", "format_version"),
@@ -61,7 +71,11 @@ impl Mark {
     }
 
     /// The same for those of records alone.
-    fn names_in_record(self) -> (&'static str, &'static str) {
+    fn names_in_record(self) -> (&'static str, &'static str)
+        requires { is_of_record self ≡ true }
+        ensures words { result.0.now ≡ (mark_names self).words }
+        ensures key { result.1.now ≡ (mark_names self).key }
+    {
         match self {
             Mark::ProductCount => ("count of products", "product_count"),
             Mark::AnswerFlag => ("answer follows", "answer_follows"),

@@ -1,5 +1,8 @@
 //! The fields that the product knows, by the standard's numbers and names.
 
+ghost use Rattle.std.specs.Prelude.{◌≡◌};
+ghost use Rattle.message_words.specs.FieldTitles.{holds_amount, titles, titles_seen, titles_of};
+
 /// A field of a header, of an order or of a ruling.
 #[derive(Clone, Copy, PartialEq, Eq)]
 pub enum FieldName {
@@ -74,7 +77,9 @@ pub struct Named {
 pub(crate) type Called = (&'static str, &'static str, &'static str);
 
 /// How a field is called, of these words.
-pub(crate) fn named_by(called: Called) -> Named {
+pub(crate) fn named_by(called: Called) -> Named
+    ensures { titles_seen result ≡ titles called.entry.0.now called.entry.1.now called.entry.2.now }
+{
     Named {
         number: called.0,
         name: called.1,
@@ -158,7 +163,9 @@ const TOTAL_PAID: Called = ("509-F9", "total amount paid", "total_amount_paid");
 
 impl FieldName {
     /// Whether its value is an amount.
-    pub fn is_amount(self) -> bool {
+    pub fn is_amount(self) -> bool
+        ensures { result ≡ holds_amount self }
+    {
         matches!(
             self,
             FieldName::IngredientCost
@@ -171,7 +178,9 @@ impl FieldName {
     }
 
     /// The number and the names of the field. Each field has its line here: a new one does not compile without.
-    pub fn named(self) -> Named {
+    pub fn named(self) -> Named
+        ensures { titles_seen result ≡ titles_of self }
+    {
         named_by(match self {
             FieldName::Bin => BIN,
             FieldName::Version => VERSION,

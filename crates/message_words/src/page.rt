@@ -1,6 +1,6 @@
 //! The description of one message, as lines of text or as an object of JSON.
 
-ghost use Rattle.std.specs.Prelude.{◌≤◌, ◌+◌, length};
+ghost use Rattle.std.specs.Prelude.{◌≡◌, ◌≤◌, ◌+◌, ◌||◌, false, [], length};
 
 use crate::dissecting::MessageKind;
 use crate::text::{Text, digit, is_plain};
@@ -55,7 +55,12 @@ const MEANING: usize = 70;
 
 impl Page {
     /// A page on which nothing is written.
-    pub fn new(alloc: Global, style: Style) -> Page {
+    pub fn new(alloc: Global, style: Style) -> Page
+        ensures text { result.out.bytes.items ≡ [] }
+        ensures taken { (result.out.refused || result.note.refused || result.value.refused) ≡ false }
+        ensures style { result.style ≡ style }
+        ensures dropped { result.dropped ≡ (false, false) }
+    {
         Page {
             out: Text::new(alloc),
             note: Text::new(alloc),
@@ -69,17 +74,23 @@ impl Page {
     }
 
     /// Notes which of the bytes around a message were dropped, for the descriptions that follow.
-    pub fn note_dropped(&mut self, before: bool, behind: bool) {
+    pub fn note_dropped(&mut self, before: bool, behind: bool)
+        ensures { self.new ≡ record self.old { dropped = (before, behind) } }
+    {
         self.dropped = (before, behind);
     }
 
     /// Whether memory was refused while it was written.
-    pub fn is_refused(&self) -> bool {
+    pub fn is_refused(&self) -> bool
+        ensures { result ≡ (self.now.out.refused || self.now.note.refused || self.now.value.refused) }
+    {
         self.out.is_refused() || self.note.is_refused() || self.value.is_refused()
     }
 
     /// What is written.
-    pub fn as_slice(&self) -> &[u8] {
+    pub fn as_slice(&self) -> &[u8]
+        ensures { result.now ≡ self.now.out.bytes.items }
+    {
         self.out.as_slice()
     }
 

@@ -1,5 +1,11 @@
 //! How a line spells the bytes of a message.
 
+ghost use Rattle.std.specs.Prelude.{◌≡◌, Ok, MatchResult};
+ghost use Rattle.d0_segments.specs.Separators.{begins_with};
+ghost use Rattle.input_text.specs.Printing.{unprinted};
+ghost use Rattle.message_words.specs.Spelled.{FailsAt, ends_with, without_first, without_last};
+ghost use Rattle.message_words.specs.declared.spelling.SpellingFault.TheVariants.{OutOfMemory};
+
 use input_text::{PrintedFault, unprint};
 use std::alloc::{AllocError, Global};
 
@@ -24,6 +30,8 @@ pub enum SpellingFault {
 }
 
 impl From<AllocError> for SpellingFault {
+    ghost from_gives = { λ _ e. e ≡ OutOfMemory };
+
     fn from(_refused: AllocError) -> SpellingFault {
         SpellingFault::OutOfMemory
     }
@@ -33,7 +41,9 @@ impl From<AllocError> for SpellingFault {
 ///
 /// # Errors
 /// `NoByte` where no byte is spelled, the first such place; `OutOfMemory`.
-pub fn printed_bytes(alloc: Global, line: &[u8]) -> Result<Vec<u8>, SpellingFault> {
+pub fn printed_bytes(alloc: Global, line: &[u8]) -> Result<Vec<u8>, SpellingFault>
+    ensures { MatchResult result (λ v. unprinted line.now ≡ Ok v.items) (λ e. FailsAt e (unprinted line.now)) }
+{
     match unprint(alloc, line) {
         Ok(bytes) => Ok(bytes),
         Err(PrintedFault::OutOfMemory) => Err(SpellingFault::OutOfMemory),
@@ -81,13 +91,25 @@ fn digit_of(letter: u8) -> Option<u8> {
 }
 
 /// A message without one byte 0x02 before it and one byte 0x03 behind it, and whether each of the two was there.
-pub fn unwrapped(bytes: &[u8]) -> (&[u8], bool, bool) {
-    let (bytes, before) = match bytes {
+pub fn unwrapped(bytes: &[u8]) -> (&[u8], bool, bool)
+    ensures before { result.1 ≡ begins_with 2 bytes.now }
+    ensures behind { result.2 ≡ ends_with 3 (without_first result.1 bytes.now) }
+    ensures bytes { result.0.now ≡ without_last result.2 (without_first result.1 bytes.now) }
+{
+    let (inside, before) = match bytes {
         [0x02, rest @ ..] => (rest, true),
         _ => (bytes, false),
     };
-    match bytes {
-        [rest @ .., 0x03] => (rest, before, true),
-        _ => (bytes, before, false),
+    if is_ended(inside) {
+        return (&inside[..inside.len().saturating_sub(1)], before, true);
     }
+    (inside, before, false)
+}
+
+/// Whether the last byte is 0x03.
+fn is_ended(bytes: &[u8]) -> bool
+    ensures { result ≡ ends_with 3 bytes.now }
+{
+    let last = &bytes[bytes.len().saturating_sub(1)..];
+    matches!(last, [0x03, ..])
 }

@@ -1,5 +1,7 @@
 //! A text that is written piece by piece. Where memory is refused it takes no more, and says so.
 
+ghost use Rattle.std.specs.Prelude.{◌≡◌, [], false};
+
 use input_text::{put_decimal, put_printed};
 use std::alloc::{AllocError, Global};
 
@@ -20,7 +22,10 @@ const MOST_SPACES: usize = 128;
 
 impl Text {
     /// A text without bytes.
-    pub(crate) fn new(alloc: Global) -> Text {
+    pub(crate) fn new(alloc: Global) -> Text
+        ensures bytes { result.bytes.items ≡ [] }
+        ensures refused { result.refused ≡ false }
+    {
         Text {
             bytes: Vec::new(alloc),
             refused: false,
@@ -33,7 +38,9 @@ impl Text {
     }
 
     /// Whether memory was refused.
-    pub(crate) fn is_refused(&self) -> bool {
+    pub(crate) fn is_refused(&self) -> bool
+        ensures { result ≡ self.now.refused }
+    {
         self.refused
     }
 
@@ -48,7 +55,9 @@ impl Text {
     }
 
     /// The bytes so far.
-    pub(crate) fn as_slice(&self) -> &[u8] {
+    pub(crate) fn as_slice(&self) -> &[u8]
+        ensures { result.now ≡ self.now.bytes.items }
+    {
         self.bytes.as_slice()
     }
 
