@@ -3,7 +3,7 @@ use Rattle.std.specs.Prelude.{◌≡◌, ◌⊎◌, ℕ, ◌<◌, ◌≤◌, tru
 use Rattle.std.specs.Option.{option_map}
 use Rattle.world_setup.specs.Seen.{node_seen}
 use Rattle.world_setup.specs.declared.node.Node.{Node}
-use Rattle.node_service.specs.Names.{node_in}
+use Rattle.schedule.specs.Nodes.{node_in}
 use Rattle.node_service.specs.Serving.{Serving}
 use Rattle.node_service.specs.declared.fault.ServiceFault.{ServiceFault}
 use Rattle.node_service.specs.Opened.{IsOpened}

@@ -1,7 +1,7 @@
 -- Calls with bytes of their own, as the lines that ask for them.
 use Rattle.std.specs.Prelude.{◌≡◌, ◌⊎◌, ℕ, List, ◌++◌, codes, Ok, Err, Option, None, IsSome}
 use Rattle.input_text.specs.Printing.{printed}
-use Rattle.node_service.specs.Names.{node_in}
+use Rattle.schedule.specs.Nodes.{node_in}
 use Rattle.node_handle.specs.declared.refusal.Refusal.TheVariants.{Name}
 use Rattle.node_handle.specs.Saying.{Said}
 use Rattle.node_handle.specs.Hosting.{Hosting}
