@@ -9,7 +9,8 @@ lets nobody publish there but that sender (hosts/permissions). Callers' lines co
 NUMBER`, which is replied to as `answer NUMBER` is, but not before the entry has its answer; no others. An operator's come on `claims.NODE.operate`: any line but `take`, and `kill`, which ends the host as a power cut would. Each
 is replied to with the last line of what the node says. The program appends each call to its log and syncs the log before it says
 anything, so whatever this host hears may go out. Ticks carry progress: what the carrier loses is sent again, and what a tick
-sends is spread over its time. SIGTERM drains: what was taken is finished, said and synced.
+sends is spread over its time. While no entry is open a tick would change nothing, and none is made. SIGTERM drains: what was
+taken is finished, said and synced.
 
 Status 0: it was told to end. 1: something failed that may be otherwise at the next try. 78: the settings, the name or the log are
 refused, or a sync of the log has failed: it stays so until people have looked. Standard error has a JSON object a line, with -v words.
@@ -65,6 +66,7 @@ class Host:
         self._tick_seconds = tick_seconds
         self._waiting_bytes = 0
         self._is_ticking = False
+        self.knows_open = False
         self._waits = Waits()
         self.kill: Callable[[], None] = lambda: None
 
@@ -187,7 +189,9 @@ class Host:
             self.counts.dropped["reply"] += 1
 
     def tick(self) -> None:
-        """A tick of a pharmacy, unless the last one is still being made."""
+        """A tick of a pharmacy, unless the last one is still being made, or no entry is open: then it would change nothing."""
+        if self.knows_open and not self.counts.open:
+            return
 
         def heard(sent: list[tuple[str, bytes]], _last: bytes) -> None:
             self._is_ticking = False
@@ -214,14 +218,24 @@ class Host:
         """Learns which entries are open from an earlier life, some at a time, while the node serves."""
         number, is_there = 1, True
         while is_there:
-            asked = range(number, number + ASKED_AT_ONCE)
-            lines = await asyncio.gather(*(self.node.ask(b"answer %d" % it) for it in asked))
-            for it, line in zip(asked, lines):
-                self.counts.entries = max(self.counts.entries, it if line != b"none" else 0)
-                if line == b"open":
-                    self.counts.entered(it)
-                is_there = is_there and line != b"none"
+            is_there = all(await asyncio.gather(*map(self._learn, range(number, number + ASKED_AT_ONCE))))
             number += ASKED_AT_ONCE
+        self.knows_open = True
+
+    async def _learn(self, number: int) -> bool:
+        """Whether there is an entry of this number. That it is open is noted as it is heard, before the answer that may come behind."""
+        is_there: asyncio.Future[bool] = asyncio.get_running_loop().create_future()
+
+        def heard(_sent: list[tuple[str, bytes]], last: bytes) -> None:
+            if last == b"open":
+                self.counts.entered(number)
+            if last != b"none":
+                self.counts.entries = max(self.counts.entries, number)
+            if not is_there.done():
+                is_there.set_result(last != b"none")
+
+        self.node.call(b"answer %d" % number, heard)
+        return await is_there
 
     async def drain(self) -> None:
         """Waits until all that the node was asked has been said."""
@@ -243,7 +257,7 @@ class Run:
         self._node = Node(given.program, given.settings, given.node, given.log, self._say)
         self._host = Host(self._node, self._carrier, given.hold_back / 1000, given.tick)
         self._host.kill = self._kill
-        self._is_draining = self._is_learned = False
+        self._is_draining = False
         self._most = Settings.read(given.settings).cap(given.node)
 
     async def go(self) -> int:
@@ -303,12 +317,8 @@ class Run:
         sys.stdout.flush()
         works = [carrier.task]
         if name.startswith("ph"):
-            works += [asyncio.create_task(host.tick_for_ever()), asyncio.create_task(self._learn())]
+            works += [asyncio.create_task(host.tick_for_ever()), asyncio.create_task(host.learn_open())]
         await asyncio.gather(*works)
-
-    async def _learn(self) -> None:
-        await self._host.learn_open()
-        self._is_learned = True
 
     async def _end(self) -> None:
         """Finishes what was taken: no more is taken, what was is said, and only then the node ends."""
@@ -355,7 +365,7 @@ class Run:
         if self._given.node.startswith("ph"):
             facts["rows"] = self._host.counts.entries
             facts["rows_most"] = self._most
-            facts["open_entries_known"] = float(self._is_learned)
+            facts["open_entries_known"] = float(self._host.knows_open)
         return facts
 
     def _unready(self) -> str:

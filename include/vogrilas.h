@@ -23,7 +23,7 @@
 **
 **     a node        vogrilas_open, vogrilas_serve, vogrilas_submit, vogrilas_take, vogrilas_records, vogrilas_kept,
 **                   vogrilas_written, vogrilas_clear, vogrilas_close
-**     what it has   vogrilas_calls, vogrilas_count, vogrilas_request, vogrilas_answer, vogrilas_payments
+**     what it has   vogrilas_calls, vogrilas_count, vogrilas_most, vogrilas_request, vogrilas_answer, vogrilas_payments
 **     messages      vogrilas_make_billing, vogrilas_make_reversal, vogrilas_describe
 **     no node       vogrilas_print, vogrilas_unprint, vogrilas_audit, vogrilas_version
 **
@@ -262,6 +262,14 @@ vogrilas_code vogrilas_calls(vogrilas_node *node, uint64_t *calls);
 ** VOGRILAS_OK: *count is told. VOGRILAS_UNSYNCED, VOGRILAS_CLOSED, VOGRILAS_NO_MEMORY: *count is as it was, and the node too.
 */
 vogrilas_code vogrilas_count(vogrilas_node *node, uint64_t *count);
+
+/*
+** Tells the most that vogrilas_count() can tell: the cap of the pharmacy, the switch or the payer in the settings. A node that has as
+** many entries or rows refuses what is new, a reversal too (JournalFull, BookFull); a switch forgets its oldest.
+**
+** VOGRILAS_OK: *most is told. VOGRILAS_UNSYNCED, VOGRILAS_CLOSED: *most is as it was, and the node too.
+*/
+vogrilas_code vogrilas_most(vogrilas_node *node, uint64_t *most);
 
 /*
 ** Copies the request of a pharmacy's entry, by its number from 1: the bytes that were submitted.

@@ -78,7 +78,8 @@ static bool is_closed(vogrilas_node *node) {
     return vogrilas_serve(node, "tick", 4) == VOGRILAS_CLOSED && vogrilas_records(node, &byte, 1, &size) == VOGRILAS_CLOSED &&
            vogrilas_kept(node, 0) == VOGRILAS_CLOSED && vogrilas_kept(node, 1) == VOGRILAS_CLOSED &&
            vogrilas_written(node, &byte, 1, &size) == VOGRILAS_CLOSED && vogrilas_calls(node, &calls) == VOGRILAS_CLOSED &&
-           vogrilas_count(node, &calls) == VOGRILAS_CLOSED && vogrilas_request(node, 1, &byte, 1, &size) == VOGRILAS_CLOSED &&
+           vogrilas_count(node, &calls) == VOGRILAS_CLOSED && vogrilas_most(node, &calls) == VOGRILAS_CLOSED &&
+           vogrilas_request(node, 1, &byte, 1, &size) == VOGRILAS_CLOSED &&
            vogrilas_answer(node, 1, 1, &byte, 1, &size) == VOGRILAS_CLOSED &&
            vogrilas_payments(node, &payment, 1, &size) == VOGRILAS_CLOSED && payment.fill_number == 'x' &&
            vogrilas_clear(node) == VOGRILAS_CLOSED && size == 77 && calls == 77 && byte == 'x' && !node->held;
@@ -92,7 +93,8 @@ static bool is_unsynced(vogrilas_node *node, size_t records) {
     vogrilas_payment payment;
     memset(&payment, 'x', sizeof payment);
     bool is_silent = vogrilas_written(node, &byte, 1, &size) == VOGRILAS_UNSYNCED && vogrilas_calls(node, &calls) == VOGRILAS_UNSYNCED &&
-           vogrilas_count(node, &calls) == VOGRILAS_UNSYNCED && vogrilas_request(node, 1, &byte, 1, &size) == VOGRILAS_UNSYNCED &&
+           vogrilas_count(node, &calls) == VOGRILAS_UNSYNCED && vogrilas_most(node, &calls) == VOGRILAS_UNSYNCED &&
+           vogrilas_request(node, 1, &byte, 1, &size) == VOGRILAS_UNSYNCED &&
            vogrilas_answer(node, 1, 1, &byte, 1, &size) == VOGRILAS_UNSYNCED && vogrilas_answer(node, 0, 0, &byte, 1, &size) == VOGRILAS_UNSYNCED &&
            vogrilas_payments(node, &payment, 1, &size) == VOGRILAS_UNSYNCED && payment.fill_number == 'x' &&
            vogrilas_clear(node) == VOGRILAS_UNSYNCED && vogrilas_kept(node, records + 1) == VOGRILAS_TOO_MANY &&

@@ -376,9 +376,20 @@ class Trials(unittest.TestCase):
             reversal = Reversal(header, number(12), filled(19), draw.choice([None, number(2)]))
             self.assertEqual(Reversal.read(bytes(reversal)), reversal)
 
+    def test_most(self):
+        caps = [int(cap) for cap in re.findall(rb"^cap = (\d+)$", SETTINGS, re.M)]
+        for name, cap in zip(("ph1", "sw1", "pr1"), caps, strict=True):
+            node = Node(SETTINGS, name)
+            node.synced(len(node.records()))
+            self.assertEqual((node.count, node.most), (0, cap))
+            node.serve(b"stop")
+            node.synced(len(node.records()))
+            self.assertEqual(node.most, cap)
+
     def test_synced_before_told(self):
         node = Node(SETTINGS, "ph1")
-        telling = [node.written, node.clear, node.payments, lambda: node.calls, lambda: node.count, lambda: node.request(1), lambda: node.answer(1, 1)]
+        telling = [node.written, node.clear, node.payments, lambda: node.calls, lambda: node.count, lambda: node.most]
+        telling += [lambda: node.request(1), lambda: node.answer(1, 1)]
 
         def silent():
             for call in telling:

@@ -18,7 +18,7 @@ struct named {
 static const double class_end[CLASSES] = { 0.0001, 0.00025, 0.0005, 0.001, 0.0025, 0.005, 0.01, 0.025,
                                            0.05,   0.1,     0.25,   0.5,   1,      2.5,   5,    10 };
 static const char *const call_name[CALLS] = { "submit", "answer", "take", "tick", "plan", "stop", "start", "other" };
-static const char *const why_name[WHYS] = { "not_a_packet", "held_back", "full", "reply" };
+static const char *const why_name[WHYS] = { "not_a_packet", "held_back", "full", "reply", "would_be_full" };
 
 /* Times in classes. */
 struct times {
@@ -32,7 +32,7 @@ static struct {
     struct named refusals[MOST_NAMES], sent[MOST_NAMES], taken[MOST_NAMES];
     struct times syncs, appends;
     double heard;
-    uint64_t log_calls, at_start, rows;
+    uint64_t log_calls, at_start, rows, most, reserve;
     size_t waiting;
     bool is_connected, is_ready;
     /* Of a log in a stream. A host comes to have it once in its life. */
@@ -170,6 +170,20 @@ void counts_settled(uint64_t number) {
     unlocked();
 }
 
+bool counts_has_open(void) {
+    locked();
+    bool has_open = seen.open_count > 0;
+    unlocked();
+    return has_open;
+}
+
+void counts_most(uint64_t most, uint64_t reserve) {
+    locked();
+    seen.most = most;
+    seen.reserve = reserve;
+    unlocked();
+}
+
 void counts_node(uint64_t calls, uint64_t at_start, uint64_t rows, size_t waiting, bool is_ready) {
     locked();
     seen.log_calls = calls;
@@ -290,6 +304,8 @@ struct bytes counts_text(const char *node, const char *log) {
     add_one(&text, node, "connections_total", "counter", "Connections that were opened.", (double)seen.connections);
     add_one(&text, node, "waiting_calls", "gauge", "Calls of the last turn.", (double)seen.waiting);
     add_one(&text, node, "rows", "gauge", "Entries, slots or rows that the node has.", (double)seen.rows);
+    add_one(&text, node, "rows_most", "gauge", "The most of them.", (double)seen.most);
+    add_one(&text, node, "rows_reserved", "gauge", "How many of these are kept for reversals.", (double)seen.reserve);
     add_one(&text, node, "log_calls", "gauge", "Calls in the log.", (double)seen.log_calls);
     add_one(&text, node, "log_calls_at_start", "gauge", "Calls that the log had at the start.", (double)seen.at_start);
     add_one(&text, node, "log_bytes", "gauge", "Bytes of the log.", stat(log, &at) == 0 ? (double)at.st_size : 0);

@@ -117,6 +117,19 @@ uint64_t node_count(struct served *node) {
     return count;
 }
 
+uint64_t node_most(struct served *node) {
+    uint64_t most = 0;
+    vogrilas_most(&node->node, &most);
+    return most;
+}
+
+bool node_has_answer(struct served *node, uint16_t pharmacy, uint64_t number) {
+    char nothing = 0;
+    size_t size = 0;
+    vogrilas_code code = vogrilas_answer(&node->node, pharmacy, number, &nothing, 0, &size);
+    return code == VOGRILAS_OK || code == VOGRILAS_SHORT_BUFFER;
+}
+
 bool node_is_open(struct served *node, uint64_t number) {
     char nothing = 0;
     size_t size = 0;

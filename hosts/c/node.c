@@ -2,7 +2,7 @@
 ** One node of the network as one process over NATS: the library keeps the node, this host its log and its carrier.
 **
 **     node SETTINGS NODE LOG [--nats URL[,URL..]] [--ca FILE] [--creds FILE] [--login FILE] [--tick SECONDS] [--watch ADDRESS:PORT]
-**          [--hold-back MS] [--ping SECONDS] [-v] [--log file|stream] [--copies 1|2] [--machine NAME]
+**          [--hold-back MS] [--reserve ROWS] [--ping SECONDS] [-v] [--log file|stream] [--copies 1|2] [--machine NAME]
 **          [--patience SECONDS] [--part BYTES]
 **
 ** The subjects are those of hosts/node.py, so hosts of both kinds can serve nodes of one network: packets come on
@@ -21,6 +21,9 @@
 ** others follow it, and one of them takes over where it is silent for --patience seconds. With `--copies 2` one of the others has the same
 ** bytes on its disk before anything is said; without such another nothing is. --machine names this one, --part is how many bytes one
 ** message carries at most.
+**
+** A pharmacy is ticked while an entry of it is open. So many entries of a pharmacy and rows of a payer as --reserve says, a tenth of the cap
+** where it is not there, are kept for reversals: reserve.c.
 **
 ** Status 0: it was told to end; 1: a next try may go better; 75: another host has the node; 78: settings, name or log are refused, the
 ** servers have lost what was seen, or a sync has failed.
@@ -92,11 +95,11 @@ static void serve_for_ever(struct host *host) {
         double wait = later_send(&host->later, host->carrier, false);
         if (ticks && host->next_tick - now() < wait) wait = host->next_tick - now();
         struct message *batch = take_all(host->carrier, wait < TURN_SECONDS ? wait : TURN_SECONDS);
-        bool is_tick = ticks && now() >= host->next_tick;
+        bool is_due = ticks && now() >= host->next_tick;
         if (host->candidate != NULL) candidate_look(host->candidate);
         /* No two hosts tick together for long, since the time between two ticks is never quite the same. */
-        if (is_tick) host->next_tick = now() + host->given.tick * (0.8 + 0.4 * chance());
-        turn(host, batch, is_tick);
+        if (is_due) host->next_tick = now() + host->given.tick * (0.8 + 0.4 * chance());
+        turn(host, batch, is_due && counts_has_open());
         if (host->mover != NULL && move(host)) return;
         if (now() < host->next_word) continue;
         host->next_word = now() + 1;
@@ -110,6 +113,7 @@ static void serve_for_ever(struct host *host) {
 
 /* Counts what the node has before it serves. */
 static void count_rows(struct host *host) {
+    reserve_begin(host);
     counts_node(node_calls(&host->node), host->node.at_start, node_count(&host->node), 0, false);
     if (begins(host->given.name, 2, "ph"))
         for (uint64_t number = 1; number <= node_count(&host->node); number++)

@@ -100,6 +100,10 @@ struct bytes node_written(struct served *node);
 void node_clear(struct served *node);
 uint64_t node_calls(struct served *node);
 uint64_t node_count(struct served *node);
+/* The most that node_count tells: the cap in the settings. */
+uint64_t node_most(struct served *node);
+/* Whether the node holds an answer for an entry of a pharmacy. */
+bool node_has_answer(struct served *node, uint16_t pharmacy, uint64_t number);
 /* Whether an entry of a pharmacy is open. */
 bool node_is_open(struct served *node, uint64_t number);
 void node_close(struct served *node);
@@ -111,6 +115,10 @@ struct head {
     uint64_t number;
 };
 
+#define ENVELOPE_BYTES 18
+
+/* Reads so many bytes at the start of printed bytes; false where fewer stand there. */
+bool unprinted(const char *text, size_t size, unsigned char *bytes, size_t count);
 /* Reads the head of a packet in printed bytes; false of anything else. */
 bool head_of(const char *text, size_t size, struct head *head);
 
@@ -123,6 +131,8 @@ struct message {
     natsMsg *text;
     enum sender from;
     bool is_served;
+    /* It would have the node enter a billing while only the reserve is left. */
+    bool is_over;
 };
 
 /* Where servers are, and who comes. */
@@ -193,7 +203,7 @@ void held_forget(const char *text, size_t size);
 struct given {
     const char *settings, *name, *log, *watch, *kept, *machine;
     struct access access;
-    double tick, hold_back, patience, part, copies;
+    double tick, hold_back, patience, part, copies, reserve;
     bool says, is_stream;
 };
 
@@ -210,18 +220,25 @@ struct host {
     struct bytes line;
     struct later later;
     double next_tick, next_word;
+    /* The entries or rows of the node as the last turn left them, the most of them, and how many are kept for reversals. */
+    uint64_t rows, most, reserve;
     /* The operator who has the log moved, and where replies of calls went since another host hears them too, each behind a space. */
     natsMsg *mover;
     struct bytes served;
     bool has_moved;
 };
 
+/* Learns how much room the node has, once it is open. */
+void reserve_begin(struct host *host);
+/* Marks the messages of a turn for which no room is left but the reserve. */
+void reserve_mark(struct host *host, struct message *batch);
+
 /* One turn: all that waits, one sync, and then what came of it. Ticks come last, since they have no message. */
 void turn(struct host *host, struct message *batch, bool is_tick);
 
 /* What the host has seen since it started. Each call may come from any thread. */
 enum call { CALL_SUBMIT, CALL_ANSWER, CALL_TAKE, CALL_TICK, CALL_PLAN, CALL_STOP, CALL_START, CALL_OTHER, CALLS };
-enum why { NOT_A_PACKET, HELD_BACK, FULL, NO_INBOX, WHYS };
+enum why { NOT_A_PACKET, HELD_BACK, FULL, NO_INBOX, WOULD_BE_FULL, WHYS };
 
 void counts_call(const char *line, size_t size);
 void counts_refusal(const char *name, size_t size);
@@ -236,6 +253,10 @@ void counts_appended_again(void);
 void counts_connected(bool is_connected);
 void counts_entered(uint64_t number);
 void counts_settled(uint64_t number);
+/* Whether an entry of the pharmacy is open. Where none is, a tick changes nothing and sends nothing, so it is not made. */
+bool counts_has_open(void);
+/* The most rows that the node may have, and how many of them are kept for reversals. */
+void counts_most(uint64_t most, uint64_t reserve);
 /* What the node's own thread knows, told in each turn: it lives. */
 void counts_node(uint64_t calls, uint64_t at_start, uint64_t rows, size_t waiting, bool is_ready);
 /* The node's thread lives, and waits for others' word. */

@@ -29,16 +29,21 @@ static int byte_of(const char *text, size_t size, size_t *used) {
     return 16 * digit_of(text[2]) + digit_of(text[3]);
 }
 
-bool head_of(const char *text, size_t size, struct head *head) {
-    unsigned char byte[HEAD_BYTES];
-    for (int at = 0; at < HEAD_BYTES; at++) {
+bool unprinted(const char *text, size_t size, unsigned char *bytes, size_t count) {
+    for (size_t at = 0; at < count; at++) {
         size_t used;
         int one = byte_of(text, size, &used);
         if (one < 0) return false;
-        byte[at] = (unsigned char)one;
+        bytes[at] = (unsigned char)one;
         text += used;
         size -= used;
     }
+    return true;
+}
+
+bool head_of(const char *text, size_t size, struct head *head) {
+    unsigned char byte[HEAD_BYTES];
+    if (!unprinted(text, size, byte, HEAD_BYTES)) return false;
     *head = (struct head){ byte[3], (uint16_t)(byte[4] << 8 | byte[5]), 0 };
     for (int at = 6; at < HEAD_BYTES; at++) head->number = head->number << 8 | byte[at];
     return byte[0] == 'P' && byte[1] == 'S';

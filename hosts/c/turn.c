@@ -69,13 +69,25 @@ static bool is_deed(struct host *host, struct message *one) {
     return true;
 }
 
+/* Turns away what only the reserve has room for: who calls hears it, and a packet may be lost at any time. */
+static void turn_away(struct host *host, struct message *one) {
+    if (one->from == FROM_NODE) {
+        counts_dropped(WOULD_BE_FULL);
+        return;
+    }
+    counts_refusal("WouldBeFull", 11);
+    reply(host->carrier, one->text, "refused WouldBeFull", 19);
+}
+
 /* Serves a message, or refuses it; where it was served, the next last line is for it. */
 static void serve(struct host *host, struct message *one) {
     const char *text = natsMsg_GetData(one->text);
     char sender[9];
     if (is_others(host, one) || is_deed(host, one)) return;
     if (host->mover != NULL && natsMsg_GetReply(one->text) != NULL) add_form(&host->served, " %.500s", natsMsg_GetReply(one->text));
-    if (is_held_back(host, one)) {
+    if (one->is_over) {
+        turn_away(host, one);
+    } else if (is_held_back(host, one)) {
         counts_dropped(HELD_BACK);
     } else if (line_of(host, one, &host->line)) {
         counts_call(host->line.at, host->line.size);
@@ -175,6 +187,7 @@ static void send_few(const struct host *host, size_t waiting) {
 void turn(struct host *host, struct message *batch, bool is_tick) {
     size_t waiting = 0;
     bool speaks = false;
+    reserve_mark(host, batch);
     for (struct message *one = batch; one != NULL; one = one->next, waiting++) {
         serve(host, one);
         speaks = speaks || (one->is_served && natsMsg_GetReply(one->text) != NULL);
@@ -209,5 +222,6 @@ void turn(struct host *host, struct message *batch, bool is_tick) {
         free(batch);
         batch = next;
     }
-    counts_node(node_calls(&host->node), host->node.at_start, node_count(&host->node), waiting, !*host->is_stopping);
+    host->rows = node_count(&host->node);
+    counts_node(node_calls(&host->node), host->node.at_start, host->rows, waiting, !*host->is_stopping);
 }

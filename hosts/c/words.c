@@ -7,7 +7,7 @@
 
 static _Noreturn void usage(int status) {
     fputs("usage: node SETTINGS NODE LOG [--nats URL[,URL..]] [--ca FILE] [--creds FILE] [--login FILE] [--tick SECONDS]\n"
-          "            [--watch ADDRESS:PORT] [--hold-back MS] [--ping SECONDS] [-v]\n"
+          "            [--watch ADDRESS:PORT] [--hold-back MS] [--reserve ROWS] [--ping SECONDS] [-v]\n"
           "            [--log file|stream] [--copies 1|2] [--machine NAME] [--patience SECONDS] [--part BYTES]\n",
           status == 0 ? stdout : stderr);
     exit(status);
@@ -28,6 +28,7 @@ static const char **text_of(struct given *given, const char *word) {
 static double *number_of(struct given *given, const char *word) {
     if (strcmp(word, "--tick") == 0) return &given->tick;
     if (strcmp(word, "--hold-back") == 0) return &given->hold_back;
+    if (strcmp(word, "--reserve") == 0) return &given->reserve;
     if (strcmp(word, "--ping") == 0) return &given->access.ping;
     if (strcmp(word, "--patience") == 0) return &given->patience;
     if (strcmp(word, "--part") == 0) return &given->part;
@@ -40,6 +41,7 @@ static void complete(struct given *given) {
     bool is_file = given->kept == NULL || strcmp(given->kept, "file") == 0;
     if (!(given->tick > 0) || !(given->hold_back >= 0) || !(given->patience > 0) || !(given->part >= 1)) usage(2);
     if (given->copies != 1 && (given->copies != 2 || is_file)) usage(2);
+    if (!(given->reserve == UNSAID || given->reserve >= 0)) usage(2);
     if (given->machine != NULL && (*given->machine == '\0' || strpbrk(given->machine, " \t\r\n") != NULL)) usage(2);
     given->is_stream = !is_file;
     if (!is_file && strcmp(given->kept, "stream") != 0) usage(2);
@@ -57,7 +59,7 @@ static void complete(struct given *given) {
 }
 
 struct given words(int count, char **word) {
-    struct given given = { .tick = 1, .patience = 0.8, .part = MOST_PART, .copies = 1, .access = { .ping = UNSAID } };
+    struct given given = { .tick = 1, .patience = 0.8, .part = MOST_PART, .copies = 1, .reserve = UNSAID, .access = { .ping = UNSAID } };
     const char **plain[] = { &given.settings, &given.name, &given.log };
     size_t found = 0;
     for (int at = 1; at < count; at++) {

@@ -136,6 +136,11 @@ impl FileNode {
         Ok(self.node()?.count()?)
     }
 
+    /// The most that `count` can be: the cap in the settings.
+    pub fn most(&self) -> Result<u64, FileError> {
+        Ok(self.node()?.most()?)
+    }
+
     /// How many calls the log has.
     pub fn calls(&self) -> Result<u64, FileError> {
         Ok(self.node()?.calls()?)

@@ -141,6 +141,18 @@ impl Node {
         Ok(count)
     }
 
+    /// The most that `count` can be: the cap of the pharmacy, switch or payer in the settings.
+    ///
+    /// # Errors
+    /// `Unsynced` until all is on disk; `Closed`. The node is as it was.
+    pub fn most(&self) -> Result<u64, Error> {
+        let mut most = 0;
+        // SAFETY: both are lent whole.
+        let code = unsafe { sys::vogrilas_most(self.handle.get(), &mut most) };
+        Error::of(code, 0)?;
+        Ok(most)
+    }
+
     /// The request of a pharmacy's entry, by its number from 1.
     ///
     /// # Errors

@@ -101,6 +101,7 @@ extern "C" {
     pub(crate) fn vogrilas_written(node: *mut Handle, buffer: *mut u8, room: usize, size: &mut usize) -> u32;
     pub(crate) fn vogrilas_calls(node: *mut Handle, calls: &mut u64) -> u32;
     pub(crate) fn vogrilas_count(node: *mut Handle, count: &mut u64) -> u32;
+    pub(crate) fn vogrilas_most(node: *mut Handle, most: &mut u64) -> u32;
     pub(crate) fn vogrilas_request(node: *mut Handle, number: u64, buffer: *mut u8, room: usize, size: &mut usize) -> u32;
     pub(crate) fn vogrilas_answer(
         node: *mut Handle,

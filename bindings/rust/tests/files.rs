@@ -44,6 +44,7 @@ fn calls_are_on_disk() {
     let said = pharmacy.submit(&request()).unwrap();
     assert_eq!((said.number, said.sent.len(), said.sent[0].to.as_str()), (Some(1), 1, "sw1"));
     assert_eq!((pharmacy.calls().unwrap(), pharmacy.count().unwrap(), pharmacy.answer(1).unwrap()), (1, 1, None));
+    assert_eq!(pharmacy.most().unwrap(), 100);
     assert_eq!(pharmacy.request(1).unwrap(), request());
     assert!(pharmacy.payments().unwrap().is_empty() && pharmacy.cut().is_none());
     let Err(FileError::Refused(Refused(name))) = pharmacy.submit(b"") else { panic!("an empty request is taken") };

@@ -59,7 +59,7 @@ fn a_claim_goes_there_and_back() {
     assert_eq!(pharmacy.serve(&line), "ok\n");
     let answer = pharmacy.serve(b"answer 1");
     assert!(answer.starts_with("answer ") && answer.contains("ANP"), "{answer}");
-    assert_eq!(pharmacy.node.calls(), Ok(2));
+    assert_eq!((pharmacy.node.calls(), pharmacy.node.most()), (Ok(2), Ok(100)));
     let mut again = Kept::open("ph1", pharmacy.log.clone());
     assert_eq!(again.serve(b"answer 1"), answer);
 }
@@ -127,7 +127,7 @@ fn nothing_is_told_before_it_is_synced() {
     assert_eq!(unsynced.to_string(), "not all is on disk");
     let silent = |node: &mut Node| {
         assert_eq!((node.written(), node.clear()), (Err(unsynced), Err(unsynced)));
-        assert_eq!((node.calls(), node.count()), (Err(unsynced), Err(unsynced)));
+        assert_eq!((node.calls(), node.count(), node.most()), (Err(unsynced), Err(unsynced), Err(unsynced)));
         assert_eq!((node.request(1), node.answer(1, 1)), (Err(unsynced), Err(unsynced)));
         assert_eq!(node.payments(), Err(unsynced));
     };

@@ -1,9 +1,10 @@
 -- What a call on a handle makes of its node, and of what the caller lends.
 use Rattle.std.specs.Prelude.{◌≡◌, ◌⊎◌, ℕ, ◌<◌, ◌≤◌, true, false, List, ◌++◌, length, drop, Ok, Err, Option, Some, None, IsSome}
 use Rattle.std.specs.Option.{option_map}
-use Rattle.world_setup.specs.Seen.{node_seen}
+use Rattle.world_setup.specs.Seen.{node_seen, settings_seen}
 use Rattle.world_setup.specs.declared.node.Node.{Node}
 use Rattle.schedule.specs.Nodes.{node_in}
+use Rattle.node_service.specs.Most.{most_of}
 use Rattle.node_service.specs.Serving.{Serving}
 use Rattle.node_service.specs.declared.fault.ServiceFault.{ServiceFault}
 use Rattle.node_service.specs.Opened.{IsOpened}
@@ -75,6 +76,18 @@ TellsCalls node (Err why) before after = (why ≡ Closed) × ((node ≡ None) ×
 -- how many calls the node's log has is told, where all is on disk
 abbrev pub Counts : Option Hosting → Said → ℕ → ℕ → Type 0
 Counts node said before after = Settled node (after ≡ before) (λ s out. TellsCalls s out before after) said
+
+abbrev pub most_in : Serving → ℕ
+most_in s = most_of (settings_seen s.settings) s.node
+
+-- a number is told, or there is no node
+abbrev pub TellsMost : Option Serving → Said → ℕ → ℕ → Type 0
+TellsMost node (Ok made) before after = option_map most_in node ≡ Some after
+TellsMost node (Err why) before after = (why ≡ Closed) × ((node ≡ None) × (after ≡ before))
+
+-- the most entries, slots or rows that the node may have are told, where all is on disk
+abbrev pub Caps : Option Hosting → Said → ℕ → ℕ → Type 0
+Caps node said before after = Settled node (after ≡ before) (λ s out. TellsMost s out before after) said
 
 abbrev pub records_of : Hosting → List ℕ
 records_of h = h.serving.records

@@ -10,7 +10,7 @@ ghost use Rattle.world_setup.specs.declared.node.Node.{Node};
 ghost use Rattle.node_handle.specs.declared.refusal.Refusal.TheVariants.{OutOfMemory};
 ghost use Rattle.node_handle.specs.Refusals.{refusal_of, place_in};
 ghost use Rattle.node_handle.specs.Hosting.{just_opened};
-ghost use Rattle.node_handle.specs.Calls.{Opens, RefusesNode, Serves, Clears, Counts, CopiesRecords, CopiesWritten, Keeps};
+ghost use Rattle.node_handle.specs.Calls.{Opens, RefusesNode, Serves, Caps, Clears, Counts, CopiesRecords, CopiesWritten, Keeps};
 
 use crate::hosted::Hosted;
 use crate::loose::Loose;
@@ -176,6 +176,23 @@ impl NodeHandle {
         told
     }
 
+    /// The most entries of a pharmacy's journal, slots of a switch's table, or rows of a payer's book, as the settings say.
+    ///
+    /// # Errors
+    /// `Closed` where there is no node, `Unsynced` where not all is on disk. Then nothing changes.
+    pub fn most(&mut self, alloc: Global, most: &mut u64) -> Result<(), Refusal>
+        ensures kept { self.new.part.node ≡ self.old.part.node }
+        ensures most { Caps self.old.part.node result most.old most.new }
+    {
+        if !self.held {
+            return Err(Refusal::Closed);
+        }
+        let node = self.take(alloc);
+        let told = tell_most(&*node, most);
+        self.put(node);
+        told
+    }
+
     /// Copies what is to be appended to the log: what the host has not said to be on disk.
     ///
     /// # Errors
@@ -228,6 +245,19 @@ fn tell_calls(node: &Hosted, calls: &mut u64) -> Result<(), Refusal>
     match node.settled() {
         Ok(service) => {
             *calls = service.calls();
+            Ok(())
+        }
+        Err(why) => Err(why),
+    }
+}
+
+/// Tells the most entries, slots or rows that a node may have, where all is on disk.
+fn tell_most(node: &Hosted, most: &mut u64) -> Result<(), Refusal>
+    ensures { Caps (Some node.now) result most.old most.new }
+{
+    match node.settled() {
+        Ok(service) => {
+            *most = u64::from(service.most());
             Ok(())
         }
         Err(why) => Err(why),

@@ -9,3 +9,4 @@ pub mod Turns
 pub mod Running
 pub mod Growing
 pub mod Sharp
+pub mod Vain

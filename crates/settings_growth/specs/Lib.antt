@@ -2,3 +2,4 @@
 pub mod Growth
 pub mod Orders
 pub mod GoingOver
+pub mod Ticks

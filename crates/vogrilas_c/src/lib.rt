@@ -8,7 +8,7 @@
 ghost use Rattle.std.specs.Prelude.{◌≡◌};
 ghost use Rattle.std.specs.declared.option.Option.TheVariants.{None};
 ghost use Rattle.node_handle.specs.Numbers.{Says};
-ghost use Rattle.node_handle.specs.Calls.{Clears, CopiesRecords, CopiesWritten, Counts, Keeps, Opens, Serves};
+ghost use Rattle.node_handle.specs.Calls.{Caps, Clears, CopiesRecords, CopiesWritten, Counts, Keeps, Opens, Serves};
 ghost use Rattle.node_handle.specs.Texts.{Prints, Unprints};
 ghost use Rattle.node_handle.specs.Messages.{Describes, Makes};
 ghost use Rattle.claim_profile.specs.Building.{billing_text, reversal_text};
@@ -128,6 +128,15 @@ pub extern "C" fn vogrilas_count(alloc: Global, node: &mut NodeHandle, count: &m
     ensures counted { Says result (λ said. Sizes node.old.part.node said count.old count.new) }
 {
     number_of(node.count(alloc, count))
+}
+
+/// Tells how many entries a pharmacy's journal may have, slots a switch's table, or rows a payer's book.
+#[unsafe(no_mangle)]
+pub extern "C" fn vogrilas_most(alloc: Global, node: &mut NodeHandle, most: &mut u64) -> u32
+    ensures kept { node.new.part.node ≡ node.old.part.node }
+    ensures told { Says result (λ said. Caps node.old.part.node said most.old most.new) }
+{
+    number_of(node.most(alloc, most))
 }
 
 /// Copies the request of a pharmacy's entry.

@@ -104,6 +104,11 @@ class FileNode:
         return self._read(lambda node: node.count)
 
     @property
+    def most(self) -> int:
+        """The most that `count` can be: the cap in the settings."""
+        return self._read(lambda node: node.most)
+
+    @property
     def calls(self) -> int:
         """How many calls the log has."""
         return self._read(lambda node: node.calls)

@@ -94,6 +94,7 @@ _CALLS = {
     "written": [_NODE, *_BUFFER],
     "calls": [_NODE, ctypes.POINTER(ctypes.c_uint64)],
     "count": [_NODE, ctypes.POINTER(ctypes.c_uint64)],
+    "most": [_NODE, ctypes.POINTER(ctypes.c_uint64)],
     "request": [_NODE, ctypes.c_uint64, *_BUFFER],
     "answer": [_NODE, ctypes.c_uint16, ctypes.c_uint64, *_BUFFER],
     "payments": [_NODE, ctypes.POINTER(RawPayment), ctypes.c_size_t, _PLACE],

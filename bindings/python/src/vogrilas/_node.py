@@ -299,18 +299,24 @@ class Node:
     @property
     def calls(self) -> int:
         """How many calls the node's log has."""
-        calls = ctypes.c_uint64()
-        with self._lock:
-            check_code(LIBRARY.vogrilas_calls(ctypes.byref(self._handle), ctypes.byref(calls)))
-        return calls.value
+        return self._number(LIBRARY.vogrilas_calls)
 
     @property
     def count(self) -> int:
         """How many entries a pharmacy's journal has, slots a switch's table, or rows a payer's book."""
-        count = ctypes.c_uint64()
+        return self._number(LIBRARY.vogrilas_count)
+
+    @property
+    def most(self) -> int:
+        """The most that `count` can be: the cap of the pharmacy, switch or payer in the settings."""
+        return self._number(LIBRARY.vogrilas_most)
+
+    def _number(self, tells: Callable[..., int]) -> int:
+        """The number that a call of the library tells."""
+        number = ctypes.c_uint64()
         with self._lock:
-            check_code(LIBRARY.vogrilas_count(ctypes.byref(self._handle), ctypes.byref(count)))
-        return count.value
+            check_code(tells(ctypes.byref(self._handle), ctypes.byref(number)))
+        return number.value
 
     def request(self, number: int) -> bytes:
         """The request of a pharmacy's entry, by its number from 1. Raises VogrilasError with NOT_FOUND where there is none."""
