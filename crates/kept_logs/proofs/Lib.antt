@@ -8,3 +8,4 @@ pub mod FieldsOnly
 pub mod FitsOnly
 pub mod LogsOnly
 pub mod Torn
+pub mod MadeSoFar

@@ -5,6 +5,7 @@ pub mod Calls
 pub mod Records
 pub mod Frames
 pub mod Logs
+pub mod Making
 pub mod Fits
 pub mod Cuts
 pub mod MetSeen

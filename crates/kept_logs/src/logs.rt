@@ -156,7 +156,7 @@ fn read_calls(
 
 /// The record of this number at this place and what follows it; none where it is cut off.
 #[tactic(auto, unfolding(crate::specs::Logs::record_in))]
-fn take_record(
+pub(crate) fn take_record(
     alloc: Global,
     number: u64,
     start: usize,

@@ -1,4 +1,6 @@
 pub mod Loops
+pub mod Caps
+pub mod MadeLogs
 pub mod Lines
 pub mod Crashes
 pub mod Refusals

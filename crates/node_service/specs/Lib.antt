@@ -1,6 +1,7 @@
 pub mod Asking
 pub mod Answering
 pub mod Listing
+pub mod Most
 pub mod BookRow
 pub mod Payments
 pub mod Serving

@@ -1,5 +1,5 @@
 -- The node that is served, from the bytes of its log.
-use Rattle.std.specs.Prelude.{◌≡◌, ◌⊎◌, ℕ, zero, List, [], ◌++◌, take, length, Some, None, Ok, Err}
+use Rattle.std.specs.Prelude.{◌≡◌, ◌⊎◌, ⊤, ℕ, zero, List, [], ◌++◌, take, length, Option, Some, None, Ok, Err}
 use Rattle.sha2.specs.Sha256.{sha256}
 use Rattle.claim_model.specs.Node.{Node}
 use Rattle.claim_model.specs.Nodes.{AnyNode}
@@ -10,6 +10,7 @@ use Rattle.world_settings.specs.Document.{document_seen, living_in}
 use Rattle.kept_logs.specs.declared.fault.LogFault.TheVariants.{Short}
 use Rattle.kept_logs.specs.Logs.{log_text, log_in}
 use Rattle.kept_logs.specs.Fits.{FitsLog}
+use Rattle.kept_logs.specs.declared.making.MadeLog.{MadeLog}
 use Rattle.run_merge.specs.Merged.{replayed}
 use Rattle.node_logged.specs.Setting.{context_of, opened}
 use Rattle.node_service.specs.Serving.{Serving}
@@ -62,3 +63,29 @@ pub record IsServed (settings : WorldSettings) (log : NodeLog) (kept : ℕ) (rec
   pub append : s.records ≡ records
   pub silent : s.out ≡ []
   pub stays : stay ≡ kept
+
+-- bytes are the log of this node, which makes each call of it and is then this one; they begin with its text
+pub record IsMadeLog (settings : WorldSettings) (digest : List ℕ) (node : Node) (bytes : List ℕ) (made : MadeLog) : Type 0 where
+  pub log : NodeLog
+  pub own : log.node ≡ node
+  pub read : log_in digest bytes ≡ Ok (record { log = log; whole = made.whole })
+  pub text : take made.whole bytes ≡ log_text digest log
+  pub fits : FitsLog log
+  pub calls : made.calls ≡ length log.calls
+  pub makes : MakesAll settings node log.calls
+  pub state : replayed settings node log.calls ≡ Some made.node
+
+-- nothing is said where there is none
+abbrev pub IsRead : WorldSettings → List ℕ → Node → List ℕ → Option MadeLog → Type 0
+IsRead settings digest node bytes None = ⊤
+IsRead settings digest node bytes (Some made) = IsMadeLog settings digest node bytes made
+
+-- the node that is served is this one, under these settings; so many bytes stay, and nothing is to be appended
+pub record IsServedAs (settings : WorldSettings) (node : Node) (made : MadeLog) (stay : ℕ) (s : Serving) : Type 0 where
+  pub own : s.settings ≡ settings
+  pub named : s.node ≡ node
+  pub calls : s.calls ≡ made.calls
+  pub state : s.state ≡ made.node
+  pub append : s.records ≡ []
+  pub silent : s.out ≡ []
+  pub stays : stay ≡ made.whole

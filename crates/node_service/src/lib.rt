@@ -11,6 +11,7 @@ mod book_row;
 mod fault;
 mod laws;
 mod listing;
+mod most;
 mod opening;
 mod payment_lines;
 mod payments;

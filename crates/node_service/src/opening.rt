@@ -10,12 +10,14 @@ ghost use Rattle.kept_logs.specs.Logs.{log_text};
 ghost use Rattle.kept_logs.specs.LogSeen.{reading_seen};
 ghost use Rattle.kept_logs.specs.Fits.{FitsLog};
 ghost use Rattle.node_service.specs.declared.fault.ServiceFault.TheVariants.{OutOfMemory};
-ghost use Rattle.node_service.specs.Opened.{IsBegun, IsMadeBy, IsOpened, IsServed, Spells, empty_log};
+ghost use Rattle.node_service.specs.Opened.{IsBegun, IsMadeBy, IsOpened, IsRead, IsServed, IsServedAs, Spells, empty_log};
 ghost use Rattle.node_service.specs.Refused.{IsAnothers, IsNotMade, IsRefused, NoLog, NoSettings};
 
 use crate::fault::ServiceFault;
 use crate::service::Service;
-use kept_logs::{LogFault, ReadLog, SettingsDigest, place_of, read_log, write_log};
+use kept_logs::{
+    LogFault, MadeLog, ReadLog, SettingsDigest, make_as_read, place_of, read_log, write_log,
+};
 use node_logged::Shared;
 use node_state::NodeState;
 use payer_book::HashKeys;
@@ -56,9 +58,50 @@ impl Service {
         if !shared.has(node) {
             return Err(ServiceFault::NoSuchNode);
         }
+        if let Some(made) = made(alloc, text, &shared, node, bytes)? {
+            return Ok(served(alloc, shared, node, made));
+        }
+        // Why it was not made, or a log that begins.
         let begun = begin(alloc, text, node, bytes)?;
         serve_from(alloc, text, shared, begun)
     }
+}
+
+/// The node that makes the log which bytes are, as they are read; `None` where they are none, or it does not make them.
+fn made(
+    alloc: Global,
+    text: &[u8],
+    shared: &Shared,
+    node: Node,
+    bytes: &[u8],
+) -> Result<Option<MadeLog>, AllocError>
+    requires { IsSome (opened shared.now (node_seen node)) }
+    ensures { IfOk result (λ made. IsRead shared.now (sha256 text.now) (node_seen node) bytes.now made) }
+{
+    let digest = SettingsDigest::of(text);
+    make_as_read(
+        alloc,
+        &digest,
+        shared.settings(),
+        shared.routes(),
+        node,
+        bytes,
+    )
+}
+
+/// A node that has made its log is served.
+fn served(alloc: Global, shared: Shared, node: Node, made: MadeLog) -> (Service, usize)
+    ensures { IsServedAs shared (node_seen node) made result.1 result.0 }
+{
+    let service = Service {
+        shared,
+        name: node,
+        state: made.node,
+        calls: made.calls,
+        records: Vec::new(alloc),
+        out: Vec::new(alloc),
+    };
+    (service, made.whole)
 }
 
 /// The settings that a text spells, with these keys, where a world takes them.

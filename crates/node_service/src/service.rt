@@ -4,15 +4,17 @@ ghost use Rattle.std.specs.Prelude.{◌≡◌, codes, OnOk};
 ghost use Rattle.std.specs.List.{AllByRecursion};
 ghost use Rattle.claim_model.specs.Node.{Done};
 ghost use Rattle.claim_model.specs.Nodes.{node_step};
-ghost use Rattle.world_setup.specs.Seen.{call_seen, node_seen};
+ghost use Rattle.world_setup.specs.Seen.{call_seen, node_seen, settings_seen};
 ghost use Rattle.node_service.specs.Answering.{refused_line};
 ghost use Rattle.node_logged.specs.Setting.{context_of};
 ghost use Rattle.kept_logs.specs.Fits.{FitsLogged};
 ghost use Rattle.node_service.specs.Lines.{line_calls, logged_of};
+ghost use Rattle.node_service.specs.Most.{most_of};
 ghost use Rattle.node_service.specs.Serving.{after_call, after_line, cleared, making, saying, telling};
 
 use crate::answering::put_refused;
 use crate::asking::{Asked, Question, asked_of};
+use crate::most::most_of;
 use crate::telling::{put_made, put_told};
 use kept_logs::record_bytes;
 use node_logged::Shared;
@@ -126,6 +128,13 @@ impl Service {
         ensures { node_seen result ≡ self.now.node }
     {
         self.name
+    }
+
+    /// The most entries of the pharmacy's journal, slots of the switch's table, or rows of the payer's book.
+    pub fn most(&self) -> u32
+        ensures { result ≡ most_of (settings_seen self.now.settings) self.now.node }
+    {
+        most_of(self.shared.settings(), self.name)
     }
 
     /// How many calls the node's log has, those included that are to be appended.

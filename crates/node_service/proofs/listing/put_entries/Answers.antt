@@ -1,4 +1,4 @@
-use Rattle.std.proofs.Common.{◌<◌, arith}
+use Rattle.std.proofs.Common.{arith}
 use Rattle.node_service.proofs.OpenEntries.{told_first, told_next, told_enough, told_all}
 use Rattle.node_service.proofs.listing.put_entries.Goals as goal
 

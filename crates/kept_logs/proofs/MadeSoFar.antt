@@ -1,0 +1,107 @@
+-- A node that makes the calls of a log as they are read.
+use Rattle.std.proofs.Common.{◌≡◌, ℕ, ◌+◌, ◌-◌, ◌<◌, Bool, true, List, [], ◌∷◌, ◌++◌, length, Option, Some, None, Result, Ok, Err, refl, sym, ap, ◌∙◌, arith, subst, length-append}
+use Rattle.claim_model.specs.Context.{Context}
+use Rattle.claim_model.specs.Node.{Node, Done}
+use Rattle.claim_model.specs.Nodes.{AnyNode, node_step, same_node}
+use Rattle.claim_model.specs.Logs.{Logged, node_after, replay, Makes}
+use Rattle.run_merge.specs.Order.{TellsMade}
+use Rattle.kept_logs.specs.declared.fault.LogFault.{LogFault}
+use Rattle.kept_logs.specs.declared.making.MadeCalls.{MadeCalls}
+use Rattle.kept_logs.specs.Logs.{behind, calls_in, head_in, log_in, record_in}
+use Rattle.kept_logs.specs.Making.{AreMade, IsMadeAsRead}
+use Rattle.claim_model.proofs.Names.{same_is}
+use Rattle.kept_logs.proofs.Loops.{calls_taken, calls_cut, calls_all}
+
+-- the calls that were read were made, and with those that are left they are all
+pub record MadeSoFar (ctx : Context) (before : AnyNode) (total : ℕ) (bytes : List ℕ) (node : AnyNode) (place : ℕ) (rest : List ℕ) : Type 0 where
+  pub calls : List Logged
+  pub same : calls_in total 1 (length bytes) bytes ≡ behind calls (calls_in total (place + 1) (length bytes - place) rest)
+  pub number : length calls ≡ place
+  pub makes : Makes ctx before calls
+  pub leads : node ≡ replay ctx before calls
+
+pub replay_more : (ctx : Context) (before after : AnyNode) (calls : List Logged) (one : Logged) → node_step ctx (replay ctx before calls) one.call ≡ Done after one.sent → after ≡ replay ctx before (calls ++ one ∷ [])
+replay_more ctx before after [] one e = sym (ap (node_after before) e)
+replay_more ctx before after (k ∷ calls) one e = replay_more ctx (node_after before (node_step ctx before k.call)) after calls one e
+
+pub makes_more : (ctx : Context) (before after : AnyNode) (calls : List Logged) (one : Logged) → Makes ctx before calls → node_step ctx (replay ctx before calls) one.call ≡ Done after one.sent → Makes ctx before (calls ++ one ∷ [])
+makes_more ctx before after [] one m e = (e ∙ ap (λ (x : AnyNode). Done x one.sent) (sym (ap (node_after before) e)), tt)
+makes_more ctx before after (k ∷ calls) one m e = (m.0, makes_more ctx (node_after before (node_step ctx before k.call)) after calls one m.1 e)
+
+behind_none : (reading : Result (List Logged × List ℕ) LogFault) → reading ≡ behind [] reading
+behind_none (Ok read) = refl
+behind_none (Err why) = refl
+
+pub nothing_made : (ctx : Context) (before : AnyNode) (total : ℕ) (bytes : List ℕ) → MadeSoFar ctx before total bytes before 0 bytes
+nothing_made ctx before total bytes =
+    let whole : length bytes ≡ length bytes - 0 = omega arith in
+    record {
+      calls = [];
+      same = ap (λ most. calls_in total 1 most bytes) whole ∙ behind_none (calls_in total 1 (length bytes - 0) bytes);
+      number = refl;
+      makes = tt;
+      leads = refl;
+    }
+
+-- one call more was read, and made
+pub one_more_made : (ctx : Context) (before : AnyNode) (total : ℕ) (bytes : List ℕ) (node next : AnyNode) (place : ℕ) (rest after : List ℕ) (told : Bool) (one entry : Logged)
+    → MadeSoFar ctx before total bytes node place rest → place < length bytes → record_in (place + 1) (total - length rest) rest ≡ Ok (Some (entry, after)) → one ≡ entry → told ≡ true → TellsMade told ctx node one next
+    → MadeSoFar ctx before total bytes next (place + 1) after
+one_more_made ctx before total bytes node next place rest after told one entry so_far within read same is_made made =
+    let step : node_step ctx (replay ctx before so_far.calls) entry.call ≡ Done next entry.sent =
+    subst (λ l. node_step ctx (replay ctx before so_far.calls) l.call ≡ Done next l.sent) same
+    (subst (λ n. node_step ctx n one.call ≡ Done next one.sent) so_far.leads (rw is_made at made)) in
+    record {
+      calls = so_far.calls ++ entry ∷ [];
+      same = so_far.same ∙ calls_taken total (length bytes) place so_far.calls rest entry after within read;
+      number = length-append so_far.calls (entry ∷ []) ∙ ap (λ n. n + 1) so_far.number;
+      makes = makes_more ctx before next so_far.calls entry so_far.makes step;
+      leads = replay_more ctx before next so_far.calls entry step;
+    }
+
+-- the record that stands here is cut off, so all were read
+pub cut_off_here : (ctx : Context) (before : AnyNode) (total : ℕ) (bytes : List ℕ) (node : AnyNode) (place : ℕ) (rest : List ℕ)
+    → MadeSoFar ctx before total bytes node place rest → place < length bytes → record_in (place + 1) (total - length rest) rest ≡ Ok None → AreMade ctx before total bytes node place (length rest)
+cut_off_here ctx before total bytes node place rest so_far within read = record {
+  calls = so_far.calls;
+  rest = rest;
+  read = so_far.same ∙ calls_cut total (length bytes) place so_far.calls rest within read;
+  left_behind = refl;
+  number = so_far.number;
+  makes = so_far.makes;
+  leads = so_far.leads;
+}
+
+-- as many records were read as there can be
+pub all_made : (ctx : Context) (before : AnyNode) (total : ℕ) (bytes : List ℕ) (node : AnyNode) (place : ℕ) (rest : List ℕ)
+    → MadeSoFar ctx before total bytes node place rest → place ≡ length bytes → AreMade ctx before total bytes node (length bytes) (length rest)
+all_made ctx before total bytes node place rest so_far over = record {
+  calls = so_far.calls;
+  rest = rest;
+  read = so_far.same ∙ calls_all total (length bytes) place so_far.calls rest (omega (arith, over));
+  left_behind = refl;
+  number = so_far.number ∙ over;
+  makes = so_far.makes;
+  leads = so_far.leads;
+}
+
+-- what stands in an option
+abbrev in_some : {A : Type 0} → A → Option A → A
+in_some a None = a
+in_some a (Some b) = b
+
+-- behind a head of this node, and calls that it makes, bytes are its log
+pub made_as_read : (ctx : Context) (state before : AnyNode) (digest : List ℕ) (own node : Node) (bytes records : List ℕ) (made : MadeCalls) (whole : ℕ)
+    → head_in digest bytes ≡ Ok (own, records) → same_node own node ≡ true → Some state ≡ Some before → AreMade ctx state (length bytes) records made.node made.calls made.torn → whole ≡ length bytes - made.torn
+    → IsMadeAsRead ctx before digest node bytes (record { node = made.node; calls = made.calls; whole = whole })
+unfolding log_in
+made_as_read ctx state before digest own node bytes records made whole head same opens are left =
+    let begins : state ≡ before = ap (in_some state) opens in
+    record {
+      log = record { node = own; calls = are.calls };
+      own = same_is own node same;
+      read = rw (head, are.read) (ap (λ n. Ok (record { log = record { node = own; calls = are.calls }; whole = n })) (ap (λ n. length bytes - n) are.left_behind ∙ sym left));
+      count = are.number;
+      makes = subst (λ b. Makes ctx b are.calls) begins are.makes;
+      leads = are.leads ∙ ap (λ b. replay ctx b are.calls) begins;
+    }

@@ -1,0 +1,38 @@
+-- A log that is made by its node as it is read.
+use Rattle.std.specs.Prelude.{◌≡◌, ⊤, ℕ, List, length, Option, Some, None, Ok}
+use Rattle.claim_model.specs.Context.{Context}
+use Rattle.claim_model.specs.Node.{Node}
+use Rattle.claim_model.specs.Nodes.{AnyNode}
+use Rattle.claim_model.specs.Logs.{Logged, NodeLog, replay, Makes}
+use Rattle.kept_logs.specs.declared.making.MadeCalls.{MadeCalls}
+use Rattle.kept_logs.specs.declared.making.MadeLog.{MadeLog}
+use Rattle.kept_logs.specs.Logs.{log_in, records_in}
+
+-- the calls of the records that bytes are: a node makes each of them, so many, and is then this one; so many bytes are left
+pub record AreMade (ctx : Context) (before : AnyNode) (total : ℕ) (bytes : List ℕ) (node : AnyNode) (count left : ℕ) : Type 0 where
+  pub calls : List Logged
+  pub rest : List ℕ
+  pub read : records_in total bytes ≡ Ok (calls, rest)
+  pub left_behind : length rest ≡ left
+  pub number : length calls ≡ count
+  pub makes : Makes ctx before calls
+  pub leads : node ≡ replay ctx before calls
+
+-- bytes are the log of a node under settings of this digest; from this state it makes each call and sends each byte, and is then the one that stands
+-- there, with so many calls, of which so many bytes are the text
+pub record IsMadeAsRead (ctx : Context) (before : AnyNode) (digest : List ℕ) (node : Node) (bytes : List ℕ) (made : MadeLog) : Type 0 where
+  pub log : NodeLog
+  pub own : log.node ≡ node
+  pub read : log_in digest bytes ≡ Ok (record { log = log; whole = made.whole })
+  pub count : length log.calls ≡ made.calls
+  pub makes : Makes ctx before log.calls
+  pub leads : made.node ≡ replay ctx before log.calls
+
+-- nothing is said where there is none
+abbrev pub AreMadeIf : Context → AnyNode → ℕ → List ℕ → Option MadeCalls → Type 0
+AreMadeIf ctx before total bytes None = ⊤
+AreMadeIf ctx before total bytes (Some made) = AreMade ctx before total bytes made.node made.calls made.torn
+
+abbrev pub IsMadeIf : Context → AnyNode → List ℕ → Node → List ℕ → Option MadeLog → Type 0
+IsMadeIf ctx before digest node bytes None = ⊤
+IsMadeIf ctx before digest node bytes (Some made) = IsMadeAsRead ctx before digest node bytes made

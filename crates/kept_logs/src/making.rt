@@ -1,0 +1,147 @@
+//! A log that is made by its node as it is read, so that no more of it is kept than the node.
+
+ghost use Rattle.std.specs.Prelude.{◌≡◌, None, Some, Ok, IfOk, IsSome};
+ghost use Rattle.claim_model.specs.Bytes.{bytes_with};
+ghost use Rattle.claim_model.specs.Nodes.{AnyNode, node_at};
+ghost use Rattle.claim_model.specs.Settings.{opening, settings_fault};
+ghost use Rattle.world_setup.specs.Seen.{node_seen, settings_seen};
+ghost use Rattle.kept_logs.specs.Cuts.{IsLogOf};
+ghost use Rattle.kept_logs.specs.Logs.{Reading, log_in};
+ghost use Rattle.kept_logs.specs.Making.{AreMadeIf, IsMadeIf};
+
+use crate::digest::SettingsDigest;
+use crate::fault::LogFault;
+use crate::heads::take_head;
+use crate::laws::log_is_its_text;
+use crate::logs::take_record;
+use bin_routes::Routes;
+use node_state::NodeState;
+use run_merge::{Record, is_same_node, makes};
+use std::alloc::{AllocError, Global};
+use world_setup::{Node, WorldSettings};
+
+/// A node that has made its log.
+#[derive(Drop)]
+pub struct MadeLog {
+    /// The node after the calls of the log.
+    pub node: NodeState,
+    /// How many these are.
+    pub calls: u64,
+    /// How many bytes their records take, with the head. What stands behind them is the beginning of a record that is cut
+    /// off; a host that goes on cuts its file there first.
+    pub whole: usize,
+}
+
+/// A node behind the calls of records.
+#[derive(Drop)]
+struct MadeCalls {
+    node: NodeState,
+    /// How many calls these are.
+    calls: u64,
+    /// How many bytes are left behind them.
+    torn: usize,
+}
+
+/// The node of a log under settings of this digest, which makes each call as it is read, from its opening state. `None` where the
+/// bytes are no log of this node, or where it does not make a call, or sends something else: `read_log` and `make_log` say why.
+///
+/// The world is one that takes the settings, and has the node.
+///
+/// # Errors
+/// Memory was refused.
+pub fn make_as_read(
+    alloc: Global,
+    digest: &SettingsDigest,
+    settings: &WorldSettings,
+    routes: &Routes,
+    node: Node,
+    bytes: &[u8],
+) -> Result<Option<MadeLog>, AllocError>
+    requires taken { settings_fault (settings_seen settings.now) ≡ None }
+    requires there { IsSome (node_at (opening (settings_seen settings.now)) (node_seen node)) }
+    ensures made { IfOk result (λ made. (before : AnyNode)
+        → node_at (opening (settings_seen settings.now)) (node_seen node) ≡ Some before
+        → IsMadeIf (bytes_with routes.now) before digest.now (node_seen node) bytes.now made) }
+    // What is read is the text of what it is read as, and behind it how a record begins.
+    ensures found { (read : Reading) → log_in digest.now bytes.now ≡ Ok read → IsLogOf digest.now bytes.now read }
+{
+    log_is_its_text();
+    let _ = digest.as_slice();
+    make_parts(alloc, digest, settings, routes, node, bytes)
+}
+
+/// Reads the head, and makes the calls behind it.
+#[tactic(auto, unfolding(crate::specs::Logs::log_in))]
+fn make_parts(
+    alloc: Global,
+    digest: &SettingsDigest,
+    settings: &WorldSettings,
+    routes: &Routes,
+    node: Node,
+    bytes: &[u8],
+) -> Result<Option<MadeLog>, AllocError>
+    requires taken { settings_fault (settings_seen settings.now) ≡ None }
+    requires there { IsSome (node_at (opening (settings_seen settings.now)) (node_seen node)) }
+    ensures { IfOk result (λ made. (before : AnyNode)
+        → node_at (opening (settings_seen settings.now)) (node_seen node) ≡ Some before
+        → IsMadeIf (bytes_with routes.now) before digest.now (node_seen node) bytes.now made) }
+{
+    let Ok((own, records)) = take_head(digest, bytes) else {
+        return Ok(None);
+    };
+    if !is_same_node(own, node) {
+        return Ok(None);
+    }
+    let state = NodeState::opening(alloc, settings, node)?;
+    let Some(MadeCalls { node, calls, torn }) = make_calls(
+        alloc,
+        routes,
+        state,
+        bytes.len(),
+        records,
+    )?
+    else {
+        return Ok(None);
+    };
+    let whole = bytes.len().saturating_sub(torn);
+    Ok(Some(MadeLog { node, calls, whole }))
+}
+
+/// The node after the calls of these records, how many they are, and how many bytes the torn end has.
+fn make_calls(
+    alloc: Global,
+    routes: &Routes,
+    opening: NodeState,
+    total: usize,
+    bytes: &[u8],
+) -> Result<Option<MadeCalls>, AllocError>
+    ensures { IfOk result (λ made. AreMadeIf (bytes_with routes.now) opening total bytes.now made) }
+{
+    let mut node = opening;
+    let mut rest = bytes;
+    for place in 0..bytes.len() {
+        let number = place as u64 + 1;
+        let start = total.saturating_sub(rest.len());
+        let (one, after) = match take_record(alloc, number, start, rest) {
+            Ok(Some((entry, after))) => (Record::new(entry.call, entry.sent), after),
+            Ok(None) => {
+                return Ok(Some(MadeCalls {
+                    node,
+                    calls: place as u64,
+                    torn: rest.len(),
+                }));
+            }
+            Err(LogFault::OutOfMemory) => return Err(AllocError),
+            Err(_) => return Ok(None),
+        };
+        if !makes(alloc, routes, &mut node, &one)? {
+            return Ok(None);
+        }
+        rest = after;
+    }
+    Ok(Some(MadeCalls {
+        node,
+        calls: bytes.len() as u64,
+        torn: rest.len(),
+    }))
+}
