@@ -63,7 +63,7 @@ fn decode(rt: &HostRuntime, asked: Asked) -> ExitCode {
 /// The same, and whether each line spelled a message.
 fn described(rt: &HostRuntime, asked: Asked) -> Result<bool, Stop> {
     let alloc = rt.alloc();
-    let mut source = LineSource::new(alloc, rt.stdin())?;
+    let mut source = LineSource::new(alloc, rt.stdin());
     if asked.encode {
         return encoded(rt, asked.spelling, &mut source);
     }

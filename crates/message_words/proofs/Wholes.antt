@@ -1,5 +1,5 @@
 -- The parts of a whole message.
-use Rattle.std.proofs.Common.{◌≡◌, ◌≤◌, ℕ, ◌+◌, ◌-◌, List, [], ◌∷◌, ◌++◌, length, take, drop, inl, inr, Result, Ok, Err, refl, ap, subst, sym, ◌∙◌, arith}
+use Rattle.std.proofs.Common.{◌≡◌, ℕ, ◌+◌, ◌-◌, List, [], ◌++◌, length, take, drop, inl, inr, Result, Ok, Err, ap, subst, sym, ◌∙◌, arith}
 use Rattle.std.specs.Prelude.{OnOk}
 use Rattle.std.specs.declared.alloc.AllocError.{AllocError}
 use Rattle.std.proofs.lemmas.List.{append-nil, take_all, drop_all, length-drop}
@@ -8,7 +8,9 @@ use Rattle.message_words.specs.declared.layout.Form.{Form}
 use Rattle.message_words.specs.declared.part.PartKind.TheVariants.{Stray}
 use Rattle.message_words.specs.Parts.{PartSeen, Cut}
 use Rattle.message_words.specs.Steps.{filled_part, at_first, AreBody, AreTransmission, header_rows, packet_rows, packet_form, head_parts, width_of, one_carried, some_carried, IsOne, IsPacket}
-use Rattle.message_words.specs.Added.{next_bytes, stray_part, AddsTransmission}
+use Rattle.message_words.specs.AtRest.{Told, told_before, stray_told, record_told}
+use Rattle.message_words.specs.Messages.{IsRecord}
+use Rattle.message_words.specs.Added.{next_bytes, stray_part, left_of, told_with, AddsTransmission, TellsAll}
 use Rattle.message_words.proofs.Bytes.{either}
 use Rattle.message_words.proofs.Heads.{head_none}
 use Rattle.message_words.proofs.Bodies.{no_body}
@@ -118,6 +120,14 @@ pub to_end : (P : List PartSeen → Type 0) (old c : Cut) (r : Result (Unit {0})
 to_end P old c (Ok u) whole end h = subst P (sym (no_rest c (end ∙ ap (λ (w : List ℕ). length w) (sym whole)))) h
 to_end P old c (Err e) whole end h = tt
 
-pub no_claim : (r : Result (Unit {0}) AllocError) → OnOk r (Unit {0})
-no_claim (Ok u) = tt
-no_claim (Err e) = tt
+-- a record is told from its first byte on
+record_ok : (old c : Cut) (before after : List Carried) → old.place ≡ 0 → old.parts ≡ [] → before ≡ [] → TellsAll record_told old c before after → IsRecord old.whole (c.parts ++ stray_part c) after
+record_ok old c before after start no_part none told =
+    let all : told_with c after (stray_told c.place (left_of c)) ≡ record_told 0 old.whole =
+    told ∙ (λ i. told_before (no_part i) (none i) (record_told (start i) (drop (start i) old.whole))) in
+    record { are = ap (λ (t : Told). t.parts) all; only = sym (append-nil after) ∙ ap (λ (t : Told). t.carried) all }
+
+pub record_is : (old c : Cut) (before after : List Carried) (r : Result (Unit {0}) AllocError) → old.place ≡ 0 → old.parts ≡ [] → before ≡ [] → OnOk r (TellsAll record_told old c before after)
+    → OnOk r (IsRecord old.whole (c.parts ++ stray_part c) after)
+record_is old c before after (Ok u) start no_part none told = record_ok old c before after start no_part none told
+record_is old c before after (Err e) start no_part none told = tt

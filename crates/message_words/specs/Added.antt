@@ -1,11 +1,13 @@
 -- What a cut adds to the parts.
-use Rattle.std.specs.Prelude.{◌≡◌, ℕ, List, ◌++◌, take, drop}
+use Rattle.std.specs.Prelude.{◌≡◌, ℕ, Bool, true, false, List, ◌++◌, take, drop, Option, Some}
+use Rattle.message_words.specs.declared.dissecting.Carried.{Carried}
 use Rattle.message_words.specs.declared.layout.Form.{Form}
 use Rattle.message_words.specs.declared.layout.Within.{Within}
 use Rattle.message_words.specs.declared.part.PartKind.{PartKind}
 use Rattle.message_words.specs.declared.part.PartKind.TheVariants.{Stray}
 use Rattle.message_words.specs.Parts.{PartSeen, Cut}
 use Rattle.message_words.specs.Steps.{filled_part, AreBody, AreTransmission, at_first}
+use Rattle.message_words.specs.AtRest.{Told, Telling, told_before, stray_told}
 
 -- the next bytes that are left, so many
 abbrev pub next_bytes : Cut → ℕ → List ℕ
@@ -40,3 +42,32 @@ pub record AddsTransmission (form : Form) (place : ℕ) (bytes : List ℕ) (old 
   pub added : List PartSeen
   pub are : new ≡ old ++ added
   pub transmission : AreTransmission form place bytes added
+
+-- ---- records: what was cut is told, and then what stands behind it
+
+-- the bytes that are left
+abbrev pub left_of : Cut → List ℕ
+left_of c = drop c.place c.whole
+
+-- a text of so many bytes there, and what follows it
+abbrev pub next_taken : Cut → ℕ → Option (List ℕ × List ℕ)
+next_taken c size = Some (take size (left_of c), drop size (left_of c))
+
+-- all that is told, where this is told of what is left
+abbrev pub told_with : Cut → List Carried → Told → Told
+told_with c carried t = told_before c.parts carried t
+
+-- what stands behind; where not all was there, what is left stands where nothing should
+abbrev pub behind_if : Bool → Telling → Telling
+behind_if true behind = behind
+behind_if false behind = stray_told
+
+-- a cut from one place to another told this: whatever stands behind it, the same is told from either place on
+abbrev pub Tells : (Telling → Telling) → (whole : Bool) → (old new : Cut) → (before after : List Carried) → Type 0
+Tells telling whole old new before after = (behind : Telling)
+    → told_with new after (behind_if whole behind new.place (left_of new)) ≡ told_with old before (telling behind old.place (left_of old))
+
+-- the same of the last cut, behind which what is left stands where nothing should
+abbrev pub TellsAll : Telling → (old new : Cut) → (before after : List Carried) → Type 0
+TellsAll telling old new before after =
+    told_with new after (stray_told new.place (left_of new)) ≡ told_with old before (telling old.place (left_of old))

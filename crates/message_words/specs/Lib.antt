@@ -1,6 +1,9 @@
 pub mod Parts
 pub mod Known
 pub mod Steps
+pub mod AtRest
+pub mod Messages
+pub mod Standing
 pub mod Added
 pub mod Found
 pub mod Causes
@@ -8,3 +11,5 @@ pub mod Findings
 pub mod Naming
 pub mod FieldTitles
 pub mod Spelled
+pub mod Written
+pub mod InputLines

@@ -3,8 +3,6 @@ use Rattle.std.specs.Prelude.{◌≡◌, ◌<◌, ℕ, ◌+◌, Bool, true, fals
 use Rattle.d0_segments.specs.Separators.{field_separator, group_separator, segment_separator, begins_with, plain_length}
 use Rattle.d0_segments.specs.Faults.{has_segment_id, has_field_id}
 use Rattle.message_words.specs.declared.dissecting.Carried.{Carried}
-use Rattle.message_words.specs.declared.dissecting.MessageKind.{MessageKind}
-use Rattle.message_words.specs.declared.dissecting.MessageKind.TheVariants as kind
 use Rattle.message_words.specs.declared.layout.Form.{Form}
 use Rattle.message_words.specs.declared.layout.Form.TheVariants.{Request, Answer}
 use Rattle.message_words.specs.declared.layout.Within.{Within}
@@ -151,10 +149,3 @@ pub record IsPacket (bytes : List ℕ) (parts : List PartSeen) (carried : List C
   pub are : parts ≡ head_parts packet_rows 0 bytes ++ behind
   pub payload : AreTransmission (packet_form bytes) (width_of packet_rows) (drop (width_of packet_rows) bytes) behind
   pub only : carried ≡ some_carried (packet_form bytes) (width_of packet_rows) (drop (width_of packet_rows) bytes)
-
--- the parts of a message of this kind, and the requests and answers in it; of a record nothing is said here
-abbrev pub AreOf : MessageKind → List ℕ → List PartSeen → List Carried → Type 0
-AreOf kind.Request bytes parts carried = IsOne Request bytes parts carried
-AreOf kind.Answer bytes parts carried = IsOne Answer bytes parts carried
-AreOf kind.Packet bytes parts carried = IsPacket bytes parts carried
-AreOf kind.Record bytes parts carried = Unit {0}

@@ -3,7 +3,8 @@
 ghost use Rattle.std.specs.Prelude.{◌≡◌, ◌≤◌, ◌+◌, [], ◌++◌, length, map, IfOk, OnOk};
 ghost use Rattle.message_words.specs.Naming.{kind_of, kind_name};
 ghost use Rattle.message_words.specs.Parts.{AreParts, part_seen};
-ghost use Rattle.message_words.specs.Steps.{AreOf, IsOne, one_carried};
+ghost use Rattle.message_words.specs.Messages.{AreOf};
+ghost use Rattle.message_words.specs.Steps.{IsOne, one_carried};
 ghost use Rattle.message_words.specs.Added.{next_bytes, stray_part, AddsTransmission};
 
 use crate::cutter::Cutter;

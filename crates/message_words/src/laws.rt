@@ -1,13 +1,19 @@
-//! What holds of all causes.
+//! What holds of all causes, and of all parts.
 
-ghost use Rattle.std.specs.Prelude.{◌≡◌, List, [], take, Ok, Err};
+ghost use Rattle.std.specs.Prelude.{◌≡◌, ℕ, List, [], take, Ok, Err, None};
+ghost use Rattle.std.specs.List.{AllByRecursion};
 ghost use Rattle.d0_header.specs.Request.{Request};
 ghost use Rattle.d0_segments.specs.Parts.{SegmentParts};
+ghost use Rattle.d0_segments.specs.Framing.{framing_fault, request_kind, response_kind};
 ghost use Rattle.claim_profile.specs.declared.order.Order.{Order};
 ghost use Rattle.claim_profile.specs.declared.reject.Code.{Code};
 ghost use Rattle.claim_profile.specs.declared.order_reading.OrderFault.TheVariants.{Rejected};
 ghost use Rattle.claim_profile.specs.Order.{order_of};
 ghost use Rattle.message_words.specs.Causes.{causes_of, codes_told};
+ghost use Rattle.message_words.specs.declared.layout.Form.TheVariants.{Request as Asked, Answer as Answered};
+ghost use Rattle.message_words.specs.Parts.{PartSeen};
+ghost use Rattle.message_words.specs.Standing.{Stands};
+ghost use Rattle.message_words.specs.Steps.{AreTransmission};
 
 /// A transaction has no cause exactly where it reads as an order, and the codes with which one is rejected are the
 /// first five of its causes.
@@ -18,4 +24,14 @@ pub fn cause_laws()
         → causes_of h shared group ≡ [] → (order : Order) × (order_of h shared group ≡ Ok order) }
     ensures first_five { (h : Request) (shared group : List SegmentParts) (codes : List Code)
         → order_of h shared group ≡ Err (Rejected codes) → codes ≡ take 5 (codes_told (causes_of h shared group)) }
+{}
+
+/// In a request or an answer that is framed as the standard has it, no part stands where none should.
+pub fn part_laws()
+    ensures request { (place : ℕ) (bytes : List ℕ) (parts : List PartSeen)
+        → framing_fault request_kind bytes ≡ None → AreTransmission Asked place bytes parts
+        → AllByRecursion Stands parts }
+    ensures answer { (place : ℕ) (bytes : List ℕ) (parts : List PartSeen)
+        → framing_fault response_kind bytes ≡ None → AreTransmission Answered place bytes parts
+        → AllByRecursion Stands parts }
 {}

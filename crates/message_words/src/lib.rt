@@ -3,6 +3,7 @@
 #![tactic(auto)]
 
 mod answer_lines;
+mod books;
 mod causes;
 mod cutter;
 mod describing;
@@ -10,6 +11,7 @@ mod dissecting;
 mod fault_lines;
 mod findings;
 mod found;
+mod journals;
 mod laws;
 mod layout;
 mod line_source;
@@ -33,7 +35,7 @@ pub use causes::{Cause, all_causes};
 pub use dissecting::{Carried, Dissected, MessageKind, dissect};
 pub use findings::{Finding, Uncarried, findings_of};
 pub use found::Found;
-pub use laws::cause_laws;
+pub use laws::{cause_laws, part_laws};
 pub use layout::Form;
 pub use line_source::{InputFault, LONGEST_LINE, LineSource};
 pub use marks::Mark;

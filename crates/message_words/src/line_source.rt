@@ -1,5 +1,10 @@
 //! The lines of an input, one at a time.
 
+ghost use Rattle.std.specs.Prelude.{◌≡◌, ◌<◌, ◌≤◌, ◌+◌, ◌++◌, [], length, take, drop, false, IfOk, OnOk, IfSome, if◌then◌else◌};
+ghost use Rattle.std.specs.Io.KnownBytes.{Consumes, IsAtEnd, Keeps, prepend_known};
+ghost use Rattle.message_words.specs.Spelled.{ends_with};
+ghost use Rattle.message_words.specs.InputLines.{AreAll, IsNextLine, has_newline, left_in, line_length, unread, without_return};
+
 use std::alloc::{AllocError, Global};
 use std::io::Read;
 
@@ -24,10 +29,16 @@ pub enum InputFault {
 #[derive(Drop)]
 pub struct LineSource<R: Read + Drop> {
     reader: R,
-    chunk: Vec<u8>,
+    unread: Unread,
+    line: Vec<u8>,
+}
+
+/// What was read and not yet taken: the bytes from one place on, up to another.
+#[derive(Drop)]
+struct Unread {
+    bytes: Vec<u8>,
     from: usize,
     to: usize,
-    line: Vec<u8>,
 }
 
 impl From<AllocError> for InputFault {
@@ -36,70 +47,32 @@ impl From<AllocError> for InputFault {
     }
 }
 
-impl<R: Read + Drop> LineSource<R> {
-    /// An input of which nothing was read.
-    ///
-    /// # Errors
-    /// Want of memory.
-    pub fn new(alloc: Global, reader: R) -> Result<LineSource<R>, AllocError> {
-        let mut chunk = Vec::new(alloc);
-        chunk.resize(CHUNK, 0)?;
-        Ok(LineSource {
-            reader,
-            chunk,
-            from: 0,
-            to: 0,
-            line: Vec::new(alloc),
-        })
+impl Unread {
+    /// The bytes.
+    fn as_slice(&self) -> &[u8]
+        ensures { result.now ≡ unread self.now }
+    {
+        let end = self.to.min(self.bytes.len());
+        let from = self.from.min(end);
+        &self.bytes.as_slice()[from..end]
     }
 
-    /// The line that was read last, without its end.
-    pub fn line(&self) -> &[u8] {
-        self.line.as_slice()
+    /// Leaves out the first ones, so many.
+    fn pass(&mut self, count: usize)
+        requires { count ≤ length (unread self.old) }
+        ensures { unread self.new ≡ drop count (unread self.old) }
+    {
+        self.from = self.from.saturating_add(count);
     }
 
-    /// Reads the next line, and says whether there was one. A line ends at a newline, and the last one may lack it; one
-    /// carriage return right before the newline belongs to the line's end.
-    ///
-    /// # Errors
-    /// `Read` where a read failed, `TooLong` for a line of more than 16,777,216 bytes, `OutOfMemory`.
-    pub fn read_line(&mut self) -> Result<bool, InputFault> {
-        self.line.clear();
-        for _ in 0..u64::MAX {
-            if !self.fill()? {
-                return Ok(!self.line.is_empty());
-            }
-            if self.take_to_newline()? {
-                self.drop_return();
-                return Ok(true);
-            }
-        }
-        Ok(false)
-    }
-
-    /// Reads all that is left as one line.
-    ///
-    /// # Errors
-    /// Those of `read_line`.
-    pub fn read_all(&mut self) -> Result<(), InputFault> {
-        self.line.clear();
-        for _ in 0..u64::MAX {
-            if !self.fill()? {
-                return Ok(());
-            }
-            let end = self.to;
-            self.take(end)?;
-            self.from = end;
-        }
-        Ok(())
-    }
-
-    /// Reads more where nothing is left of what was read, and says whether something is left then.
-    fn fill(&mut self) -> Result<bool, InputFault> {
-        if self.from < self.to {
-            return Ok(true);
-        }
-        let count = match self.reader.read(self.chunk.as_mut_slice()) {
+    /// Reads others in their place, and says whether there were any.
+    fn refill<R: Read>(&mut self, reader: &mut R) -> Result<bool, InputFault>
+        ensures read { OnOk result (Consumes (R.remaining reader.old) (R.remaining reader.new) (unread self.new)) }
+        ensures end { IfOk result (λ some. some ≡ false → IsAtEnd (R.remaining reader.new)) }
+        ensures none { IfOk result (λ some. some ≡ false → unread self.new ≡ []) }
+    {
+        self.make_room()?;
+        let count = match reader.read(self.bytes.as_mut_slice()) {
             Ok(count) => count,
             Err(_) => return Err(InputFault::Read),
         };
@@ -108,49 +81,174 @@ impl<R: Read + Drop> LineSource<R> {
         Ok(count > 0)
     }
 
-    /// Adds what is left up to the next newline to the line, and says whether there was one.
-    fn take_to_newline(&mut self) -> Result<bool, InputFault> {
-        match self.newline() {
-            Some(place) => {
-                self.take(place)?;
-                self.from = place.saturating_add(1);
-                Ok(true)
-            }
-            None => {
-                let end = self.to;
-                self.take(end)?;
-                self.from = end;
-                Ok(false)
-            }
+    /// Makes room for the bytes of a call, where there is none.
+    fn make_room(&mut self) -> Result<(), AllocError>
+        ensures { OnOk result (0 < length self.new.bytes.items) }
+    {
+        if !self.bytes.is_empty() {
+            return Ok(());
+        }
+        self.bytes.resize(CHUNK, 0)
+    }
+}
+
+impl<R: Read + Drop> LineSource<R> {
+    /// An input of which nothing was read.
+    pub fn new(alloc: Global, reader: R) -> LineSource<R>
+        ensures left { left_in (R.remaining result.reader) result.unread ≡ prepend_known [] (R.remaining reader) }
+        ensures line { result.line.items ≡ [] }
+    {
+        LineSource {
+            reader,
+            unread: Unread {
+                bytes: Vec::new(alloc),
+                from: 0,
+                to: 0,
+            },
+            line: Vec::new(alloc),
         }
     }
 
-    /// The place of the next newline in what was read.
-    fn newline(&self) -> Option<usize> {
-        let end = self.to.min(self.chunk.len());
-        let from = self.from.min(end);
-        let left = &self.chunk.as_slice()[from..end];
-        let place = left.iter().position(|byte| *byte == b'\n')?;
-        Some(from.saturating_add(place))
+    /// The line that was read last, without its end.
+    pub fn line(&self) -> &[u8]
+        ensures { result.now ≡ self.now.line.items }
+    {
+        self.line.as_slice()
     }
 
-    /// Adds what was read up to a place to the line.
-    fn take(&mut self, end: usize) -> Result<(), InputFault> {
-        let end = end.min(self.chunk.len());
-        let from = self.from.min(end);
-        if self.line.len().saturating_add(end - from) > LONGEST_LINE {
+    /// Reads the next line, and says whether there was one. A line ends at a newline, and the last one may lack it; one
+    /// carriage return right before the newline belongs to the line's end.
+    ///
+    /// # Errors
+    /// `Read` where a read failed, `TooLong` for a line of more than 16,777,216 bytes, `OutOfMemory`.
+    pub fn read_line(&mut self) -> Result<bool, InputFault>
+        ensures { IfOk result (λ some. IfSome (left_in (R.remaining self.old.reader) self.old.unread) (λ bytes.
+            IsNextLine bytes some self.new.line.items (left_in (R.remaining self.new.reader) self.new.unread))) }
+    {
+        self.line.clear();
+        for _ in 0..u64::MAX {
+            let some = self.fill()?;
+            if !some {
+                return Ok(!self.line.as_slice().is_empty());
+            }
+            let ended = self.take_to_newline()?;
+            if ended {
+                self.drop_return();
+                return Ok(true);
+            }
+        }
+        Err(InputFault::Read)
+    }
+
+    /// Reads all that is left as one line.
+    ///
+    /// # Errors
+    /// Those of `read_line`.
+    pub fn read_all(&mut self) -> Result<(), InputFault>
+        ensures { OnOk result (IfSome (left_in (R.remaining self.old.reader) self.old.unread) (λ bytes.
+            AreAll bytes self.new.line.items (left_in (R.remaining self.new.reader) self.new.unread))) }
+    {
+        self.line.clear();
+        for _ in 0..u64::MAX {
+            let some = self.fill()?;
+            if !some {
+                return Ok(());
+            }
+            self.take_all()?;
+        }
+        Err(InputFault::Read)
+    }
+
+    /// Reads more where nothing is left of what was read, and says whether something is left then.
+    fn fill(&mut self) -> Result<bool, InputFault>
+        ensures line { self.new.line ≡ self.old.line }
+        ensures left { OnOk result (Keeps (left_in (R.remaining self.old.reader) self.old.unread)
+            (left_in (R.remaining self.new.reader) self.new.unread)) }
+        ensures end { IfOk result (λ some. some ≡ false
+            → IsAtEnd (left_in (R.remaining self.new.reader) self.new.unread)) }
+    {
+        if !self.unread.as_slice().is_empty() {
+            return Ok(true);
+        }
+        self.unread.refill(&mut self.reader)
+    }
+
+    /// Adds what was read up to the next newline to the line, passes over the newline, and says whether there was one.
+    fn take_to_newline(&mut self) -> Result<bool, InputFault>
+        ensures reader { self.new.reader ≡ self.old.reader }
+        ensures ended { IfOk result (λ ended. ended ≡ has_newline (unread self.old.unread)) }
+        ensures line { OnOk result (self.new.line.items ≡ self.old.line.items
+            ++ take (line_length (unread self.old.unread)) (unread self.old.unread)) }
+        ensures left { OnOk result (unread self.new.unread ≡ (if has_newline (unread self.old.unread)
+            then drop (line_length (unread self.old.unread) + 1) (unread self.old.unread) else [])) }
+    {
+        let unread = self.unread.as_slice();
+        let count = line_length(unread);
+        let ended = count < unread.len();
+        self.take(count)?;
+        if ended {
+            self.unread.pass(1);
+        }
+        Ok(ended)
+    }
+
+    /// Adds all that was read to the line.
+    fn take_all(&mut self) -> Result<(), InputFault>
+        ensures reader { self.new.reader ≡ self.old.reader }
+        ensures line { OnOk result (self.new.line.items ≡ self.old.line.items ++ unread self.old.unread) }
+        ensures left { OnOk result (unread self.new.unread ≡ []) }
+    {
+        let count = self.unread.as_slice().len();
+        self.take(count)
+    }
+
+    /// Adds the next bytes, so many, to the line.
+    fn take(&mut self, count: usize) -> Result<(), InputFault>
+        requires { count ≤ length (unread self.old.unread) }
+        ensures reader { self.new.reader ≡ self.old.reader }
+        ensures line { OnOk result (self.new.line.items ≡ self.old.line.items ++ take count (unread self.old.unread)) }
+        ensures left { OnOk result (unread self.new.unread ≡ drop count (unread self.old.unread)) }
+    {
+        if self.line.len().saturating_add(count) > LONGEST_LINE {
             return Err(InputFault::TooLong);
         }
         self.line
-            .extend_from_slice(&self.chunk.as_slice()[from..end])?;
+            .extend_from_slice(&self.unread.as_slice()[..count])?;
+        self.unread.pass(count);
         Ok(())
     }
 
     /// Drops the carriage return at the end of the line.
-    fn drop_return(&mut self) {
-        if self.line.as_slice().ends_with(b"\r") {
+    fn drop_return(&mut self)
+        ensures reader { self.new.reader ≡ self.old.reader }
+        ensures unread { self.new.unread ≡ self.old.unread }
+        ensures line { self.new.line.items ≡ without_return self.old.line.items }
+    {
+        if ends_with(self.line.as_slice(), b'\r') {
             let count = self.line.len().saturating_sub(1);
             self.line.truncate(count);
         }
+    }
+}
+
+/// How many bytes stand before the next newline or the end.
+fn line_length(bytes: &[u8]) -> usize
+    ensures length { result ≡ line_length bytes.now }
+    ensures within { result ≤ length bytes.now }
+{
+    let mut place = 0;
+    while place < bytes.len() && bytes[place] != b'\n' {
+        place += 1;
+    }
+    place
+}
+
+/// Whether this byte is the last one.
+fn ends_with(bytes: &[u8], byte: u8) -> bool
+    ensures { result ≡ ends_with byte bytes.now }
+{
+    match &bytes[bytes.len().saturating_sub(1)..] {
+        [last, ..] => *last == byte,
+        [] => false,
     }
 }

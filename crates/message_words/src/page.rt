@@ -1,6 +1,7 @@
 //! The description of one message, as lines of text or as an object of JSON.
 
 ghost use Rattle.std.specs.Prelude.{◌≡◌, ◌≤◌, ◌+◌, ◌||◌, false, [], length};
+ghost use Rattle.message_words.specs.Written.{unspelled_words};
 
 use crate::dissecting::MessageKind;
 use crate::text::{Text, digit, is_plain};
@@ -249,23 +250,14 @@ impl Page {
     }
 
     /// Describes a line of the input that spells no message: no byte is spelled at a place of it.
-    pub fn unspelled(&mut self, line: u64, place: usize) {
-        self.out.clear();
+    pub fn unspelled(&mut self, line: u64, place: usize)
+        ensures text { self.new.out.refused ≡ false
+            → self.new.out.bytes.items ≡ unspelled_words self.old.style line place }
+        ensures same { self.new ≡ record self.old { out = self.new.out } }
+    {
         match self.style {
-            Style::Lines => {
-                self.out.put("line ");
-                self.out.number(line);
-                self.out.put(": no message: no byte is spelled at place ");
-                self.out.number(place as u64);
-                self.out.put("\n\n");
-            }
-            Style::Json => {
-                self.out.put("{\"line\":");
-                self.out.number(line);
-                self.out.put(",\"kind\":\"none\",\"place\":");
-                self.out.number(place as u64);
-                self.out.put("}\n");
-            }
+            Style::Lines => self.out.unspelled_line(line, place as u64),
+            Style::Json => self.out.unspelled_object(line, place as u64),
         }
     }
 

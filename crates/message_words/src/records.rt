@@ -1,19 +1,24 @@
-//! Cutting envelopes, journals and books.
+//! Cutting envelopes and records.
 
-ghost use Rattle.std.specs.Prelude.{◌≡◌, ◌≤◌, ◌+◌, ◌-◌, [], ◌++◌, length, IfOk, OnOk};
+ghost use Rattle.std.specs.Prelude.{◌≡◌, ◌≤◌, ◌+◌, ◌-◌, List, [], ◌++◌, length, min, take, drop, true, IfOk, OnOk, IfSome};
+ghost use Rattle.std.specs.Option.{option_map};
+ghost use Rattle.kept_records.specs.Fields.{text_at};
+ghost use Rattle.message_words.specs.declared.part.PartKind.TheVariants as part;
+ghost use Rattle.message_words.specs.AtRest.{count_at, head_told, is_book, piece_told, record_told, taken_told, text_told};
 ghost use Rattle.message_words.specs.Steps.{IsPacket, packet_form, packet_rows, head_parts, width_of, some_carried};
-ghost use Rattle.message_words.specs.Added.{next_bytes, AddsTransmission};
+ghost use Rattle.message_words.specs.Added.{next_bytes, next_taken, left_of, AddsTransmission, Tells, TellsAll};
 
+use crate::books::cut_book;
 use crate::cutter::Cutter;
 use crate::dissecting::{Carried, cut_carried};
+use crate::journals::cut_journal;
 use crate::layout::Form;
 use crate::marks::Mark;
 use crate::part::PartKind;
 use crate::transmissions::{cut_head, front_of};
+use envelope::LARGEST_PAYLOAD;
+use kept_records::take_u32;
 use std::alloc::AllocError;
-
-/// The most bytes of a text in a record.
-const LONGEST: u64 = 32_768;
 
 /// The head of an envelope.
 static PACKET: [(PartKind, usize); 6] = [
@@ -23,26 +28,6 @@ static PACKET: [(PartKind, usize); 6] = [
     (PartKind::Mark(Mark::Pharmacy), 2),
     (PartKind::Mark(Mark::Number), 8),
     (PartKind::Mark(Mark::Length), 4),
-];
-
-/// The head of a journal.
-static JOURNAL: [(PartKind, usize); 4] = [
-    (PartKind::Mark(Mark::Letters), 2),
-    (PartKind::Mark(Mark::FormatVersion), 1),
-    (PartKind::Mark(Mark::Pharmacy), 2),
-    (PartKind::Mark(Mark::Count), 4),
-];
-
-/// The head of a book.
-static BOOK: [(PartKind, usize); 8] = [
-    (PartKind::Mark(Mark::Letters), 2),
-    (PartKind::Mark(Mark::FormatVersion), 1),
-    (PartKind::Mark(Mark::Payer), 2),
-    (PartKind::Mark(Mark::FirstSerial), 8),
-    (PartKind::Mark(Mark::Fee), 4),
-    (PartKind::Mark(Mark::Copay), 4),
-    (PartKind::Mark(Mark::ProductCount), 4),
-    (PartKind::Mark(Mark::Count), 4),
 ];
 
 /// Cuts an envelope. What it carries is cut as its head says, and as a request where the head says neither.
@@ -112,125 +97,115 @@ fn packet_form(bytes: &[u8]) -> Form
 }
 
 /// Cuts a journal or a book.
+#[tactic(auto, unfolding(crate::specs::AtRest::record_told))]
 pub(crate) fn cut_record(
     cutter: &mut Cutter<'_>,
     carried: &mut Vec<Carried>,
 ) -> Result<(), AllocError>
-    ensures { cutter.new.whole ≡ cutter.old.whole }
+    ensures whole { cutter.new.whole ≡ cutter.old.whole }
+    ensures told { OnOk result (TellsAll record_told cutter.old cutter.new carried.old.items carried.new.items) }
 {
-    match cutter.left() {
-        [b'P', b'B', ..] => cut_book(cutter, carried),
-        _ => cut_journal(cutter, carried),
+    if is_book(cutter.left()) {
+        return cut_book(cutter, carried);
     }
+    cut_journal(cutter, carried)
 }
 
-/// Cuts a journal: its head, and as many entries as the head says and the bytes have.
-fn cut_journal(cutter: &mut Cutter<'_>, carried: &mut Vec<Carried>) -> Result<(), AllocError>
-    ensures { cutter.new.whole ≡ cutter.old.whole }
+/// Whether a record is a book.
+fn is_book(bytes: &[u8]) -> bool
+    ensures { result ≡ is_book bytes.now }
 {
-    let count = number_at(cutter.left(), 5, 4);
-    cut_marks(cutter, JOURNAL.as_slice())?;
-    for _ in 0..count {
-        if !cut_entry(cutter, carried)? {
-            return Ok(());
-        }
+    match bytes {
+        [first, second, ..] => *first == b'P' && *second == b'B',
+        _ => false,
     }
-    Ok(())
-}
-
-/// Cuts an entry of a journal, and says whether all of it was there.
-fn cut_entry(cutter: &mut Cutter<'_>, carried: &mut Vec<Carried>) -> Result<bool, AllocError>
-    ensures { cutter.new.whole ≡ cutter.old.whole }
-{
-    cut_mark(cutter, Mark::Number, 8)?;
-    if !cut_text(cutter, carried, Form::Request)? {
-        return Ok(false);
-    }
-    let flag = number_at(cutter.left(), 0, 1);
-    cut_mark(cutter, Mark::AnswerFlag, 1)?;
-    if flag == 1 {
-        return cut_text(cutter, carried, Form::Answer);
-    }
-    Ok(flag == 0)
-}
-
-/// Cuts a book: its head, its products, and as many rows as the head says and the bytes have.
-fn cut_book(cutter: &mut Cutter<'_>, carried: &mut Vec<Carried>) -> Result<(), AllocError>
-    ensures { cutter.new.whole ≡ cutter.old.whole }
-{
-    let products = number_at(cutter.left(), 21, 4);
-    let rows = number_at(cutter.left(), 25, 4);
-    cut_marks(cutter, BOOK.as_slice())?;
-    cut_products(cutter, products)?;
-    for _ in 0..rows {
-        if !cut_row(cutter, carried)? {
-            return Ok(());
-        }
-    }
-    Ok(())
-}
-
-/// Cuts the products of a plan.
-fn cut_products(cutter: &mut Cutter<'_>, count: u64) -> Result<(), AllocError>
-    ensures { cutter.new.whole ≡ cutter.old.whole }
-{
-    for _ in 0..count {
-        if cutter.left().is_empty() {
-            return Ok(());
-        }
-        let size = number_at(cutter.left(), 0, 1);
-        cut_mark(cutter, Mark::Length, 1)?;
-        cut_mark(cutter, Mark::PlanProduct, size as usize)?;
-        cut_mark(cutter, Mark::Price, 4)?;
-    }
-    Ok(())
-}
-
-/// Cuts a row of a book, and says whether all of it was there.
-fn cut_row(cutter: &mut Cutter<'_>, carried: &mut Vec<Carried>) -> Result<bool, AllocError>
-    ensures { cutter.new.whole ≡ cutter.old.whole }
-{
-    cut_mark(cutter, Mark::Pharmacy, 2)?;
-    cut_mark(cutter, Mark::Number, 8)?;
-    if !cut_text(cutter, carried, Form::Request)? {
-        return Ok(false);
-    }
-    cut_text(cutter, carried, Form::Answer)
 }
 
 /// Cuts a text behind its length, and says whether all of it was there.
-fn cut_text(
+pub(crate) fn cut_text(
     cutter: &mut Cutter<'_>,
     carried: &mut Vec<Carried>,
     form: Form,
 ) -> Result<bool, AllocError>
-    ensures { cutter.new.whole ≡ cutter.old.whole }
+    ensures whole { cutter.new.whole ≡ cutter.old.whole }
+    ensures told { IfOk result (λ whole. Tells (text_told form) whole cutter.old cutter.new
+        carried.old.items carried.new.items) }
 {
-    let is_cut = cutter.left().len() < 4;
-    let size = number_at(cutter.left(), 0, 4);
+    let left = cutter.left();
+    let size = text_size(left);
     cut_mark(cutter, Mark::Length, 4)?;
-    if is_cut || size > LONGEST || size > cutter.left().len() as u64 {
-        return Ok(false);
+    match size {
+        Some(size) => cut_sized(cutter, carried, form, size),
+        None => Ok(false),
     }
-    cut_carried(cutter, carried, form, size as usize)?;
+}
+
+/// How many bytes the text has that stands here behind its length; none where it is cut off or too long.
+#[tactic(auto, unfolding(kept_records::specs::Fields::text_at, kept_records::specs::Fields::u32_at))]
+fn text_size(bytes: &[u8]) -> Option<usize>
+    ensures text { text_at bytes.now
+        ≡ option_map (λ size. (take size (drop 4 bytes.now), drop size (drop 4 bytes.now))) result }
+    ensures room { IfSome result (λ size. 4 + size ≤ length bytes.now) }
+{
+    let (size, rest) = take_u32(bytes)?;
+    let size = size as usize;
+    if size > LARGEST_PAYLOAD || size > rest.len() {
+        return None;
+    }
+    Some(size)
+}
+
+/// Cuts the next bytes, so many, as a transmission, and says that they were there.
+fn cut_sized(
+    cutter: &mut Cutter<'_>,
+    carried: &mut Vec<Carried>,
+    form: Form,
+    size: usize,
+) -> Result<bool, AllocError>
+    requires { cutter.old.place + size ≤ length cutter.old.whole }
+    ensures whole { cutter.new.whole ≡ cutter.old.whole }
+    ensures told { IfOk result (λ whole. Tells (taken_told form (next_taken cutter.old size)) whole
+        cutter.old cutter.new carried.old.items carried.new.items) }
+{
+    cut_carried(cutter, carried, form, size)?;
     Ok(true)
 }
 
 /// Cuts marks of fixed widths, as far as the bytes reach.
-fn cut_marks(cutter: &mut Cutter<'_>, marks: &[(PartKind, usize)]) -> Result<(), AllocError>
-    ensures { cutter.new.whole ≡ cutter.old.whole }
+pub(crate) fn cut_marks(
+    cutter: &mut Cutter<'_>,
+    marks: &[(PartKind, usize)],
+) -> Result<(), AllocError>
+    ensures whole { cutter.new.whole ≡ cutter.old.whole }
+    ensures told { OnOk result ((carried : List Carried)
+        → Tells (head_told marks.now) true cutter.old cutter.new carried carried) }
 {
     let size = cutter.left().len();
-    cut_head(cutter, marks, size)?;
+    let _left = cut_head(cutter, marks, size)?;
     Ok(())
 }
 
 /// Cuts a mark of so many bytes, or what is left of it.
-fn cut_mark(cutter: &mut Cutter<'_>, mark: Mark, width: usize) -> Result<(), AllocError>
-    ensures { cutter.new.whole ≡ cutter.old.whole }
+pub(crate) fn cut_mark(cutter: &mut Cutter<'_>, mark: Mark, width: usize) -> Result<(), AllocError>
+    ensures whole { cutter.new.whole ≡ cutter.old.whole }
+    ensures place { OnOk result (cutter.new.place ≡ cutter.old.place + min width (length (left_of cutter.old))) }
+    ensures left { OnOk result (left_of cutter.new ≡ drop width (left_of cutter.old)) }
+    ensures told { OnOk result ((carried : List Carried)
+        → Tells (piece_told (part.Mark mark) width) true cutter.old cutter.new carried carried) }
 {
-    let count = width.min(cutter.left().len());
+    let left = cutter.left();
+    let count = width.min(left.len());
     cutter.cut_some(PartKind::Mark(mark), count)
+}
+
+/// The number of four bytes that stands so many bytes from the front, and 0 where it is cut off.
+pub(crate) fn count_at(bytes: &[u8], place: usize) -> u32
+    ensures { result ≡ count_at place bytes.now }
+{
+    match take_u32(&bytes[place.min(bytes.len())..]) {
+        Some((count, _)) => count,
+        None => 0,
+    }
 }
 
 /// The number that so many bytes from a place on spell, their high byte first; of those that are there.

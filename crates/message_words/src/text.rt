@@ -1,6 +1,8 @@
 //! A text that is written piece by piece. Where memory is refused it takes no more, and says so.
 
 ghost use Rattle.std.specs.Prelude.{◌≡◌, [], false};
+ghost use Rattle.std.specs.Fmt.{decimal};
+ghost use Rattle.message_words.specs.Written.{Takes, unspelled_line, unspelled_object};
 
 use input_text::{put_decimal, put_printed};
 use std::alloc::{AllocError, Global};
@@ -33,7 +35,10 @@ impl Text {
     }
 
     /// Empties the text. Its memory stays, and so does a refusal.
-    pub(crate) fn clear(&mut self) {
+    pub(crate) fn clear(&mut self)
+        ensures bytes { self.new.bytes.items ≡ [] }
+        ensures refused { self.new.refused ≡ self.old.refused }
+    {
         self.bytes.clear();
     }
 
@@ -62,14 +67,20 @@ impl Text {
     }
 
     /// Appends words.
-    pub(crate) fn put(&mut self, words: &str) {
+    pub(crate) fn put(&mut self, words: &str)
+        ensures { Takes words.now self.old self.new }
+    {
         self.bytes(words.as_bytes());
     }
 
     /// Appends bytes.
-    pub(crate) fn bytes(&mut self, bytes: &[u8]) {
-        let done = self.bytes.extend_from_slice(bytes);
-        self.note(done);
+    pub(crate) fn bytes(&mut self, bytes: &[u8])
+        ensures { Takes bytes.now self.old self.new }
+    {
+        match self.bytes.extend_from_slice(bytes) {
+            Ok(()) => {}
+            Err(_) => self.refused = true,
+        }
     }
 
     /// Appends bytes as they are printed.
@@ -83,13 +94,17 @@ impl Text {
     }
 
     /// Appends a number.
-    pub(crate) fn number(&mut self, number: u64) {
+    #[tactic(auto, using(crate::proofs::Written::one_digit))]
+    pub(crate) fn number(&mut self, number: u64)
+        ensures { Takes (decimal number) self.old self.new }
+    {
         if number < 10 {
-            self.bytes(&[digit(number)]);
-            return;
+            return self.bytes(&[b'0' + number as u8]);
         }
-        let done = put_decimal(&mut self.bytes, number);
-        self.note(done);
+        match put_decimal(&mut self.bytes, number) {
+            Ok(()) => {}
+            Err(_) => self.refused = true,
+        }
     }
 
     /// Appends a point and a number below a thousand by three digits.
@@ -146,6 +161,30 @@ impl Text {
             0x20..=0x7e => self.bytes(&[byte]),
             _ => self.put("?"),
         }
+    }
+
+    /// Writes, as a line for people, that no byte is spelled at a place of a line.
+    pub(crate) fn unspelled_line(&mut self, line: u64, place: u64)
+        ensures { self.new.refused ≡ false → self.new.bytes.items ≡ unspelled_line line place }
+    {
+        self.clear();
+        self.put("line ");
+        self.number(line);
+        self.put(": no message: no byte is spelled at place ");
+        self.number(place);
+        self.put("\n\n");
+    }
+
+    /// The same as an object of JSON.
+    pub(crate) fn unspelled_object(&mut self, line: u64, place: u64)
+        ensures { self.new.refused ≡ false → self.new.bytes.items ≡ unspelled_object line place }
+    {
+        self.clear();
+        self.put("{\"line\":");
+        self.number(line);
+        self.put(",\"kind\":\"none\",\"place\":");
+        self.number(place);
+        self.put("}\n");
     }
 
     /// Keeps that memory was refused.

@@ -1,0 +1,7 @@
+use Rattle.std.specs.Io.KnownBytes.{Consumes}
+use Rattle.message_words.specs.InputLines.{left_in}
+use Rattle.message_words.proofs.line_source.LineSource.read_all.Given as goal
+
+-- the line so far came from the front of what was left
+abbrev pub invariant-loop : goal.invariant-loop
+invariant-loop g l = Consumes (left_in (g.R.Read.remaining l.fn.self.reader) l.fn.self.unread) (left_in (g.R.Read.remaining l.self.reader) l.self.unread) l.self.line.items

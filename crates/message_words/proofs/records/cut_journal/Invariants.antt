@@ -1,6 +1,0 @@
-use Rattle.std.proofs.Common.{◌≡◌}
-use Rattle.message_words.proofs.records.cut_journal.Given as goal
-
--- the message is the same
-abbrev pub invariant-loop : goal.invariant-loop
-invariant-loop l = l.cutter.whole ≡ l.fn.cutter.whole
