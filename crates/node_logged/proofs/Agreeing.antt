@@ -1,5 +1,5 @@
 -- The ledgers of logs are those of the world that their interleavings lead to.
-use Rattle.std.proofs.Common.{◌≡◌, ℕ, zero, suc, ◌+◌, List, [], ◌∷◌, map, Option, Some, None, slice_get, Result, Ok, Err, IfOk, refl, sym, ap, ◌∙◌, subst, arith}
+use Rattle.std.proofs.Common.{◌≡◌, ℕ, zero, suc, ◌+◌, List, [], ◌∷◌, Option, Some, None, slice_get, refl, sym, ap, ◌∙◌, subst, arith}
 use Rattle.std.specs.Prelude.{is_some, option_map}
 use Rattle.claim_model.specs.Context.{Context}
 use Rattle.claim_model.specs.Journal.{Journal, JournalAtRest}
@@ -13,18 +13,14 @@ use Rattle.claim_model.specs.Nodes.{AnyNode, OfPharmacy, node_at}
 use Rattle.claim_model.specs.Logs.{Logged, NodeLog, log_in, replay}
 use Rattle.claim_model.specs.Interleavings.{HasLog, IsInterleaving}
 use Rattle.claim_model.proofs.Replaying.{replays, absent_stays}
-use Rattle.world_setup.specs.Seen.{event_seen, settings_seen}
+use Rattle.world_setup.specs.Seen.{settings_seen}
 use Rattle.world_setup.specs.declared.settings.WorldSettings.{WorldSettings}
 use Rattle.run_merge.specs.Naming.{calls_of}
-use Rattle.run_merge.specs.LogSeen.{logs_seen}
 use Rattle.run_merge.specs.Merged.{IsMerged}
-use Rattle.run_merge.specs.declared.log.NodeLog.{NodeLog as Kept}
 use Rattle.run_merge.proofs.Lines.{calls_at}
 use Rattle.run_merge.proofs.Merging.{legal_distinct}
-use Rattle.node_logged.specs.Setting.{context_of, world_after_run}
+use Rattle.node_logged.specs.Setting.{context_of}
 use Rattle.node_logged.specs.Replayed.{entries_in, ledger_after, ledger_in, ledgers_from, ledgers_of, AreOfWorld}
-use Rattle.node_logged.specs.declared.judging.verdict.Finished.{Finished}
-use Rattle.node_logged.specs.declared.judging.finish_fault.FinishFault.{FinishFault}
 use Rattle.node_logged.proofs.Replaying.{stays_one}
 
 -- the ledger at a place
@@ -83,10 +79,3 @@ agree s logs es m (suc k) =
     let ps = (opening (settings_seen s)).pharmacies in
     let next : 1 + k ≡ suc k = omega arith in
     ledger_at ctx logs 1 ps k ∙ (ap (λ (n : ℕ). option_map (ledger_after ctx logs n) (slice_get ps k)) next ∙ agree_at ctx (settings_seen s) logs es k m.legal (slice_get ps k) refl)
-
--- so they are where the end of a system is such a world
-pub ends_agree : (s : WorldSettings) (logs : List Kept) (r : Result Finished FinishFault) → IfOk r (λ f. IsMerged s (logs_seen logs) (map event_seen f.events.items))
-    → IfOk r (λ f. f.world ≡ world_after_run s (map event_seen f.events.items))
-    → IfOk r (λ f. AreOfWorld (ledgers_of s (logs_seen logs)) f.world.world)
-ends_agree s logs (Ok f) merged world = subst (λ w. AreOfWorld (ledgers_of s (logs_seen logs)) w.world) (sym world) (agree s (logs_seen logs) (map event_seen f.events.items) merged)
-ends_agree s logs (Err why) merged world = tt

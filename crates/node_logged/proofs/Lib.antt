@@ -10,3 +10,7 @@ mod Replays
 mod Numbers
 mod Options
 mod Agreeing
+mod Sameness
+mod Stands
+mod Worlds
+mod Carrying

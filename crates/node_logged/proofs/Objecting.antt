@@ -14,7 +14,6 @@ use Rattle.node_logged.specs.Objections.{first_objection, objection_by}
 use Rattle.node_logged.specs.Causes.{AreRight, Stands}
 use Rattle.node_logged.specs.declared.judging.objection.Objection.{Objection}
 use Rattle.node_logged.specs.declared.judging.objection.Objection.TheVariants.{ReceiptMissing, HeardDiffers}
-use Rattle.node_logged.specs.declared.judging.finish_fault.FinishFault.TheVariants as fault
 use Rattle.node_logged.proofs.Judged.{all_receipts, receipts_all, all_counts, all_heard, heard_all, lacks}
 
 told : (s : WorldSettings) (logs : List NodeLog) (tills : List Till) → MatchOption (first_objection tills (ledgers_of s logs)) (AreRight tills (ledgers_of s logs)) (Stands tills (ledgers_of s logs))

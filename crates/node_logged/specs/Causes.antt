@@ -46,11 +46,3 @@ IsCause s logs tills (fault.TillMissing pharmacy kept) = (kept.items ≡ logs) �
 IsCause s logs tills (fault.ReceiptMissing kept) = (kept.items ≡ logs) × MissReceipts tills (ledgers_of s (logs_seen logs))
 IsCause s logs tills (fault.HeardDiffers kept) = (kept.items ≡ logs) × HeardOthers tills (ledgers_of s (logs_seen logs))
 IsCause s logs tills (fault.Tangled kept) = (kept.items ≡ logs) × AreRight tills (ledgers_of s (logs_seen logs)) × NoMerge s (logs_seen logs)
-
--- logs that are not merged have no legal interleaving; other causes do not come up
-abbrev pub IsUnmerged : WorldSettings → List NodeLog → FinishFault → Type 0
-IsUnmerged s logs fault.OutOfMemory = Unit {0}
-IsUnmerged s logs (fault.TillMissing pharmacy kept) = ⊥
-IsUnmerged s logs (fault.ReceiptMissing kept) = ⊥
-IsUnmerged s logs (fault.HeardDiffers kept) = ⊥
-IsUnmerged s logs (fault.Tangled kept) = (kept.items ≡ logs) × NoMerge s (logs_seen logs)

@@ -1,5 +1,6 @@
 -- What the end of a system tells, of the logs that its answer carries.
 use Rattle.std.specs.Prelude.{◌≡◌, List, [], map}
+use Rattle.claim_model.specs.Logs as model
 use Rattle.world_setup.specs.Seen.{event_seen}
 use Rattle.world_setup.specs.declared.settings.WorldSettings.{WorldSettings}
 use Rattle.run_merge.specs.LogSeen.{logs_seen}
@@ -28,3 +29,11 @@ logs_in (fault.TillMissing pharmacy logs) = logs.items
 logs_in (fault.ReceiptMissing logs) = logs.items
 logs_in (fault.HeardDiffers logs) = logs.items
 logs_in (fault.Tangled logs) = logs.items
+
+-- a refusal carries these logs; want of memory carries none
+abbrev pub CarriesLogs : FinishFault → List model.NodeLog → Type 0
+CarriesLogs fault.OutOfMemory logs = Unit {0}
+CarriesLogs (fault.TillMissing pharmacy kept) logs = logs_seen kept.items ≡ logs
+CarriesLogs (fault.ReceiptMissing kept) logs = logs_seen kept.items ≡ logs
+CarriesLogs (fault.HeardDiffers kept) logs = logs_seen kept.items ≡ logs
+CarriesLogs (fault.Tangled kept) logs = logs_seen kept.items ≡ logs

@@ -1,6 +1,6 @@
 //! A node with its log beside it.
 
-ghost use Rattle.std.specs.Prelude.{◌≡◌, ◌+◌, ◌⊎◌, [], map, Some, IsSome, IfOk, IfErr, OnOk, OnErr};
+ghost use Rattle.std.specs.Prelude.{◌≡◌, ◌+◌, ◌⊎◌, [], map, Some, IsSome, IsTrue, IfOk, IfErr, OnOk, OnErr};
 ghost use Rattle.std.specs.Option.{option_copied};
 ghost use Rattle.std.specs.Arc.{arc_value};
 ghost use Rattle.claim_model.specs.Node.{Pharmacy, Submit, Stop};
@@ -12,10 +12,12 @@ ghost use Rattle.run_merge.specs.Merged.{FitsAlone};
 ghost use Rattle.world_setup.specs.Seen.{node_seen, call_seen, sent_seen, settings_seen};
 ghost use Rattle.world_setup.specs.declared.fault.StepFault.TheVariants.{OutOfMemory};
 ghost use Rattle.node_logged.specs.Setting.{context_of, opened};
-ghost use Rattle.node_logged.specs.Holding.{after_call, after_restart, last_record, last_sent};
+ghost use Rattle.node_logged.specs.Alike.{AreAlike};
+ghost use Rattle.node_logged.specs.Holding.{IsKept, after_call, after_restart, last_record, last_sent};
 ghost use Rattle.node_logged.specs.Tills.{with_receipt};
 ghost use Rattle.node_logged.specs.TillSeen.{till_seen};
 
+use crate::alike::is_alike;
 use crate::shared::Shared;
 use crate::till::Till;
 use envelope::TxnId;
@@ -25,7 +27,7 @@ use run_merge::{NodeLog, Record};
 use std::alloc::{AllocError, Global};
 use std::marker::Model;
 use std::sync::Arc;
-use world_setup::{Call, Node, Sent, StepFault};
+use world_setup::{Call, Node, Sent, StepFault, WorldSettings};
 
 /// A node, the log of its accepted calls, and what it shares with all other nodes (own). At every moment the node is the
 /// replay of the log beside it, from the opening node of the settings, and by itself it accepts each call of the log and
@@ -179,6 +181,26 @@ impl Held {
         ensures { result ≡ same_node self.now.log.node (node_seen node) }
     {
         self.log.is_of(node)
+    }
+
+    /// Whether it is known to be under these settings: its own are the same.
+    pub(crate) fn is_under(&self, settings: &WorldSettings) -> bool
+        ensures { IsTrue result → AreAlike self.now.settings settings.now }
+    {
+        is_alike(self.shared.settings(), settings)
+    }
+
+    /// The node as it stands, and its log.
+    pub(crate) fn into_parts(self) -> (NodeState, NodeLog)
+        ensures kept { IsKept self.settings result.0 (log_seen result.1) }
+        ensures log { log_seen result.1 ≡ self.log }
+    {
+        let Held {
+            shared: _,
+            state,
+            log,
+        } = self;
+        (state, log)
     }
 
     /// The log, and the node is let go. The log fits its node: `merge` finds it tangled only for what stands in other logs.

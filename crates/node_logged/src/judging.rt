@@ -7,7 +7,9 @@ mod ledger;
 mod objection;
 mod receipts;
 mod replaying;
+mod standing;
 mod verdict;
+mod worlds;
 
 pub use finish_fault::FinishFault;
-pub use verdict::{Finished, judge};
+pub use verdict::{Finished, judge, judge_nodes};

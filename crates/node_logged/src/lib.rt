@@ -4,6 +4,7 @@
 //! entries, each exactly once (`receipts_are_the_entries_each_once`).
 #![tactic(auto)]
 
+mod alike;
 mod held;
 mod judging;
 mod laws;
@@ -11,7 +12,7 @@ mod shared;
 mod till;
 
 pub use held::Held;
-pub use judging::{FinishFault, Finished, judge};
+pub use judging::{FinishFault, Finished, judge, judge_nodes};
 pub use laws::{ledgers_are_the_worlds, receipts_are_the_entries_each_once};
 pub use shared::Shared;
 pub use till::{Receipt, Till};

@@ -22,5 +22,5 @@ pub use journal_reading::JournalReading;
 pub use payer::PayerNode;
 pub use pharmacy::PharmacyNode;
 pub use powered::{Kind, Powered};
-pub use state::NodeState;
+pub use state::{NodeState, StateKind};
 pub use switch::SwitchNode;

@@ -15,7 +15,7 @@ use crate::faults::{hear_fault, submit_fault};
 use crate::journal_bytes::JournalBytes;
 use crate::journal_reading::JournalReading;
 use crate::powered::{Kind, Powered, State};
-use crate::sending::{push_all, to_switch};
+use crate::sending::to_switch;
 use bin_routes::Routes;
 use envelope::Envelope;
 use octets::Octets;
@@ -74,7 +74,7 @@ impl Kind for Pharmacy {
     ) -> Result<Vec<Sent>, StepFault> {
         match call {
             Call::Submit(text) => submit(alloc, self, text.as_slice()),
-            Call::Tick => tick(alloc, self),
+            Call::Tick => tick(self),
             Call::Plan { .. } => Err(StepFault::NoSuchNode),
             Call::Take { .. } | Call::Stop | Call::Start => unreachable!(),
         }
@@ -122,19 +122,14 @@ fn submit(alloc: Global, pharmacy: &mut Pharmacy, text: &[u8]) -> Result<Vec<Sen
     }
 }
 
-/// One tick: sends each open entry again that is due, in order of numbers. There is room for a packet of each entry before
-/// it, which is enough.
-fn tick(alloc: Global, pharmacy: &mut Pharmacy) -> Result<Vec<Sent>, StepFault>
+/// One tick: sends each open entry again that is due, in order of numbers. Its packets become at once what a node sends.
+fn tick(pharmacy: &mut Pharmacy) -> Result<Vec<Sent>, StepFault>
     ensures ok { PharmacyMakes (Up pharmacy.old) Tick (Up pharmacy.new) result }
     ensures fault { IfErr result (λ fault. refusal_of fault ≡ None) }
     ensures few { IfOk result (λ sent. length sent.items ≤ length pharmacy.old.entries) }
     ensures err { OnErr result (pharmacy.new ≡ pharmacy.old) }
 {
-    let mut sent = Vec::new(alloc);
-    sent.reserve(pharmacy.entries())?;
-    let packets = pharmacy.tick()?;
-    push_all(&mut sent, packets);
-    Ok(sent)
+    Ok(pharmacy.tick_as::<Sent>()?)
 }
 
 impl PharmacyNode {

@@ -1,6 +1,6 @@
 //! What each kind of node sends, with its addressee.
 
-ghost use Rattle.std.specs.Prelude.{◌≡◌, ◌+◌, ◌≤◌, ◌++◌, length, map, vec_len, vec_capacity};
+ghost use Rattle.std.specs.Prelude.{◌≡◌};
 ghost use Rattle.claim_model.specs.Node.{Pharmacy as OfPharmacy, to_switch, to_payer_or_back};
 ghost use Rattle.switch_node.specs.Sent.{routed_as};
 ghost use Rattle.world_setup.specs.Seen.{sent_seen};
@@ -18,17 +18,6 @@ pub fn to_switch(packet: ForSwitch) -> Sent
     Sent {
         to: Node::Switch(packet.to()),
         bytes: packet.into_bytes(),
-    }
-}
-
-/// Adds a pharmacy's packets, for which there is room.
-pub fn push_all(sent: &mut Vec<Sent>, packets: Vec<ForSwitch>)
-    requires { vec_len sent.old + vec_len packets ≤ vec_capacity sent.old }
-    ensures items { map sent_seen sent.new.items ≡ map sent_seen sent.old.items ++ map to_switch packets.items }
-    ensures len { length sent.new.items ≡ length sent.old.items + length packets.items }
-{
-    for packet in packets {
-        sent.push_reserved(to_switch(packet));
     }
 }
 

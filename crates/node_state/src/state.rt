@@ -4,6 +4,7 @@ ghost use Rattle.std.specs.Prelude.{◌≡◌, IfOk, OnErr};
 ghost use Rattle.bin_routes.specs.Table.{RouteMaps};
 ghost use Rattle.claim_model.specs.Bytes.{bytes_with};
 ghost use Rattle.world_setup.specs.Seen.{call_seen};
+ghost use Rattle.node_state.specs.Any.{any_seen};
 ghost use Rattle.node_state.specs.Outcomes.{Makes, Refuses};
 ghost use Rattle.node_state.specs.Nodes.{OfPharmacy, OfSwitch, OfPayer, node_step, entries_of, size_of, journal_of, book_of, request_of, held_of};
 
@@ -23,9 +24,12 @@ use world_setup::{Call, Sent, StepFault};
 
 /// The kinds of nodes.
 #[derive(Drop)]
-pub(crate) enum StateKind {
+pub enum StateKind {
+    /// A pharmacy.
     Pharmacy(PharmacyNode),
+    /// A switch.
     Switch(SwitchNode),
+    /// A payer.
     Payer(PayerNode),
 }
 
@@ -71,6 +75,13 @@ impl NodeState {
         NodeState {
             kind: StateKind::Payer(node),
         }
+    }
+
+    /// The node, by its kind.
+    pub fn into_kind(self) -> StateKind
+        ensures { any_seen result ≡ self }
+    {
+        self.kind
     }
 
     /// Makes a call, and gives what it sent.

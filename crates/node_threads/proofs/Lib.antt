@@ -1,3 +1,2 @@
 pub mod Conserving
 mod Opening
-mod Verdicts

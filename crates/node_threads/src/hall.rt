@@ -6,8 +6,7 @@ ghost use Rattle.run_merge.specs.Naming.{is_there, is_numbered};
 ghost use Rattle.world_setup.specs.Seen.{node_seen, settings_seen};
 
 use crate::station::Station;
-use node_logged::Shared;
-use run_merge::NodeLog;
+use node_logged::{Held, Shared};
 use std::alloc::{AllocError, Global};
 use std::marker::Model;
 use std::sync::{Arc, Wait};
@@ -140,8 +139,8 @@ impl Hall {
         close_all(rt, self.payers.as_slice());
     }
 
-    /// The logs of all nodes, pharmacies first and payers last, each kind in the order of its numbers, and what they shared.
-    pub(crate) fn into_logs(self) -> Result<(Arc<Shared>, Vec<NodeLog>), AllocError>
+    /// All nodes with their logs, pharmacies first and payers last, each kind in the order of its numbers, and what they shared.
+    pub(crate) fn into_nodes(self) -> Result<(Arc<Shared>, Vec<Held>), AllocError>
         ensures { IfOk result (λ r. arc_value r.0 ≡ self) }
     {
         let Hall {
@@ -151,11 +150,11 @@ impl Hall {
             switches,
             payers,
         } = self;
-        let mut logs = Vec::new(alloc);
-        add_logs(&mut logs, pharmacies)?;
-        add_logs(&mut logs, switches)?;
-        add_logs(&mut logs, payers)?;
-        Ok((shared, logs))
+        let mut nodes = Vec::new(alloc);
+        add_nodes(&mut nodes, pharmacies)?;
+        add_nodes(&mut nodes, switches)?;
+        add_nodes(&mut nodes, payers)?;
+        Ok((shared, nodes))
     }
 }
 
@@ -176,10 +175,10 @@ fn close_all<R: Wait>(rt: &R, stations: &[Station]) {
     }
 }
 
-/// Adds the logs of stations behind those that are there.
-fn add_logs(logs: &mut Vec<NodeLog>, stations: Vec<Station>) -> Result<(), AllocError> {
+/// Adds the nodes of stations behind those that are there.
+fn add_nodes(nodes: &mut Vec<Held>, stations: Vec<Station>) -> Result<(), AllocError> {
     for station in stations {
-        logs.push(station.into_held().into_log())?;
+        nodes.push(station.into_held())?;
     }
     Ok(())
 }

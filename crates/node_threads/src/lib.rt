@@ -19,7 +19,8 @@ mod workers;
 
 pub use inbox::{EnterFault, Inbox, Mail, Pass, Places, PutFault, Traffic};
 pub use node_logged::{
-    FinishFault, Finished, Held, Receipt, Shared, Till, judge, receipts_are_the_entries_each_once,
+    FinishFault, Finished, Held, Receipt, Shared, Till, judge, judge_nodes,
+    receipts_are_the_entries_each_once,
 };
 pub use post::Post;
 pub use starting::StartFault;

@@ -201,8 +201,8 @@ impl System {
         let alloc = hall.alloc();
         hall.close(rt);
         workers.join(rt);
-        let (shared, logs) = last_owner(rt, hall).into_logs()?;
-        judged(alloc, &shared, logs, tills)
+        let (shared, nodes) = last_owner(rt, hall).into_nodes()?;
+        judged(alloc, &shared, nodes, tills)
     }
 
     /// The station of a node.

@@ -6,7 +6,7 @@ use Rattle.claim_model.specs.World.{Packet, Event, posted}
 use Rattle.claim_model.specs.Nodes.{same_node}
 use Rattle.claim_model.specs.Logs.{Logged, NodeLog}
 use Rattle.run_merge.specs.Naming.{has_log, all_distinct, calls_of}
-use Rattle.run_merge.specs.Order.{advanced, Asks, Leads, Stuck, InOrder, NoOrder, none_left, calls_left}
+use Rattle.run_merge.specs.Order.{advanced, Asks, Leads, Stuck, Completes, NoOrder, none_left, calls_left}
 use Rattle.run_merge.specs.Line.{AllWait, OrderParts, IsPlaced, IsMadeByEvents, AllPlaced}
 use Rattle.claim_model.proofs.Names.{same_self}
 use Rattle.run_merge.proofs.Names.{name_cases}
@@ -135,12 +135,12 @@ none_of lines f m = by (calls_of lines m) refl
     by [] e = e
     by (r ∷ calls) e = let g = calls_found lines m r calls e in let c : r ∷ calls ≡ [] = sym g.calls_are ∙ f g.place g.log g.at in absurd cc
 
--- an order that has nothing left makes all calls
-pub all_made : (given : Node → List Logged) (order : OrderParts) → IsMadeByEvents given order → AllPlaced order.lines → InOrder given order.events
+-- an order that has nothing left makes all calls, and its packets are what they send
+pub all_made : (given : Node → List Logged) (order : OrderParts) → IsMadeByEvents given order → AllPlaced order.lines → Completes given order.events order.packets
 all_made given order m f =
     let n = none_of order.lines f in
     let e : calls_of order.lines ≡ none_left = λ i. λ x. n x i in
-    record { sent = order.packets; leads = subst (λ (left : Node → List Logged). Leads [] given order.events order.packets left) e m.leads }
+    subst (λ (left : Node → List Logged). Leads [] given order.events order.packets left) e m.leads
 
 -- an order that is stuck with calls left shows that there is none
 pub none_made : (given : Node → List Logged) (order : OrderParts) → IsMadeByEvents given order → AllWait order.packets order.lines → (AllPlaced order.lines → ⊥) → NoOrder given

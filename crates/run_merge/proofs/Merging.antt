@@ -1,5 +1,5 @@
 -- Merging logs: what their interleavings have, and what makes one.
-use Rattle.std.proofs.Common.{Result, Ok, Err, IfOk, MatchOption, ◌≡◌, ℕ, zero, suc, ◌+◌, ◌<◌, Bool, true, false, List, [], ◌∷◌, ◌++◌, length, get_or, Option, Some, None, slice_get, is_some, refl, sym, ap, ◌∙◌, subst, inl, inr, arith}
+use Rattle.std.proofs.Common.{◌≡◌, ℕ, zero, suc, ◌+◌, ◌<◌, Bool, true, false, List, [], ◌∷◌, ◌++◌, length, get_or, Option, Some, None, slice_get, is_some, refl, sym, ap, ◌∙◌, subst, inl, inr, arith}
 use Rattle.std.specs.Prelude.{IsSome}
 use Rattle.std.specs.List.{AllByRecursion}
 use Rattle.std.proofs.lemmas.Bool.{or_parts, both_ways, cases_eq, cond-false}
@@ -10,7 +10,7 @@ use Rattle.claim_model.specs.Context.{Context}
 use Rattle.claim_model.specs.Bytes.{bytes_with}
 use Rattle.claim_model.specs.Numbered.{numbered}
 use Rattle.claim_model.specs.Node.{Node}
-use Rattle.claim_model.specs.World.{Event}
+use Rattle.claim_model.specs.World.{Packet, Event, run}
 use Rattle.claim_model.specs.Settings.{WorldSettings, settings_fault, opening}
 use Rattle.claim_model.proofs.Lists.{all_at, all_from}
 use Rattle.world_setup.specs.Seen.{settings_seen}
@@ -21,7 +21,7 @@ use Rattle.claim_model.specs.Interleavings.{IsInterleaving}
 use Rattle.claim_model.proofs.Options.{same_some}
 use Rattle.claim_model.proofs.Replaying.{absent_stays}
 use Rattle.run_merge.specs.Naming.{has_log, all_distinct, calls_of}
-use Rattle.run_merge.specs.Order.{InOrder, NoOrder, Leads, none_left}
+use Rattle.run_merge.specs.Order.{Completes, InOrder, NoOrder, Leads, none_left}
 use Rattle.run_merge.specs.LogSeen.{log_seen, logs_seen}
 use Rattle.run_merge.specs.Merged.{IsMerged, NoMerge, EachHasLog, FitsThere, FitsAlone, AllFit}
 use Rattle.run_merge.specs.declared.log.NodeLog.{NodeLog as Kept}
@@ -59,6 +59,10 @@ is_legal ctx s logs es each d f o =
     by : ((m : Node) → log_in ctx (opening s) es m ++ none_left m ≡ calls_of logs m) → (n : ℕ) (log : NodeLog) → numbered logs n ≡ Some log → log_in ctx (opening s) es log.node ≡ log.calls
     by h zero log e = absurd cc
     by h (suc k) log e = sym (append-nil (log_in ctx (opening s) es log.node)) ∙ (h log.node ∙ calls_at logs k log d e)
+
+-- the packets of an order of calls that fit are those of its run
+pub packets_sent : (ctx : Context) (s : WorldSettings) (logs : List NodeLog) (es : List Event) (sent : List Packet) → AllFit ctx s logs → Completes (calls_of logs) es sent → sent ≡ (run ctx (opening s) es).packets
+packets_sent ctx s logs es sent f l = sym (sound ctx (opening s) (calls_of logs) es sent none_left (λ m. fits_by ctx s logs m f (calls_of logs m) refl) l).packets
 
 -- what an interleaving has
 
@@ -118,12 +122,9 @@ pub merged_as : (s : Given) (logs : List Kept) (es : List Event) → settings_fa
 merged_as s logs es w r n d f o = record { nodes = w; rows = r; legal = is_legal (bytes_with (routes_of s.routes.items)) (settings_seen s) (logs_seen logs) es n d f o }
 
 -- what an order of the calls shows
-pub order_merged : {V E : Type 0} (s : Given) (logs : List Kept) (r : Result (Option V) E) (seen : V → List Event) → settings_fault (settings_seen s) ≡ None → first_fault (length s.payers.items) s.routes.items ≡ None → EachHasLog (settings_seen s) (logs_seen logs)
-    → all_distinct (logs_seen logs) ≡ true → AllFit (bytes_with (routes_of s.routes.items)) (settings_seen s) (logs_seen logs)
-    → IfOk r (λ o. MatchOption o (NoOrder (calls_of (logs_seen logs))) (λ v. InOrder (calls_of (logs_seen logs)) (seen v))) → IfOk r (λ o. MatchOption o (NoMerge s (logs_seen logs)) (λ v. IsMerged s (logs_seen logs) (seen v)))
-order_merged s logs (Err e) seen w r n d f h = tt
-order_merged s logs (Ok None) seen w r n d f h = no_order s logs h
-order_merged s logs (Ok (Some v)) seen w r n d f h = merged_as s logs (seen v) w r n d f h
+pub order_merged : (s : Given) (logs : List Kept) (es : List Event) (sent : List Packet) → settings_fault (settings_seen s) ≡ None → first_fault (length s.payers.items) s.routes.items ≡ None → EachHasLog (settings_seen s) (logs_seen logs)
+    → all_distinct (logs_seen logs) ≡ true → AllFit (bytes_with (routes_of s.routes.items)) (settings_seen s) (logs_seen logs) → Completes (calls_of (logs_seen logs)) es sent → IsMerged s (logs_seen logs) es
+order_merged s logs es sent w r n d f h = merged_as s logs es w r n d f (record { sent = sent; leads = h })
 
 -- loops over logs
 

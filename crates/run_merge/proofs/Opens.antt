@@ -25,15 +25,15 @@ there_by : {A B : Type 0} (f : A → B) (xs : List A) (n : ℕ) → is_numbered 
 there_by f xs zero = refl
 there_by f xs (suc k) = get_there xs k ∙ mapped f (slice_get xs k)
 
-pharmacies_length : (m : ℕ) (ss : List PharmacySettings) → length ss ≡ length (pharmacies_from m ss)
+pub pharmacies_length : (m : ℕ) (ss : List PharmacySettings) → length ss ≡ length (pharmacies_from m ss)
 pharmacies_length m [] = refl
 pharmacies_length m (s ∷ ss) = ap suc (pharmacies_length (m + 1) ss)
 
-switches_length : (caps : List ℕ) → length caps ≡ length (switches_of caps)
+pub switches_length : (caps : List ℕ) → length caps ≡ length (switches_of caps)
 switches_length [] = refl
 switches_length (cap ∷ caps) = ap suc (switches_length caps)
 
-payers_length : (m : ℕ) (ss : List Given) → length ss ≡ length (payers_from m (map payer_seen ss))
+pub payers_length : (m : ℕ) (ss : List Given) → length ss ≡ length (payers_from m (map payer_seen ss))
 payers_length m [] = refl
 payers_length m (s ∷ ss) = ap suc (payers_length (m + 1) ss)
 

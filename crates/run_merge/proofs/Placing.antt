@@ -7,7 +7,7 @@ use Rattle.world_setup.specs.Seen.{node_seen, event_seen}
 use Rattle.world_setup.specs.declared.event.Event.{Event}
 use Rattle.claim_model.specs.Logs.{Logged, NodeLog}
 use Rattle.claim_model.proofs.Options.{same_some}
-use Rattle.run_merge.specs.Order.{InOrder, NoOrder}
+use Rattle.run_merge.specs.Order.{Completes, NoOrder}
 use Rattle.run_merge.specs.Line.{GoesAt, OrderParts, IsPlaced, IsStill, IsMadeByEvents, AllPlaced, AllWait}
 use Rattle.run_merge.specs.LineSeen.{line_seen, lines_seen}
 use Rattle.run_merge.specs.declared.line.Line.{Line}
@@ -62,7 +62,7 @@ made_still given old new m s =
     let e : old ≡ new = λ i. record { lines = sym s.lines i; packets = sym s.packets i; events = sym s.events i } in
     subst (IsMadeByEvents given) e m
 
-pub still_done : (given : Node → List Logged) (old new : OrderParts) (lines : List Line) → IsMadeByEvents given old → IsStill old new → new.lines ≡ lines_seen lines → list_all (λ line. length line.left.now == 0) lines ≡ true → InOrder given new.events
+pub still_done : (given : Node → List Logged) (old new : OrderParts) (lines : List Line) → IsMadeByEvents given old → IsStill old new → new.lines ≡ lines_seen lines → list_all (λ line. length line.left.now == 0) lines ≡ true → Completes given new.events new.packets
 still_done given old new lines m s e h = all_made given new (made_still given old new m s) (subst AllPlaced (sym e) (placed_all lines h))
 
 pub still_none : (given : Node → List Logged) (old new : OrderParts) (lines : List Line) → IsMadeByEvents given old → IsStill old new → new.lines ≡ lines_seen lines → list_all (λ line. length line.left.now == 0) lines ≡ false → NoOrder given

@@ -3,7 +3,7 @@ use Rattle.std.proofs.Common.{◌≡◌, cond, List, [], ◌∷◌, ◌++◌, Op
 use Rattle.std.proofs.lemmas.Bool.{cond-true, cond-false}
 use Rattle.claim_model.specs.Context.{Context}
 use Rattle.claim_model.specs.Node.{Node, Sent, Outcome, Done, Refused}
-use Rattle.claim_model.specs.World.{World, Packet, Event, posted, on_node, step, world_after}
+use Rattle.claim_model.specs.World.{World, Packet, Event, posted, on_node, step, world_after, run}
 use Rattle.claim_model.specs.Nodes.{AnyNode, node_step, node_at, called, same_node, Asked, asked, asked_step}
 use Rattle.claim_model.specs.Local.{Follows}
 use Rattle.claim_model.specs.Logs.{Logged, logged_by, log_in}
@@ -78,18 +78,20 @@ logged_first rest left later node r calls head f m = elim (name_cases node m) [
       ap (λ (x : List Logged). (x ++ later m) ++ left m) a ∙ (f m ∙ advanced_other rest node m calls d)
 ]
 
--- events that are all accepted, and whose run has these logs up to what is left
-pub record Runs (ctx : Context) (w : World) (rest : Node → List Logged) (es : List Event) (left : Node → List Logged) : Type 0 where
+-- events that are all accepted, and whose run has these logs up to what is left, and these packets
+pub record Runs (ctx : Context) (w : World) (rest : Node → List Logged) (es : List Event) (sent : List Packet) (left : Node → List Logged) : Type 0 where
   pub accepted : AllAccepted ctx w es
   pub logs : (m : Node) → log_in ctx w es m ++ left m ≡ rest m
+  pub packets : (run ctx w es).packets ≡ sent
 
 -- what a run of one event more asks for, by the call and the outcome of its first event
-abbrev RunsFrom : Context → World → (Node → List Logged) → List Event → (Node → List Logged) → Option Asked → Outcome World → Type 0
-RunsFrom ctx w rest es left a o = IsDone o × AllAccepted ctx (world_after w o) es × ((m : Node) → (logged_by m a o ++ log_in ctx (world_after w o) es m) ++ left m ≡ rest m)
+abbrev RunsFrom : Context → World → (Node → List Logged) → List Event → List Packet → (Node → List Logged) → Option Asked → Outcome World → Type 0
+RunsFrom ctx w rest es sent left a o =
+    IsDone o × AllAccepted ctx (world_after w o) es × ((m : Node) → (logged_by m a o ++ log_in ctx (world_after w o) es m) ++ left m ≡ rest m) × ((run ctx (world_after w o) es).packets ≡ sent)
 
 -- an order of calls that fit is a run
-pub sound : (ctx : Context) (w : World) (rest : Node → List Logged) (es : List Event) (sent : List Packet) (left : Node → List Logged) → ((m : Node) → FitsThere ctx (node_at w m) (rest m)) → Leads w.packets rest es sent left → Runs ctx w rest es left
-sound ctx w rest [] sent left f l = record { accepted = tt; logs = λ m. l.1 m }
+pub sound : (ctx : Context) (w : World) (rest : Node → List Logged) (es : List Event) (sent : List Packet) (left : Node → List Logged) → ((m : Node) → FitsThere ctx (node_at w m) (rest m)) → Leads w.packets rest es sent left → Runs ctx w rest es sent left
+sound ctx w rest [] sent left f l = record { accepted = tt; logs = λ m. l.1 m; packets = sym l.0 }
 sound ctx w rest (e ∷ es) sent left f l =
     let node = l.0 in
     let r = l.1 in
@@ -100,11 +102,11 @@ sound ctx w rest (e ∷ es) sent left f l =
     let st : step ctx w e ≡ Done k.0 r.sent = call_of ctx w e (record { node = node; call = r.call }) l.3 ∙ k.1 in
     let n : (m : Node) → FitsThere ctx (node_at k.0 m) (advanced rest node calls m) = fits_next ctx w k.0 rest node r calls x.before x.after x.is x.steps x.more f y in
     let i = sound ctx k.0 (advanced rest node calls) es sent left n (subst (λ (ps : List Packet). Leads ps (advanced rest node calls) es sent left) (sym y.posts) l.5) in
-    let now : RunsFrom ctx w rest es left (Some (record { node = node; call = r.call })) (Done k.0 r.sent) =
-    (tt, i.accepted, logged_first rest left (log_in ctx k.0 es) node r calls l.4 i.logs) in
-    let by_step : RunsFrom ctx w rest es left (Some (record { node = node; call = r.call })) (step ctx w e) = subst (λ (o : Outcome World). RunsFrom ctx w rest es left (Some (record { node = node; call = r.call })) o) (sym st) now in
-    let all : RunsFrom ctx w rest es left (asked w.packets e) (step ctx w e) = subst (λ (a : Option Asked). RunsFrom ctx w rest es left a (step ctx w e)) (sym l.3) by_step in
-    record { accepted = (all.0, all.1); logs = all.2 }
+    let now : RunsFrom ctx w rest es sent left (Some (record { node = node; call = r.call })) (Done k.0 r.sent) =
+    (tt, i.accepted, logged_first rest left (log_in ctx k.0 es) node r calls l.4 i.logs, i.packets) in
+    let by_step : RunsFrom ctx w rest es sent left (Some (record { node = node; call = r.call })) (step ctx w e) = subst (λ (o : Outcome World). RunsFrom ctx w rest es sent left (Some (record { node = node; call = r.call })) o) (sym st) now in
+    let all : RunsFrom ctx w rest es sent left (asked w.packets e) (step ctx w e) = subst (λ (a : Option Asked). RunsFrom ctx w rest es sent left a (step ctx w e)) (sym l.3) by_step in
+    record { accepted = (all.0, all.1); logs = all.2; packets = all.3 }
 
 -- runs are orders of calls that fit
 

@@ -1,12 +1,11 @@
 -- What a search finds, or that there is none of it.
 use Rattle.std.specs.Prelude.{List, map, Option, MatchOption}
-use Rattle.std.specs.Global.{Vec}
 use Rattle.claim_model.specs.Node.{Node, Call}
 use Rattle.claim_model.specs.World.{Packet}
 use Rattle.claim_model.specs.Logs.{Logged, NodeLog}
 use Rattle.world_setup.specs.Seen.{event_seen}
 use Rattle.world_setup.specs.declared.event.Event.{Event}
-use Rattle.run_merge.specs.Order.{InOrder, NoOrder}
+use Rattle.run_merge.specs.Order.{Completes, NoOrder}
 use Rattle.run_merge.specs.Line.{NoEvent, Does, Waits, Goes, AllWait, GoesAt}
 use Rattle.run_merge.specs.LineSeen.{lines_seen}
 use Rattle.run_merge.specs.declared.order.Order.{Order}
@@ -27,6 +26,6 @@ IsTurn order turn = GoesAt order.posted (lines_seen order.lines.items) turn.plac
 abbrev pub TurnIn : Order → Option Turn → Type 0
 TurnIn order found = MatchOption found (AllWait order.posted (lines_seen order.lines.items)) (λ t. IsTurn order t)
 
--- events that make all of these calls
-abbrev pub OrderOf : (Node → List Logged) → Option (Vec Event) → Type 0
-OrderOf rest found = MatchOption found (NoOrder rest) (λ events. InOrder rest (map event_seen events.items))
+-- an order that makes all of these calls
+abbrev pub OrderOf : (Node → List Logged) → Option Order → Type 0
+OrderOf rest found = MatchOption found (NoOrder rest) (λ o. Completes rest (map event_seen o.events.items) o.posted)

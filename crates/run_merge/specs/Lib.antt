@@ -9,4 +9,5 @@ pub mod PacketNumbers
 pub mod Orders
 pub mod Found
 pub mod Merged
+pub mod MergedRuns
 pub mod Misfits

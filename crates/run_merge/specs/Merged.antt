@@ -9,7 +9,7 @@ use Rattle.claim_model.specs.Bytes.{bytes_with}
 use Rattle.claim_model.specs.Settings.{settings_fault, opening}
 use Rattle.claim_model.specs.Settings as model
 use Rattle.claim_model.specs.Node.{Node}
-use Rattle.claim_model.specs.World.{Event}
+use Rattle.claim_model.specs.World.{Event, Packet, run}
 use Rattle.world_setup.specs.Seen.{event_seen, settings_seen}
 use Rattle.world_setup.specs.declared.event.Event.{Event as Kept}
 use Rattle.world_setup.specs.declared.settings.WorldSettings.{WorldSettings}
@@ -20,6 +20,10 @@ use Rattle.run_merge.specs.Naming.{is_there}
 use Rattle.run_merge.specs.Order.{Fits}
 use Rattle.run_merge.specs.declared.history.MergeFault.{MergeFault}
 use Rattle.run_merge.specs.declared.history.MergeFault.TheVariants.{OutOfMemory, Tangled}
+
+-- all packets that are sent in the run of these events
+abbrev pub packets_after : WorldSettings → List Event → List Packet
+packets_after s events = (run (bytes_with (routes_of s.routes.items)) (opening (settings_seen s)) events).packets
 
 -- a legal interleaving of logs, in a world that such settings make
 pub record IsMerged (s : WorldSettings) (logs : List NodeLog) (events : List Event) : Type 0 where

@@ -45,6 +45,10 @@ Stuck packets left = (node : Node) (r : Logged) (calls : List Logged) → left n
 abbrev pub none_left : Node → List Logged
 none_left node = []
 
+-- events that make all calls, and send these packets
+abbrev pub Completes : (Node → List Logged) → List Event → List Packet → Type 0
+Completes rest events sent = Leads [] rest events sent none_left
+
 -- events that make all calls
 pub record InOrder (rest : Node → List Logged) (events : List Event) : Type 0 where
   pub sent : List Packet

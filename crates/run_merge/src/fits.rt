@@ -21,15 +21,18 @@ pub(crate) fn fits(
     ensures { IfOk result (λ yes. Tells yes (Fits (bytes_with routes.now) node.old records.now)) }
 {
     for record in records {
-        if !does(alloc, routes, node, record)? {
+        if !makes(alloc, routes, node, record)? {
             return Ok(false);
         }
     }
     Ok(true)
 }
 
-/// Whether a node accepts the call of a record, and sends what the record has.
-fn does(
+/// Whether a node accepts the call of a record, and sends what the record has. Where it does not, the node may have changed.
+///
+/// # Errors
+/// Memory was refused.
+pub fn makes(
     alloc: Global,
     routes: &Routes,
     node: &mut NodeState,

@@ -98,11 +98,14 @@ fn merged_by(
     if !all_fit(alloc, settings, routes, logs)? {
         return Ok(None);
     }
-    in_order(alloc, logs)
+    match in_order(alloc, logs)? {
+        Some(order) => Ok(Some(order.into_events())),
+        None => Ok(None),
+    }
 }
 
 /// Whether each node of the settings has a log.
-fn each_has_log(settings: &WorldSettings, logs: &[NodeLog]) -> bool
+pub(crate) fn each_has_log(settings: &WorldSettings, logs: &[NodeLog]) -> bool
     requires { settings_fault (settings_seen settings.now) ≡ None }
     ensures { Tells result (EachHasLog (settings_seen settings.now) (logs_seen logs.now)) }
 {
@@ -134,7 +137,7 @@ fn name_at(pharmacies: usize, switches: usize, place: usize) -> Node
 }
 
 /// Whether no two logs are of one node.
-fn are_distinct(logs: &[NodeLog]) -> bool
+pub(crate) fn are_distinct(logs: &[NodeLog]) -> bool
     ensures { result ≡ all_distinct (logs_seen logs.now) }
 {
     for (place, log) in logs.iter().enumerate() {

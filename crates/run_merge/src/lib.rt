@@ -4,6 +4,7 @@
 
 mod fits;
 mod history;
+mod known;
 mod line;
 mod log;
 mod making;
@@ -17,7 +18,9 @@ mod slip;
 mod turn;
 mod woken;
 
+pub use fits::makes;
 pub use history::{MergeFault, is_there, merge};
+pub use known::{MergedRun, merge_fitting};
 pub use log::NodeLog;
 pub use making::make_log;
 pub use misfit::{FirstMisfit, Misfit, first_misfit};

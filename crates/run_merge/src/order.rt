@@ -1,13 +1,15 @@
 //! Ordering the calls of logs, one enabled call after another.
 
-ghost use Rattle.std.specs.Prelude.{◌≡◌, ◌==◌, [], length, true, IfOk, IfSome, OnOk};
+ghost use Rattle.std.specs.Prelude.{◌≡◌, ◌==◌, [], length, map, true, IfOk, IfSome, OnOk};
 ghost use Rattle.std.specs.List.{list_all};
+ghost use Rattle.world_setup.specs.Seen.{packet_seen};
 ghost use Rattle.run_merge.specs.Naming.{all_distinct, calls_of};
 ghost use Rattle.run_merge.specs.Line.{IsPlaced, Steps};
 ghost use Rattle.run_merge.specs.LogSeen.{logs_seen};
 ghost use Rattle.run_merge.specs.Orders.{order_seen};
 ghost use Rattle.run_merge.specs.Found.{IsTurn, TurnIn, OrderOf};
 
+use crate::known::MergedRun;
 use crate::line::Line;
 use crate::log::NodeLog;
 use crate::posted::Posted;
@@ -31,15 +33,18 @@ struct Turn {
     event: Event,
 }
 
-/// Events that make all calls of the logs, each when a packet that it takes was sent; none where no events do.
-pub(crate) fn in_order(alloc: Global, logs: &[NodeLog]) -> Result<Option<Vec<Event>>, AllocError>
+/// An order of all calls of the logs, each placed when a packet that it takes was sent; none where there is no such order.
+pub(crate) fn in_order<'a>(
+    alloc: Global,
+    logs: &'a [NodeLog],
+) -> Result<Option<Order<'a>>, AllocError>
     requires { all_distinct (logs_seen logs.now) ≡ true }
     ensures { IfOk result (λ o. OrderOf (calls_of (logs_seen logs.now)) o) }
 {
     let mut order = Order::new(alloc, logs)?;
     while order.step()? {}
     if order.is_done() {
-        Ok(Some(order.events))
+        Ok(Some(order))
     } else {
         Ok(None)
     }
@@ -60,6 +65,28 @@ impl<'a> Order<'a> {
             events: Vec::new(alloc),
             woken: Woken::all(alloc, logs)?,
         })
+    }
+
+    /// Its events, and the packets that they send, in memory of their own.
+    pub(crate) fn into_run(self, alloc: Global) -> Result<MergedRun, AllocError>
+        ensures events { IfOk result (λ r. r.events.items ≡ self.entry.events.items) }
+        ensures packets { IfOk result (λ r. map packet_seen r.packets.items ≡ self.entry.posted) }
+    {
+        let Order {
+            lines: _,
+            posted,
+            events,
+            woken: _,
+        } = self;
+        let packets = posted.packets(alloc)?;
+        Ok(MergedRun { events, packets })
+    }
+
+    /// Its events.
+    pub(crate) fn into_events(self) -> Vec<Event>
+        ensures { result ≡ self.entry.events }
+    {
+        self.events
     }
 
     /// Places one call, if an event makes the next call of any log.

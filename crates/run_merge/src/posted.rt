@@ -1,8 +1,8 @@
 //! The packets that were sent in an order.
 
-ghost use Rattle.std.specs.Prelude.{◌≡◌, [], ◌∷◌, ◌++◌, map, OnOk};
+ghost use Rattle.std.specs.Prelude.{◌≡◌, [], ◌∷◌, ◌++◌, map, IfOk, OnOk};
 ghost use Rattle.claim_model.specs.World.{posted};
-ghost use Rattle.world_setup.specs.Seen.{node_seen, sent_seen};
+ghost use Rattle.world_setup.specs.Seen.{node_seen, packet_seen, sent_seen};
 ghost use Rattle.run_merge.specs.LineSeen.{slip_seen};
 ghost use Rattle.run_merge.specs.PacketNumbers.{NumberOf};
 
@@ -11,7 +11,7 @@ use octets::Octets;
 use std::alloc::{AllocError, Global};
 use std::collections::HashMap;
 use std::marker::Model;
-use world_setup::{Node, Sent};
+use world_setup::{Node, Packet, Sent};
 
 /// The packets that were sent, numbered from 1, with a number of each.
 #[derive(Drop)]
@@ -70,6 +70,13 @@ impl<'a> Posted<'a> {
         }
     }
 
+    /// All packets, in memory of their own.
+    pub(crate) fn packets(&self, alloc: Global) -> Result<Vec<Packet>, AllocError>
+        ensures { IfOk result (λ packets. map packet_seen packets.items ≡ self.now) }
+    {
+        packets_of(alloc, self.packets.as_slice())
+    }
+
     /// The number of a packet with this sender, this addressee and these bytes.
     pub(crate) fn find(&self, from: Node, to: Node, bytes: &'a Octets) -> Option<u64>
         ensures { NumberOf self.now (record { from = node_seen from; to = node_seen to; bytes = bytes.now }) result }
@@ -79,4 +86,16 @@ impl<'a> Posted<'a> {
             None => None,
         }
     }
+}
+
+/// The packets that these are, in memory of their own.
+fn packets_of(alloc: Global, slips: &[Slip<'_>]) -> Result<Vec<Packet>, AllocError>
+    ensures { IfOk result (λ packets. map packet_seen packets.items ≡ map slip_seen slips.now) }
+{
+    let mut packets = Vec::new(alloc);
+    packets.reserve(slips.len())?;
+    for slip in slips {
+        packets.push(slip.packet()?)?;
+    }
+    Ok(packets)
 }

@@ -1,13 +1,14 @@
 //! A packet as a key.
 
-ghost use Rattle.std.specs.Prelude.{◌≡◌, ◌∷◌, [], take};
-ghost use Rattle.world_setup.specs.Seen.{node_seen};
+ghost use Rattle.std.specs.Prelude.{◌≡◌, ◌∷◌, [], take, IfOk};
+ghost use Rattle.world_setup.specs.Seen.{node_seen, packet_seen};
 ghost use Rattle.run_merge.specs.LineSeen.{slip_seen};
 
 use crate::same::is_same_node;
 use octets::Octets;
+use std::alloc::AllocError;
 use std::hash::{Hash, Hasher};
-use world_setup::Node;
+use world_setup::{Node, Packet};
 
 /// How many bytes the head of an envelope has: its kind, its transaction and how long it is.
 const HEAD: usize = 18;
@@ -27,6 +28,17 @@ impl<'a> Slip<'a> {
         ensures { slip_seen result ≡ record { from = node_seen from; to = node_seen to; bytes = bytes.now } }
     {
         Slip { from, to, bytes }
+    }
+
+    /// The packet, in memory of its own.
+    pub(crate) fn packet(&self) -> Result<Packet, AllocError>
+        ensures { IfOk result (λ packet. packet_seen packet ≡ slip_seen self.now) }
+    {
+        Ok(Packet {
+            from: self.from,
+            to: self.to,
+            bytes: self.bytes.copy()?,
+        })
     }
 
     /// The head of its envelope; all of its bytes where they are fewer.

@@ -1,5 +1,5 @@
 -- Lists of events, and that every world is reached.
-use Rattle.std.proofs.Common.{◌≡◌, ℕ, zero, suc, ◌+◌, ◌<◌, List, [], ◌∷◌, ◌++◌, map, take, length, get_or, Some, refl, ap, ◌∙◌, subst, arith, add-one}
+use Rattle.std.proofs.Common.{◌≡◌, ℕ, zero, suc, ◌+◌, ◌<◌, List, [], ◌∷◌, ◌++◌, map, take, length, get_or, Some, refl, sym, ap, ◌∙◌, subst, arith, add-one}
 use Rattle.world_setup.specs.declared.event.Event.{Event as Told}
 use Rattle.world_setup.specs.Seen.{event_seen}
 use Rattle.bin_routes.specs.Table.{RouteMaps}
@@ -11,7 +11,7 @@ use Rattle.claim_model.specs.Settings.{WorldSettings, Accepts, opening}
 use Rattle.claim_model.specs.World.{World, Event, step, world_after, run}
 use Rattle.claim_model.specs.Promises.{Reached}
 use Rattle.claim_recovery.specs.Help.{Timely}
-use Rattle.world_core.specs.Parts.{IsReached}
+use Rattle.world_core.specs.Parts.{WorldParts, IsReached}
 use Rattle.world_core.specs.Stepping.{next_of}
 use Rattle.claim_model.proofs.GoingOn.{run_append}
 
@@ -33,6 +33,23 @@ pub reached_next : (routes : RouteMaps) (w v : World) (event : Event) → next_o
 reached_next routes w v event e r = record {
   settings = r.settings;
   reached = subst (Reached (bytes_with routes) r.settings) (after_next w v (step (bytes_with routes) w event) e) (one_more (bytes_with routes) r.settings w event r.reached);
+  timely = r.timely;
+}
+
+-- many events more
+pub many_more : (ctx : Context) (settings : WorldSettings) (w : World) (events : List Event) → Reached ctx settings w → Reached ctx settings (run ctx w events)
+many_more ctx settings w events r = record {
+  laws = r.laws;
+  accepts = r.accepts;
+  events = r.events ++ events;
+  leads = run_append ctx (opening settings) r.events events ∙ ap (λ (v : World). run ctx v events) r.leads;
+}
+
+-- a run leads from a reached world to a reached one
+pub reached_run : (parts : WorldParts) (v : World) (events : List Event) → v ≡ run (bytes_with parts.routes) parts.world events → IsReached parts.routes parts.world → IsReached parts.routes v
+reached_run parts v events e r = record {
+  settings = r.settings;
+  reached = subst (Reached (bytes_with parts.routes) r.settings) (sym e) (many_more (bytes_with parts.routes) r.settings parts.world events r.reached);
   timely = r.timely;
 }
 

@@ -2,6 +2,7 @@
 pub mod Parts
 pub mod Asked
 pub mod NodeLists
+pub mod Known
 pub mod Calling
 pub mod Room
 pub mod Stepping

@@ -6,6 +6,7 @@ mod all_nodes;
 mod asked;
 mod headline;
 mod laws;
+mod leading;
 mod listing;
 mod nodes;
 mod opening;
@@ -16,6 +17,7 @@ mod row_view;
 mod world;
 
 pub use laws::runs_add_up;
+pub use leading::KnownParts;
 pub use row_view::RowView;
 pub use world::World;
 pub use world_setup::WorldFault;

@@ -1,10 +1,11 @@
 //! Calls on one node, and what a node sends.
 
 ghost use Rattle.std.specs.Prelude.{◌≡◌};
-ghost use Rattle.world_setup.specs.Seen.{call_seen, lent_seen};
+ghost use Rattle.world_setup.specs.Seen.{call_seen, lent_seen, sent_seen};
 
 use crate::node::Node;
 use octets::Octets;
+use pharmacy_journal::ForSwitch;
 
 /// A call on one node, with texts of its own; or with those of another, as `Call<&Octets>` (own).
 #[derive(Debug, Drop, PartialEq, Eq)]
@@ -59,6 +60,17 @@ pub struct Sent {
     pub to: Node,
     /// The packet's bytes.
     pub bytes: Octets,
+}
+
+impl ForSwitch for Sent {
+    ghost seen = { sent_seen };
+
+    fn for_switch(switch: u16, bytes: Octets) -> Sent {
+        Sent {
+            to: Node::Switch(switch),
+            bytes,
+        }
+    }
 }
 
 /// A packet that was sent.

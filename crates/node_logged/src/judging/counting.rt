@@ -8,7 +8,7 @@ use crate::judging::ledger::Ledger;
 use crate::till::Till;
 
 /// The first pharmacy whose tills do not have as many receipts as its journal has entries.
-pub(crate) fn lacking(ledgers: &[Ledger], tills: &[Till]) -> Option<u16>
+pub(crate) fn lacking(ledgers: &[Ledger<'_>], tills: &[Till]) -> Option<u16>
     ensures { result ≡ lacking (tills_seen tills.now) ledgers.now }
 {
     for ledger in ledgers {
@@ -20,7 +20,7 @@ pub(crate) fn lacking(ledgers: &[Ledger], tills: &[Till]) -> Option<u16>
 }
 
 /// Whether the tills have as many receipts of a pharmacy as its journal has entries.
-fn counts_agree(ledger: &Ledger, tills: &[Till]) -> bool
+fn counts_agree(ledger: &Ledger<'_>, tills: &[Till]) -> bool
     ensures { result ≡ counts_agree (tills_seen tills.now) ledger.now }
 {
     let mut left = ledger.entries();

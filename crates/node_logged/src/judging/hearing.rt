@@ -10,7 +10,7 @@ use crate::judging::ledger::Ledger;
 use crate::till::Till;
 
 /// Whether each answer that was heard is that of the entry of its number.
-pub(crate) fn have_answers(ledgers: &[Ledger], tills: &[Till]) -> bool
+pub(crate) fn have_answers(ledgers: &[Ledger<'_>], tills: &[Till]) -> bool
     ensures { result ≡ list_all (has_answers (tills_seen tills.now)) ledgers.now }
 {
     for ledger in ledgers {
@@ -22,7 +22,7 @@ pub(crate) fn have_answers(ledgers: &[Ledger], tills: &[Till]) -> bool
 }
 
 /// Whether each answer that was heard of a pharmacy is its journal's.
-fn has_answers(ledger: &Ledger, tills: &[Till]) -> bool
+fn has_answers(ledger: &Ledger<'_>, tills: &[Till]) -> bool
     ensures { result ≡ has_answers (tills_seen tills.now) ledger.now }
 {
     for till in tills {
@@ -34,7 +34,7 @@ fn has_answers(ledger: &Ledger, tills: &[Till]) -> bool
 }
 
 /// Whether each answer that was heard at a till is the journal's, if it is a till of the pharmacy.
-fn has_answers_of(ledger: &Ledger, till: &Till) -> bool
+fn has_answers_of(ledger: &Ledger<'_>, till: &Till) -> bool
     ensures { result ≡ list_all (is_answer ledger.now.entries) (heard_of ledger.now.pharmacy (till_seen till.now)) }
 {
     if till.pharmacy() != ledger.pharmacy() {

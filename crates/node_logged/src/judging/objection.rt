@@ -1,22 +1,26 @@
 //! What speaks against the tills.
 
-ghost use Rattle.std.specs.Prelude.{◌≡◌, length, None, IfOk};
+ghost use Rattle.std.specs.Prelude.{◌≡◌, List, length, None, IfOk};
 ghost use Rattle.bin_routes.specs.Fault.{first_fault};
+ghost use Rattle.claim_model.specs.Logs.{NodeLog as LogSeen};
 ghost use Rattle.claim_model.specs.Settings.{settings_fault};
 ghost use Rattle.world_setup.specs.Seen.{settings_seen};
 ghost use Rattle.run_merge.specs.LogSeen.{logs_seen};
 ghost use Rattle.node_logged.specs.LedgerSeen.{tills_seen};
-ghost use Rattle.node_logged.specs.Replayed.{ledgers_of};
+ghost use Rattle.node_logged.specs.Replayed.{AreOfWorld, ledgers_of};
 ghost use Rattle.node_logged.specs.Objections.{first_objection};
 ghost use Rattle.node_logged.specs.Causes.{ObjectionTo};
 
 use crate::judging::counting::lacking;
 use crate::judging::hearing::have_answers;
+use crate::judging::ledger::Ledger;
 use crate::judging::receipts::have_receipts;
 use crate::judging::replaying::ledgers;
+use crate::judging::worlds::ledgers_in;
 use crate::till::Till;
 use run_merge::NodeLog;
 use std::alloc::{AllocError, Global};
+use world_core::World;
 use world_setup::WorldSettings;
 
 /// What speaks against the tills.
@@ -41,29 +45,41 @@ pub(crate) fn objection_to(
     requires rows { first_fault (length settings.now.payers.items) settings.now.routes.items ≡ None }
     ensures { IfOk result (λ o. ObjectionTo (tills_seen tills.now) (ledgers_of settings.now (logs_seen logs.now)) o) }
 {
-    first_objection(alloc, settings, logs, tills)
+    let ledgers = ledgers(alloc, settings, logs)?;
+    first_objection(alloc, ledgers.as_slice(), tills)
+}
+
+/// What speaks against the tills in a world of these settings and nothing before it, if anything does. It is what does so by the
+/// logs, where the journals after their calls are those of the world.
+pub(crate) fn objection_in(
+    alloc: Global,
+    settings: &WorldSettings,
+    world: &World,
+    tills: &[Till],
+) -> Result<Option<Objection>, AllocError>
+    requires { settings_fault (settings_seen settings.now) ≡ None }
+    ensures { (logs : List LogSeen) → AreOfWorld (ledgers_of settings.now logs) world.now.world
+        → IfOk result (λ o. ObjectionTo (tills_seen tills.now) (ledgers_of settings.now logs) o) }
+{
+    let ledgers = ledgers_in(alloc, settings, world)?;
+    first_objection(alloc, ledgers.as_slice(), tills)
 }
 
 /// The first test of tills and journals that fails, in the order of the causes.
 fn first_objection(
     alloc: Global,
-    settings: &WorldSettings,
-    logs: &[NodeLog],
+    ledgers: &[Ledger<'_>],
     tills: &[Till],
 ) -> Result<Option<Objection>, AllocError>
-    requires world { settings_fault (settings_seen settings.now) ≡ None }
-    requires rows { first_fault (length settings.now.payers.items) settings.now.routes.items ≡ None }
-    ensures { IfOk result (λ o.
-        o ≡ first_objection (tills_seen tills.now) (ledgers_of settings.now (logs_seen logs.now))) }
+    ensures { IfOk result (λ o. o ≡ first_objection (tills_seen tills.now) ledgers.now) }
 {
-    let ledgers = ledgers(alloc, settings, logs)?;
-    if let Some(pharmacy) = lacking(&ledgers, tills) {
+    if let Some(pharmacy) = lacking(ledgers, tills) {
         return Ok(Some(Objection::TillMissing(pharmacy)));
     }
-    if !have_receipts(alloc, &ledgers, tills)? {
+    if !have_receipts(alloc, ledgers, tills)? {
         return Ok(Some(Objection::ReceiptMissing));
     }
-    if !have_answers(&ledgers, tills) {
+    if !have_answers(ledgers, tills) {
         return Ok(Some(Objection::HeardDiffers));
     }
     Ok(None)

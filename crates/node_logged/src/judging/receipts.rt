@@ -14,7 +14,7 @@ use std::alloc::{AllocError, Global};
 /// Whether each entry of each journal has a receipt with its number and its request.
 pub(crate) fn have_receipts(
     alloc: Global,
-    ledgers: &[Ledger],
+    ledgers: &[Ledger<'_>],
     tills: &[Till],
 ) -> Result<bool, AllocError>
     ensures { IfOk result (λ yes. yes ≡ list_all (has_receipts (tills_seen tills.now)) ledgers.now) }
@@ -28,7 +28,7 @@ pub(crate) fn have_receipts(
 }
 
 /// Whether each entry of a journal has a receipt.
-fn has_receipts(alloc: Global, ledger: &Ledger, tills: &[Till]) -> Result<bool, AllocError>
+fn has_receipts(alloc: Global, ledger: &Ledger<'_>, tills: &[Till]) -> Result<bool, AllocError>
     ensures { IfOk result (λ yes. yes ≡ has_receipts (tills_seen tills.now) ledger.now) }
 {
     let mut marks = vec![in alloc; false; ledger.entries()]?;
@@ -50,7 +50,7 @@ fn are_all_marked(marks: &[bool]) -> bool
 }
 
 /// Marks the entries that these receipts are of.
-fn mark_all(marks: &mut [bool], ledger: &Ledger, receipts: &[Receipt])
+fn mark_all(marks: &mut [bool], ledger: &Ledger<'_>, receipts: &[Receipt])
     requires { length marks.old ≡ length ledger.now.entries }
     ensures { (left all : List ReceiptSeen)
         → Marks ledger.now.entries (receipts.now ++ left) all marks.old → Marks ledger.now.entries left all marks.new }
@@ -61,7 +61,7 @@ fn mark_all(marks: &mut [bool], ledger: &Ledger, receipts: &[Receipt])
 }
 
 /// Marks the entry that a receipt is of, if it is of one.
-fn mark(marks: &mut [bool], ledger: &Ledger, receipt: &Receipt)
+fn mark(marks: &mut [bool], ledger: &Ledger<'_>, receipt: &Receipt)
     requires { length marks.old ≡ length ledger.now.entries }
     ensures { (left all : List ReceiptSeen)
         → Marks ledger.now.entries (receipt.now ∷ left) all marks.old → Marks ledger.now.entries left all marks.new }

@@ -21,7 +21,7 @@ pub(crate) fn ledgers(
     alloc: Global,
     settings: &WorldSettings,
     logs: &[NodeLog],
-) -> Result<Vec<Ledger>, AllocError>
+) -> Result<Vec<Ledger<'static>>, AllocError>
     requires world { settings_fault (settings_seen settings.now) ≡ None }
     requires rows { first_fault (length settings.now.payers.items) settings.now.routes.items ≡ None }
     ensures { IfOk result (λ ledgers. ledgers.items ≡ ledgers_of settings.now (logs_seen logs.now)) }
@@ -39,7 +39,7 @@ fn ledger_of(
     settings: &WorldSettings,
     logs: &[NodeLog],
     place: usize,
-) -> Result<Ledger, AllocError>
+) -> Result<Ledger<'static>, AllocError>
     requires world { settings_fault (settings_seen settings.now) ≡ None }
     requires rows { first_fault (length settings.now.payers.items) settings.now.routes.items ≡ None }
     requires there { place < length settings.now.pharmacies.items }

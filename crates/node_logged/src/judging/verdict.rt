@@ -5,21 +5,27 @@ ghost use Rattle.bin_routes.specs.Fault.{first_fault};
 ghost use Rattle.claim_model.specs.Settings.{settings_fault};
 ghost use Rattle.world_setup.specs.Seen.{event_seen, settings_seen};
 ghost use Rattle.run_merge.specs.LogSeen.{logs_seen};
-ghost use Rattle.run_merge.specs.Merged.{IsMerged};
+ghost use Rattle.run_merge.specs.Merged.{IsMerged, NoMerge};
+ghost use Rattle.run_merge.specs.MergedRuns.{IsRunOf};
 ghost use Rattle.node_logged.specs.LedgerSeen.{tills_seen};
 ghost use Rattle.node_logged.specs.Setting.{opening_world, world_after_run};
 ghost use Rattle.node_logged.specs.Replayed.{AreOfWorld, ledgers_of};
 ghost use Rattle.node_logged.specs.Judged.{AllReceipts, AllHeard};
 ghost use Rattle.world_setup.specs.declared.settings.WorldSettings.{WorldSettings as Settings};
 ghost use Rattle.node_logged.specs.Tills.{Till as TillSeen};
-ghost use Rattle.node_logged.specs.Causes.{Stands, IsCause, IsUnmerged};
+ghost use Rattle.node_logged.specs.Causes.{ObjectionTo, Stands, IsCause};
+ghost use Rattle.node_logged.specs.Standing.{AreAll, AreStanding};
+ghost use Rattle.node_logged.specs.StandingSeen.{nodes_seen};
+ghost use Rattle.node_logged.specs.Verdicts.{IsRun, logs_in, CarriesLogs};
 
+use crate::held::Held;
 use crate::judging::finish_fault::FinishFault;
-use crate::judging::objection::{Objection, objection_to};
+use crate::judging::objection::{Objection, objection_in, objection_to};
+use crate::judging::standing::{Nodes, Standing, taken_apart};
 use crate::till::Till;
-use run_merge::{MergeFault, NodeLog, merge};
+use run_merge::{MergeFault, MergedRun, NodeLog, merge, merge_fitting};
 use std::alloc::{AllocError, Global};
-use world_core::World;
+use world_core::{KnownParts, World};
 use world_setup::{Event, WorldFault, WorldSettings};
 
 /// What a system did that has ended.
@@ -61,9 +67,171 @@ pub fn judge(
     ensures heard { OnOk result (AllHeard (tills_seen tills.now) (ledgers_of settings.now (logs_seen logs.items))) }
     ensures refused { IfErr result (λ fault. IsCause settings.now logs.items (tills_seen tills.now) fault) }
 {
-    match objection_to(alloc, settings, &logs, tills)? {
-        None => run_of(alloc, settings, logs),
-        Some(objection) => Err(refusal(objection, logs)),
+    match merge(alloc, settings, &logs) {
+        Ok(events) => {
+            let world = world_after(alloc, settings, &events)?;
+            let run = Finished {
+                events,
+                world,
+                logs,
+            };
+            judge_run(alloc, settings, run, tills)
+        }
+        Err(MergeFault::OutOfMemory) => Err(FinishFault::OutOfMemory),
+        Err(MergeFault::Tangled) => Err(refused(alloc, settings, logs, tills)),
+    }
+}
+
+/// As [`judge`], of nodes with their logs. No call is made again: the order of the calls is looked for in the logs, the nodes
+/// as they stand are those of the world, and the tills are judged by their journals.
+///
+/// # Errors
+/// Those of `judge`, of the logs that the refusal carries.
+pub fn judge_nodes(
+    alloc: Global,
+    settings: &WorldSettings,
+    nodes: Vec<Held>,
+    tills: &[Till],
+) -> Result<Finished, FinishFault>
+    requires world { settings_fault (settings_seen settings.now) ≡ None }
+    requires rows { first_fault (length settings.now.payers.items) settings.now.routes.items ≡ None }
+    // The logs are those of the nodes.
+    ensures logs { IfOk result (λ f. logs_seen f.logs.items ≡ map (λ h. h.log) nodes.items) }
+    ensures run { IfOk result (λ f. IsRun settings.now (tills_seen tills.now) f f.logs.items) }
+    ensures refused { IfErr result (λ why. IsCause settings.now (logs_in why) (tills_seen tills.now) why) }
+    ensures carried { IfErr result (λ why. CarriesLogs why (map (λ h. h.log) nodes.items)) }
+{
+    let standing = taken_apart(alloc, settings, nodes)?;
+    let is_all = standing.is_all(settings);
+    let Standing {
+        nodes,
+        logs,
+        is_whole: _,
+    } = standing;
+    if !is_all {
+        return judge(alloc, settings, logs, tills);
+    }
+    judge_standing(alloc, settings, nodes, logs, tills)
+}
+
+/// The verdict on all nodes of the settings, which stand by their logs.
+fn judge_standing(
+    alloc: Global,
+    settings: &WorldSettings,
+    nodes: Nodes,
+    logs: Vec<NodeLog>,
+    tills: &[Till],
+) -> Result<Finished, FinishFault>
+    requires world { settings_fault (settings_seen settings.now) ≡ None }
+    requires rows { first_fault (length settings.now.payers.items) settings.now.routes.items ≡ None }
+    requires standing { AreStanding settings.now (nodes_seen nodes) (logs_seen logs.items) }
+    requires all { AreAll settings.now (nodes_seen nodes) }
+    ensures logs { IfOk result (λ f. f.logs.items ≡ logs.items) }
+    ensures run { IfOk result (λ f. IsRun settings.now (tills_seen tills.now) f logs.items) }
+    ensures refused { IfErr result (λ fault. IsCause settings.now logs.items (tills_seen tills.now) fault) }
+{
+    match merge_fitting(alloc, settings, &logs) {
+        Ok(merged) => {
+            let run = standing_run(alloc, settings, nodes, logs, merged)?;
+            judge_run(alloc, settings, run, tills)
+        }
+        Err(MergeFault::OutOfMemory) => Err(FinishFault::OutOfMemory),
+        Err(MergeFault::Tangled) => Err(refused(alloc, settings, logs, tills)),
+    }
+}
+
+/// A run of these logs, whose nodes stand at its end.
+fn standing_run(
+    alloc: Global,
+    settings: &WorldSettings,
+    nodes: Nodes,
+    logs: Vec<NodeLog>,
+    run: MergedRun,
+) -> Result<Finished, AllocError>
+    requires world { settings_fault (settings_seen settings.now) ≡ None }
+    requires rows { first_fault (length settings.now.payers.items) settings.now.routes.items ≡ None }
+    requires standing { AreStanding settings.now (nodes_seen nodes) (logs_seen logs.items) }
+    requires all { AreAll settings.now (nodes_seen nodes) }
+    requires run { IsRunOf settings.now (logs_seen logs.items) run }
+    ensures { IfOk result (λ f. f ≡ record {
+      events = run.events;
+      world = world_after_run settings.now (map event_seen run.events.items);
+      logs = logs;
+    }) }
+{
+    let MergedRun { events, packets } = run;
+    let Nodes {
+        pharmacies,
+        switches,
+        payers,
+    } = nodes;
+    let parts = KnownParts {
+        pharmacies,
+        switches,
+        payers,
+        packets,
+    };
+    let world = opening_world(alloc, settings)?.led_to(&events, parts);
+    Ok(Finished {
+        events,
+        world,
+        logs,
+    })
+}
+
+/// The run, where nothing speaks against the tills in its world.
+fn judge_run(
+    alloc: Global,
+    settings: &WorldSettings,
+    run: Finished,
+    tills: &[Till],
+) -> Result<Finished, FinishFault>
+    requires world { settings_fault (settings_seen settings.now) ≡ None }
+    requires events { IsMerged settings.now (logs_seen run.logs.items) (map event_seen run.events.items) }
+    requires runs { run.world ≡ world_after_run settings.now (map event_seen run.events.items) }
+    ensures same { IfOk result (λ f. f ≡ run) }
+    ensures run { IfOk result (λ f. IsRun settings.now (tills_seen tills.now) f run.logs.items) }
+    ensures refused { IfErr result (λ fault. IsCause settings.now run.logs.items (tills_seen tills.now) fault) }
+{
+    match objection_in(alloc, settings, &run.world, tills)? {
+        None => Ok(run),
+        Some(objection) => {
+            let Finished {
+                events: _,
+                world: _,
+                logs,
+            } = run;
+            Err(refusal(objection, logs))
+        }
+    }
+}
+
+/// The refusal of logs that have no legal interleaving: what speaks against the tills stands before that.
+fn refused(
+    alloc: Global,
+    settings: &WorldSettings,
+    logs: Vec<NodeLog>,
+    tills: &[Till],
+) -> FinishFault
+    requires world { settings_fault (settings_seen settings.now) ≡ None }
+    requires rows { first_fault (length settings.now.payers.items) settings.now.routes.items ≡ None }
+    requires tangled { NoMerge settings.now (logs_seen logs.items) }
+    ensures { IsCause settings.now logs.items (tills_seen tills.now) result }
+{
+    match objection_to(alloc, settings, &logs, tills) {
+        Ok(found) => refusal_or_tangled(found, logs),
+        Err(_) => FinishFault::OutOfMemory,
+    }
+}
+
+/// The refusal for what speaks against the tills, if anything does, and else that the logs are tangled.
+fn refusal_or_tangled(found: Option<Objection>, logs: Vec<NodeLog>) -> FinishFault
+    ensures { (s : Settings) (tills : List TillSeen) → NoMerge s (logs_seen logs.items)
+        → ObjectionTo tills (ledgers_of s (logs_seen logs.items)) found → IsCause s logs.items tills result }
+{
+    match found {
+        Some(objection) => refusal(objection, logs),
+        None => FinishFault::Tangled(logs),
     }
 }
 
@@ -76,33 +244,6 @@ fn refusal(objection: Objection, logs: Vec<NodeLog>) -> FinishFault
         Objection::TillMissing(pharmacy) => FinishFault::TillMissing(pharmacy, logs),
         Objection::ReceiptMissing => FinishFault::ReceiptMissing(logs),
         Objection::HeardDiffers => FinishFault::HeardDiffers(logs),
-    }
-}
-
-/// The run of these logs.
-fn run_of(
-    alloc: Global,
-    settings: &WorldSettings,
-    logs: Vec<NodeLog>,
-) -> Result<Finished, FinishFault>
-    requires world { settings_fault (settings_seen settings.now) ≡ None }
-    requires rows { first_fault (length settings.now.payers.items) settings.now.routes.items ≡ None }
-    ensures logs { IfOk result (λ f. f.logs.items ≡ logs.items) }
-    ensures events { IfOk result (λ f. IsMerged settings.now (logs_seen logs.items) (map event_seen f.events.items)) }
-    ensures world { IfOk result (λ f. f.world ≡ world_after_run settings.now (map event_seen f.events.items)) }
-    ensures refused { IfErr result (λ fault. IsUnmerged settings.now logs.items fault) }
-{
-    match merge(alloc, settings, &logs) {
-        Ok(events) => {
-            let world = world_after(alloc, settings, &events)?;
-            Ok(Finished {
-                events,
-                world,
-                logs,
-            })
-        }
-        Err(MergeFault::OutOfMemory) => Err(FinishFault::OutOfMemory),
-        Err(MergeFault::Tangled) => Err(FinishFault::Tangled(logs)),
     }
 }
 

@@ -6,6 +6,6 @@ use Rattle.run_merge.proofs.fits.fits.Goals as goal
 pub returns-then-not-branch : goal.returns-then-not-branch
 returns-then-not-branch c = λ h.
     not_alike (bytes_with c.args.routes.now) c.loop-record.node c.args.node.now c.record-item.result (drop (suc c.loop-record.record-index) c.args.records.now) c.args.records.now
-    (rw c.if-not-branch.true at c.in_ok-does.ensures)
+    (rw c.if-not-branch.true at c.in_ok-makes.ensures)
     (subst (λ x. FitsAlike (bytes_with c.args.routes.now) c.loop-record.node x c.args.node.now c.args.records.now) (drop_at c.args.records.now c.loop-record.record-index c.record-item.result (omega arith) c.record-item.is) c.loop-record.invariant)
     h

@@ -4,7 +4,7 @@ use Rattle.claim_model.specs.Bytes.{bytes_with}
 use Rattle.world_setup.specs.Seen.{settings_seen, event_seen}
 use Rattle.run_merge.specs.LogSeen.{logs_seen}
 use Rattle.run_merge.specs.Merged.{AllFit}
-use Rattle.run_merge.proofs.Merging.{not_each, not_distinct, not_fit, order_merged}
+use Rattle.run_merge.proofs.Merging.{not_each, not_distinct, not_fit, no_order, order_merged}
 use Rattle.run_merge.proofs.history.merged_by.Goals as goal
 
 pub returns-then-not-each_has_log : goal.returns-then-not-each_has_log
@@ -18,8 +18,12 @@ returns-then-not-branch c =
     not_fit c.args.settings.now c.args.logs.now
     (subst (λ (r : RouteMaps). AllFit (bytes_with r) (settings_seen c.args.settings.now) (logs_seen c.args.logs.now) → ⊥) c.requires.routes_are (rw c.if-not-branch.true at c.in_ok-all_fit.ensures))
 
-pub returns : goal.returns
-returns c =
-    order_merged c.args.settings.now c.args.logs.now c.in_order.result (λ events. map event_seen events.items) c.requires.world c.requires.rows (rw c.if-not-each_has_log.false at c.each_has_log.ensures) (sym c.are_distinct.ensures ∙ c.if-not-are_distinct.false)
+pub returns-in-Some : goal.returns-in-Some
+returns-in-Some c =
+    rw c.into_events.ensures
+    (order_merged c.args.settings.now c.args.logs.now (map event_seen c.in-Some.order.events.items) c.in-Some.order.posted c.requires.world c.requires.rows (rw c.if-not-each_has_log.false at c.each_has_log.ensures) (sym c.are_distinct.ensures ∙ c.if-not-are_distinct.false)
     (subst (λ (r : RouteMaps). AllFit (bytes_with r) (settings_seen c.args.settings.now) (logs_seen c.args.logs.now)) c.requires.routes_are (rw c.if-not-branch.false at c.in_ok-all_fit.ensures))
-    c.in_order.ensures
+    (rw c.in-Some.is at c.in_ok-order.ensures))
+
+pub returns-in-None : goal.returns-in-None
+returns-in-None c = no_order c.args.settings.now c.args.logs.now (rw c.in-None.is at c.in_ok-order.ensures)

@@ -17,7 +17,7 @@ returns-then-is_done c =
     still_done (calls_of (logs_seen c.args.logs.now)) (order_seen c.loop-order.order) (order_seen c.step.new.self) c.step.new.self.lines.items c.loop-order.invariant (rw c.if-branch.false at c.in_ok-step.ensures) refl
     (sym c.is_done.ensures ∙ c.if-is_done.true)
 
-pub returns-else-is_done : goal.returns-else-is_done
-returns-else-is_done c =
+pub returns : goal.returns
+returns c =
     still_none (calls_of (logs_seen c.args.logs.now)) (order_seen c.loop-order.order) (order_seen c.step.new.self) c.step.new.self.lines.items c.loop-order.invariant (rw c.if-branch.false at c.in_ok-step.ensures) refl
     (sym c.is_done.ensures ∙ c.if-is_done.false)

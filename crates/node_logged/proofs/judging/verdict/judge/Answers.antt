@@ -1,16 +1,21 @@
-use Rattle.std.proofs.Common.{List, subst}
-use Rattle.run_merge.specs.LogSeen.{logs_seen}
-use Rattle.run_merge.specs.declared.log.NodeLog.{NodeLog}
-use Rattle.node_logged.specs.LedgerSeen.{tills_seen}
-use Rattle.node_logged.specs.Replayed.{ledgers_of}
-use Rattle.node_logged.specs.Causes.{Stands}
-use Rattle.node_logged.proofs.Agreeing.{ends_agree}
+use Rattle.std.proofs.Common.{ap}
+use Rattle.node_logged.proofs.Carrying.{ok_by, ok_on}
 use Rattle.node_logged.proofs.judging.verdict.judge.Goals as goal
 
-pub returns-in-Some-clause-refused : goal.returns-in-Some-clause-refused
-returns-in-Some-clause-refused c =
-    c.refusal.ensures c.args.settings.now (tills_seen c.args.tills.now)
-    (subst (λ (logs : List NodeLog). Stands (tills_seen c.args.tills.now) (ledgers_of c.args.settings.now (logs_seen logs)) c.in-Some.objection) c.deref.ensures.value (rw c.in-Some.is at c.in_ok-objection_to.ensures))
+pub returns-in_ok-world-in-Ok-clause-logs : goal.returns-in_ok-world-in-Ok-clause-logs
+returns-in_ok-world-in-Ok-clause-logs c = ok_by _ _ c.judge_run.result (λ f x. ap (λ g. g.logs.items) x) c.judge_run.ensures.same
 
-pub returns-in-None-clause-ledgers : goal.returns-in-None-clause-ledgers
-returns-in-None-clause-ledgers c = ends_agree c.args.settings.now c.args.logs.items c.run_of.result c.run_of.ensures.events c.run_of.ensures.world
+pub returns-in_ok-world-in-Ok-clause-events : goal.returns-in_ok-world-in-Ok-clause-events
+returns-in_ok-world-in-Ok-clause-events c = ok_by _ _ c.judge_run.result (λ f x. x.events) c.judge_run.ensures.run
+
+pub returns-in_ok-world-in-Ok-clause-world : goal.returns-in_ok-world-in-Ok-clause-world
+returns-in_ok-world-in-Ok-clause-world c = ok_by _ _ c.judge_run.result (λ f x. x.world) c.judge_run.ensures.run
+
+pub returns-in_ok-world-in-Ok-clause-ledgers : goal.returns-in_ok-world-in-Ok-clause-ledgers
+returns-in_ok-world-in-Ok-clause-ledgers c = ok_by _ _ c.judge_run.result (λ f x. x.ledgers) c.judge_run.ensures.run
+
+pub returns-in_ok-world-in-Ok-clause-receipts : goal.returns-in_ok-world-in-Ok-clause-receipts
+returns-in_ok-world-in-Ok-clause-receipts c = ok_on _ _ c.judge_run.result (λ f x. x.receipts) c.judge_run.ensures.run
+
+pub returns-in_ok-world-in-Ok-clause-heard : goal.returns-in_ok-world-in-Ok-clause-heard
+returns-in_ok-world-in-Ok-clause-heard c = ok_on _ _ c.judge_run.result (λ f x. x.heard) c.judge_run.ensures.run
