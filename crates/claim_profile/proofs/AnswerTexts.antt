@@ -21,18 +21,14 @@ pub on_ok_also : {T E : Type 0} (r : Result T E) (new more whole : List ℕ) →
 on_ok_also (Ok x) new more whole e same = e ∙ same
 on_ok_also (Err f) new more whole e same = tt
 
-regroup : (a b c d e : List ℕ) → (((a ++ b) ++ c) ++ d) ++ e ≡ a ++ (b ++ (c ++ (d ++ e)))
-regroup a b c d e = simp append_assoc
-
 ends : (old front last : List ℕ) → old ++ (front ++ last) ≡ old ++ (front ++ (last ++ []))
 ends old front last = ap (λ (t : List ℕ). old ++ (front ++ t)) (sym (append-nil last))
 
 pub status_written : (old : List ℕ) (status : ℕ) (auth : Authorization)
-    → (((old ++ (29 ∷ 30 ∷ 28 ∷ 65 ∷ 77 ∷ 50 ∷ 49 ∷ 28 ∷ 65 ∷ 78 ∷ [])) ++ status ∷ []) ++ (28 ∷ 70 ∷ 51 ∷ [])) ++ authorization_text auth
-    ≡ old ++ (29 ∷ segment_text (status_segment (status ∷ []) auth))
+    → (old ++ (29 ∷ 30 ∷ 28 ∷ 65 ∷ 77 ∷ 50 ∷ 49 ∷ 28 ∷ 65 ∷ 78 ∷ status ∷ 28 ∷ 70 ∷ 51 ∷ [])) ++ authorization_text auth ≡ old ++ (29 ∷ segment_text (status_segment (status ∷ []) auth))
 unfolding status_segment
 status_written old status auth =
-    regroup old (29 ∷ 30 ∷ 28 ∷ 65 ∷ 77 ∷ 50 ∷ 49 ∷ 28 ∷ 65 ∷ 78 ∷ []) (status ∷ []) (28 ∷ 70 ∷ 51 ∷ []) (authorization_text auth)
+    append_assoc old (29 ∷ 30 ∷ 28 ∷ 65 ∷ 77 ∷ 50 ∷ 49 ∷ 28 ∷ 65 ∷ 78 ∷ status ∷ 28 ∷ 70 ∷ 51 ∷ []) (authorization_text auth)
     ∙ ends old (29 ∷ 30 ∷ 28 ∷ 65 ∷ 77 ∷ 50 ∷ 49 ∷ 28 ∷ 65 ∷ 78 ∷ status ∷ 28 ∷ 70 ∷ 51 ∷ []) (authorization_text auth)
 
 pub claim_written : (old : List ℕ) (prescription : ℕ)

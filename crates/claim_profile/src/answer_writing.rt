@@ -1,6 +1,6 @@
 //! Writing answers.
 
-ghost use Rattle.std.specs.Prelude.{◌≡◌, ◌≤◌, pos, [], ◌∷◌, ◌++◌, length, IsTrue, IfOk, OnOk};
+ghost use Rattle.std.specs.Prelude.{◌≡◌, ◌≤◌, pos, [], ◌∷◌, ◌++◌, length, take, IsTrue, IfOk, OnOk};
 ghost use Rattle.overpunch.specs.Amount.{amount_text};
 ghost use Rattle.d0_header.specs.Field.{is_plain};
 ghost use Rattle.d0_segments.specs.Texts.{field_text, segment_text, group_text};
@@ -112,9 +112,9 @@ fn put_payment(
 fn put_status(text: &mut Vec<u8>, status: u8, auth: Auth) -> Result<(), AllocError>
     ensures { OnOk result (text.new.items ≡ text.old.items ++ (29 ∷ segment_text (status_segment (status ∷ []) auth))) }
 {
-    text.extend_from_slice(b"\x1d\x1e\x1cAM21\x1cAN")?;
-    text.push(status)?;
-    text.extend_from_slice(b"\x1cF3")?;
+    text.extend_from_slice(&[
+        0x1d, 0x1e, 0x1c, b'A', b'M', b'2', b'1', 0x1c, b'A', b'N', status, 0x1c, b'F', b'3',
+    ])?;
     text.extend_from_slice(&auth.digits())
 }
 
@@ -125,7 +125,7 @@ fn put_claim(text: &mut Vec<u8>, prescription: u64) -> Result<(), AllocError>
     text.extend_from_slice(b"\x1e\x1cAM22\x1cEM1\x1cD2")?;
     let mut digits = [0; 20];
     let len = write_number(prescription, &mut digits);
-    text.extend_from_slice(&digits[..len])
+    put_front(text, &digits, len)
 }
 
 /// Appends the response pricing segment (AM23).
@@ -148,7 +148,20 @@ fn put_amount(text: &mut Vec<u8>, name: u8, cents: u32) -> Result<(), AllocError
     text.extend_from_slice(&[0x1c, b'F', name])?;
     let mut digits = [0; 8];
     let len = amount_of_cents(cents).write(&mut digits);
-    text.extend_from_slice(&digits[..len])
+    put_front(text, &digits, len)
+}
+
+/// Appends the first of these bytes, so many. All of them are copied and those behind are cut off again: a copy of a length
+/// that is known is one move.
+#[inline(always)]
+fn put_front(text: &mut Vec<u8>, bytes: &[u8], count: usize) -> Result<(), AllocError>
+    requires { count ≤ length bytes.now }
+    ensures { OnOk result (text.new.items ≡ text.old.items ++ take count bytes.now) }
+{
+    let end = text.len() + count;
+    text.extend_from_slice(bytes)?;
+    text.truncate(end);
+    Ok(())
 }
 
 /// Appends the group of a rejection.

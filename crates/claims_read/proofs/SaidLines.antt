@@ -1,36 +1,52 @@
 -- What is printed of the book's own answer is what is printed of the model's, and lines follow one another.
-use Rattle.std.proofs.Common.{◌≡◌, ℕ, List, [], ◌∷◌, ◌++◌, Result, Ok, Err, IfOk, IfErr, refl, sym, ap, ◌∙◌, append_assoc, append-nil}
+use Rattle.std.proofs.Common.{◌≡◌, ℕ, List, [], ◌∷◌, ◌++◌, Option, Result, Ok, Err, OnErr, refl, sym, ap, ◌∙◌, append_assoc, append-nil}
 use Rattle.std.specs.Prelude.{codes, decimal}
 use Rattle.bin_routes.specs.Table.{RouteMaps}
+use Rattle.envelope.specs.Txn.{Txn}
+use Rattle.input_text.specs.Printing.{printed}
 use Rattle.schedule.proofs.EventLists.{joined}
 use Rattle.claim_model.specs.Refusal.{Refusal}
-use Rattle.claim_model.specs.Rows.{Book}
-use Rattle.claim_model.specs.Book.{Answered}
-use Rattle.payer_book.specs.Faults.{RefusedFor}
-use Rattle.payer_book.specs.declared.book.Reply.{Reply}
+use Rattle.claim_model.specs.Rows.{Row, Book}
+use Rattle.claim_model.specs.Bytes.{bytes_with}
+use Rattle.claim_model.specs.Book.{Answered, answered}
+use Rattle.claim_model.proofs.Lists.{get_exists}
+use Rattle.payer_book.specs.Answers.{Refuses}
+use Rattle.payer_book.specs.Placing.{AnswersAt}
+use Rattle.payer_book.specs.declared.book.placing.Placed.{Placed}
 use Rattle.payer_book.specs.declared.fault.BookFault.{BookFault}
 use Rattle.payer_book.specs.declared.fault.BookFault.TheVariants.{OutOfMemory, Unreadable, NotOurs, NumberReused, BookFull, SerialsUsedUp}
-use Rattle.claims_read.specs.declared.entries.Entry.{Entry}
 use Rattle.program_io.specs.declared.fault.CheckFault.{CheckFault}
 use Rattle.program_io.specs.declared.fault.CheckFault.TheVariants as check
 use Rattle.program_io.specs.declared.fault.InputFault.TheVariants.{Line}
-use Rattle.claims_read.specs.Entries.{by_line, entries_in, entries_of}
+use Rattle.claims_read.specs.Entries.{Entry, by_line, entries_in, entries_of}
 use Rattle.claims_read.specs.Sample.{sample_routes, opening_book}
 use Rattle.program_io.specs.Stops.{RefusedFor as InputRefusedFor}
 use Rattle.claims_read.specs.Lines.{told, line_of, book_after, said_to, answer_lines, lines_behind, lines_for, output_of}
-use Rattle.claims_read.specs.Said.{said_text}
+use Rattle.claims_read.specs.Said.{answer_of, said_text}
 
 -- the same text, unless memory ran out
-pub said_is_told : (said : Result Reply BookFault) (after : Book) (answer : Result Answered Refusal)
-    → IfOk said (λ reply. answer ≡ Ok (record { book = after; bytes = reply.bytes.items; kept = reply.kept })) → IfErr said (λ fault. RefusedFor fault answer)
-    → (said ≡ Err OutOfMemory → ⊥) → said_text said ≡ told answer
-said_is_told (Ok reply) after answer is why known = sym (ap told is)
-said_is_told (Err OutOfMemory) after answer is why known = absurd (known refl)
-said_is_told (Err Unreadable) after answer is why known = sym (ap told why)
-said_is_told (Err NotOurs) after answer is why known = sym (ap told why)
-said_is_told (Err NumberReused) after answer is why known = sym (ap told why)
-said_is_told (Err BookFull) after answer is why known = sym (ap told why)
-said_is_told (Err SerialsUsedUp) after answer is why known = sym (ap told why)
+pub said_is_told : (maps : RouteMaps) (before : Book) (id : Txn) (request : List ℕ) (said : Result Placed BookFault) (after : Book)
+    → AnswersAt maps before id request after said → Refuses maps before id request said → (said ≡ Err OutOfMemory → ⊥) → said_text after.rows said ≡ told (answered (bytes_with maps) before id request)
+said_is_told maps before id request (Ok placed) after is why known =
+    let row = get_exists after.rows placed.place is.within in ap (λ (o : Option Row). codes " " ++ printed (answer_of o)) row.1 ∙ sym (ap told (is.ruled row.0 row.1))
+said_is_told maps before id request (Err OutOfMemory) after is why known = absurd (known refl)
+said_is_told maps before id request (Err Unreadable) after is why known = sym (ap told why)
+said_is_told maps before id request (Err NotOurs) after is why known = sym (ap told why)
+said_is_told maps before id request (Err NumberReused) after is why known = sym (ap told why)
+said_is_told maps before id request (Err BookFull) after is why known = sym (ap told why)
+said_is_told maps before id request (Err SerialsUsedUp) after is why known = sym (ap told why)
+
+-- the book that is left, unless memory ran out
+pub book_is_left : (maps : RouteMaps) (before : Book) (id : Txn) (request : List ℕ) (said : Result Placed BookFault) (after : Book)
+    → AnswersAt maps before id request after said → Refuses maps before id request said → OnErr said (after ≡ before) → (said ≡ Err OutOfMemory → ⊥)
+    → after ≡ book_after before (answered (bytes_with maps) before id request)
+book_is_left maps before id request (Ok placed) after is why same known = let row = get_exists after.rows placed.place is.within in sym (ap (book_after before) (is.ruled row.0 row.1))
+book_is_left maps before id request (Err OutOfMemory) after is why same known = absurd (known refl)
+book_is_left maps before id request (Err Unreadable) after is why same known = same ∙ sym (ap (book_after before) why)
+book_is_left maps before id request (Err NotOurs) after is why same known = same ∙ sym (ap (book_after before) why)
+book_is_left maps before id request (Err NumberReused) after is why same known = same ∙ sym (ap (book_after before) why)
+book_is_left maps before id request (Err BookFull) after is why same known = same ∙ sym (ap (book_after before) why)
+book_is_left maps before id request (Err SerialsUsedUp) after is why same known = same ∙ sym (ap (book_after before) why)
 
 -- number, text and newline behind what was there
 pub line_joined : (front first second third said : List ℕ) (number : ℕ) (answer : Result Answered Refusal)

@@ -8,9 +8,13 @@ use Rattle.input_text.specs.Decimals.{decimal_number}
 use Rattle.input_text.specs.Printing.{unprinted}
 use Rattle.envelope.specs.Txn.{Txn}
 use Rattle.schedule.specs.Reading.{told_lines, spelled_in}
-use Rattle.claims_read.specs.declared.entries.Entry.{Entry}
 use Rattle.program_io.specs.declared.fault.InputFault.{InputFault}
 use Rattle.program_io.specs.declared.fault.InputFault.TheVariants.{Line}
+
+-- a request and the id that it comes under
+pub record Entry : Type 0 where
+  pub id : Txn
+  pub request : List ℕ
 
 -- all lines stand under pharmacy 1, and no number is zero
 abbrev pub id_with : ℕ → Option Txn
@@ -20,6 +24,15 @@ id_with (suc n) = Some (record { pharmacy = 1; number = suc n })
 -- the id that a number of 1 to 18 digits stands for
 abbrev pub id_in : List ℕ → Option Txn
 id_in word = option_and_then id_with (decimal_number 18 word)
+
+-- the entry of these parts
+abbrev pub entry_with : Txn → List ℕ → Entry
+entry_with id request = record { id = id; request = request }
+
+-- the entry of an id, where there is one
+abbrev pub entry_under : Option Txn → List ℕ → Option Entry
+entry_under None request = None
+entry_under (Some id) request = Some (entry_with id request)
 
 -- the entry that a line spells: a number, one space, and a request in printed bytes
 unfoldable pub entry_of : List ℕ → Option Entry

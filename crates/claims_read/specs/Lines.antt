@@ -6,9 +6,8 @@ use Rattle.claim_model.specs.Refusal.{Refusal, Unreadable, NotOurs, NumberReused
 use Rattle.claim_model.specs.Rows.{Book}
 use Rattle.claim_model.specs.Book.{Answered, answered}
 use Rattle.claim_model.specs.Bytes.{bytes_with}
-use Rattle.claims_read.specs.declared.entries.Entry.{Entry}
 use Rattle.program_io.specs.declared.fault.InputFault.{InputFault}
-use Rattle.claims_read.specs.Entries.{entries_of}
+use Rattle.claims_read.specs.Entries.{Entry, entries_of}
 use Rattle.claims_read.specs.Sample.{sample_routes, opening_book}
 
 -- the name of what a book refuses, as it is printed

@@ -2,16 +2,17 @@
 
 ghost use Rattle.std.specs.Prelude.{◌≡◌, ◌≢◌, ◌++◌, Ok, Err, IfOk, IfErr, OnOk};
 ghost use Rattle.payer_book.specs.declared.fault.BookFault.TheVariants.{OutOfMemory as NoMemory};
-ghost use Rattle.claims_read.specs.Entries.{entries_in, entries_of};
+ghost use Rattle.claims_read.specs.Entries.{entries_in, entries_of, entry_with};
 ghost use Rattle.claims_read.specs.Lines.{book_after, entry_line, lines_behind, output_of, said_to};
-ghost use Rattle.claims_read.specs.Said.{fault_name, said_text};
+ghost use Rattle.claims_read.specs.Said.{answer_in, fault_name, said_text};
 ghost use Rattle.program_io.specs.Stops.{RefusedFor, schedule_told};
 
-use crate::entries::{Entry, entry_of};
+use crate::entries::read_entry;
 use crate::sample;
 use bin_routes::Routes;
+use envelope::TxnId;
 use input_text::{Lines, is_skipped, put_decimal, put_printed};
-use payer_book::{Book, BookFault, HashKeys, Reply};
+use payer_book::{Book, BookFault, HashKeys, Placed};
 use schedule::ScheduleFault as LineFault;
 use std::alloc::{AllocError, Global};
 
@@ -24,8 +25,9 @@ pub(crate) fn answers(alloc: Global, keys: &HashKeys, input: Vec<u8>) -> Result<
     ensures fault { IfErr result (λ fault. RefusedFor (schedule_told fault) (output_of input.items)) }
 {
     let routes = sample::routes(alloc)?;
-    let mut book = sample::book(alloc, keys)?;
-    let mut output = Vec::new(alloc);
+    let mut book = sample::book(alloc, keys, input.len())?;
+    // Most lines of output are shorter than theirs of input.
+    let mut output = Vec::with_capacity(alloc, input.len())?;
     put_lines(&mut output, &mut book, &routes, alloc, input.as_slice())?;
     Ok(output)
 }
@@ -47,10 +49,11 @@ fn put_lines(
         ≡ Ok output.new.items) }
     ensures fault { IfErr result (λ fault. RefusedFor (schedule_told fault) (entries_of input.now)) }
 {
+    let mut request = Vec::new(alloc);
     for line in Lines::new(input) {
         if !is_skipped(line.text) {
-            match entry_of(alloc, line.text)? {
-                Some(entry) => put_entry(output, book, routes, entry)?,
+            match read_entry(&mut request, line.text)? {
+                Some(id) => put_line(output, book, routes, id, request.as_slice())?,
                 None => return Err(LineFault::Line(line.number as u64)),
             }
         }
@@ -58,53 +61,57 @@ fn put_lines(
     Ok(())
 }
 
-/// Appends the line of one entry, and gives the entry back.
-fn put_entry(
-    output: &mut Vec<u8>,
-    book: &mut Book,
-    routes: &Routes,
-    entry: Entry,
-) -> Result<(), AllocError>
-    ensures line { OnOk result (output.new.items ≡ output.old.items ++ entry_line routes.now book.old entry) }
-    ensures book { OnOk result (book.new ≡ book_after book.old (said_to routes.now book.old entry)) }
-{
-    put_line(output, book, routes, &entry)
-}
-
-/// Appends the line of one entry.
+/// Appends the line of one entry: what the book says to this request under that id.
 fn put_line(
     output: &mut Vec<u8>,
     book: &mut Book,
     routes: &Routes,
-    entry: &Entry,
+    id: TxnId,
+    request: &[u8],
 ) -> Result<(), AllocError>
-    ensures line { OnOk result (output.new.items ≡ output.old.items ++ entry_line routes.now book.old entry.now) }
-    ensures book { OnOk result (book.new ≡ book_after book.old (said_to routes.now book.old entry.now)) }
+    ensures line { OnOk result (output.new.items
+        ≡ output.old.items ++ entry_line routes.now book.old (entry_with id request.now)) }
+    ensures book { OnOk result (book.new ≡ book_after book.old (said_to routes.now book.old (entry_with id request.now))) }
 {
-    put_decimal(output, entry.id.number())?;
-    let said = book.answer(routes, entry.id, entry.request.as_slice());
-    put_said(output, &said)?;
+    put_decimal(output, id.number())?;
+    let said = book.answer_at(routes, id, request);
+    put_said(output, book, said)?;
     output.extend_from_slice(b"\n")?;
     Ok(())
 }
 
-/// Appends what stands behind the number: the answer, or the name of the refusal.
-fn put_said(output: &mut Vec<u8>, said: &Result<Reply, BookFault>) -> Result<(), AllocError>
-    ensures text { OnOk result (output.new.items ≡ output.old.items ++ said_text said.now) }
-    ensures known { OnOk result (said.now ≢ Err NoMemory) }
+/// Appends what stands behind the number: the answer, which the book has at the place that is said, or the name of the
+/// refusal.
+fn put_said(
+    output: &mut Vec<u8>,
+    book: &Book,
+    said: Result<Placed, BookFault>,
+) -> Result<(), AllocError>
+    ensures text { OnOk result (output.new.items ≡ output.old.items ++ said_text book.now.rows said) }
+    ensures known { OnOk result (said ≢ Err NoMemory) }
 {
     match said {
-        Ok(reply) => {
+        Ok(placed) => {
             output.extend_from_slice(b" ")?;
-            put_printed(output, reply.bytes.as_slice())?;
+            put_printed(output, answer_in(book, placed.place))?;
         }
         Err(BookFault::OutOfMemory) => return Err(AllocError),
         Err(fault) => {
             output.extend_from_slice(b" refused ")?;
-            output.extend_from_slice(name_of(*fault))?;
+            output.extend_from_slice(name_of(fault))?;
         }
     }
     Ok(())
+}
+
+/// The answer that a book has at a place.
+fn answer_in(book: &Book, place: usize) -> &[u8]
+    ensures { result.now ≡ answer_in book.now.rows place }
+{
+    match book.row(place) {
+        Some(row) => row.answer(),
+        None => &[],
+    }
 }
 
 /// The name of a refusal, as it is printed.

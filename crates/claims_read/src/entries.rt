@@ -1,29 +1,22 @@
 //! The entry that a line of an input spells.
 
 ghost use Rattle.std.specs.Prelude.{◌≡◌, IfOk};
-ghost use Rattle.claims_read.specs.Entries.{id_in, entry_of};
+ghost use Rattle.claims_read.specs.Entries.{id_in, entry_of, entry_under};
 
 use envelope::TxnId;
-use input_text::{PrintedFault, read_decimal, split_word, unprint};
-use octets::Octets;
-use std::alloc::{AllocError, Global};
+use input_text::{PrintedFault, read_decimal, split_word, unprint_into};
+use std::alloc::AllocError;
 
 /// The pharmacy under whose number all lines stand (own).
 const PHARMACY: u16 = 1;
 /// The most digits of a line's number (own).
 const MOST_DIGITS: usize = 18;
 
-/// A request and the id that it comes under.
-#[derive(Drop)]
-pub(crate) struct Entry {
-    pub(crate) id: TxnId,
-    pub(crate) request: Octets,
-}
-
-/// The entry that a line spells, if it spells one.
+/// Reads the entry that a line spells: gives its id, and puts its request in the place of the bytes in `request`. None where
+/// the line spells no entry.
 #[tactic(auto, unfolding(crate::specs::Entries::entry_of))]
-pub(crate) fn entry_of(alloc: Global, line: &[u8]) -> Result<Option<Entry>, AllocError>
-    ensures { IfOk result (λ entry. entry ≡ entry_of line.now) }
+pub(crate) fn read_entry(request: &mut Vec<u8>, line: &[u8]) -> Result<Option<TxnId>, AllocError>
+    ensures { IfOk result (λ id. entry_under id request.new.items ≡ entry_of line.now) }
 {
     let Some((word, text)) = split_word(line) else {
         return Ok(None);
@@ -31,11 +24,8 @@ pub(crate) fn entry_of(alloc: Global, line: &[u8]) -> Result<Option<Entry>, Allo
     let Some(id) = id_in(word) else {
         return Ok(None);
     };
-    match unprint(alloc, text) {
-        Ok(request) => Ok(Some(Entry {
-            id,
-            request: Octets::from_vec(request),
-        })),
+    match unprint_into(request, text) {
+        Ok(()) => Ok(Some(id)),
         Err(PrintedFault::BadByte(_)) => Ok(None),
         Err(PrintedFault::OutOfMemory) => Err(AllocError),
     }

@@ -24,9 +24,14 @@ const BIN: &[u8] = b"610455";
 const FIRST_SERIAL: u64 = 1;
 
 const MOST_ROWS: u32 = 1_000;
+/// The most payments of a row.
+const MOST_PAID: usize = 4;
+/// No row and no payment comes of fewer bytes of an input: a request's header alone has 56.
+const SHORTEST: usize = 60;
 
-/// An empty book of payer 1, of at most 1,000 rows, whose plan has the one product and whose maps hash with these keys.
-pub(crate) fn book(alloc: Global, keys: &HashKeys) -> Result<Book, AllocError>
+/// An empty book of payer 1, of at most 1,000 rows, whose plan has the one product and whose maps hash with these keys. It
+/// has room for what an input of so many bytes can make of it.
+pub(crate) fn book(alloc: Global, keys: &HashKeys, bytes: usize) -> Result<Book, AllocError>
     ensures { IfOk result (λ book. book ≡ opening_book) }
 {
     let Some(payer) = PayerNo::new(1) else {
@@ -36,7 +41,11 @@ pub(crate) fn book(alloc: Global, keys: &HashKeys) -> Result<Book, AllocError>
         unreachable!()
     };
     let plan = plan(alloc)?;
-    Ok(Book::keyed(alloc, payer, settings, plan, keys))
+    let mut book = Book::keyed(alloc, payer, settings, plan, keys);
+    let most = MOST_ROWS as usize;
+    let lines = bytes / SHORTEST;
+    book.reserve(lines.min(most), lines.min(MOST_PAID * most))?;
+    Ok(book)
 }
 
 /// The plan with the one product.

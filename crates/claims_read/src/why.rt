@@ -3,7 +3,7 @@
 ghost use Rattle.std.specs.Prelude.{◌≡◌, is_none, is_some, IfOk};
 ghost use Rattle.claims_read.specs.Entries.{entry_of};
 
-use crate::entries::{entry_of, id_in};
+use crate::entries::{id_in, read_entry};
 use input_text::{PrintedFault, split_word, unprint};
 use program_io::{InputFault, ProgramFault, line_at};
 use std::alloc::{AllocError, Global};
@@ -27,7 +27,7 @@ pub enum EntryFault {
 pub fn entry_fault(alloc: Global, line: &[u8]) -> Result<Option<EntryFault>, AllocError>
     ensures { IfOk result (λ fault. is_none fault ≡ is_some (entry_of line.now)) }
 {
-    match entry_of(alloc, line)? {
+    match read_entry(&mut Vec::new(alloc), line)? {
         Some(_) => Ok(None),
         None => Ok(Some(entry_cause(alloc, line)?)),
     }

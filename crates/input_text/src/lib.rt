@@ -14,5 +14,5 @@ mod words;
 pub use decimals::{put_decimal, read_decimal};
 pub use line::{Line, Lines, is_skipped};
 pub use printing::put_printed;
-pub use unprinting::{PrintedFault, unprint};
+pub use unprinting::{PrintedFault, unprint, unprint_into};
 pub use words::split_word;

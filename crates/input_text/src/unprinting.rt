@@ -43,11 +43,20 @@ pub fn unprint(alloc: Global, text: &[u8]) -> Result<Vec<u8>, PrintedFault>
     ensures { MatchResult result (λ v. unprinted text.now ≡ Ok v.items) (λ e. FailsFor e (unprinted text.now)) }
 {
     let mut bytes = Vec::new(alloc);
+    unprint_into(&mut bytes, text)?;
+    Ok(bytes)
+}
+
+/// Puts the bytes that a printed text spells, as [`unprint`] reads them, in the place of those that stand in `bytes`, whose
+/// memory is used again. After an error nothing is known of what stands there.
+pub fn unprint_into(bytes: &mut Vec<u8>, text: &[u8]) -> Result<(), PrintedFault>
+    ensures { MatchResult result (λ _. unprinted text.now ≡ Ok bytes.new.items) (λ e. FailsFor e (unprinted text.now)) }
+{
     bytes.resize(text.len(), 0)?;
     match unprint_over(bytes.as_mut_slice(), text) {
         Ok(end) => {
             bytes.truncate(end);
-            Ok(bytes)
+            Ok(())
         }
         Err(place) => Err(PrintedFault::BadByte(place)),
     }

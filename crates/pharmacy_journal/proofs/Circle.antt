@@ -51,3 +51,12 @@ next_remainder r clock lead =
     let c : (((clock + 1) % phases_of r) % r.again + lead) % r.again ≡ ((clock + 1) % r.again + lead) % r.again = ap (λ n. (n + lead) % r.again) (round_on_circle r (clock + 1)) in
     let d : ((clock + 1) % r.again + lead) % r.again ≡ ((clock + 1) % r.again + lead % r.again) % r.again = sym (add-mod-mod ((clock + 1) % r.again) lead r.again) in
     a ∙ b ∙ c ∙ d
+
+-- the next phase of a lead, where it does not come round the circle, and where it does
+pub goes_on : (clock lead circle : ℕ) → clock + 1 + lead < circle → ((clock + 1) % circle + lead) % circle ≡ clock + 1 + lead
+goes_on clock lead circle lt = mod-add-mod (clock + 1) circle lead ∙ mod-eq_of_lt lt
+
+pub comes_round : (clock lead circle : ℕ) → clock < circle → lead < circle → circle ≤ clock + 1 + lead → ((clock + 1) % circle + lead) % circle ≡ clock + 1 + lead - circle
+comes_round clock lead circle c l ge =
+    let e : clock + 1 + lead ≡ (clock + 1 + lead - circle) + circle = omega (arith, ge) in
+    mod-add-mod (clock + 1) circle lead ∙ ap (λ n. n % circle) e ∙ add-mod_right (clock + 1 + lead - circle) circle ∙ mod-eq_of_lt (omega (arith, c, l, ge))

@@ -12,3 +12,4 @@ pub mod Answering
 pub mod StopStart
 pub mod Payable
 mod Tellings
+pub mod Sends

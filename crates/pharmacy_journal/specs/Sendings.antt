@@ -1,9 +1,10 @@
 -- What a journal sends. Packets are written alike under every table of routes.
-use Rattle.std.specs.Prelude.{ℕ, ◌+◌, ◌%◌, Bool, false, ◌==◌, List, [], ◌∷◌, Option, Some, None}
+use Rattle.std.specs.Prelude.{ℕ, ◌+◌, ◌%◌, Bool, false, ◌==◌, List, [], ◌∷◌, map, Option, Some, None}
 use Rattle.std.specs.List.{slice_get, flat_map}
 use Rattle.envelope.specs.Envelope.{envelope_text}
 use Rattle.claim_model.specs.Words.{Request}
 use Rattle.claim_model.specs.Journal.{Journal, Entry, State, Waits, Has, Sending, switch_at}
+use Rattle.claim_model.specs.Node.{Sent, to_switch}
 use Rattle.pharmacy_journal.specs.Places.{places_from}
 
 -- the packet of an entry in a phase
@@ -21,6 +22,10 @@ packet_by j number (Some e) = packet_in j number e.request e.state
 -- the packet of the entry at a place, where it is open
 abbrev pub packet_at : Journal → ℕ → List Sending
 packet_at j place = packet_by j (place + 1) (slice_get j.entries place)
+
+-- the same, as a node sends it
+abbrev pub sent_at : Journal → ℕ → List Sent
+sent_at j place = map to_switch (packet_at j place)
 
 abbrev pub is_due_in : ℕ → State → Bool
 is_due_in again (Waits phase) = (phase % again) == 0

@@ -27,7 +27,7 @@ pub use fault::{HearFault, RowFault, SettingFault, SettleFault, SubmitFault};
 pub use kept::KeptEntry;
 pub use listing::EntryView;
 pub use pharmacy::Pharmacy;
-pub use sent::Sent;
+pub use sent::{ForSwitch, Sent};
 pub use settings::PharmacySettings;
 pub use teller::Teller;
 pub use transaction::{OpenTxn, SettledTxn};

@@ -1,15 +1,16 @@
 //! The journal of a pharmacy that is up, and what it sends with time.
 
-ghost use Rattle.std.specs.Prelude.{◌≡◌, ◌<◌, ◌≤◌, ◌++◌, length, [], Some, IfOk, OnErr, OnOk};
+ghost use Rattle.std.specs.Prelude.{◌≡◌, ◌<◌, ◌≤◌, ◌++◌, length, map, [], Some, IfOk, OnErr, OnOk};
 ghost use Rattle.bin_routes.specs.Table.{RouteMaps};
 ghost use Rattle.claim_model.specs.Bytes.{bytes_with};
 ghost use Rattle.claim_model.specs.Limits.{most_entries};
 ghost use Rattle.claim_model.specs.Journal.{ticked, due, stopped};
+ghost use Rattle.claim_model.specs.Node.{to_switch};
 ghost use Rattle.pharmacy_journal.specs.Resting.{added_all};
-ghost use Rattle.pharmacy_journal.specs.Sendings.{due_packets, packet_at};
+ghost use Rattle.pharmacy_journal.specs.Sendings.{due_packets, sent_at};
 ghost use Rattle.pharmacy_journal.specs.Settings.{rule_of};
 
-use crate::sent::Sent;
+use crate::sent::{ForSwitch, Sent};
 use crate::settings::PharmacySettings;
 use crate::slot::Slot;
 use crate::timetable::Timetable;
@@ -103,14 +104,25 @@ impl Pharmacy {
         ensures few { IfOk result (λ sent. length sent.items ≤ length self.old.entries) }
         ensures err { OnErr result (self.new ≡ self.old) }
     {
+        self.tick_as::<Sent>()
+    }
+
+    /// One tick, as [`tick`](Pharmacy::tick), where each packet becomes at once what is made of a packet for a switch.
+    pub fn tick_as<S: ForSwitch>(&mut self) -> Result<Vec<S>, AllocError>
+        ensures ok { OnOk result (self.new ≡ ticked self.old) }
+        ensures sent { (routes : RouteMaps)
+            → IfOk result (λ sent. map S.seen sent.items ≡ map to_switch (due (bytes_with routes) self.new)) }
+        ensures few { IfOk result (λ sent. length sent.items ≤ length self.old.entries) }
+        ensures err { OnErr result (self.new ≡ self.old) }
+    {
         let sent = self.due_packets()?;
         self.timetable.tick();
         Ok(sent)
     }
 
     /// What the next tick sends.
-    fn due_packets(&self) -> Result<Vec<Sent>, AllocError>
-        ensures { IfOk result (λ sent. sent.items ≡ due_packets (ticked self.now)) }
+    fn due_packets<S: ForSwitch>(&self) -> Result<Vec<S>, AllocError>
+        ensures { IfOk result (λ sent. map S.seen sent.items ≡ map to_switch (due_packets (ticked self.now))) }
     {
         let places = self.timetable.due_next();
         let mut sent = Vec::with_capacity(*self.slots.allocator(), places.len())?;
@@ -121,16 +133,17 @@ impl Pharmacy {
     }
 
     /// Adds the packet that the entry at a place has after the next tick, where it is open.
-    fn push_packet(&self, sent: &mut Vec<Sent>, place: usize) -> Result<(), AllocError>
+    fn push_packet<S: ForSwitch>(&self, sent: &mut Vec<S>, place: usize) -> Result<(), AllocError>
         requires { place < length self.now.entries }
-        ensures { OnOk result (sent.new.items ≡ sent.old.items ++ packet_at (ticked self.now) place) }
+        ensures { OnOk result (map S.seen sent.new.items
+            ≡ map S.seen sent.old.items ++ sent_at (ticked self.now) place) }
     {
         let Some(node) = self.timetable.next_node(place) else {
             return Ok(());
         };
         if let Slot::Waiting(txn) = &self.slots[place] {
             let packet = txn.packet(*sent.allocator())?;
-            sent.push(Sent::new(self.settings.nodes()[node], packet))?;
+            sent.push(S::for_switch(self.settings.nodes()[node], packet))?;
         }
         Ok(())
     }

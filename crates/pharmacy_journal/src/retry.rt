@@ -98,8 +98,22 @@ impl Retry {
         ensures value { result ≡ node_of self.now.rule (phase_at (turned self.now) lead) }
         ensures in_range { result < self.now.rule.nodes }
     {
-        let phase = ((self.clock + 1) % self.circle + lead) % self.circle;
+        let phase = self.next_phase(lead);
         (phase / self.round) as usize
+    }
+
+    /// The phase of an entry of this lead after the next tick: at most once round the circle from the next clock.
+    fn next_phase(&self, lead: u64) -> u64
+        requires { lead < phases_of self.now.rule }
+        ensures value { result ≡ phase_at (turned self.now) lead }
+        ensures on_circle { result < phases_of self.now.rule }
+    {
+        let ahead = self.clock + 1 + lead;
+        if ahead < self.circle {
+            ahead
+        } else {
+            ahead - self.circle
+        }
     }
 
     /// One tick.

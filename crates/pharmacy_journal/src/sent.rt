@@ -1,9 +1,20 @@
 //! Packets that a pharmacy sends.
 
 ghost use Rattle.std.specs.Prelude.{◌≡◌};
+ghost use Rattle.claim_model.specs.Node.{Sent as SentByNode, to_switch};
 
 use octets::Octets;
 use std::marker::Model;
+
+/// What a packet for a switch becomes where a tick sends it.
+pub trait ForSwitch: Drop + Sized {
+    /// How the model sees it.
+    ghost seen: { Self → SentByNode };
+
+    /// A packet for the switch of this number.
+    fn for_switch(switch: u16, bytes: Octets) -> Self
+        ensures { seen result ≡ to_switch (record { switch = switch; bytes = bytes }) };
+}
 
 /// A packet for a switch.
 #[derive(Drop)]
@@ -18,6 +29,14 @@ impl Model for Sent {
     ghost Value = { Sending };
 
     ghost view = { λ s. record { switch = s.to; bytes = s.bytes } };
+}
+
+impl ForSwitch for Sent {
+    ghost seen = { to_switch };
+
+    fn for_switch(switch: u16, bytes: Octets) -> Sent {
+        Sent::new(switch, bytes)
+    }
 }
 
 impl Sent {

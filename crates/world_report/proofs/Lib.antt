@@ -1,5 +1,6 @@
 pub mod JoinedWords
 pub mod Payments
+pub mod NextDigits
 pub mod Loops
 pub mod Joining
 pub mod Blocks

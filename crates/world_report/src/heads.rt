@@ -1,12 +1,13 @@
 //! The lines of events, and those that name a node.
 
-ghost use Rattle.std.specs.Prelude.{◌≡◌, ◌≤◌, ◌∷◌, [], ◌-◌, drop, decimal, map, IsTrue, OnOk};
+ghost use Rattle.std.specs.Prelude.{◌≡◌, ◌≤◌, ◌∷◌, [], ◌-◌, drop, decimal, IsTrue, OnOk};
 ghost use Rattle.world_report.specs.Words.{line_text};
 ghost use Rattle.world_report.specs.Adding.{AddsLine, AddsWords};
 ghost use Rattle.world_report.specs.Heads.{power_word, head_line, numbers_from, done_line, refused_line};
 
 use crate::backwards::{LINE, byte_before, digits_before};
-use crate::words::{end_line, put_number, put_word};
+use crate::numbers::{put_number, put_numbers};
+use crate::words::{end_line, put_word};
 use input_text::put_decimal;
 use std::alloc::AllocError;
 use std::ops::Range;
@@ -87,16 +88,6 @@ fn write_done(event: u64, packet: u64, text: &mut [u8; LINE]) -> usize
     let first = byte_before(b'o', text, second);
     let word = byte_before(b' ', text, first);
     digits_before(event, text, word)
-}
-
-/// Appends the numbers from `first` on, up to the one before `past`.
-fn put_numbers(out: &mut Vec<u8>, first: u64, past: u64) -> Result<(), AllocError>
-    ensures { OnOk result (AddsWords out.old out.new (map decimal (numbers_from first (past - first)))) }
-{
-    for number in first..past {
-        put_number(out, number)?;
-    }
-    Ok(())
 }
 
 /// Appends the line of an event that was refused: its number from 1, and the refusal's name.

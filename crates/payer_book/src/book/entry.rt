@@ -57,6 +57,15 @@ impl Book {
         Ok(Row::copy_of(alloc, id, request, rulings, text.as_slice())?)
     }
 
+    /// Takes memory for so many more rows and payments at once. Answers that make them then move nothing of what the book
+    /// has. Where memory is refused the book may have room for some.
+    pub fn reserve(&mut self, rows: usize, payments: usize) -> Result<(), AllocError>
+        ensures { self.new ≡ self.old }
+    {
+        self.payments.reserve(payments)?;
+        self.rows.reserve(rows)
+    }
+
     /// Adds the row and makes its changes.
     pub(crate) fn enter(&mut self, row: Row, changes: &[Change]) -> Result<(), AllocError>
         requires possible { IsEntry self.old row changes.now }

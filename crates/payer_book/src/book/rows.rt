@@ -96,6 +96,14 @@ impl Rows {
         }
     }
 
+    /// Room for so many more rows: adding them then moves none of those that are there.
+    pub(crate) fn reserve(&mut self, more: usize) -> Result<(), AllocError>
+        ensures { self.new ≡ self.old }
+    {
+        self.list.reserve(more)?;
+        self.places.reserve(more)
+    }
+
     /// Adds a row at the end.
     pub(crate) fn push(&mut self, row: Row) -> Result<(), AllocError>
         requires { row_of row.id self.old ≡ None }

@@ -10,4 +10,4 @@ returns-in_err-put_lines-clause-fault c =
 
 pub returns-clause-all : goal.returns-clause-all
 returns-clause-all c =
-    output_is c.args.input.items c.put_lines.new.output.items (rw (c.in_ok-routes.ensures, c.in_ok-book.ensures, c.new-output.ensures.items, c.as_slice.ensures.value) at c.in_ok-put_lines.ensures.lines)
+    output_is c.args.input.items c.put_lines.new.output.items (rw (c.in_ok-routes.ensures, c.in_ok-book.ensures, c.in_ok-output.ensures.items, c.as_slice.ensures.value) at c.in_ok-put_lines.ensures.lines)

@@ -1,8 +1,9 @@
-use Rattle.std.proofs.Common.{◌≡◌, List, sym, ap, ◌∙◌}
+use Rattle.std.proofs.Common.{◌≡◌, List, Option, sym, ap, ◌∙◌}
+use Rattle.envelope.specs.Txn.{Txn}
 use Rattle.input_text.specs.Lines.{LinesLeft, numbered_lines}
 use Rattle.schedule.specs.Reading.{NumberedLine, told_lines, spelled_in}
 use Rattle.schedule.proofs.EventLists.{line_skipped, line_taken, line_bad, no_lines}
-use Rattle.claims_read.specs.Entries.{entry_of, entries_in}
+use Rattle.claims_read.specs.Entries.{entry_with, entry_under, entry_of, entries_in}
 use Rattle.claims_read.specs.Lines.{lines_behind}
 use Rattle.claims_read.proofs.SaidLines.{lines_go_on, lines_stop, lines_are_done}
 use Rattle.claims_read.proofs.answers.put_lines.Goals as goal
@@ -18,9 +19,12 @@ loop-line-preserved-in-Continue-branch-3 c =
     let routes = c.args.routes.now in
     let line : NumberedLine = (c.in-Some.line.number, c.in-Some.line.text.now) in
     let next = numbered_lines c.next.new.self in
+    let text = c.read_entry.new.request.items in
+    let entry = entry_with c.in-Some-2.id text in
     let taken = ap (λ (ls : List NumberedLine). spelled_in entry_of (told_lines ls)) c.in-Some.ensures.steps
-    ∙ line_taken entry_of line next c.in-Some-2.entry (sym c.is_skipped.ensures ∙ c.if-not-is_skipped.true) (sym c.in_ok-entry.ensures ∙ c.in-Some-2.is) in
-    lines_go_on routes l.book c.put_entry.new.book c.in-Some-2.entry l.output.items c.put_entry.new.output.items (spelled_in entry_of (told_lines next)) c.in_ok-put_entry-in-Some-2.ensures.line c.in_ok-put_entry-in-Some-2.ensures.book
+    ∙ line_taken entry_of line next entry (sym c.is_skipped.ensures ∙ c.if-not-is_skipped.true) (sym c.in_ok-id.ensures ∙ ap (λ (id : Option Txn). entry_under id text) c.in-Some-2.is) in
+    lines_go_on routes l.book c.put_line.new.book entry l.output.items c.put_line.new.output.items (spelled_in entry_of (told_lines next)) (rw c.as_slice.ensures.value at c.in_ok-put_line-in-Some-2.ensures.line)
+    (rw c.as_slice.ensures.value at c.in_ok-put_line-in-Some-2.ensures.book)
     ∙ (sym (ap (lines_behind routes l.book l.output.items) taken) ∙ l.invariant)
 
 pub loop-line-preserved : goal.loop-line-preserved
@@ -36,8 +40,9 @@ returns-in-None-2-clause-fault c =
     let l = c.loop-line in
     let routes = c.args.routes.now in
     let line : NumberedLine = (c.in-Some.line.number, c.in-Some.line.text.now) in
+    let text = c.read_entry.new.request.items in
     let bad = ap (λ (ls : List NumberedLine). spelled_in entry_of (told_lines ls)) c.in-Some.ensures.steps
-    ∙ line_bad entry_of line (numbered_lines c.next.new.self) (sym c.is_skipped.ensures ∙ c.if-not-is_skipped.true) (sym c.in_ok-entry.ensures ∙ c.in-None-2.is) in
+    ∙ line_bad entry_of line (numbered_lines c.next.new.self) (sym c.is_skipped.ensures ∙ c.if-not-is_skipped.true) (sym c.in_ok-id.ensures ∙ ap (λ (id : Option Txn). entry_under id text) c.in-None-2.is) in
     lines_stop routes c.args.book.now c.args.output.now.items c.in-Some.line.number (entries_in c.args.input.now) (sym (ap (lines_behind routes l.book l.output.items) bad) ∙ l.invariant)
 
 pub returns-clause-lines : goal.returns-clause-lines
