@@ -72,6 +72,7 @@ SCRIPTS = (
     Part('watched-c', ('tests/watched', 'c'), ('library', 'claimnode', 'claimaudit')),
     Part('retries', ('tests/retries',), ('claimnode', 'claimaudit'), timed=True),
     Part('retries-c', ('tests/retries', 'c'), ('library', 'claimnode', 'claimaudit'), timed=True),
+    Part('reserved', ('tests/reserved',), ('library', 'claimgrow', 'claimnode', 'claimaudit'), timed=True),
     Part('replicated', ('tests/replicated',), ('library', 'claimnode', 'claimaudit'), timed=True),
     Part('redundant', ('tests/redundant',), ('library', 'claimnode', 'claimaudit'), timed=True),
     Part('losses', ('tests/losses',), ('library', 'claimnode', 'claimaudit'), timed=True),
