@@ -101,7 +101,7 @@ class Trial:
         self.folder, self.program, self.processes = pathlib.Path(folder), program, []
         self.servers = engine.Servers(self.folder / "servers", has_system=has_system)
         self.servers.start_all()
-        self.told = {}
+        self.told, self.made = {}, set()
 
     def end(self):
         for process in self.processes:
@@ -139,6 +139,12 @@ class Trial:
     def make(self, *nodes):
         told, status, fault = self.vogctl("log", "make", *nodes)
         expect(status == 0, f"logs are not made: {told} {fault}")
+        self.made |= set(nodes)
+
+    def have(self, node):
+        """Makes a log that no part before has made."""
+        if node not in self.made:
+            self.make(node)
 
     def export(self, node):
         """The log in the stream."""

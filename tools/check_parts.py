@@ -16,6 +16,9 @@ from check_programs import TOP, programs  # noqa: E402
 PRODUCTS = ('claimswitch', 'claimpicture', 'claimdecode', 'claimnode', 'claimaudit', 'claimdump', 'claimgrow')
 # Each refusal of memory that is not one of so many is left to the gate.
 REFUSALS = '5'
+# The parts of tests/replicated, in halves that take about as long.
+HOSTS_OF_A_LOG = ('one_host', 'takeover', 'wiped', 'made_anew', 'copies', 'moved', 'torn', 'race')
+SERVERS_OF_A_LOG = ('fenced', 'synced', 'killed_servers', 'restored', 'unread', 'permitted')
 
 
 @dataclass(frozen=True)
@@ -26,8 +29,8 @@ class Part:
     words: tuple[str, ...] = ()
     # The programs without which it says nothing.
     needs: tuple[str, ...] = ()
-    # Whether it hangs on the time that a busy machine gives: then it runs beside no other such part, and once more where it failed.
-    timed: bool = False
+    # Whether it mostly waits: then it runs beside what computes, and, since it hangs on the time that a busy machine gives, once more where it failed.
+    waits: bool = False
 
     @property
     def is_stored(self) -> bool:
@@ -53,45 +56,46 @@ SCRIPTS = (
     Part('killed-lie', ('tests/killed', '--lie', '--each', '7'), ('claimnode', 'claimaudit')),
     Part('audit', ('tests/audit',), ('claimdump', 'claimaudit', 'claimswitch')),
     Part('closing', ('tests/closing',), ('claimdump', 'claimaudit')),
-    Part('package', ('tests/package',), (*PRODUCTS, 'library'), timed=True),
+    Part('package', ('tests/package',), (*PRODUCTS, 'library'), waits=True),
     Part('documents', ('tests/documents',), PRODUCTS),
     Part('words', ('tools/words', '--check'), PRODUCTS),
     Part('completions', ('tests/completions',)),
     Part('examples', ('tests/examples',), ('claimswitch', 'claimpicture')),
     Part('decode', ('tests/decode',), ('claimdecode',)),
-    Part('hosts', ('tests/hosts',), ('claimnode', 'claimaudit'), timed=True),
-    Part('hosts-c', ('tests/hosts', 'c'), ('library', 'claimnode', 'claimaudit'), timed=True),
+    Part('hosts', ('tests/hosts',), ('claimnode', 'claimaudit'), waits=True),
+    Part('hosts-c', ('tests/hosts', 'c'), ('library', 'claimnode', 'claimaudit'), waits=True),
     Part('senders', ('tests/senders',), ('claimnode', 'claimaudit')),
     Part('senders-jetstream', ('tests/senders', '--jetstream', '--quick'), ('claimnode', 'claimaudit')),
     Part('senders-c', ('tests/senders', 'c'), ('library', 'claimnode', 'claimaudit')),
-    Part('connections', ('tests/connections',), ('claimnode', 'claimaudit'), timed=True),
-    Part('connections-c', ('tests/connections', 'c'), ('library', 'claimnode', 'claimaudit'), timed=True),
+    Part('connections', ('tests/connections',), ('claimnode', 'claimaudit'), waits=True),
+    Part('connections-c', ('tests/connections', 'c'), ('library', 'claimnode', 'claimaudit'), waits=True),
     Part('disks', ('tests/disks',), ('claimnode', 'claimaudit')),
     Part('disks-c', ('tests/disks', 'c'), ('library', 'claimnode', 'claimaudit')),
     Part('watched', ('tests/watched',), ('claimnode', 'claimaudit')),
     Part('watched-c', ('tests/watched', 'c'), ('library', 'claimnode', 'claimaudit')),
-    Part('retries', ('tests/retries',), ('claimnode', 'claimaudit'), timed=True),
-    Part('retries-c', ('tests/retries', 'c'), ('library', 'claimnode', 'claimaudit'), timed=True),
-    Part('reserved', ('tests/reserved',), ('library', 'claimgrow', 'claimnode', 'claimaudit'), timed=True),
-    Part('replicated', ('tests/replicated',), ('library', 'claimnode', 'claimaudit'), timed=True),
-    Part('redundant', ('tests/redundant',), ('library', 'claimnode', 'claimaudit'), timed=True),
-    Part('losses', ('tests/losses',), ('library', 'claimnode', 'claimaudit'), timed=True),
-    Part('growing', ('tests/growing',), ('claimgrow', 'claimnode', 'claimaudit'), timed=True),
-    Part('operating', ('tests/operating',), ('claimnode', 'claimaudit'), timed=True),
-    Part('upgraded', ('tests/upgraded',), ('claimnode', 'claimaudit'), timed=True),
+    Part('retries', ('tests/retries',), ('claimnode', 'claimaudit'), waits=True),
+    Part('retries-c', ('tests/retries', 'c'), ('library', 'claimnode', 'claimaudit'), waits=True),
+    Part('reserved', ('tests/reserved',), ('library', 'claimgrow', 'claimnode', 'claimaudit'), waits=True),
+    Part('replicated', ('tests/replicated', *HOSTS_OF_A_LOG), ('library', 'claimnode', 'claimaudit'), waits=True),
+    Part('replicated-servers', ('tests/replicated', *SERVERS_OF_A_LOG), ('library', 'claimnode', 'claimaudit'), waits=True),
+    Part('redundant', ('tests/redundant',), ('library', 'claimnode', 'claimaudit'), waits=True),
+    Part('losses', ('tests/losses',), ('library', 'claimnode', 'claimaudit'), waits=True),
+    Part('growing', ('tests/growing',), ('claimgrow', 'claimnode', 'claimaudit'), waits=True),
+    Part('operating', ('tests/operating',), ('claimnode', 'claimaudit'), waits=True),
+    Part('upgraded', ('tests/upgraded',), ('claimnode', 'claimaudit'), waits=True),
     Part('container', ('tests/container',), ('claimnode', 'claimaudit')),
-    Part('image', ('tests/image',), (*PRODUCTS, 'library'), timed=True),
-    Part('units', ('tests/units',), (*PRODUCTS, 'library'), timed=True),
-    Part('front', ('tests/front',), ('claimnode', 'claimaudit', 'claimdecode', 'claimpicture', 'claimswitch'), timed=True),
-    Part('front-c', ('tests/front', 'c'), ('library', 'claimnode', 'claimaudit', 'claimdecode', 'claimpicture', 'claimswitch'), timed=True),
-    Part('front-soak', ('tests/front-soak', '8'), ('claimnode', 'claimaudit', 'claimdecode'), timed=True),
-    Part('console', ('tests/console',), ('claimnode', 'claimaudit', 'claimdecode', 'claimpicture', 'claimswitch'), timed=True),
-    Part('torture', ('hosts/torture', '6', '1'), ('claimnode', 'claimaudit', 'claimswitch'), timed=True),
-    Part('torture-jetstream', ('hosts/torture', '6', '2', '--jetstream'), ('claimnode', 'claimaudit', 'claimswitch'), timed=True),
-    Part('torture-unsynced', ('hosts/torture', '4', '1', '--unsynced', '3'), ('claimnode', 'claimaudit', 'claimswitch'), timed=True),
-    Part('torture-replicated', ('hosts/torture', '40', '1', '--replicated'), ('library', 'claimnode', 'claimaudit', 'claimswitch'), timed=True),
-    Part('torture-unfenced', ('hosts/torture', '20', '2', '--replicated', '--wrong', 'NO_EXPECTATION'), ('library', 'claimnode', 'claimaudit', 'claimswitch'), timed=True),
-    Part('torture-early', ('hosts/torture', '20', '3', '--replicated', '--wrong', 'SAID_EARLY'), ('library', 'claimnode', 'claimaudit', 'claimswitch'), timed=True),
+    Part('image', ('tests/image',), (*PRODUCTS, 'library'), waits=True),
+    Part('units', ('tests/units',), (*PRODUCTS, 'library'), waits=True),
+    Part('front', ('tests/front',), ('claimnode', 'claimaudit', 'claimdecode', 'claimpicture', 'claimswitch'), waits=True),
+    Part('front-c', ('tests/front', 'c'), ('library', 'claimnode', 'claimaudit', 'claimdecode', 'claimpicture', 'claimswitch'), waits=True),
+    Part('front-soak', ('tests/front-soak', '8'), ('claimnode', 'claimaudit', 'claimdecode'), waits=True),
+    Part('console', ('tests/console',), ('claimnode', 'claimaudit', 'claimdecode', 'claimpicture', 'claimswitch'), waits=True),
+    Part('torture', ('hosts/torture', '6', '1'), ('claimnode', 'claimaudit', 'claimswitch'), waits=True),
+    Part('torture-jetstream', ('hosts/torture', '6', '2', '--jetstream'), ('claimnode', 'claimaudit', 'claimswitch'), waits=True),
+    Part('torture-unsynced', ('hosts/torture', '4', '1', '--unsynced', '3'), ('claimnode', 'claimaudit', 'claimswitch'), waits=True),
+    Part('torture-replicated', ('hosts/torture', '40', '1', '--replicated'), ('library', 'claimnode', 'claimaudit', 'claimswitch'), waits=True),
+    Part('torture-unfenced', ('hosts/torture', '20', '2', '--replicated', '--wrong', 'NO_EXPECTATION'), ('library', 'claimnode', 'claimaudit', 'claimswitch'), waits=True),
+    Part('torture-early', ('hosts/torture', '20', '3', '--replicated', '--wrong', 'SAID_EARLY'), ('library', 'claimnode', 'claimaudit', 'claimswitch'), waits=True),
     Part('uncalled', ('tests/uncalled',)),
     Part('clauses', ('tests/clauses',)),
     Part('promises', ('tools/promises', 'check')),
@@ -114,7 +118,7 @@ def parts() -> list[Part]:
     for script in SCRIPTS:
         if (TOP / script.words[0]).exists():
             needs = tuple(it for it in script.needs if it in there)
-            found.append(Part(script.name, script.words, needs, script.timed))
+            found.append(Part(script.name, script.words, needs, script.waits))
     return [it for it in stored if it.name not in PRODUCTS] + found + [it for it in stored if it.name in PRODUCTS]
 
 

@@ -86,10 +86,20 @@ def is_kept(program: Program, toolchain: pathlib.Path) -> bool:
     return True
 
 
-def compile_words(program: Program) -> list[str]:
-    """The command that compiles a program."""
-    program.path.parent.mkdir(parents=True, exist_ok=True)
-    return [str(QUICK_BUILD), program.crate, str(program.path)]
+def compile_words(made: list[Program]) -> list[str]:
+    """The command that compiles these together."""
+    for program in made:
+        program.path.parent.mkdir(parents=True, exist_ok=True)
+    return [str(QUICK_BUILD), *(word for program in made for word in (program.crate, str(program.path)))]
+
+
+def groups(lacking: dict[str, Program], at_once: int) -> list[list[str]]:
+    """What is compiled together. Programs share most of what they are made of, so that two groups of them take little more than two programs:
+    those that stand on most in one, the others in another where both can be compiled at once. A library is compiled by itself."""
+    library = [[name] for name in lacking if name == 'library']
+    others = sorted((name for name in lacking if name != 'library'), key=lambda it: len(below(lacking[it].crate)), reverse=True)
+    half = (len(others) + 1) // 2 if at_once > 1 else len(others)
+    return [it for it in (others[:half], *library, others[half:]) if it]
 
 
 def note_made(program: Program, made_of: str) -> None:
