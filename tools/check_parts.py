@@ -43,8 +43,7 @@ class Part:
 
 
 SCRIPTS = (
-    Part('callers-payer', ('trials/run', 'callers', '--unproved', 'payer_book')),
-    Part('callers-pharmacy', ('trials/run', 'callers', '--unproved', 'pharmacy_journal')),
+    Part('callers', ('trials/run', 'callers', '--unproved')),
     Part('cases', ('cases/run',), PRODUCTS),
     Part('refuse-memory', ('tests/refuse-memory', '--every', REFUSALS), ('claimswitch', 'claimdump', 'claimaudit', 'claimnode', 'claimgrow', 'rows')),
     Part('library', ('tests/library',), ('library', 'claimnode')),
