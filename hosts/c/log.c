@@ -130,11 +130,29 @@ bool node_has_answer(struct served *node, uint16_t pharmacy, uint64_t number) {
     return code == VOGRILAS_OK || code == VOGRILAS_SHORT_BUFFER;
 }
 
-bool node_is_open(struct served *node, uint64_t number) {
-    char nothing = 0;
-    size_t size = 0;
-    uint16_t pharmacy = (uint16_t)strtoul(node->name + 2, NULL, 10);
-    return vogrilas_answer(&node->node, pharmacy, number, &nothing, 0, &size) == VOGRILAS_UNANSWERED;
+/* What the node says of a line that makes no call. */
+static struct bytes told(struct served *node, const char *line) {
+    node_serve(node, line, strlen(line));
+    struct bytes written = node_written(node);
+    node_clear(node);
+    return written;
+}
+
+bool node_is_up(struct served *node) {
+    struct bytes word = told(node, "take sw1 x");
+    bool is_up = !begins(word.at, word.size, "refused Down");
+    free(word.at);
+    return is_up;
+}
+
+void node_open_entries(struct served *node, void (*entry)(uint64_t number)) {
+    struct bytes list = told(node, "open 1 999999999999999999");
+    char *line = list.at, *behind;
+    while ((behind = memchr(line, '\n', list.size - (size_t)(line - list.at))) != NULL) {
+        if (begins(line, (size_t)(behind - line), "entry ")) entry(strtoull(line + 6, NULL, 10));
+        line = behind + 1;
+    }
+    free(list.at);
 }
 
 void node_close(struct served *node) {

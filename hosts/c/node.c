@@ -114,10 +114,8 @@ static void serve_for_ever(struct host *host) {
 /* Counts what the node has before it serves. */
 static void count_rows(struct host *host) {
     reserve_begin(host);
-    counts_node(node_calls(&host->node), host->node.at_start, node_count(&host->node), 0, false);
-    if (begins(host->given.name, 2, "ph"))
-        for (uint64_t number = 1; number <= node_count(&host->node); number++)
-            if (node_is_open(&host->node, number)) counts_entered(number);
+    counts_node(node_calls(&host->node), host->node.at_start, host->rows, 0, false);
+    if (begins(host->given.name, 2, "ph")) node_open_entries(&host->node, counts_entered);
 }
 
 /* Opens the node over the file of its log; false where the host is told to end before. */

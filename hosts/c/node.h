@@ -1,8 +1,8 @@
 /*
 ** The rooms of the host: bytes (bytes.c), what it says (said.c), the file of a log (file.c), the node with its log (log.c), the way to
 ** servers (access.c), the carrier (carrier.c), packets that are held back or go out later (packets.c), callers who wait (waits.c), turns
-** (turn.c), what it has seen (counts.c), who asks for that (watch.c), and what a command line asks for (words.c). stream.h has those of a
-** log in a stream.
+** (turn.c), room for reversals (reserve.c), what it has seen (counts.c), who asks for that (watch.c), and what a command line asks for (words.c).
+** stream.h has those of a log in a stream.
 */
 #ifndef NODE_H
 #define NODE_H
@@ -99,13 +99,16 @@ struct bytes node_records(struct served *node);
 struct bytes node_written(struct served *node);
 void node_clear(struct served *node);
 uint64_t node_calls(struct served *node);
+/* A payer or a pharmacy that is stopped reads all that it keeps for each question of what it has: this one, and the two below. */
 uint64_t node_count(struct served *node);
 /* The most that node_count tells: the cap in the settings. */
 uint64_t node_most(struct served *node);
 /* Whether the node holds an answer for an entry of a pharmacy. */
 bool node_has_answer(struct served *node, uint16_t pharmacy, uint64_t number);
-/* Whether an entry of a pharmacy is open. */
-bool node_is_open(struct served *node, uint64_t number);
+/* Tells each entry of a pharmacy that is open, by one question. */
+void node_open_entries(struct served *node, void (*entry)(uint64_t number));
+/* Whether the node is up: one byte is no packet, as it says then, and one that is stopped takes none. For when nothing is to be kept or said. */
+bool node_is_up(struct served *node);
 void node_close(struct served *node);
 
 /* The head of a packet: what it carries, 1 a request and 2 an answer, and for which entry of which pharmacy. */
@@ -220,8 +223,8 @@ struct host {
     struct bytes line;
     struct later later;
     double next_tick, next_word;
-    /* The entries or rows of the node as the last turn left them, the most of them, and how many are kept for reversals. */
-    uint64_t rows, most, reserve;
+    /* The entries or rows of the node as the last turn left them, behind so many calls; the most of them; how many are kept for reversals. */
+    uint64_t rows, rows_calls, most, reserve;
     /* The operator who has the log moved, and where replies of calls went since another host hears them too, each behind a space. */
     natsMsg *mover;
     struct bytes served;
@@ -230,6 +233,8 @@ struct host {
 
 /* Learns how much room the node has, once it is open. */
 void reserve_begin(struct host *host);
+/* Learns how many rows the node has behind a turn. */
+void reserve_count(struct host *host);
 /* Marks the messages of a turn for which no room is left but the reserve. */
 void reserve_mark(struct host *host, struct message *batch);
 

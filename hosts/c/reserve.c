@@ -8,45 +8,71 @@
 /* The transaction code of a request: behind its BIN number and its version. */
 #define CODE_AT 8
 
-/* Whether a request is a reversal, by its printed bytes. */
-static bool is_reversal(const char *text, size_t size) {
-    unsigned char byte[CODE_AT + 2];
-    return unprinted(text, size, byte, sizeof byte) && byte[CODE_AT] == 'B' && byte[CODE_AT + 1] == '2';
-}
-
-/* Whether a packet is a request for a billing. */
-static bool is_billing_packet(const char *text, size_t size, struct head *head) {
+/* Whether a request has this code, by its printed bytes behind so many others. */
+static bool has_code(const char *text, size_t size, size_t before, const char *code) {
     unsigned char byte[ENVELOPE_BYTES + CODE_AT + 2];
-    if (!head_of(text, size, head) || head->kind != 1) return false;
-    if (!unprinted(text, size, byte, sizeof byte)) return false;
-    return byte[ENVELOPE_BYTES + CODE_AT] == 'B' && byte[ENVELOPE_BYTES + CODE_AT + 1] == '1';
+    return unprinted(text, size, byte, before + CODE_AT + 2) && memcmp(byte + before + CODE_AT, code, 2) == 0;
 }
 
-/* Whether a message would have the node enter a billing that it has not. */
-static bool is_new_billing(struct host *host, const struct message *one) {
+/* What a message may have the node enter. */
+enum entry { NOTHING, REVERSAL, BILLING };
+
+static enum entry entry_of_line(const struct message *one, const char *text, size_t size) {
+    if (one->from == FROM_NODE || !begins(text, size, "submit ")) return NOTHING;
+    return has_code(text + 7, size - 7, 0, "B2") ? REVERSAL : BILLING;
+}
+
+/* Of a packet for a payer; what the payer has is asked of one that is up alone. */
+static enum entry entry_of_packet(struct host *host, const struct message *one, const char *text, size_t size, bool is_up) {
+    struct head head;
+    if (one->from != FROM_NODE || !head_of(text, size, &head) || head.kind != 1) return NOTHING;
+    if (!has_code(text, size, ENVELOPE_BYTES, "B1")) return REVERSAL;
+    return is_up && node_has_answer(&host->node, head.pharmacy, head.number) ? NOTHING : BILLING;
+}
+
+static enum entry entry_of(struct host *host, const struct message *one, bool is_up) {
     const char *text = natsMsg_GetData(one->text);
     size_t size = (size_t)natsMsg_GetDataLength(one->text);
-    struct head head;
-    if (begins(host->given.name, 2, "ph")) return one->from != FROM_NODE && begins(text, size, "submit ") && !is_reversal(text + 7, size - 7);
-    return one->from == FROM_NODE && is_billing_packet(text, size, &head) && !node_has_answer(&host->node, head.pharmacy, head.number);
+    if (begins(host->given.name, 2, "ph")) return entry_of_line(one, text, size);
+    return entry_of_packet(host, one, text, size, is_up);
 }
 
 void reserve_begin(struct host *host) {
+    double wanted = host->given.reserve;
     host->most = node_most(&host->node);
-    host->reserve = host->given.reserve < 0 ? host->most / 10 : (uint64_t)host->given.reserve;
-    if (host->reserve > host->most) host->reserve = host->most;
+    host->reserve = wanted < 0 ? host->most / 10 : wanted < (double)host->most ? (uint64_t)wanted : host->most;
     /* A switch forgets its oldest slot, and is never full. */
     if (begins(host->given.name, 2, "sw")) host->reserve = 0;
+    host->rows_calls = node_calls(&host->node);
     host->rows = node_count(&host->node);
     counts_most(host->most, host->reserve);
 }
 
+void reserve_count(struct host *host) {
+    uint64_t calls = node_calls(&host->node);
+    bool is_switch = begins(host->given.name, 2, "sw");
+    /* Without a call the rows are what they were, and what stops keeps them: it is asked again once it is up. */
+    if (calls == host->rows_calls || (!is_switch && !node_is_up(&host->node))) return;
+    host->rows_calls = calls;
+    host->rows = node_count(&host->node);
+}
+
 void reserve_mark(struct host *host, struct message *batch) {
     uint64_t room = host->most - host->reserve, rows = host->rows, waiting = 0;
-    if (host->reserve == 0) return;
-    for (const struct message *one = batch; one != NULL; one = one->next) waiting++;
+    bool is_operated = false;
+    if (host->reserve == 0 || batch == NULL) return;
+    for (const struct message *one = batch; one != NULL; one = one->next) {
+        waiting++;
+        is_operated = is_operated || one->from == FROM_OPERATOR;
+    }
     if (rows + waiting <= room) return;
-    /* All is on disk here, so the node tells of its rows. */
-    for (struct message *one = batch; one != NULL; one = one->next)
-        if (is_new_billing(host, one) && rows++ >= room) one->is_over = true;
+    /* All is on disk here, so the node tells of its rows. One that is stopped refuses every packet, and is asked of none. Where somebody
+       may start it in this turn, what asks for a billing counts as new. */
+    bool is_up = begins(host->given.name, 2, "ph") || node_is_up(&host->node);
+    if (!is_up && !is_operated) return;
+    for (struct message *one = batch; one != NULL; one = one->next) {
+        enum entry entry = entry_of(host, one, is_up);
+        one->is_over = entry == BILLING && rows >= room;
+        rows += entry != NOTHING && !one->is_over;
+    }
 }

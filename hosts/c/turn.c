@@ -222,6 +222,6 @@ void turn(struct host *host, struct message *batch, bool is_tick) {
         free(batch);
         batch = next;
     }
-    host->rows = node_count(&host->node);
+    reserve_count(host);
     counts_node(node_calls(&host->node), host->node.at_start, host->rows, waiting, !*host->is_stopping);
 }

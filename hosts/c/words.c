@@ -25,6 +25,15 @@ static const char **text_of(struct given *given, const char *word) {
     return NULL;
 }
 
+/* The number that a word is. */
+static double number_in(const char *word) {
+    char *end;
+    double number = strtod(word, &end);
+    if (end == word || *end != '\0') usage(2);
+    return number;
+}
+
+/* Where the number behind a word goes; NULL where it takes none. */
 static double *number_of(struct given *given, const char *word) {
     if (strcmp(word, "--tick") == 0) return &given->tick;
     if (strcmp(word, "--hold-back") == 0) return &given->hold_back;
@@ -68,7 +77,7 @@ struct given words(int count, char **word) {
         if (strcmp(word[at], "-h") == 0 || strcmp(word[at], "--help") == 0) usage(0);
         if (strcmp(word[at], "-v") == 0) given.says = true;
         else if (text != NULL && at + 1 < count) *text = word[++at];
-        else if (number != NULL && at + 1 < count) *number = strtod(word[++at], NULL);
+        else if (number != NULL && at + 1 < count) *number = number_in(word[++at]);
         else if (word[at][0] != '-' && found < 3) *plain[found++] = word[at];
         else usage(2);
     }
