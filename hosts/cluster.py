@@ -2,8 +2,8 @@
 """A node each of a settings file, over NATS, on this machine.
 
     hosts/cluster.py SETTINGS FOLDER [--server] [--access FOLDER] [--nats URL[,URL..]] [--ca FILE] [--jetstream] [--tick SECONDS]
-                     [--watch PORT] [--hold-back MS] [--ping SECONDS] [--program PATH] [--host PATH [--log stream] [--copies 2]
-                     [--candidates N]] [-v]
+                     [--watch PORT] [--hold-back MS] [--reserve ROWS] [--ping SECONDS] [--program PATH]
+                     [--host PATH [--log stream] [--copies 2] [--candidates N]] [-v]
 
 SETTINGS is a file of settings alone, as examples/six-nodes.toml. Logs go to FOLDER, one a node. A host that dies is started
 again, at first at once, then ever later; one whose log or settings are refused (status 78) is not. With --server a server is started
@@ -152,6 +152,7 @@ class Cluster:
         words += ["--log", "stream", "--machine", machine, "--copies", given.copies] if machine else []
         words += ["--watch", f"127.0.0.1:{given.watch + place}"] if given.watch else []
         words += ["--hold-back", given.hold_back] if given.hold_back else []
+        words += ["--reserve", given.reserve] if given.reserve else []
         words += ["--ping", given.ping] if given.ping else []
         words += ["-v"] * given.v
         if given.host:
@@ -197,6 +198,7 @@ def words() -> argparse.Namespace:
     parser.add_argument("--tick", default="1.0", metavar="SECONDS")
     parser.add_argument("--watch", type=int, metavar="PORT", help="metrics of the first node are at this port, of the next at the next")
     parser.add_argument("--hold-back", metavar="MS", help="switches lose what they forwarded less than so long ago")
+    parser.add_argument("--reserve", metavar="ROWS", help="entries of pharmacies and rows of payers that are kept for reversals")
     parser.add_argument("--ping", metavar="SECONDS", help="how long a server may be silent before it is asked whether it is there")
     parser.add_argument("--program", metavar="PATH", help="where claimnode is, for nodes of hosts/node.py")
     parser.add_argument("--host", metavar="PATH", help="the program of hosts/c, in the place of hosts/node.py")

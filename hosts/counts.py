@@ -8,22 +8,30 @@ from collections.abc import Iterable
 
 # Upper ends of the classes of a histogram, in seconds.
 SECONDS = (0.0001, 0.00025, 0.0005, 0.001, 0.0025, 0.005, 0.01, 0.025, 0.05, 0.1, 0.25, 0.5, 1.0, 2.5, 5.0, 10.0)
-_ENVELOPE_HEAD = 14
+# The bytes of a packet before what it carries.
+ENVELOPE_BYTES = 18
+_HEAD_BYTES = 14
 _PRINTED = re.compile(rb"\\(?:x([0-9a-fA-F]{2})|([FGS\\]))|([\x20-\x5b\x5d-\x7e])")
 _NAMED = {b"F": 0x1C, b"G": 0x1D, b"S": 0x1E, b"\\": 0x5C}
 
 
+def unprinted(text: bytes, count: int) -> bytes | None:
+    """So many bytes at the start of printed ones; None where fewer stand there."""
+    found, at = bytearray(), 0
+    while len(found) < count:
+        one = _PRINTED.match(text, at)
+        if one is None:
+            return None
+        digits, name, plain = one.groups()
+        found.append(int(digits, 16) if digits else _NAMED[name] if name else plain[0])
+        at = one.end()
+    return bytes(found)
+
+
 def head_of(text: bytes) -> tuple[int, int, int] | None:
     """Of a packet in printed bytes its kind (1 a request, 2 an answer), its pharmacy and its number there; None of anything else."""
-    head, at = bytearray(), 0
-    while len(head) < _ENVELOPE_HEAD:
-        found = _PRINTED.match(text, at)
-        if found is None:
-            return None
-        digits, name, plain = found.groups()
-        head.append(int(digits, 16) if digits else _NAMED[name] if name else plain[0])
-        at = found.end()
-    if head[:2] != b"PS":
+    head = unprinted(text, _HEAD_BYTES)
+    if head is None or head[:2] != b"PS":
         return None
     return head[3], int.from_bytes(head[4:6]), int.from_bytes(head[6:14])
 
@@ -60,7 +68,6 @@ class Counts:
         self.seconds = Histogram()
         self.last_packet: dict[str, float] = {}
         self.open: dict[int, float] = {}
-        self.entries = 0
 
     def heard_from(self, peer: str) -> None:
         self.taken[peer] += 1
@@ -69,7 +76,6 @@ class Counts:
     def entered(self, number: int) -> None:
         """A pharmacy has an open entry of this number."""
         self.open.setdefault(number, time.time())
-        self.entries = max(self.entries, number)
 
     def settled(self, number: int) -> None:
         self.open.pop(number, None)

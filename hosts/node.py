@@ -2,15 +2,16 @@
 """One node of a switch on a carrier: moves lines between `claimnode`, which is the node, and NATS servers.
 
     hosts/node.py SETTINGS NODE LOG [--nats URL[,URL..]] [--ca FILE] [--login FILE] [--jetstream] [--tick SECONDS]
-                  [--watch ADDRESS:PORT] [--hold-back MS] [--program PATH] [-v]
+                  [--watch ADDRESS:PORT] [--hold-back MS] [--reserve ROWS] [--ping SECONDS] [--program PATH] [-v]
 
 The node's packets come on the subjects `claims.NODE.from.SENDER`, in printed bytes: the subject says who sent one, and the server
 lets nobody publish there but that sender (hosts/permissions). Callers' lines come on `claims.NODE.call`: `submit` and `answer`, and `wait
 NUMBER`, which is replied to as `answer NUMBER` is, but not before the entry has its answer; no others. An operator's come on `claims.NODE.operate`: any line but `take`, and `kill`, which ends the host as a power cut would. Each
 is replied to with the last line of what the node says. The program appends each call to its log and syncs the log before it says
 anything, so whatever this host hears may go out. Ticks carry progress: what the carrier loses is sent again, and what a tick
-sends is spread over its time. While no entry is open a tick would change nothing, and none is made. SIGTERM drains: what was
-taken is finished, said and synced.
+sends is spread over its time. While no entry is open a tick would change nothing, and none is made. So many entries of a pharmacy and rows
+of a payer as --reserve says, a tenth of the cap where it is not there, are kept for reversals (reserve.py). SIGTERM drains: what was taken
+is finished, said and synced.
 
 Status 0: it was told to end. 1: something failed that may be otherwise at the next try. 78: the settings, the name or the log are
 refused, or a sync of the log has failed: it stays so until people have looked. Standard error has a JSON object a line, with -v words.
@@ -34,6 +35,7 @@ import subjects
 import watch
 from claimnode import Ended, Node
 from counts import Counts, HoldBack, head_of
+from reserve import Reserve
 from said import Said
 from settings import Settings
 from waits import Waits
@@ -46,8 +48,8 @@ DRAIN_SECONDS = 10.0
 # The part of a tick's time over which its packets go out, and in how many groups at most.
 SPREAD = 0.8
 GROUPS = 32
-# How many entries are asked about at once, to learn which are open from an earlier life.
-ASKED_AT_ONCE = 64
+# How many open entries are told at once, to learn which are open from an earlier life.
+TOLD_AT_ONCE = 4096
 
 
 class Carrier(Protocol):
@@ -59,14 +61,17 @@ class Carrier(Protocol):
 class Host:
     """A node and its carrier."""
 
-    def __init__(self, node: Node, carrier: Carrier, hold_back: float = 0.0, tick_seconds: float = 0.0) -> None:
+    def __init__(
+        self, node: Node, carrier: Carrier, hold_back: float = 0.0, tick_seconds: float = 0.0, reserve: int | None = None
+    ) -> None:
         self.node, self._carrier = node, carrier
         self.counts = Counts()
+        self.reserve = Reserve(node, reserve)
         self._held = HoldBack(hold_back if node.name.startswith("sw") else 0.0)
         self._tick_seconds = tick_seconds
         self._waiting_bytes = 0
         self._is_ticking = False
-        self.knows_open = False
+        self.knows_open = self.is_ending = False
         self._waits = Waits()
         self.kill: Callable[[], None] = lambda: None
 
@@ -85,11 +90,14 @@ class Host:
         def heard(sent: list[tuple[str, bytes]], last: bytes) -> None:
             self._waiting_bytes -= len(line)
             self.counts.seconds.add(time.monotonic() - asked)
+            self.reserve.heard(line, last)
             if last.startswith(b"refused "):
                 self.counts.refusals[last[8:].decode(errors="replace")] += 1
             done(sent, last)
 
-        self.counts.calls[line.split(b" ", 1)[0].decode(errors="replace") if line.startswith(KNOWN) else "other"] += 1
+        word = line.split(b" ", 1)[0]
+        self.counts.calls[word.decode() if word in KNOWN else "other"] += 1
+        self.reserve.asked(line)
         self.node.call(line, heard)
         return True
 
@@ -109,12 +117,9 @@ class Host:
 
     def _take(self, message: nats.Message, done: Callable[[], None]) -> None:
         sender = subjects.sender_of(message.subject, self.node.name)
-        if sender is None or len(message.payload) > subjects.MOST_BYTES:
-            self.counts.dropped["not_a_packet"] += 1
-            done()
-            return
-        if self._held.is_held(sender, message.payload):
-            self.counts.dropped["held_back"] += 1
+        why = self._why_lost(sender, message.payload)
+        if sender is None or why:
+            self.counts.dropped[why] += 1
             done()
             return
 
@@ -127,11 +132,20 @@ class Host:
                 self._settled(head[2] if head else 0)
             done()
 
+        self._held.went(sender, message.payload)
         if self.make(b"take " + sender.encode() + b" " + message.payload, heard):
-            self._held.went(sender, message.payload)
             self.counts.heard_from(sender)
         else:
+            self._held.forget(sender, message.payload)
             self.counts.dropped["full"] += 1
+
+    def _why_lost(self, sender: str | None, packet: bytes) -> str:
+        """Why a message is not handed to the node, as a packet may be lost; nothing where it is."""
+        if sender is None or len(packet) > subjects.MOST_BYTES:
+            return "not_a_packet"
+        if self._held.is_held(sender, packet):
+            return "held_back"
+        return "would_be_full" if self.reserve.loses(packet) else ""
 
     def called(self, message: nats.Message) -> None:
         """A line of a caller."""
@@ -178,6 +192,9 @@ class Host:
         if not is_allowed:
             self.counts.refusals["Line"] += 1
             self._reply(message, b"refused Line")
+        elif self.reserve.turns_away(message.payload):
+            self.counts.refusals["WouldBeFull"] += 1
+            self._reply(message, b"refused WouldBeFull")
         elif not self.make(message.payload, heard):
             self.counts.dropped["full"] += 1
             self._reply(message, b"refused Busy")
@@ -189,8 +206,10 @@ class Host:
             self.counts.dropped["reply"] += 1
 
     def tick(self) -> None:
-        """A tick of a pharmacy, unless the last one is still being made, or no entry is open: then it would change nothing."""
-        if self.knows_open and not self.counts.open:
+        """A tick of a pharmacy, unless the last one is still being made, or no entry is known to be open: without one it would change
+        nothing, and what is open from an earlier life waits until the host has learned of it. Nor is one made at the end: nobody is left
+        to send what it sends."""
+        if not self.counts.open or self.is_ending:
             return
 
         def heard(sent: list[tuple[str, bytes]], _last: bytes) -> None:
@@ -216,26 +235,26 @@ class Host:
 
     async def learn_open(self) -> None:
         """Learns which entries are open from an earlier life, some at a time, while the node serves."""
-        number, is_there = 1, True
-        while is_there:
-            is_there = all(await asyncio.gather(*map(self._learn, range(number, number + ASKED_AT_ONCE))))
-            number += ASKED_AT_ONCE
+        first = 1
+        while first:
+            first = await self._learn_from(first)
         self.knows_open = True
 
-    async def _learn(self, number: int) -> bool:
-        """Whether there is an entry of this number. That it is open is noted as it is heard, before the answer that may come behind."""
-        is_there: asyncio.Future[bool] = asyncio.get_running_loop().create_future()
+    async def _learn_from(self, first: int) -> int:
+        """Learns of open entries from a number on; from which one on more may be, or 0. They are noted as they are heard, before the answers
+        that may come behind."""
+        behind: asyncio.Future[int] = asyncio.get_running_loop().create_future()
 
         def heard(_sent: list[tuple[str, bytes]], last: bytes) -> None:
-            if last == b"open":
+            numbers = [int(line.split()[1]) for line in last.split(b"\n")[:-1]]
+            for number in numbers:
                 self.counts.entered(number)
-            if last != b"none":
-                self.counts.entries = max(self.counts.entries, number)
-            if not is_there.done():
-                is_there.set_result(last != b"none")
+            if not behind.done():
+                behind.set_result(numbers[-1] + 1 if len(numbers) == TOLD_AT_ONCE else 0)
 
-        self.node.call(b"answer %d" % number, heard)
-        return await is_there
+        # A node that is stopped reads its whole journal for a question: so many are told in one go.
+        self.node.call(b"open %d %d" % (first, TOLD_AT_ONCE), heard)
+        return await behind
 
     async def drain(self) -> None:
         """Waits until all that the node was asked has been said."""
@@ -244,7 +263,7 @@ class Host:
             await asyncio.sleep(0.005)
 
 
-KNOWN = (b"submit ", b"answer ", b"open ", b"payments ", b"row ", b"take ", b"plan ", b"count", b"tick", b"stop", b"start")
+KNOWN = (b"submit", b"answer", b"open", b"payments", b"row", b"take", b"plan", b"count", b"tick", b"stop", b"start")
 
 
 class Run:
@@ -255,10 +274,9 @@ class Run:
         self._say = Said(given.node, given.v)
         self._carrier = nats.Connection(nats.access_of(given), given.node, self._say, given.ping)
         self._node = Node(given.program, given.settings, given.node, given.log, self._say)
-        self._host = Host(self._node, self._carrier, given.hold_back / 1000, given.tick)
+        self._host = Host(self._node, self._carrier, given.hold_back / 1000, given.tick, given.reserve)
         self._host.kill = self._kill
-        self._is_draining = False
-        self._most = Settings.read(given.settings).cap(given.node)
+        self._most = 0
 
     async def go(self) -> int:
         """The status with which the host ends."""
@@ -268,6 +286,8 @@ class Run:
         tasks: list[asyncio.Task[object]] = []
         try:
             await self._node.start()
+            # Behind the start: what is wrong with settings or a name claimnode tells better.
+            self._most = Settings.read(self._given.settings).cap(self._given.node)
             tasks = self._begin(stop)
             await self._until_one_ends(tasks)
             if stop.is_set():
@@ -300,6 +320,7 @@ class Run:
     async def _serve(self) -> None:
         """Is on the carrier, and ticks."""
         name, carrier, host = self._given.node, self._carrier, self._host
+        await host.reserve.begin(self._most)
         if self._given.jetstream:
             jetstream.hear(carrier, name, host.kept)
         else:
@@ -318,11 +339,13 @@ class Run:
         works = [carrier.task]
         if name.startswith("ph"):
             works += [asyncio.create_task(host.tick_for_ever()), asyncio.create_task(host.learn_open())]
+        if name.startswith("pr"):
+            works.append(asyncio.create_task(host.reserve.learn()))
         await asyncio.gather(*works)
 
     async def _end(self) -> None:
         """Finishes what was taken: no more is taken, what was is said, and only then the node ends."""
-        self._is_draining = True
+        self._host.is_ending = True
         service.tell("STOPPING=1")
         self._say("draining", waiting=self._node.waiting)
         await self._carrier.stop_hearing(DRAIN_SECONDS)
@@ -362,9 +385,9 @@ class Run:
             "log_calls": self._node.calls,
             "log_calls_at_start": self._node.at_start,
         }
+        reserve = self._host.reserve
+        facts |= {"rows": reserve.rows, "rows_most": reserve.most, "rows_reserved": reserve.kept}
         if self._given.node.startswith("ph"):
-            facts["rows"] = self._host.counts.entries
-            facts["rows_most"] = self._most
             facts["open_entries_known"] = float(self._host.knows_open)
         return facts
 
@@ -372,7 +395,7 @@ class Run:
         """Why the node does not serve; nothing where it does."""
         if not self._node.is_alive:
             return "the node does not run"
-        if self._is_draining:
+        if self._host.is_ending:
             return "draining"
         return "" if self._carrier.is_open.is_set() else "not connected"
 
@@ -388,11 +411,14 @@ def words() -> argparse.Namespace:
     parser.add_argument("--jetstream", action="store_true", help="the server keeps packets: see hosts/streams")
     parser.add_argument("--watch", metavar="ADDRESS:PORT", help="where /metrics, /healthz and /readyz are")
     parser.add_argument("--hold-back", type=float, default=0.0, metavar="MS", help="of a switch: lose what it forwarded so lately")
+    parser.add_argument("--reserve", type=int, metavar="ROWS", help="kept for reversals; a tenth of the cap where it is not there")
     parser.add_argument("--ping", type=float, default=nats.PING_SECONDS, metavar="SECONDS", help="how long a server may be silent")
     parser.add_argument("-v", action="store_true", help="words for people on standard error, and a line a second")
     given = parser.parse_args()
     if not subjects.NODE.fullmatch(given.node) or not given.tick > 0 or not given.ping > 0 or not given.hold_back >= 0:
         parser.error("NODE is ph, sw or pr and a number, as ph1; times are above 0")
+    if given.reserve is not None and given.reserve < 0:
+        parser.error("--reserve: rows are 0 or more")
     return given
 
 

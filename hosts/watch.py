@@ -19,6 +19,7 @@ SAYS = {
     "waiting_calls": "Calls that wait for the node.",
     "rows": "Entries, slots or rows that the node has.",
     "rows_most": "The most entries, slots or rows that the node may have.",
+    "rows_reserved": "How many of these are kept for reversals.",
     "open_entries_known": "Whether the entries that were open at the start are known.",
     "log_calls": "Calls in the log.",
     "log_calls_at_start": "Calls that the log had at the start.",

@@ -10,7 +10,7 @@ from aiohttp import web
 from .helpers import Ended
 
 MEDIA_TYPE = "application/problem+json"
-# The status and the words of each name. Names of refusals of nodes are those of docs/FORMATS.md.
+# The status and the words of each name. Names of refusals of nodes are those of docs/FORMATS.md; Busy and WouldBeFull are words of their hosts.
 KNOWN = {
     "BadRequest": (400, "the request is not one of this interface"),
     "NoToken": (401, "a token is wanted: Authorization: Bearer TOKEN"),
@@ -35,6 +35,7 @@ KNOWN = {
     "Down": (503, "the pharmacy's node is stopped"),
     "Busy": (503, "too much waits for the pharmacy's node"),
     "JournalFull": (503, "the pharmacy's journal is full"),
+    "WouldBeFull": (503, "the pharmacy's journal has room for reversals alone"),
     "NoAudit": (503, "the front was started without --logs, or a program is not there"),
     "NoReply": (504, "the node did not reply in time: send it again with the same Idempotency-Key"),
 }  # fmt: skip
