@@ -200,6 +200,10 @@ class Host:
             self._reply(message, b"refused Busy")
 
     def _reply(self, message: nats.Message, last: bytes) -> None:
+        """Replies to a message. A list that is longer than a message may be would cost the connection: fewer are to be asked for."""
+        if len(last) > subjects.MOST_BYTES:
+            self.counts.refusals["TooLong"] += 1
+            last = b"refused TooLong"
         if subjects.is_inbox(message.reply):
             self._carrier.publish(message.reply, last)
         elif message.reply:

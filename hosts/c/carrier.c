@@ -176,6 +176,12 @@ void send_packet(struct carrier *carrier, const char *to, size_t to_size, const 
 void reply(struct carrier *carrier, natsMsg *to, const char *line, size_t size) {
     const char *subject = natsMsg_GetReply(to);
     if (subject == NULL) return;
+    /* A list that is longer than a message may be: the server would not take it, and fewer are to be asked for. */
+    if (size > MOST_BYTES) {
+        counts_refusal("TooLong", 7);
+        line = "refused TooLong";
+        size = strlen(line);
+    }
     if (begins(subject, strlen(subject), "_INBOX.")) natsConnection_Publish(carrier->connection, subject, line, (int)size);
     else counts_dropped(NO_INBOX);
 }
