@@ -36,9 +36,7 @@ def built(folder, name, flags):
     """The host in C, built with these flags."""
     out = pathlib.Path(folder) / name
     out.mkdir()
-    words = ["make", "-s", "-C", HOSTS / "c", f"LIBRARY={folder}/library", f"OUT={out}", f"CFLAGS={flags}"]
-    subprocess.run(words, check=True)
-    return str(out / "node")
+    return network.build_host(folder, out, f"CFLAGS={flags}")
 
 
 class Host:

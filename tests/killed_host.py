@@ -29,9 +29,7 @@ def build(folder, wrong):
     program = network.host_in_c("killed", folder)
     if wrong:
         pathlib.Path(program).unlink()
-        flags = f"CFLAGS=-O1 -DWRONG_{wrong}"
-        words = ["make", "-s", "-C", network.HOSTS / "c", f"LIBRARY={folder}/library", f"OUT={folder}", flags]
-        subprocess.run(words, check=True)
+        network.build_host(folder, folder, f"CFLAGS=-O1 -DWRONG_{wrong}")
     return program
 
 

@@ -3,6 +3,8 @@
 What a test wants and this machine does not have ends it with status 3, and says so."""
 
 import asyncio
+import fcntl
+import hashlib
 import os
 import pathlib
 import random
@@ -90,8 +92,25 @@ def host_in_c(name, folder):
     made = subprocess.run([TOP / "bindings" / "make", f"{folder}/library"], stdout=subprocess.DEVNULL, check=False)
     if made.returncode:
         sys.exit(made.returncode)
-    subprocess.run(["make", "-s", "-C", HOSTS / "c", f"LIBRARY={folder}/library", f"OUT={folder}"], check=True)
-    return f"{folder}/node"
+    return build_host(folder, folder)
+
+
+def build_host(folder, out, *flags):
+    """Builds the host in C over the library in a folder, with these words to `make`; its path. Where VOGRILAS_KEPT names a folder, it is built in
+    there once, by who comes first."""
+    words = ["make", "-s", "-C", HOSTS / "c", f"LIBRARY={folder}/library", *flags]
+    kept = os.environ.get("VOGRILAS_KEPT")
+    if kept is None:
+        subprocess.run([*words, f"OUT={out}"], check=True)
+    else:
+        place = pathlib.Path(kept, hashlib.sha256(" ".join(flags).encode()).hexdigest()[:16])
+        place.mkdir(parents=True, exist_ok=True)
+        with open(place / "lock", "w", encoding="ascii") as lock:
+            fcntl.flock(lock, fcntl.LOCK_EX)
+            if not (place / "node").exists():
+                subprocess.run([*words, f"OUT={place}"], check=True)
+        shutil.copy2(place / "node", out)
+    return f"{out}/node"
 
 
 def python_of():
@@ -214,9 +233,9 @@ def memory_of(pid):
     return tuple(int(re.search(rf"^{key}:\s+(\d+)", text, re.MULTILINE).group(1)) for key in ("VmHWM", "VmRSS"))
 
 
-def main(name, trial):
-    """Runs a trial in a folder of its own: `trial(folder, words)`; the words are those of the command line."""
-    need(name, "nats-server", "openssl", programs.program("claimnode"), programs.program("claimaudit"))
+def main(name, trial, needs=("claimnode", "claimaudit")):
+    """Runs a trial in a folder of its own, over these programs: `trial(folder, words)`; the words are those of the command line."""
+    need(name, "nats-server", "openssl", *map(programs.program, needs))
     with tempfile.TemporaryDirectory(prefix=f"{name}-") as folder:
         try:
             print(f"{name}: {trial(folder, sys.argv[1:])}")

@@ -16,9 +16,12 @@ from check_programs import TOP, programs  # noqa: E402
 PRODUCTS = ('claimswitch', 'claimpicture', 'claimdecode', 'claimnode', 'claimaudit', 'claimdump', 'claimgrow')
 # Each refusal of memory that is not one of so many is left to the gate.
 REFUSALS = '5'
-# The parts of tests/replicated, in halves that take about as long.
+# So is each kill of a node that is not one of so many.
+KILLS = '3'
+# The parts of tests/replicated, in thirds that take about as long.
 HOSTS_OF_A_LOG = ('one_host', 'takeover', 'wiped', 'made_anew', 'copies', 'moved', 'torn', 'race')
-SERVERS_OF_A_LOG = ('fenced', 'synced', 'killed_servers', 'restored', 'unread', 'permitted')
+WORDS_OF_SERVERS = ('fenced', 'synced', 'killed_servers')
+LOSSES_OF_SERVERS = ('restored', 'unread', 'permitted')
 
 
 @dataclass(frozen=True)
@@ -43,11 +46,15 @@ class Part:
 
 
 SCRIPTS = (
+    Part('replicated', ('tests/replicated', *HOSTS_OF_A_LOG), ('library',), waits=True),
+    Part('replicated-words', ('tests/replicated', *WORDS_OF_SERVERS), ('library',), waits=True),
+    Part('replicated-losses', ('tests/replicated', *LOSSES_OF_SERVERS), ('library',), waits=True),
+    Part('losses', ('tests/losses',), ('library',), waits=True),
     Part('callers', ('trials/run', 'callers', '--unproved')),
     Part('cases', ('cases/run',), PRODUCTS),
     Part('refuse-memory', ('tests/refuse-memory', '--every', REFUSALS), ('claimswitch', 'claimdump', 'claimaudit', 'claimnode', 'claimgrow', 'rows')),
     Part('library', ('tests/library',), ('library', 'claimnode')),
-    Part('killed', ('tests/killed',), ('claimnode', 'claimaudit')),
+    Part('killed', ('tests/killed', '--each', KILLS), ('claimnode', 'claimaudit')),
     Part('killed-library', ('tests/killed', '--library', '--each', '20'), ('library', 'claimaudit')),
     Part('killed-c', ('tests/killed', '--host', 'c', '--each', '9'), ('claimnode', 'library', 'claimaudit')),
     Part('killed-c-unsynced', ('tests/killed', '--host', 'c', '--wrong', 'UNSYNCED', '--each', '29'), ('claimnode', 'library', 'claimaudit')),
@@ -76,10 +83,7 @@ SCRIPTS = (
     Part('retries-c', ('tests/retries', 'c'), ('library', 'claimnode', 'claimaudit'), waits=True),
     Part('reserved', ('tests/reserved',), ('claimgrow', 'claimnode', 'claimaudit'), waits=True),
     Part('reserved-c', ('tests/reserved', 'c'), ('library', 'claimgrow', 'claimnode', 'claimaudit'), waits=True),
-    Part('replicated', ('tests/replicated', *HOSTS_OF_A_LOG), ('library', 'claimnode', 'claimaudit'), waits=True),
-    Part('replicated-servers', ('tests/replicated', *SERVERS_OF_A_LOG), ('library', 'claimnode', 'claimaudit'), waits=True),
     Part('redundant', ('tests/redundant',), ('library', 'claimnode', 'claimaudit'), waits=True),
-    Part('losses', ('tests/losses',), ('library', 'claimnode', 'claimaudit'), waits=True),
     Part('growing', ('tests/growing',), ('claimgrow', 'claimnode', 'claimaudit'), waits=True),
     Part('operating', ('tests/operating',), ('claimnode', 'claimaudit'), waits=True),
     Part('upgraded', ('tests/upgraded',), ('claimnode', 'claimaudit'), waits=True),

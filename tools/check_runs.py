@@ -35,7 +35,10 @@ class Runner:
     def __init__(self, room: pathlib.Path, programs: pathlib.Path) -> None:
         self.room, self.running = room, set()
         self.environment = {key: value for key, value in os.environ.items() if key != 'CLAIMSWITCH_EXPLAIN'}
-        self.environment |= {'VOGRILAS_PROGRAMS': str(programs), 'PYTHONDONTWRITEBYTECODE': '1'}
+        # Hosts in C are built once for all parts.
+        hosts = room / 'hosts'
+        shutil.rmtree(hosts, ignore_errors=True)
+        self.environment |= {'VOGRILAS_PROGRAMS': str(programs), 'VOGRILAS_KEPT': str(hosts), 'PYTHONDONTWRITEBYTECODE': '1'}
 
     def folder(self, name: str) -> pathlib.Path:
         """An empty folder of that name."""
