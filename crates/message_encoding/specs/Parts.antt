@@ -5,7 +5,7 @@ use Rattle.std.specs.Result.{result_ok}
 use Rattle.input_text.specs.Options.{◌>>=◌}
 use Rattle.input_text.specs.Printing.{unprinted}
 use Rattle.serde_json.specs.Data.{Data, Items, no_items, item}
-use Rattle.serde_json.specs.Find.{get, as_str, as_array}
+use Rattle.serde_json.specs.Find.{get, get_item, as_str, as_array}
 use Rattle.serde_json.specs.View.{view}
 use Rattle.message_encoding.specs.declared.described.Described.{Described}
 
@@ -87,6 +87,10 @@ first_wrong place (item part rest) = if is_some (part_bytes part) then first_wro
 -- the list of a description's parts
 abbrev pub parts_in : Data → Option Items
 parts_in d = get (codes "parts") d >>= as_array
+
+-- the text at a key of the part at a place
+abbrev pub text_in_part : ℕ → List ℕ → Data → Option (List ℕ)
+text_in_part place key d = parts_in d >>= get_item place >>= text_at key
 
 -- the message that a description tells
 abbrev pub message_of : Data → Option (List ℕ)

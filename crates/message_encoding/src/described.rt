@@ -2,9 +2,10 @@
 
 ghost use Rattle.std.specs.Prelude.{◌≡◌, Some, None, IsTrue, IfOk, IfErr, OnOk};
 ghost use Rattle.std.specs.Option.{option_map};
+ghost use Rattle.serde_json.specs.Find.{get_item};
 ghost use Rattle.serde_json.specs.Read.{read};
 ghost use Rattle.serde_json.specs.View.{items_view, view};
-ghost use Rattle.message_encoding.specs.Parts.{AreAlike, DescribesAlike, IsAlike, joined, part_bytes, parts_in, seen, text_at};
+ghost use Rattle.message_encoding.specs.Parts.{AreAlike, DescribesAlike, IsAlike, joined, part_bytes, parts_in, seen, text_at, text_in_part};
 ghost use Rattle.message_encoding.specs.Refused.{GivesAll, GivesMessage, RefusedFor};
 
 use crate::fault::{Misfit, PartFault, ReadFault};
@@ -54,9 +55,11 @@ impl Described {
     }
 
     /// The text at a key of the part at a place, from 0.
-    pub fn text_of_part(&self, place: usize, key: &str) -> Option<&str> {
+    pub fn text_of_part(&self, place: usize, key: &str) -> Option<&str>
+        ensures { option_map (λ text. text.now) result ≡ text_in_part place key.now (seen self.now) }
+    {
         match self.parts() {
-            Some(parts) => match parts.get(place) {
+            Some(parts) => match part_at(parts, place) {
                 Some(part) => text_at(part, key),
                 None => None,
             },
@@ -90,6 +93,17 @@ impl Described {
             None => None,
         }
     }
+}
+
+/// The part at a place, from 0.
+#[tactic(auto, using(serde_json::proofs::Views::get_item_within, serde_json::proofs::Views::get_item_past))]
+fn part_at(parts: &[Value], place: usize) -> Option<&Value>
+    ensures { option_map (λ part. view part.now) result ≡ get_item place (items_view parts.now) }
+{
+    if place >= parts.len() {
+        return None;
+    }
+    Some(&parts[place])
 }
 
 /// The bytes of parts, one behind the other.

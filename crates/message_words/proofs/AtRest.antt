@@ -74,7 +74,7 @@ head rows c d size left carried all whole l place are = λ t.
 
 -- ---- texts
 
-some_size : (bytes : List ℕ) → 1 ≤ part_size bytes
+pub some_size : (bytes : List ℕ) → 1 ≤ part_size bytes
 unfolding part_size
 some_size bytes = elim (begins_segment bytes) as (λ b. 1 ≤ (if b then 6 else 1 + plain_length (drop 1 bytes))) [
   | true ↦ omega arith
@@ -82,7 +82,7 @@ some_size bytes = elim (begins_segment bytes) as (λ b. 1 ≤ (if b then 6 else 
 ]
 
 -- no bytes have no parts
-body_none : (more : ℕ) (form : Form) (within : Within) (place : ℕ) → body_parts more form within place [] ≡ []
+pub body_none : (more : ℕ) (form : Form) (within : Within) (place : ℕ) → body_parts more form within place [] ≡ []
 body_none zero form within place = refl
 body_none (suc more) form within place = refl
 

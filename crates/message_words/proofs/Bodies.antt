@@ -7,7 +7,7 @@ use Rattle.message_words.specs.declared.layout.Form.{Form}
 use Rattle.message_words.specs.declared.layout.Within.{Within}
 use Rattle.message_words.specs.declared.part.PartKind.{PartKind}
 use Rattle.message_words.specs.Parts.{PartSeen, Cut}
-use Rattle.message_words.specs.Steps.{part_at, part_size, part_kind, within_behind, at_first, AreBody, AreTransmission, header_rows, head_parts, width_of}
+use Rattle.message_words.specs.Steps.{part_at, part_size, part_kind, within_behind, at_first, AreBody, header_rows, head_parts, width_of}
 use Rattle.message_words.specs.Added.{next_bytes, next_part, IsCutUpTo, AddsBody, AddsTransmission}
 use Rattle.message_words.proofs.Bytes.{either, take_front, front_behind}
 

@@ -197,15 +197,15 @@ body_stands form within before at place (b ∷ bs) (p ∷ ps) begins none are =
       body_stands form (within_behind within (b ∷ bs)) next.before next.place (place + size) (drop size (b ∷ bs)) ps next.begins next.none are.2,
     )
 
-both : (xs ys : List PartSeen) → AllByRecursion Stands xs → AllByRecursion Stands ys → AllByRecursion Stands (xs ++ ys)
+pub both : (xs ys : List PartSeen) → AllByRecursion Stands xs → AllByRecursion Stands ys → AllByRecursion Stands (xs ++ ys)
 both [] ys a b = b
 both (x ∷ xs) ys a b = (a.0, both xs ys a.1 b)
 
-filled : (k : PartKind) (place : ℕ) (bytes : List ℕ) → stands k ≡ true → AllByRecursion Stands (filled_part k place bytes)
+pub filled : (k : PartKind) (place : ℕ) (bytes : List ℕ) → stands k ≡ true → AllByRecursion Stands (filled_part k place bytes)
 filled k place [] e = tt
 filled k place (b ∷ bs) e = (e, tt)
 
-head_stands : (rows : List (PartKind × ℕ)) (place : ℕ) (bytes : List ℕ) → AllByRecursion (λ (row : PartKind × ℕ). stands row.0 ≡ true) rows → AllByRecursion Stands (head_parts rows place bytes)
+pub head_stands : (rows : List (PartKind × ℕ)) (place : ℕ) (bytes : List ℕ) → AllByRecursion (λ (row : PartKind × ℕ). stands row.0 ≡ true) rows → AllByRecursion Stands (head_parts rows place bytes)
 head_stands [] place bytes rows = tt
 head_stands (row ∷ more) place bytes rows =
     both (filled_part row.0 place (take row.1 bytes)) (head_parts more (place + row.1) (drop row.1 bytes)) (filled row.0 place (take row.1 bytes) rows.0) (head_stands more (place + row.1) (drop row.1 bytes) rows.1)

@@ -5,7 +5,9 @@ use Rattle.std.specs.Io.KnownBytes.{Consumes, IsAtEnd, Keeps, prepend_known}
 use Rattle.std.proofs.lemmas.List.{append_assoc, append-nil, drop-take, drop-drop, take_all, drop_all, take-append-le, drop-append-le, length-take, length-append}
 use Rattle.std.proofs.lemmas.Bool.{eqb-true}
 use Rattle.std.proofs.lemmas.Bool.Decides.{nat_tests}
-use Rattle.message_words.specs.InputLines.{line_length, has_newline, without_return, first_line, IsNextLine, AreAll}
+use Rattle.message_words.specs.InputLines.{line_length, has_newline, without_return, first_line, IsNextLine, AreAll, LongFor, longest}
+use Rattle.message_words.specs.declared.line_source.InputFault.{InputFault}
+use Rattle.message_words.specs.declared.line_source.InputFault.TheVariants.{OutOfMemory, Read, TooLong}
 use Rattle.message_words.proofs.AtRest.{take_min, drop_min}
 
 -- a stretch of bytes
@@ -218,3 +220,93 @@ line_goes_on_now old mid known later u rest line new more ended front kept h t e
 
 pub plain_on_now : (u line new more : List ℕ) (ended : Bool) → line_length line ≡ length line → ended ≡ has_newline u → ended ≡ false → new ≡ line → more ≡ new ++ take (line_length u) u → line_length more ≡ length more
 plain_on_now u line new more ended plain h t e m = plain_on u line more plain (sym h ∙ t) (m ∙ ap (λ (bs : List ℕ). bs ++ take (line_length u) u) e)
+
+-- ---- lines that are too long
+
+-- a longer one is so too
+longer : (e : InputFault) (m n : ℕ) → m ≤ n → LongFor e m → LongFor e n
+longer OutOfMemory m n le long = tt
+longer Read m n le long = tt
+longer TooLong m n le long = omega (arith, le, long)
+
+-- a fault that tells of no length
+pub any_fault : (old : Option (List ℕ)) (e : InputFault) (size : List ℕ → ℕ) → ((n : ℕ) → LongFor e n) → IfSome old (λ bytes. LongFor e (size bytes))
+any_fault None e size all = tt
+any_fault (Some xs) e size all = all (size xs)
+
+-- more bytes make a line no shorter
+step_on : (v : Bool) (n m : ℕ) → n ≤ m → cond v (1 + n) 0 ≤ cond v (1 + m) 0
+step_on true n m le = omega (arith, le)
+step_on false n m le = omega arith
+
+grows : (xs ys : List ℕ) → line_length xs ≤ line_length (xs ++ ys)
+grows [] ys = omega arith
+grows (x ∷ xs) ys = step_on (not (x == 10)) (line_length xs) (line_length (xs ++ ys)) (grows xs ys)
+
+-- the line so far and what was read are of the first line
+pub line_fault : (old mid known : Option (List ℕ)) (u line new : List ℕ) (e : InputFault) → Consumes old mid line → line_length line ≡ length line → Keeps mid (prepend_known u known)
+    → new ≡ line → LongFor e (length new + line_length u) → IfSome old (λ bytes. LongFor e (line_length bytes))
+line_fault None mid known u line new e front plain kept same long = tt
+line_fault (Some xs) None known u line new e front plain kept same long = absurd front
+line_fault (Some xs) (Some ys) None u line new e front plain kept same long = absurd kept
+line_fault (Some xs) (Some ys) (Some zs) u line new e front plain kept same long =
+    let all : xs ≡ line ++ (u ++ zs) = front ∙ ap (λ (bs : List ℕ). line ++ bs) (sym kept) in
+    let size : line_length xs ≡ length line + line_length (u ++ zs) = ap line_length all ∙ plain_more line (u ++ zs) plain in
+    longer e (length new + line_length u) (line_length xs) (omega (arith, size, grows u zs, ap length same)) long
+
+-- and of the whole input
+pub all_fault : (old mid known : Option (List ℕ)) (u line new : List ℕ) (e : InputFault) → Consumes old mid line → Keeps mid (prepend_known u known)
+    → new ≡ line → LongFor e (length new + length u) → IfSome old (λ bytes. LongFor e (length bytes))
+all_fault None mid known u line new e front kept same long = tt
+all_fault (Some xs) None known u line new e front kept same long = absurd front
+all_fault (Some xs) (Some ys) None u line new e front kept same long = absurd kept
+all_fault (Some xs) (Some ys) (Some zs) u line new e front kept same long =
+    let all : xs ≡ line ++ (u ++ zs) = front ∙ ap (λ (bs : List ℕ). line ++ bs) (sym kept) in
+    longer e (length new + length u) (length xs) (omega (arith, ap length all, length-append line (u ++ zs), length-append u zs, ap length same)) long
+
+-- the last line is as long as what was read of it
+pub last_fits : (old mid now : Option (List ℕ)) (line : List ℕ) → Consumes old mid line → Keeps mid now → IsAtEnd now → line_length line ≡ length line → length line ≤ longest
+    → IfSome old (λ bytes. line_length bytes ≤ longest)
+last_fits None mid now line front kept end plain fits = tt
+last_fits (Some xs) None now line front kept end plain fits = absurd front
+last_fits (Some xs) (Some ys) None line front kept end plain fits = absurd kept
+last_fits (Some xs) (Some ys) (Some zs) line front kept end plain fits =
+    let all : xs ≡ line = front ∙ ap (λ (bs : List ℕ). line ++ bs) (sym kept ∙ end) ∙ append-nil line in
+    omega (arith, ap line_length all, plain, fits)
+
+-- and so is one that a newline ends
+pub ended_fits : (old mid known : Option (List ℕ)) (u line new more : List ℕ) (ended : Bool) → Consumes old mid line → line_length line ≡ length line → Keeps mid (prepend_known u known)
+    → ended ≡ has_newline u → ended ≡ true → new ≡ line → more ≡ new ++ take (line_length u) u → length more ≤ longest → IfSome old (λ bytes. line_length bytes ≤ longest)
+ended_fits None mid known u line new more ended front plain kept h t same m fits = tt
+ended_fits (Some xs) None known u line new more ended front plain kept h t same m fits = absurd front
+ended_fits (Some xs) (Some ys) None u line new more ended front plain kept h t same m fits = absurd kept
+ended_fits (Some xs) (Some ys) (Some zs) u line new more ended front plain kept h t same m fits =
+    let n : Newline u = newline_there u (sym h ∙ t) in
+    let piece : List ℕ = take (line_length u) u in
+    let behind : List ℕ = drop (line_length u + 1) u ++ zs in
+    let all : xs ≡ line ++ (u ++ zs) = front ∙ ap (λ (bs : List ℕ). line ++ bs) (sym kept) in
+    let split : u ++ zs ≡ piece ++ 10 ∷ behind = ap (λ (bs : List ℕ). bs ++ zs) n.parts ∙ append_assoc piece (10 ∷ drop (line_length u + 1) u) zs in
+    let stops : line_length (10 ∷ behind) ≡ 0 = refl in
+    let size : line_length (u ++ zs) ≡ length piece = ap line_length split ∙ plain_more piece (10 ∷ behind) n.plain ∙ omega (arith, stops) in
+    let whole : line_length xs ≡ length line + length piece = ap line_length all ∙ plain_more line (u ++ zs) plain ∙ ap (λ k. length line + k) size in
+    omega (arith, whole, ap length m, ap length same, length-append new piece, fits)
+
+-- ---- at a fault
+
+pub none_lost : (old mid now : Option (List ℕ)) (line new : List ℕ) → Consumes old mid line → Keeps mid now → new ≡ line → Consumes old now new
+none_lost None mid now line new front kept same = tt
+none_lost (Some xs) None now line new front kept same = absurd front
+none_lost (Some xs) (Some ys) None line new front kept same = absurd kept
+none_lost (Some xs) (Some ys) (Some zs) line new front kept same = front ∙ (λ i. sym same i ++ sym kept i)
+
+pub none_taken_lost : (old mid known later : Option (List ℕ)) (u rest line new more : List ℕ) → Consumes old mid line → Keeps mid (prepend_known u known) → new ≡ line
+    → more ≡ new → rest ≡ u → later ≡ known → Consumes old (prepend_known rest later) more
+none_taken_lost old mid known later u rest line new more front kept same m r k =
+    subst (λ (o : Option (List ℕ)). Consumes old (prepend_known rest o) more) (sym k)
+    (subst (λ (bs : List ℕ). Consumes old (prepend_known bs known) more) (sym r) (none_lost old mid (prepend_known u known) line more front kept (m ∙ same)))
+
+-- nothing was read, and nothing is left of what was
+pub still_none : (known later : Option (List ℕ)) (front new : List ℕ) → front ≡ [] → Keeps known later → new ≡ [] → Keeps (prepend_known front known) (prepend_known new later)
+still_none None later front new none kept n = tt
+still_none (Some xs) None front new none kept n = absurd kept
+still_none (Some xs) (Some ys) front new none kept n = (λ i. n i ++ kept i) ∙ ap (λ (bs : List ℕ). bs ++ xs) (sym none)

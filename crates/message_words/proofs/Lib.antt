@@ -12,3 +12,7 @@ pub mod Framed
 pub mod Hex
 pub mod Written
 pub mod InputLines
+pub mod Encoded
+pub mod Rows
+pub mod RecordParts
+pub mod RecordLaws

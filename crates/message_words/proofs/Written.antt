@@ -5,7 +5,7 @@ use Rattle.std.proofs.lemmas.Fmt.{decimal_digit}
 use Rattle.message_words.specs.declared.text.Text.{Text}
 use Rattle.message_words.specs.Written.{Takes}
 
-both : (u v : List ℕ) (a b c : Text) → Takes u a b → Takes v b c → Takes (u ++ v) a c
+pub both : (u v : List ℕ) (a b c : Text) → Takes u a b → Takes v b c → Takes (u ++ v) a c
 both u v a b c p q = λ e.
     let s = q e in
     let r = p s.0 in

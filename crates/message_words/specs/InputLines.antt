@@ -1,8 +1,10 @@
 -- The lines of an input.
-use Rattle.std.specs.Prelude.{◌≡◌, ℕ, ◌+◌, not, ◌==◌, Bool, List, [], length, take, drop, nat_lt, Option, Some, if◌then◌else◌}
+use Rattle.std.specs.Prelude.{◌≡◌, ◌<◌, ℕ, ◌+◌, not, ◌==◌, Bool, List, [], length, take, drop, nat_lt, Option, Some, if◌then◌else◌}
 use Rattle.std.specs.List.{prefix_len}
 use Rattle.std.specs.Io.KnownBytes.{prepend_known}
 use Rattle.message_words.specs.Spelled.{ends_with, without_last}
+use Rattle.message_words.specs.declared.line_source.InputFault.{InputFault}
+use Rattle.message_words.specs.declared.line_source.InputFault.TheVariants.{OutOfMemory, Read, TooLong}
 use Rattle.message_words.specs.declared.line_source.Unread.{Unread}
 
 -- what was read and not yet taken
@@ -40,3 +42,13 @@ pub record IsNextLine (bytes : List ℕ) (some : Bool) (line : List ℕ) (left :
 pub record AreAll (bytes : List ℕ) (line : List ℕ) (left : Option (List ℕ)) : Type 0 where
   pub all : line ≡ bytes
   pub behind : left ≡ Some []
+
+-- the most bytes of a line, and of an input that is one message
+abbrev pub longest : ℕ
+longest = 16777216
+
+-- a line of so many bytes is too long, where it is told so; nothing is known where memory was refused or a read failed
+abbrev pub LongFor : InputFault → ℕ → Type 0
+LongFor OutOfMemory size = Unit {0}
+LongFor Read size = Unit {0}
+LongFor TooLong size = longest < size

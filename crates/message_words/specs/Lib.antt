@@ -13,3 +13,6 @@ pub mod FieldTitles
 pub mod Spelled
 pub mod Written
 pub mod InputLines
+pub mod Encoded
+pub mod Rows
+pub mod Described

@@ -1,11 +1,11 @@
 //! What is found of an answer, as it is written.
 
-use crate::page::Page;
+use crate::finding_page::FindingPage;
 use claim_profile::{Amounts, AnswerFault, Auth, Rejects, Ruling, read_answer};
 use d0_segments::check_response;
 use std::alloc::Global;
 
-impl Page {
+impl FindingPage {
     /// Writes what is found of an answer that stands at a place of the message.
     pub(crate) fn answer(&mut self, alloc: Global, bytes: &[u8], place: usize) {
         match check_response(bytes) {
@@ -97,26 +97,18 @@ impl Page {
     fn rejects(&mut self, rejects: &Rejects) {
         self.member("ruling", "rejected");
         self.note.put("rejected");
-        self.value.clear();
+        self.around.clear();
         let mut before = ": ";
         for code in rejects.as_slice() {
             self.note.put(before);
             self.note.bytes(&code.text());
             self.note.put(" ");
             self.note.put(code.name());
-            self.value.put(if before == ": " { "" } else { " " });
-            self.value.bytes(&code.text());
+            self.around.put(if before == ": " { "" } else { " " });
+            self.around.bytes(&code.text());
             before = "; ";
         }
-        self.put_codes();
-    }
-
-    /// Writes the codes that were gathered, joined by spaces.
-    fn put_codes(&mut self) {
-        if self.style == crate::page::Style::Json {
-            self.out.put(",\"codes\":");
-            self.out.string(self.value.as_slice());
-        }
+        self.around_member("codes");
     }
 
     /// Writes why a framed response reads as no answer.

@@ -1,6 +1,7 @@
 //! Faults of framing and of envelopes, as they are written.
 
-use crate::page::{Page, Style};
+use crate::finding_page::FindingPage;
+use crate::page::Style;
 use crate::text::Text;
 use d0_header::HeaderFault;
 use d0_segments::FramingFault;
@@ -12,7 +13,7 @@ const AROUND: usize = 24;
 /// The name of a fault, what is wrong, and its place in the transmission, where it has one.
 type Told = (&'static str, &'static str, Option<usize>);
 
-impl Page {
+impl FindingPage {
     /// Writes that a transmission at a place of the message is not framed: the first fault, its place, and the bytes
     /// around it.
     pub(crate) fn framing_fault(&mut self, fault: FramingFault, bytes: &[u8], place: usize) {
@@ -53,18 +54,15 @@ impl Page {
         let at = at.min(bytes.len());
         let from = at.saturating_sub(AROUND);
         let end = at.saturating_add(AROUND).min(bytes.len()).max(at);
-        self.value.clear();
-        self.value.printed(&bytes[from..at]);
-        let caret = self.value.len();
-        self.value.printed(&bytes[at..end]);
-        if self.style == Style::Json {
-            self.out.put(",\"around\":");
-            self.out.string(self.value.as_slice());
-            self.number_member("caret", caret as u64);
-        }
+        self.around.clear();
+        self.around.printed(&bytes[from..at]);
+        let caret = self.around.len();
+        self.around.printed(&bytes[at..end]);
+        self.around_member("around");
+        self.number_member("caret", caret as u64);
         self.end_finding();
         if self.style == Style::Lines {
-            put_caret(&mut self.out, self.value.as_slice(), caret);
+            put_caret(&mut self.out, self.around.as_slice(), caret);
         }
     }
 

@@ -1,6 +1,6 @@
 //! What holds of all causes, and of all parts.
 
-ghost use Rattle.std.specs.Prelude.{◌≡◌, ℕ, List, [], take, Ok, Err, None};
+ghost use Rattle.std.specs.Prelude.{◌≡◌, ◌<◌, ℕ, List, [], slice_index, take, Ok, Err, None};
 ghost use Rattle.std.specs.List.{AllByRecursion};
 ghost use Rattle.d0_header.specs.Request.{Request};
 ghost use Rattle.d0_segments.specs.Parts.{SegmentParts};
@@ -9,6 +9,11 @@ ghost use Rattle.claim_profile.specs.declared.order.Order.{Order};
 ghost use Rattle.claim_profile.specs.declared.reject.Code.{Code};
 ghost use Rattle.claim_profile.specs.declared.order_reading.OrderFault.TheVariants.{Rejected};
 ghost use Rattle.claim_profile.specs.Order.{order_of};
+ghost use Rattle.claim_model.specs.Journal.{JournalAtRest, PharmacySettings};
+ghost use Rattle.claim_model.specs.Rows.{Book, BookSettings};
+ghost use Rattle.kept_records.specs.Books.{book_in};
+ghost use Rattle.kept_records.specs.Journals.{journal_in};
+ghost use Rattle.message_words.specs.AtRest.{record_told};
 ghost use Rattle.message_words.specs.Causes.{causes_of, codes_told};
 ghost use Rattle.message_words.specs.declared.layout.Form.TheVariants.{Request as Asked, Answer as Answered};
 ghost use Rattle.message_words.specs.Parts.{PartSeen};
@@ -34,4 +39,13 @@ pub fn part_laws()
     ensures answer { (place : ℕ) (bytes : List ℕ) (parts : List PartSeen)
         → framing_fault response_kind bytes ≡ None → AreTransmission Answered place bytes parts
         → AllByRecursion Stands parts }
+{}
+
+/// In a journal or a book that reads well no part stands where none should, nor in the requests and answers in it.
+pub fn record_laws()
+    ensures journal { (number : ℕ) (settings : PharmacySettings) (bytes : List ℕ) (j : JournalAtRest)
+        → journal_in number settings bytes ≡ Ok j → AllByRecursion Stands (record_told 0 bytes).parts }
+    ensures book { (payer : ℕ) (settings : BookSettings) (bytes : List ℕ) (b : Book)
+        → ((i : ℕ) → slice_index bytes i < 256) → book_in payer settings bytes ≡ Ok b
+        → AllByRecursion Stands (record_told 0 bytes).parts }
 {}

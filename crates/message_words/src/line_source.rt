@@ -1,9 +1,9 @@
 //! The lines of an input, one at a time.
 
-ghost use Rattle.std.specs.Prelude.{◌≡◌, ◌<◌, ◌≤◌, ◌+◌, ◌++◌, [], length, take, drop, false, IfOk, OnOk, IfSome, if◌then◌else◌};
+ghost use Rattle.std.specs.Prelude.{◌≡◌, ◌<◌, ◌≤◌, ◌+◌, ◌++◌, ℕ, [], length, take, drop, false, IfErr, IfOk, OnErr, OnOk, IfSome, if◌then◌else◌};
 ghost use Rattle.std.specs.Io.KnownBytes.{Consumes, IsAtEnd, Keeps, prepend_known};
 ghost use Rattle.message_words.specs.Spelled.{ends_with};
-ghost use Rattle.message_words.specs.InputLines.{AreAll, IsNextLine, has_newline, left_in, line_length, unread, without_return};
+ghost use Rattle.message_words.specs.InputLines.{AreAll, IsNextLine, LongFor, has_newline, left_in, line_length, longest, unread, without_return};
 
 use std::alloc::{AllocError, Global};
 use std::io::Read;
@@ -42,6 +42,11 @@ struct Unread {
 }
 
 impl From<AllocError> for InputFault {
+    ghost use Rattle.std.specs.Prelude.{◌≡◌};
+    ghost use Rattle.message_words.specs.declared.line_source.InputFault.TheVariants.{OutOfMemory};
+
+    ghost from_gives = { λ _ fault. fault ≡ OutOfMemory };
+
     fn from(_refused: AllocError) -> InputFault {
         InputFault::OutOfMemory
     }
@@ -70,20 +75,26 @@ impl Unread {
         ensures read { OnOk result (Consumes (R.remaining reader.old) (R.remaining reader.new) (unread self.new)) }
         ensures end { IfOk result (λ some. some ≡ false → IsAtEnd (R.remaining reader.new)) }
         ensures none { IfOk result (λ some. some ≡ false → unread self.new ≡ []) }
+        ensures fault { IfErr result (λ e. (n : ℕ) → LongFor e n) }
+        ensures kept { OnErr result (Keeps (R.remaining reader.old) (R.remaining reader.new)) }
+        ensures still { OnErr result (unread self.new ≡ []) }
     {
+        self.from = 0;
+        self.to = 0;
         self.make_room()?;
         let count = match reader.read(self.bytes.as_mut_slice()) {
             Ok(count) => count,
             Err(_) => return Err(InputFault::Read),
         };
-        self.from = 0;
         self.to = count;
         Ok(count > 0)
     }
 
     /// Makes room for the bytes of a call, where there is none.
     fn make_room(&mut self) -> Result<(), AllocError>
-        ensures { OnOk result (0 < length self.new.bytes.items) }
+        ensures room { OnOk result (0 < length self.new.bytes.items) }
+        ensures from { self.new.from ≡ self.old.from }
+        ensures to { self.new.to ≡ self.old.to }
     {
         if !self.bytes.is_empty() {
             return Ok(());
@@ -122,8 +133,16 @@ impl<R: Read + Drop> LineSource<R> {
     /// # Errors
     /// `Read` where a read failed, `TooLong` for a line of more than 16,777,216 bytes, `OutOfMemory`.
     pub fn read_line(&mut self) -> Result<bool, InputFault>
-        ensures { IfOk result (λ some. IfSome (left_in (R.remaining self.old.reader) self.old.unread) (λ bytes.
+        ensures line { IfOk result (λ some. IfSome (left_in (R.remaining self.old.reader) self.old.unread) (λ bytes.
             IsNextLine bytes some self.new.line.items (left_in (R.remaining self.new.reader) self.new.unread))) }
+        // No line that is read is too long, and one that is told so is.
+        ensures fits { OnOk result (IfSome (left_in (R.remaining self.old.reader) self.old.unread) (λ bytes.
+            line_length bytes ≤ longest)) }
+        ensures fault { IfErr result (λ e. IfSome (left_in (R.remaining self.old.reader) self.old.unread) (λ bytes.
+            LongFor e (line_length bytes))) }
+        // At a fault no byte is lost: what was read of the line stands there, and the others are left.
+        ensures kept { OnErr result (Consumes (left_in (R.remaining self.old.reader) self.old.unread)
+            (left_in (R.remaining self.new.reader) self.new.unread) self.new.line.items) }
     {
         self.line.clear();
         for _ in 0..u64::MAX {
@@ -145,8 +164,14 @@ impl<R: Read + Drop> LineSource<R> {
     /// # Errors
     /// Those of `read_line`.
     pub fn read_all(&mut self) -> Result<(), InputFault>
-        ensures { OnOk result (IfSome (left_in (R.remaining self.old.reader) self.old.unread) (λ bytes.
+        ensures all { OnOk result (IfSome (left_in (R.remaining self.old.reader) self.old.unread) (λ bytes.
             AreAll bytes self.new.line.items (left_in (R.remaining self.new.reader) self.new.unread))) }
+        ensures fits { OnOk result (length self.new.line.items ≤ longest) }
+        ensures fault { IfErr result (λ e. IfSome (left_in (R.remaining self.old.reader) self.old.unread) (λ bytes.
+            LongFor e (length bytes))) }
+        // At a fault no byte is lost: what was read stands there, and the others are left.
+        ensures kept { OnErr result (Consumes (left_in (R.remaining self.old.reader) self.old.unread)
+            (left_in (R.remaining self.new.reader) self.new.unread) self.new.line.items) }
     {
         self.line.clear();
         for _ in 0..u64::MAX {
@@ -162,10 +187,11 @@ impl<R: Read + Drop> LineSource<R> {
     /// Reads more where nothing is left of what was read, and says whether something is left then.
     fn fill(&mut self) -> Result<bool, InputFault>
         ensures line { self.new.line ≡ self.old.line }
-        ensures left { OnOk result (Keeps (left_in (R.remaining self.old.reader) self.old.unread)
-            (left_in (R.remaining self.new.reader) self.new.unread)) }
+        ensures left { Keeps (left_in (R.remaining self.old.reader) self.old.unread)
+            (left_in (R.remaining self.new.reader) self.new.unread) }
         ensures end { IfOk result (λ some. some ≡ false
             → IsAtEnd (left_in (R.remaining self.new.reader) self.new.unread)) }
+        ensures fault { IfErr result (λ e. (n : ℕ) → LongFor e n) }
     {
         if !self.unread.as_slice().is_empty() {
             return Ok(true);
@@ -181,6 +207,11 @@ impl<R: Read + Drop> LineSource<R> {
             ++ take (line_length (unread self.old.unread)) (unread self.old.unread)) }
         ensures left { OnOk result (unread self.new.unread ≡ (if has_newline (unread self.old.unread)
             then drop (line_length (unread self.old.unread) + 1) (unread self.old.unread) else [])) }
+        ensures fits { OnOk result (length self.new.line.items ≤ longest) }
+        ensures fault { IfErr result (λ e.
+            LongFor e (length self.old.line.items + line_length (unread self.old.unread))) }
+        ensures kept { OnErr result (self.new.line.items ≡ self.old.line.items) }
+        ensures still { OnErr result (unread self.new.unread ≡ unread self.old.unread) }
     {
         let unread = self.unread.as_slice();
         let count = line_length(unread);
@@ -197,6 +228,11 @@ impl<R: Read + Drop> LineSource<R> {
         ensures reader { self.new.reader ≡ self.old.reader }
         ensures line { OnOk result (self.new.line.items ≡ self.old.line.items ++ unread self.old.unread) }
         ensures left { OnOk result (unread self.new.unread ≡ []) }
+        ensures fits { OnOk result (length self.new.line.items ≤ longest) }
+        ensures fault { IfErr result (λ e.
+            LongFor e (length self.old.line.items + length (unread self.old.unread))) }
+        ensures kept { OnErr result (self.new.line.items ≡ self.old.line.items) }
+        ensures still { OnErr result (unread self.new.unread ≡ unread self.old.unread) }
     {
         let count = self.unread.as_slice().len();
         self.take(count)
@@ -208,6 +244,10 @@ impl<R: Read + Drop> LineSource<R> {
         ensures reader { self.new.reader ≡ self.old.reader }
         ensures line { OnOk result (self.new.line.items ≡ self.old.line.items ++ take count (unread self.old.unread)) }
         ensures left { OnOk result (unread self.new.unread ≡ drop count (unread self.old.unread)) }
+        ensures fits { OnOk result (length self.new.line.items ≤ longest) }
+        ensures fault { IfErr result (λ e. LongFor e (length self.old.line.items + count)) }
+        ensures kept { OnErr result (self.new.line.items ≡ self.old.line.items) }
+        ensures still { OnErr result (unread self.new.unread ≡ unread self.old.unread) }
     {
         if self.line.len().saturating_add(count) > LONGEST_LINE {
             return Err(InputFault::TooLong);

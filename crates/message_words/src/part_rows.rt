@@ -1,21 +1,38 @@
 //! Parts as they are written.
 
+ghost use Rattle.std.specs.Prelude.{◌≡◌, ◌++◌, [], drop, codes, true};
+ghost use Rattle.message_words.specs.FieldTitles.{titles, titles_of, titles_seen};
+ghost use Rattle.message_words.specs.Naming.{is_length, mark_names};
+ghost use Rattle.message_words.specs.Parts.{part_seen};
+ghost use Rattle.message_words.specs.Rows.{Adds, AddsField, AddsOfId, AddsRow, comma, counted_anew, counted_with, group_text, id_in, one_more, unknown};
+ghost use Rattle.message_words.specs.Written.{Takes};
+ghost use Rattle.message_words.specs.declared.page.Style.TheVariants as styled;
+
 use crate::marks::Mark;
 use crate::meaning::{put_mark, put_meaning};
-use crate::names::FieldName;
+use crate::names::{FieldName, Named};
 use crate::page::{Page, Row, Style, columns};
 use crate::part::{Part, PartKind};
 use crate::standard::{unused_field, unused_segment};
+use crate::text::Text;
+use crate::transmissions::front_of;
 
 impl Page {
     /// Writes a part.
-    pub(crate) fn part(&mut self, part: &Part<'_>) {
+    pub(crate) fn part(&mut self, part: &Part<'_>)
+        ensures row { AddsRow (part_seen part.now) self.old self.new }
+        ensures same { self.new ≡ record self.old {
+          out = self.new.out;
+          note = self.new.note;
+          started = true;
+          transactions = counted_with self.old.transactions part.now.kind;
+        } }
+    {
         self.note.clear();
         let place = part.place;
         match part.kind {
             PartKind::Header(name) => self.field(place, name, part.bytes),
-            PartKind::Field(Some(name)) => self.field(place, name, behind(part.bytes, 3)),
-            PartKind::Field(None) => self.unread(place, part.bytes),
+            PartKind::Field(name) => self.behind_name(place, name, part.bytes),
             PartKind::Segment => self.segment(place, behind(part.bytes, 4)),
             PartKind::Group => self.group(place),
             PartKind::Mark(mark) => self.mark(place, mark, part.bytes),
@@ -24,9 +41,19 @@ impl Page {
     }
 
     /// Writes a field that the product knows.
-    fn field(&mut self, place: usize, name: FieldName, value: &[u8]) {
+    fn field(&mut self, place: usize, name: FieldName, value: &[u8])
+        ensures row { Adds (titles_of name) place value.now self.old self.new }
+        ensures same { self.new ≡ record self.old { out = self.new.out; note = self.new.note; started = true } }
+    {
         put_meaning(&mut self.note, name, value);
-        let named = name.named();
+        self.named(place, name.named(), value);
+    }
+
+    /// Writes a field of this name, whose meaning stands in the note.
+    fn named(&mut self, place: usize, named: Named, value: &[u8])
+        ensures row { Adds (titles_seen named) place value.now self.old self.new }
+        ensures same { self.new ≡ record self.old { out = self.new.out; started = true } }
+    {
         let row = Row {
             number: named.number.as_bytes(),
             name: named.name,
@@ -36,33 +63,60 @@ impl Page {
         self.row(place, row);
     }
 
-    /// Writes a field that the product does not read in its segment.
-    fn unread(&mut self, place: usize, bytes: &[u8]) {
-        let named = behind(bytes, 1);
-        let letters = &named[..named.len().min(2)];
+    /// Writes a field behind its separator and its name.
+    fn behind_name(&mut self, place: usize, name: Option<FieldName>, bytes: &[u8])
+        ensures row { AddsField name place bytes.now self.old self.new }
+        ensures same { self.new ≡ record self.old { out = self.new.out; note = self.new.note; started = true } }
+    {
         let value = behind(bytes, 3);
-        let row = match unused_field(letters) {
-            Some(field) => {
-                self.note.put("not used by this profile");
-                Row {
-                    number: field.number.as_bytes(),
-                    name: field.name,
-                    key: field.key,
-                    value,
-                }
-            }
-            None => Row {
-                number: letters,
-                name: "unknown, carried unchanged",
-                key: "unknown",
-                value,
-            },
+        match name {
+            Some(name) => self.field(place, name, value),
+            None => self.unread(place, bytes),
+        }
+    }
+
+    /// Writes a field that the product does not read in its segment.
+    fn unread(&mut self, place: usize, bytes: &[u8])
+        ensures row { AddsOfId (id_in bytes.now) place (drop 3 bytes.now) self.old self.new }
+        ensures same { self.new ≡ record self.old { out = self.new.out; note = self.new.note; started = true } }
+    {
+        let rest = behind(bytes, 1);
+        let letters = front_of(rest, 2);
+        let value = behind(bytes, 3);
+        match unused_field(letters) {
+            Some(field) => self.unused(place, field, value),
+            None => self.unknown(place, letters, value),
+        }
+    }
+
+    /// Writes a field of the standard that this profile does not use.
+    fn unused(&mut self, place: usize, field: Named, value: &[u8])
+        ensures row { Adds (titles_seen field) place value.now self.old self.new }
+        ensures same { self.new ≡ record self.old { out = self.new.out; note = self.new.note; started = true } }
+    {
+        self.note.put("not used by this profile");
+        self.named(place, field, value);
+    }
+
+    /// Writes a field that the standard does not have.
+    fn unknown(&mut self, place: usize, letters: &[u8], value: &[u8])
+        ensures row { Adds (unknown letters.now) place value.now self.old self.new }
+        ensures same { self.new ≡ record self.old { out = self.new.out; started = true } }
+    {
+        let row = Row {
+            number: letters,
+            name: "unknown, carried unchanged",
+            key: "unknown",
+            value,
         };
         self.row(place, row);
     }
 
     /// Writes the head of a segment.
-    fn segment(&mut self, place: usize, id: &[u8]) {
+    fn segment(&mut self, place: usize, id: &[u8])
+        ensures row { Adds (titles (codes "111-AM") (codes "segment") (codes "segment")) place id.now self.old self.new }
+        ensures same { self.new ≡ record self.old { out = self.new.out; note = self.new.note; started = true } }
+    {
         self.note.put(segment_name(id));
         let row = Row {
             number: b"111-AM",
@@ -74,32 +128,32 @@ impl Page {
     }
 
     /// Writes that a transaction begins.
-    fn group(&mut self, place: usize) {
+    fn group(&mut self, place: usize)
+        ensures row { Takes (comma self.old.style self.old.started
+            ++ group_text self.old.style place (one_more self.old.transactions)) self.old.out self.new.out }
+        ensures same { self.new ≡ record self.old {
+          out = self.new.out;
+          started = true;
+          transactions = one_more self.old.transactions;
+        } }
+    {
+        self.separate();
         self.transactions = self.transactions.saturating_add(1);
-        match self.style {
-            Style::Lines => {
-                self.out.bytes(&columns(place, b"", b"transaction"));
-                self.out.number(self.transactions);
-            }
-            Style::Json => {
-                self.separate();
-                self.out.put("{\"at\":");
-                self.out.number(place as u64);
-                self.member("name", "transaction");
-                self.number_member("transaction", self.transactions);
-                self.out.put("}");
-            }
-        }
+        put_group(&mut self.out, self.style, place, self.transactions);
     }
 
     /// Writes a part of an envelope's head or of a record.
-    fn mark(&mut self, place: usize, mark: Mark, bytes: &[u8]) {
-        if mark.is_number() {
-            put_mark(&mut self.note, bytes);
-        }
-        if mark.begins_transmission() {
-            self.transactions = 0;
-        }
+    fn mark(&mut self, place: usize, mark: Mark, bytes: &[u8])
+        ensures row { Adds (titles [] (mark_names mark).words (mark_names mark).key) place bytes.now self.old self.new }
+        ensures same { self.new ≡ record self.old {
+          out = self.new.out;
+          note = self.new.note;
+          started = true;
+          transactions = counted_anew (is_length mark) self.old.transactions;
+        } }
+    {
+        put_number(&mut self.note, mark, bytes);
+        self.transactions = counted(mark, self.transactions);
         let (name, key) = mark.names();
         let row = Row {
             number: b"",
@@ -111,7 +165,10 @@ impl Page {
     }
 
     /// Writes bytes that stand where none should.
-    fn stray(&mut self, place: usize, bytes: &[u8]) {
+    fn stray(&mut self, place: usize, bytes: &[u8])
+        ensures row { Adds (titles [] (codes "out of place") (codes "stray")) place bytes.now self.old self.new }
+        ensures same { self.new ≡ record self.old { out = self.new.out; started = true } }
+    {
         let row = Row {
             number: b"",
             name: "out of place",
@@ -122,8 +179,57 @@ impl Page {
     }
 }
 
+/// Appends the number that the bytes of a mark spell, where they spell one.
+fn put_number(out: &mut Text, mark: Mark, bytes: &[u8]) {
+    if mark.is_number() {
+        put_mark(out, bytes);
+    }
+}
+
+/// How many transactions of the transmission at hand have begun behind a mark.
+fn counted(mark: Mark, transactions: u64) -> u64
+    ensures { result ≡ counted_anew (is_length mark) transactions }
+{
+    if mark.begins_transmission() {
+        0
+    } else {
+        transactions
+    }
+}
+
+/// Writes that a transaction of this number begins.
+fn put_group(out: &mut Text, style: Style, place: usize, count: u64)
+    ensures { Takes (group_text style place count) out.old out.new }
+{
+    match style {
+        Style::Lines => put_group_line(out, place, count),
+        Style::Json => put_group_object(out, place, count),
+    }
+}
+
+/// Writes that a transaction of this number begins, as a line.
+fn put_group_line(out: &mut Text, place: usize, count: u64)
+    ensures { Takes (group_text styled.Lines place count) out.old out.new }
+{
+    out.bytes(&columns(place, b"", b"transaction"));
+    out.number(count);
+}
+
+/// The same as an object.
+fn put_group_object(out: &mut Text, place: usize, count: u64)
+    ensures { Takes (group_text styled.Json place count) out.old out.new }
+{
+    out.put("{\"at\":");
+    out.number(place as u64);
+    out.word_member("name", b"transaction");
+    out.number_member("transaction", count);
+    out.put("}");
+}
+
 /// The bytes behind so many; none where there are no more.
-fn behind(bytes: &[u8], count: usize) -> &[u8] {
+pub(crate) fn behind(bytes: &[u8], count: usize) -> &[u8]
+    ensures { result.now ≡ drop count bytes.now }
+{
     &bytes[count.min(bytes.len())..]
 }
 

@@ -3,7 +3,7 @@
 ghost use Rattle.std.specs.Prelude.{◌≡◌, ◌<◌, [], ◌∷◌, length, IfOk, IfSome};
 
 use crate::dissecting::Carried;
-use crate::page::Page;
+use crate::finding_page::FindingPage;
 use crate::records::number_at;
 use d0_header::RequestHeader;
 use kept_records::{RecordFault, read_book, read_journal};
@@ -14,7 +14,7 @@ use std::alloc::{AllocError, Global};
 /// The most entries or rows that settings may allow.
 const CAP: u32 = 65_536;
 
-impl Page {
+impl FindingPage {
     /// Writes what a record is, or why it is none. The number, the first serial and the provider that settings would
     /// give are taken from the record itself.
     pub(crate) fn record(&mut self, alloc: Global, bytes: &[u8], carried: &[Carried]) {

@@ -1,11 +1,11 @@
 //! What is found of a request, as it is written.
 
 use crate::causes::Cause;
+use crate::finding_page::FindingPage;
 use crate::findings::{Finding, Uncarried, findings_of};
 use crate::found::Found;
 use crate::meaning::put_units;
 use crate::names::FieldName;
-use crate::page::Page;
 use crate::wanted::wanted_in;
 use claim_profile::{Claim, Order, Reversal, TransactionCode, order_at};
 use d0_header::RequestHeader;
@@ -15,7 +15,7 @@ use std::alloc::Global;
 /// How many causes of a transaction an answer tells.
 const TOLD: u64 = 5;
 
-impl Page {
+impl FindingPage {
     /// Writes what is found of a request that stands at a place of the message.
     pub(crate) fn request(&mut self, alloc: Global, bytes: &[u8], place: usize) {
         match check_request(bytes) {

@@ -1,6 +1,10 @@
 //! Fields of the standard that this profile carries and does not use, by number and name.
 
+ghost use Rattle.std.specs.Prelude.{◌≡◌, drop, IfSome, IsTrue};
+ghost use Rattle.message_words.specs.FieldTitles.{titles_seen};
+
 use crate::names::{Called, Named, named_by};
+use crate::part_rows::behind;
 
 /// The patient segment, AM01.
 static PATIENT: [Called; 16] = [
@@ -498,7 +502,9 @@ static ANSWERS: [Called; 13] = [
 ];
 
 /// The field of the standard that two letters name, where it is one that this profile does not use.
-pub(crate) fn unused_field(letters: &[u8]) -> Option<Named> {
+pub(crate) fn unused_field(letters: &[u8]) -> Option<Named>
+    ensures { IfSome result (λ named. drop 4 (titles_seen named).number ≡ letters.now) }
+{
     let tables = [
         PATIENT.as_slice(),
         PROVIDERS.as_slice(),
@@ -513,12 +519,19 @@ pub(crate) fn unused_field(letters: &[u8]) -> Option<Named> {
     ];
     for table in tables.as_slice() {
         for called in *table {
-            if called.0.as_bytes().get(4..) == Some(letters) {
+            if is_of(called.0.as_bytes(), letters) {
                 return Some(named_by(*called));
             }
         }
     }
     None
+}
+
+/// Whether a number ends with these letters, behind three digits and a dash.
+fn is_of(number: &[u8], letters: &[u8]) -> bool
+    ensures { IsTrue result → drop 4 number.now ≡ letters.now }
+{
+    behind(number, 4) == letters
 }
 
 /// What a segment of the standard is about that this profile does not use.

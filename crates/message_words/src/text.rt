@@ -1,9 +1,13 @@
 //! A text that is written piece by piece. Where memory is refused it takes no more, and says so.
 
-ghost use Rattle.std.specs.Prelude.{◌≡◌, [], false};
+ghost use Rattle.std.specs.Prelude.{◌≡◌, ◌≤◌, ◌-◌, ◌++◌, [], length, min, max, false, true, OnOk};
+ghost use Rattle.std.specs.List.{list_all};
 ghost use Rattle.std.specs.Fmt.{decimal};
+ghost use Rattle.input_text.specs.Printing.{printed, stands_for_itself};
 ghost use Rattle.message_words.specs.Written.{Takes, unspelled_line, unspelled_object};
+ghost use Rattle.message_words.specs.Encoded.{is_letter, json_letter, json_letters, json_string, member_key, number_member, printed_member, spaces, word_member};
 
+use crate::transmissions::front_of;
 use input_text::{put_decimal, put_printed};
 use std::alloc::{AllocError, Global};
 
@@ -11,6 +15,8 @@ use std::alloc::{AllocError, Global};
 #[derive(Drop)]
 pub(crate) struct Text {
     bytes: Vec<u8>,
+    /// Bytes as they are printed, before they become a string of JSON.
+    spelled: Vec<u8>,
     refused: bool,
 }
 
@@ -30,6 +36,7 @@ impl Text {
     {
         Text {
             bytes: Vec::new(alloc),
+            spelled: Vec::new(alloc),
             refused: false,
         }
     }
@@ -50,12 +57,16 @@ impl Text {
     }
 
     /// Notes that memory was refused elsewhere.
-    pub(crate) fn refuse(&mut self) {
+    pub(crate) fn refuse(&mut self)
+        ensures { self.new.refused ≡ true }
+    {
         self.refused = true;
     }
 
     /// How many bytes there are.
-    pub(crate) fn len(&self) -> usize {
+    pub(crate) fn len(&self) -> usize
+        ensures { result ≡ length self.now.bytes.items }
+    {
         self.bytes.len()
     }
 
@@ -84,13 +95,17 @@ impl Text {
     }
 
     /// Appends bytes as they are printed.
-    pub(crate) fn printed(&mut self, bytes: &[u8]) {
+    #[tactic(auto, using(crate::proofs::Encoded::printed_plain))]
+    pub(crate) fn printed(&mut self, bytes: &[u8])
+        ensures { Takes (printed bytes.now) self.old self.new }
+    {
         if all_stand(bytes) {
-            self.bytes(bytes);
-            return;
+            return self.bytes(bytes);
         }
-        let done = put_printed(&mut self.bytes, bytes);
-        self.note(done);
+        match put_printed(&mut self.bytes, bytes) {
+            Ok(()) => {}
+            Err(_) => self.refused = true,
+        }
     }
 
     /// Appends a number.
@@ -124,43 +139,101 @@ impl Text {
     }
 
     /// Appends spaces up to a column, counted from a place in the text; at least two.
-    pub(crate) fn pad(&mut self, from: usize, column: usize) {
+    pub(crate) fn pad(&mut self, from: usize, column: usize)
+        requires { column ≤ 128 }
+        ensures { Takes (spaces (max (column - (length self.old.bytes.items - from)) 2)) self.old self.new }
+    {
         let used = self.len().saturating_sub(from);
         self.spaces(column.saturating_sub(used).max(2));
     }
 
     /// Appends so many spaces, at most 128.
-    pub(crate) fn spaces(&mut self, count: usize) {
+    pub(crate) fn spaces(&mut self, count: usize)
+        ensures { Takes (spaces (min count 128)) self.old self.new }
+    {
         let room = [b' '; MOST_SPACES];
-        self.bytes(&room[..count.min(MOST_SPACES)]);
+        self.bytes(front_of(&room, count));
     }
 
     /// Appends bytes as a string of JSON: as they are printed, between quotation marks. Printed bytes are all printable
     /// characters of ASCII, of which two are marked by a backslash.
-    pub(crate) fn string(&mut self, text: &[u8]) {
+    pub(crate) fn string(&mut self, text: &[u8])
+        ensures { Takes (json_string text.now) self.old self.new }
+    {
         self.put("\"");
-        if is_plain(text) {
-            self.bytes(text);
-        } else {
-            self.letters(text);
-        }
+        self.letters(text);
         self.put("\"");
     }
 
     /// Appends letters of a string of JSON.
-    fn letters(&mut self, text: &[u8]) {
-        for byte in text {
-            self.letter(*byte);
+    #[tactic(auto, using(crate::proofs::Encoded::plain_letters))]
+    fn letters(&mut self, text: &[u8])
+        ensures { Takes (json_letters text.now) self.old self.new }
+    {
+        if is_plain(text) {
+            return self.bytes(text);
+        }
+        match put_letters(&mut self.bytes, text) {
+            Ok(()) => {}
+            Err(_) => self.refused = true,
         }
     }
 
-    /// Appends a letter of a string of JSON.
-    fn letter(&mut self, byte: u8) {
-        match byte {
-            QUOTE | BACKSLASH => self.bytes(&[BACKSLASH, byte]),
-            0x20..=0x7e => self.bytes(&[byte]),
-            _ => self.put("?"),
+    /// Appends bytes, as they are printed, as a string of JSON.
+    pub(crate) fn printed_string(&mut self, bytes: &[u8])
+        ensures { Takes (json_string (printed bytes.now)) self.old self.new }
+    {
+        self.put("\"");
+        self.printed_letters(bytes);
+        self.put("\"");
+    }
+
+    /// Appends the letters of bytes, as they are printed, of a string of JSON.
+    #[tactic(auto, using(crate::proofs::Encoded::plain_printed_letters))]
+    fn printed_letters(&mut self, bytes: &[u8])
+        ensures { Takes (json_letters (printed bytes.now)) self.old self.new }
+    {
+        if is_plain(bytes) {
+            return self.bytes(bytes);
         }
+        self.spelled.clear();
+        match put_printed_letters(&mut self.bytes, &mut self.spelled, bytes) {
+            Ok(()) => {}
+            Err(_) => self.refused = true,
+        }
+    }
+
+    /// Appends a member of words behind another member.
+    pub(crate) fn word_member(&mut self, key: &str, words: &[u8])
+        ensures { Takes (word_member key.now words.now) self.old self.new }
+    {
+        self.key(key);
+        self.string(words);
+    }
+
+    /// Appends a member of bytes as they are printed.
+    pub(crate) fn printed_member(&mut self, key: &str, bytes: &[u8])
+        ensures { Takes (printed_member key.now bytes.now) self.old self.new }
+    {
+        self.key(key);
+        self.printed_string(bytes);
+    }
+
+    /// Appends a member that is a number.
+    pub(crate) fn number_member(&mut self, key: &str, number: u64)
+        ensures { Takes (number_member key.now number) self.old self.new }
+    {
+        self.key(key);
+        self.number(number);
+    }
+
+    /// Appends the key of a member behind another one.
+    pub(crate) fn key(&mut self, key: &str)
+        ensures { Takes (member_key key.now) self.old self.new }
+    {
+        self.put(",\"");
+        self.put(key);
+        self.put("\":");
     }
 
     /// Writes, as a line for people, that no byte is spelled at a place of a line.
@@ -186,22 +259,55 @@ impl Text {
         self.number(place);
         self.put("}\n");
     }
+}
 
-    /// Keeps that memory was refused.
-    fn note(&mut self, done: Result<(), AllocError>) {
-        if done.is_err() {
-            self.refused = true;
-        }
+/// Appends letters of a string of JSON.
+fn put_letters(out: &mut Vec<u8>, text: &[u8]) -> Result<(), AllocError>
+    ensures { OnOk result (out.new.items ≡ out.old.items ++ json_letters text.now) }
+{
+    for byte in text {
+        put_letter(out, *byte)?;
+    }
+    Ok(())
+}
+
+/// Appends a letter of a string of JSON.
+#[tactic(auto, unfolding(crate::specs::Encoded::json_letter))]
+fn put_letter(out: &mut Vec<u8>, byte: u8) -> Result<(), AllocError>
+    ensures { OnOk result (out.new.items ≡ out.old.items ++ json_letter byte) }
+{
+    match byte {
+        QUOTE | BACKSLASH => out.extend_from_slice(&[BACKSLASH, byte]),
+        0x20..=0x7e => out.extend_from_slice(&[byte]),
+        _ => out.extend_from_slice(b"?"),
     }
 }
 
+/// Appends the letters of bytes, as they are printed, of a string of JSON. What they are printed as is kept in a text
+/// without bytes.
+fn put_printed_letters(
+    out: &mut Vec<u8>,
+    text: &mut Vec<u8>,
+    bytes: &[u8],
+) -> Result<(), AllocError>
+    requires { text.old.items ≡ [] }
+    ensures { OnOk result (out.new.items ≡ out.old.items ++ json_letters (printed bytes.now)) }
+{
+    put_printed(text, bytes)?;
+    put_letters(out, text.as_slice())
+}
+
 /// Whether a byte is printed as it is.
-fn stands_for_itself(byte: u8) -> bool {
+fn stands_for_itself(byte: u8) -> bool
+    ensures { result ≡ stands_for_itself byte }
+{
     matches!(byte, 0x20..=0x7e) && byte != BACKSLASH
 }
 
 /// Whether bytes stand for themselves in a string of JSON, and are printed as they are.
-pub(crate) fn is_plain(bytes: &[u8]) -> bool {
+pub(crate) fn is_plain(bytes: &[u8]) -> bool
+    ensures { result ≡ list_all is_letter bytes.now }
+{
     let mut plain = true;
     for byte in bytes {
         plain &= is_letter(*byte);
@@ -210,7 +316,9 @@ pub(crate) fn is_plain(bytes: &[u8]) -> bool {
 }
 
 /// Whether bytes are printed as they are. It does not stop at the first that is not, so that it tests several at once.
-fn all_stand(bytes: &[u8]) -> bool {
+fn all_stand(bytes: &[u8]) -> bool
+    ensures { result ≡ list_all stands_for_itself bytes.now }
+{
     let mut plain = true;
     for byte in bytes {
         plain &= stands_for_itself(*byte);
@@ -219,7 +327,9 @@ fn all_stand(bytes: &[u8]) -> bool {
 }
 
 /// Whether a byte stands for itself in a string of JSON.
-fn is_letter(byte: u8) -> bool {
+fn is_letter(byte: u8) -> bool
+    ensures { result ≡ is_letter byte }
+{
     stands_for_itself(byte) && byte != QUOTE
 }
 

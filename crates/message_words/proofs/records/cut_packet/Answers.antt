@@ -1,4 +1,4 @@
-use Rattle.std.proofs.Common.{◌≡◌, List, ℕ, length, drop, ap, ◌∙◌, arith}
+use Rattle.std.proofs.Common.{◌≡◌, ℕ, length, drop, ap, ◌∙◌, arith}
 use Rattle.message_words.specs.Steps.{packet_form}
 use Rattle.message_words.proofs.Wholes.{packet}
 use Rattle.message_words.proofs.records.cut_packet.Goals as goal

@@ -1,4 +1,4 @@
-use Rattle.std.proofs.Common.{◌≡◌, ◌+◌, ◌≤◌, length}
+use Rattle.std.proofs.Common.{◌≡◌, ◌+◌}
 use Rattle.message_words.specs.Added.{next_bytes, IsCutUpTo}
 use Rattle.message_words.proofs.transmissions.cut_body.Given as goal
 

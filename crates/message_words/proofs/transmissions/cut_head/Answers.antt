@@ -1,8 +1,8 @@
-use Rattle.std.proofs.Common.{◌≡◌, ◌+◌, ◌<◌, ℕ, length, drop, ◌++◌, ◌∙◌, arith}
+use Rattle.std.proofs.Common.{◌<◌, ℕ, length, ◌++◌, ◌∙◌, arith}
 use Rattle.message_words.specs.declared.part.PartKind.{PartKind}
 use Rattle.message_words.specs.declared.part.PartKind.TheVariants.{Header}
 use Rattle.message_words.specs.declared.names.FieldName.TheVariants.{Bin}
-use Rattle.message_words.specs.Steps.{head_parts, width_of}
+use Rattle.message_words.specs.Steps.{head_parts}
 use Rattle.message_words.specs.Added.{next_bytes}
 use Rattle.message_words.proofs.Heads.{head_next, widths_next}
 use Rattle.message_words.proofs.transmissions.cut_head.Goals as goal
