@@ -209,8 +209,14 @@ static void try_logs(void) {
     vogrilas_node node = VOGRILAS_NODE_INIT;
     check(open_as(&node, "pr1", log_bytes, whole, &kept) == VOGRILAS_OTHER_NODE, "another node's log");
     settings[settings_size] = '\n';
-    check(vogrilas_open(&node, settings, settings_size + 1, "ph1", 3, log_bytes, whole, "few", 3, &kept) == VOGRILAS_OTHER_SETTINGS,
+    check(vogrilas_open(&node, settings, settings_size + 1, "ph1", 3, log_bytes, whole, "few", 3, &kept) == VOGRILAS_OK && kept == whole,
+          "a log of the same settings in another layout");
+    vogrilas_close(&node);
+    char *cent = strstr(settings, "fee = ") + strlen("fee = 12");
+    *cent ^= 1;
+    check(vogrilas_open(&node, settings, settings_size, "ph1", 3, log_bytes, whole, "few", 3, &kept) == VOGRILAS_OTHER_SETTINGS,
           "a log of other settings");
+    *cent ^= 1;
     check(is_closed(&node), "a log that is refused");
     free(other);
 }

@@ -203,7 +203,9 @@ class Trials(unittest.TestCase):
         self.assertEqual(self.fails(Code.DAMAGED, self.opened, "ph1").place, 46)
         self.assertEqual(path.read_bytes(), damaged)
         self.fails(Code.OTHER_NODE, Node, SETTINGS, "pr1", whole)
-        self.fails(Code.OTHER_SETTINGS, Node, SETTINGS + b"\n", "ph1", whole)
+        with Node(SETTINGS.replace(b"\n", b"\r\n") + b"# The same settings.\n", "ph1", whole) as node:
+            self.assertEqual(node.kept, len(whole))
+        self.fails(Code.OTHER_SETTINGS, Node, SETTINGS.replace(b"fee = 150", b"fee = 151"), "ph1", whole)
         self.fails(Code.SETTINGS, Node, b"", "ph1")
         self.fails(Code.NO_SUCH_NODE, Node, SETTINGS, "ph2")
         self.fails(Code.NAME, Node, SETTINGS, "")

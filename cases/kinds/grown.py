@@ -2,7 +2,7 @@
 import os
 
 from suite.case import Case, Group, rows_apart
-from suite.logs import HEAD, head_of, read_log, write_log
+from suite.logs import HEAD, head_of, head_of_file, read_log, write_log
 from suite.nodes import Served, room
 from suite.programs import Ran, run
 from suite.rows import read_rows, shared_texts
@@ -49,6 +49,11 @@ EVENTS = ('submit ph1 {routed}', 'deliver 1', 'deliver 2', 'deliver 3', 'deliver
           'start pr1', 'tick ph2')
 
 
+NODES = tuple(Settings(SETTINGS).nodes())
+# Which logs are of version 1.
+UNDER: dict[str, tuple[str, ...]] = {'under': (), 'first-under': NODES, 'mixed-under': NODES[::2]}
+
+
 def lines(text: str) -> str:
     """A text whose lines stand apart by a semicolon and a space."""
     return text.replace('; ', '\n')
@@ -74,13 +79,42 @@ def added(text: str) -> bytes:
     return SETTINGS + lines(text).encode() + b'\n'
 
 
-class Network:
-    """The logs of a day in a folder, and the settings that they are to go over to."""
+def laid_out(word: str) -> bytes:
+    """The settings in another layout, of which the word tells."""
+    if word == 'as-they-are':
+        return SETTINGS
+    if word == 'remarks':
+        return b'# A network.\n' + SETTINGS.replace(b'\n[[', b'\n\n# A node or a route.\n[[').replace(b'cap = 100\n', b'cap = 100 # rows\n')
+    if word == 'line-ends':
+        return SETTINGS.replace(b'\n', b'\r\n')
+    if word == 'spaces':
+        return SETTINGS.replace(b' = ', b'=').replace(b'[1, 2]', b'[\n  1,\n  2,\n]').replace(b'18567', b'18_567')
+    if word == 'order':
+        return reordered(SETTINGS)
+    raise ValueError(f'no such layout: {word}')
 
-    def __init__(self, folder: str, new: bytes):
+
+def reordered(octets: bytes) -> bytes:
+    """Settings whose keys stand in the opposite order in each table, and of whose arrays the last stands first."""
+    text = octets.decode().replace('[payer.prices]\n00093721410 = 18567\n', 'prices = { 00093721410 = 18567 }\n')
+    head, *tables = text.split('[[')
+    tables.sort(key=lambda it: it.partition(']')[0], reverse=True)
+    turned = [''.join([*reversed(head.splitlines(True))])]
+    for table in tables:
+        name, *keys = table.splitlines(True)
+        turned += ['[[', name, *reversed(keys)]
+    return ''.join(turned).encode()
+
+
+class Network:
+    """The logs of a day in a folder, of which some may be of version 1, and the settings that they are to go over to."""
+
+    def __init__(self, folder: str, new: bytes, first: tuple[str, ...] = ()):
         self.dump, self.new = Dump(folder, day()), new
         self.nodes = Settings(SETTINGS).nodes()
         self.write('new.toml', new)
+        for node in first:
+            self.write(f'{node}.log', head_of_file(node, SETTINGS) + self.dump.read(f'{node}.log')[HEAD:])
 
     def write(self, name: str, octets: bytes) -> None:
         with open(self.dump.path(name), 'wb') as file:
@@ -142,10 +176,28 @@ def gone_over(network: Network, before: list[bytes]) -> str:
     return f'over, {network.audited()}'
 
 
-def grown(new: bytes) -> str:
+def already(network: Network) -> str:
+    """What was said of all logs, where each is under the new settings as it stands."""
+    said = network.said(network.grow()).split('; ')
+    wanted = [f'{node}.log: {kind_of(node)} is under the new settings already' for node in network.nodes]
+    return 'already' if said == wanted else '; '.join(said)
+
+
+def under(new: bytes, first: tuple[str, ...]) -> str:
+    """Whether the day's logs are under other settings as they stand: claimgrow and claimnode say so, and change nothing."""
+    with room() as folder:
+        network = Network(folder, new, first)
+        before, told = network.octets(), already(network)
+        if told != 'already':
+            return told
+        network.opened()
+        return f'{told}, {network.audited()}' if network.octets() == before else 'other bytes'
+
+
+def grown(new: bytes, first: tuple[str, ...] = ()) -> str:
     """What becomes of the day's logs."""
     with room() as folder:
-        network = Network(folder, new)
+        network = Network(folder, new, first)
         before, checked = network.octets(), network.grow('--check')
         if network.octets() != before:
             return '--check wrote'
@@ -200,6 +252,10 @@ def tell(word: str, argument: bytes) -> str:
         return grown(edited(text))
     if word == 'add':
         return grown(added(text))
+    if word == 'first':
+        return grown(added(text), NODES)
+    if word in UNDER:
+        return under(laid_out(text), UNDER[word])
     if word == 'cut':
         return altered(lambda octets: octets[:len(octets) - int(text)])
     if word == 'keep':
@@ -207,7 +263,9 @@ def tell(word: str, argument: bytes) -> str:
     if word == 'turn':
         return altered(lambda octets: octets[:int(text)] + bytes([octets[int(text)] ^ 1]) + octets[int(text) + 1:])
     if word == 'other-head':
-        return altered(lambda octets: head_of('ph1', SETTINGS + text.encode()) + octets[HEAD:])
+        return altered(lambda octets: head_of('ph1', edited(text)) + octets[HEAD:])
+    if word == 'other-file':
+        return altered(lambda octets: head_of_file('ph1', SETTINGS + text.encode()) + octets[HEAD:])
     if word == 'forged':
         return altered(forged, text)
     if word == 'held':

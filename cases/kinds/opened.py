@@ -3,7 +3,7 @@ import os
 import struct
 
 from suite.case import Case, Group, rows_apart
-from suite.logs import DROP, TICK, Call, Log, Sent, head_of, text, write_log
+from suite.logs import DROP, TICK, Call, Log, Sent, head_of, head_of_file, text, write_log
 from suite.nodes import room
 from suite.programs import run
 from suite.rows import read_rows
@@ -13,6 +13,8 @@ SETTINGS = (b'again = 1\ntries = 1\n[[pharmacy]]\nqualifier = "01"\nprovider = "
             b'[[switch]]\ncap = 64\n[[payer]]\nfee = 150\ncopay = 1000\ncap = 1000\n[payer.prices]\n00093721410 = 18567\n'
             b'[[route]]\nbin = "610455"\npayer = 1\n')
 HEAD = head_of('ph1', SETTINGS)
+# The head of each version of a log.
+HEADS = {'first': head_of_file('ph1', SETTINGS), 'second': HEAD}
 # A tick of a pharmacy that has no entry sends nothing; its record has 33 bytes.
 QUIET = Call(TICK, b'', ())
 TICKS = 3
@@ -34,6 +36,30 @@ def start(octets: bytes, settings: bytes = SETTINGS, *words: str) -> str:
         return f'{ran.out.decode().strip()} kept={len(left)}'
     said = ran.err.decode().strip().removeprefix('claimnode: ')
     return said if left == octets and not ran.out else f'{said} kept={len(left)} said={ran.out!r}'
+
+
+def edited(text: str) -> bytes:
+    """The settings with one text, which stands there once, in another's place; as they are where there is none."""
+    old, _, new = text.replace('; ', '\n').partition(' => ')
+    if text and SETTINGS.decode().count(old) != 1:
+        raise ValueError(f'no edit of the settings: {text}')
+    return SETTINGS.decode().replace(old, new).encode() if text else SETTINGS
+
+
+def went_on(head: bytes, settings: bytes) -> str:
+    """What pharmacy 1 says under settings that starts from a log of this head and ticks once more, where its log then has one record more."""
+    before, after = (write_log(Log(head, (QUIET,) * count)) for count in (TICKS, TICKS + 1))
+    with room() as folder:
+        paths = f'{folder}/settings.toml', f'{folder}/ph1.log'
+        for path, given in zip(paths, (settings, before)):
+            with open(path, 'wb') as file:
+                file.write(given)
+        ran = run('claimnode', paths[0], 'ph1', paths[1], given=b'tick\n')
+        with open(paths[1], 'rb') as file:
+            left = file.read()
+    if left != (before if ran.status else after):
+        return 'another log'
+    return ran.err.decode().strip().removeprefix('claimnode: ') if ran.status else ' '.join(ran.out.decode().split())
 
 
 def beside(octets: bytes, starts: int) -> str:
@@ -98,6 +124,8 @@ def tell(word: str, argument: bytes) -> str:
     if word == 'repair-cut':
         place, typed = argument.decode().split(' ')
         return repair(turned(whole, int(place)), '--cut-at', typed)
+    if word in HEADS:
+        return went_on(HEADS[word], edited(argument.decode()))
     if word == 'words':
         return str(run('claimnode', *argument.decode().split(' '), '/dev/null', 'ph1', '/dev/null', given=b'').status)
     count = int(argument or b'0')
@@ -134,7 +162,7 @@ def tell(word: str, argument: bytes) -> str:
     if word == 'of-switch':
         return start(head_of('sw1', SETTINGS))
     if word == 'of-other-settings':
-        return start(head_of('ph1', SETTINGS + b'\n'))
+        return start(head_of('ph1', edited('fee = 150 => fee = 151')))
     raise ValueError(f'no such word: {word}')
 
 

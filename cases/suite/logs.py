@@ -3,6 +3,8 @@ import hashlib
 import struct
 from typing import NamedTuple
 
+from suite.said import said_of
+
 HEAD = 46
 KINDS = ('ph', 'sw', 'pr')
 SUBMIT, TICK, TAKE, STOP, START, DROP, PRICE = range(7)
@@ -46,10 +48,20 @@ def check_sum(number: int, octets: bytes) -> bytes:
     return hashlib.sha256(struct.pack('>Q', number) + octets).digest()[:8]
 
 
+def headed(version: int, node: str, digested: bytes) -> bytes:
+    """The head of a log of a version, with the digest of these bytes."""
+    body = node_octets(node) + hashlib.sha256(digested).digest()
+    return b'PL' + bytes([version]) + body + check_sum(0, body)
+
+
 def head_of(node: str, settings: bytes) -> bytes:
-    """The head of a log: a log of no calls."""
-    body = node_octets(node) + hashlib.sha256(settings).digest()
-    return b'PL\x01' + body + check_sum(0, body)
+    """The head of a log, that is a log of no calls: of version 2, with the digest of what the settings say."""
+    return headed(2, node, said_of(settings))
+
+
+def head_of_file(node: str, settings: bytes) -> bytes:
+    """The same of version 1, with the digest of the settings' bytes."""
+    return headed(1, node, settings)
 
 
 def text(octets: bytes) -> bytes:

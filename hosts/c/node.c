@@ -136,7 +136,8 @@ static bool open_node(struct host *host) {
     /* The file was synced as it was opened. */
     if (is_open) node_kept(&host->node, 0);
     host->candidate->copy.node = &host->node;
-    free(text.at);
+    if (is_open && log.size == 0) host->node.settings = text;
+    else free(text.at);
     free(log.at);
     return is_open;
 }

@@ -70,12 +70,14 @@ char *beside(const char *path, const char *ending);
 /* Draws bytes that nobody can guess. */
 void draw(void *to, size_t size);
 
-/* A node with its log; `copy` is NULL where the log is a file alone, and not in a stream. */
+/* A node with its log; `copy` is NULL where the log is a file alone, and not in a stream. `settings`: those of a node that has no log yet, for
+   the head that may come of the stream; else nothing. */
 struct served {
     const char *name;
     vogrilas_node node;
     struct log log;
     struct copy *copy;
+    struct bytes settings;
     uint64_t at_start;
 };
 

@@ -91,15 +91,39 @@ static void make(struct served *node, struct body *body) {
     if (code == VOGRILAS_NO_MEMORY) fail("memory", "refused");
 }
 
+/* Whether the node's own records are these bytes. */
+static bool has_made(struct served *node, const char *bytes, size_t size) {
+    struct bytes records = node_records(node);
+    bool is_same = records.size == size && memcmp(records.at, bytes, size) == 0;
+    free(records.at);
+    return is_same;
+}
+
+/* Begins the log with this head: the node's own, or one of an earlier version, over which the node is opened anew, or refused. */
+static void begin(struct served *node, const char *head, size_t size) {
+    if (has_made(node, head, size)) {
+        node_kept(node, size);
+    } else {
+        struct bytes log = { NULL, 0, 0 };
+        add(&log, head, size);
+        vogrilas_close(&node->node);
+        node_open(node, &node->settings, &log);
+        node_kept(node, 0);
+        free(log.at);
+    }
+    free(node->settings.at);
+    node->settings = (struct bytes){ NULL, 0, 0 };
+}
+
 void node_make(struct served *node, const char *record, size_t size) {
     struct body body = { (const unsigned char *)record + BEFORE_BODY, size - BEFORE_BODY - BEHIND_BODY, false };
     /* A record begins with its length, whose first byte is 0. */
-    bool is_head = record[0] == 'P';
-    if (!is_head) make(node, &body);
-    struct bytes records = node_records(node);
-    if (records.size != size || memcmp(records.at, record, size) != 0)
-        fail_with(REFUSED, node->log.path, is_head ? vogrilas_code_text(VOGRILAS_OTHER_SETTINGS) : vogrilas_code_text(VOGRILAS_BAD_RECORD));
-    free(records.at);
-    node_kept(node, size);
+    if (record[0] == 'P') {
+        begin(node, record, size);
+    } else {
+        make(node, &body);
+        if (!has_made(node, record, size)) fail_with(REFUSED, node->log.path, vogrilas_code_text(VOGRILAS_BAD_RECORD));
+        node_kept(node, size);
+    }
     node_clear(node);
 }

@@ -136,7 +136,7 @@ fn audit(rt: &HostRuntime, words: &Words<'_>) -> Result<Told, Unjudged> {
     for name in &words.logs {
         logs.push(read_file(rt, name)?)?;
     }
-    match judged(alloc, text, logs.as_slice(), words.asked) {
+    match judged(alloc, text, logs, words.asked) {
         Ok(told) => Ok(told),
         Err(AuditFault::Settings) => Err(End::Own(why_refused(rt, words)?)),
         Err(fault) => Err(named(alloc, words, fault)),
@@ -156,7 +156,7 @@ fn why_refused(rt: &HostRuntime, words: &Words<'_>) -> Result<Finding, Unjudged>
 fn judged(
     alloc: Global,
     text: Vec<u8>,
-    logs: &[Vec<u8>],
+    logs: Vec<Vec<u8>>,
     asked: Asked,
 ) -> Result<Told, AuditFault> {
     let audited = read_audited(alloc, text, logs)?;

@@ -8,6 +8,7 @@ use kept_logs::{SettingsDigest, write_log};
 use node_state::{PayerNode, PharmacyNode};
 use run_merge::NodeLog;
 use schedule::{ScheduleFault, divide, read_schedule};
+use settings_digest::said;
 use std::alloc::{AllocError, Global};
 use world_core::World;
 use world_settings::{SettingsFault, living_settings_fault, read_living_settings};
@@ -20,25 +21,26 @@ use world_setup::{Event, Node, StepFault, WorldFault};
 /// `Settings`, then `World`, then `Line` of the first line that spells no event; `OutOfMemory`.
 pub(crate) fn dump(alloc: Global, input: &[u8]) -> Result<Vec<DumpFile>, DumpFault> {
     let parts = divide(alloc, input)?;
-    let world = opened(alloc, parts.settings.as_slice())?;
+    let (world, digest) = opened(alloc, parts.settings.as_slice())?;
     let events = match read_schedule(alloc, parts.schedule) {
         Ok(events) => events,
         Err(ScheduleFault::OutOfMemory) => return Err(DumpFault::OutOfMemory),
         Err(ScheduleFault::Line(number)) => return Err(DumpFault::Line(number)),
     };
     let recorded = recorded(alloc, world, events.as_slice())?;
-    Ok(files_of(alloc, parts.settings, recorded)?)
+    Ok(files_of(alloc, parts.settings, &digest, recorded)?)
 }
 
-/// The opening world of settings.
-fn opened(alloc: Global, text: &[u8]) -> Result<World, DumpFault> {
+/// The opening world of settings, and the digest of what they say.
+fn opened(alloc: Global, text: &[u8]) -> Result<(World, SettingsDigest), DumpFault> {
     let settings = match read_living_settings(alloc, text) {
         Ok(settings) => settings,
         Err(SettingsFault::OutOfMemory) => return Err(DumpFault::OutOfMemory),
         Err(SettingsFault::Settings) => return Err(why_refused(alloc, text)?),
     };
+    let digest = SettingsDigest::of_said(said(alloc, &settings)?.as_slice());
     match World::new(alloc, settings) {
-        Ok(world) => Ok(world),
+        Ok(world) => Ok((world, digest)),
         Err(WorldFault::OutOfMemory) => Err(DumpFault::OutOfMemory),
         Err(fault) => Err(DumpFault::World(fault)),
     }
@@ -65,12 +67,12 @@ fn recorded(alloc: Global, world: World, events: &[Event]) -> Result<Recorded, A
 fn files_of(
     alloc: Global,
     settings: Vec<u8>,
+    digest: &SettingsDigest,
     recorded: Recorded,
 ) -> Result<Vec<DumpFile>, AllocError> {
-    let digest = SettingsDigest::of(settings.as_slice());
     let mut files = Vec::new(alloc);
     for log in &recorded.logs {
-        files.push(log_file(alloc, &digest, log)?)?;
+        files.push(log_file(alloc, digest, log)?)?;
     }
     let name = String::from_str(alloc, "settings.toml")?;
     files.push(DumpFile {

@@ -14,9 +14,9 @@ use crate::locked::{Locked, lock_all};
 use crate::telling::put_line;
 use crate::words::{Words, words_of};
 use command_line::{End, given_words, read_file};
-use kept_logs::SettingsDigest;
-use log_growth::{Gone, GrowthFault, OverFault, go_over, grows};
+use log_growth::{Gone, Grown, GrowthFault, OverFault, go_over, grows};
 use node_service::ServiceFault;
+use settings_digest::Digests;
 use std::alloc::Global;
 use std::io::Write;
 use std::process::ExitCode;
@@ -40,9 +40,9 @@ fn run(rt: &HostRuntime) -> Result<(), Ungone> {
     let words = words_of(alloc, given.as_slice())?;
     let old = read_file(rt, words.old)?;
     let new = read_file(rt, words.new)?;
-    check_growth(alloc, old.as_slice(), new.as_slice())?;
+    let grown = check_growth(alloc, old.as_slice(), new.as_slice())?;
     let locked = lock_all(rt, words.logs.as_slice())?;
-    let gone = judge(rt, &words, old.as_slice(), new.as_slice())?;
+    let gone = judge(rt, &words, &grown, old.as_slice(), new.as_slice())?;
     if !words.check {
         for (log, gone) in locked.iter().zip(gone.as_slice()) {
             write_over(rt, log, gone)?;
@@ -51,10 +51,10 @@ fn run(rt: &HostRuntime) -> Result<(), Ungone> {
     Ok(())
 }
 
-/// Whether the old settings have grown to the new ones.
-fn check_growth(alloc: Global, old: &[u8], new: &[u8]) -> Result<(), Ungone> {
+/// Whether the old settings have grown to the new ones, and the digests of both.
+fn check_growth(alloc: Global, old: &[u8], new: &[u8]) -> Result<Grown, Ungone> {
     match grows(alloc, old, new) {
-        Ok(()) => Ok(()),
+        Ok(grown) => Ok(grown),
         Err(GrowthFault::OutOfMemory) => Err(End::OutOfMemory),
         Err(GrowthFault::OldSettings) => why_refused(alloc, GrowthFault::OldSettings, old),
         Err(GrowthFault::NewSettings) => why_refused(alloc, GrowthFault::NewSettings, new),
@@ -63,7 +63,7 @@ fn check_growth(alloc: Global, old: &[u8], new: &[u8]) -> Result<(), Ungone> {
 }
 
 /// Ends for settings that are refused, with what is wrong in them.
-fn why_refused(alloc: Global, fault: GrowthFault, text: &[u8]) -> Result<(), Ungone> {
+fn why_refused(alloc: Global, fault: GrowthFault, text: &[u8]) -> Result<Grown, Ungone> {
     match living_settings_fault(alloc, text)? {
         Some(why) => Err(End::Own(Finding::Refused(fault, why))),
         None => Err(End::Own(Finding::Growth(fault))),
@@ -71,15 +71,20 @@ fn why_refused(alloc: Global, fault: GrowthFault, text: &[u8]) -> Result<(), Ung
 }
 
 /// Tells of each log what becomes of it, and gives that, where all of them go over.
-fn judge(rt: &HostRuntime, words: &Words<'_>, old: &[u8], new: &[u8]) -> Result<Vec<Gone>, Ungone> {
+fn judge(
+    rt: &HostRuntime,
+    words: &Words<'_>,
+    grown: &Grown,
+    old: &[u8],
+    new: &[u8],
+) -> Result<Vec<Gone>, Ungone> {
     let alloc = rt.alloc();
-    let digest = SettingsDigest::of(old);
     let mut gone = Vec::new(alloc);
     let mut lines = Vec::new(alloc);
     for name in &words.logs {
         let bytes = read_file(rt, name)?;
-        let becomes = go_over(alloc, &digest, new, bytes.as_slice());
-        let routed = is_routed_now(alloc, &digest, old, bytes.as_slice(), &becomes);
+        let becomes = go_over(alloc, &grown.old, &grown.new, new, bytes.as_slice());
+        let routed = is_routed_now(alloc, &grown.old, old, bytes.as_slice(), &becomes);
         put_line(alloc, &mut lines, name, &becomes, routed)?;
         match becomes {
             Ok(one) => gone.push(one)?,
@@ -99,14 +104,17 @@ fn judge(rt: &HostRuntime, words: &Words<'_>, old: &[u8], new: &[u8]) -> Result<
 /// its log under the old settings it can be for nothing else.
 fn is_routed_now(
     alloc: Global,
-    digest: &SettingsDigest,
+    digests: &Digests,
     old: &[u8],
     bytes: &[u8],
     becomes: &Result<Gone, OverFault>,
 ) -> bool {
     match becomes {
         Err(OverFault::Refused(Node::Switch(_), ServiceFault::NotMade(_))) => {
-            matches!(go_over(alloc, digest, old, bytes), Ok(Gone::Already(_)))
+            matches!(
+                go_over(alloc, digests, digests, old, bytes),
+                Ok(Gone::Already(_))
+            )
         }
         _ => false,
     }

@@ -1,5 +1,5 @@
 -- The first bytes of a log's text are read as what stands whole in them.
-use Rattle.std.proofs.Common.{◌≡◌, ℕ, zero, suc, ◌+◌, ◌-◌, ◌<◌, ◌≤◌, true, List, [], ◌++◌, length, take, drop, nat_lt, Some, None, Ok, Err, inl, inr, refl, ap, ◌∙◌, sym, arith, append_assoc, append-nil, length-append}
+use Rattle.std.proofs.Common.{◌≡◌, ℕ, zero, suc, ◌+◌, ◌-◌, ◌<◌, ◌≤◌, true, List, [], ◌∷◌, ◌++◌, length, take, drop, nat_lt, Some, None, Ok, Err, inl, inr, refl, ap, ◌∙◌, sym, arith, append_assoc, append-nil, length-append}
 use Rattle.std.proofs.lemmas.Bool.{cases_lt}
 use Rattle.std.proofs.lemmas.Bool.Decides.{nat_tests}
 use Rattle.std.proofs.lemmas.List.{take_at, take_all, take-append-le}
@@ -13,7 +13,7 @@ use Rattle.kept_logs.specs.Frames.{check_of, frame_text, Whole, met}
 use Rattle.kept_logs.specs.Logs.{owner_text, head_text, calls_text, log_text, head_in, calls_in, log_in, ReadsAs}
 use Rattle.kept_logs.specs.Fits.{FitsNode, FitsLog}
 use Rattle.kept_logs.specs.Cuts.{whole_within, first_calls, calls_within, log_within, ReadsBack}
-use Rattle.kept_logs.proofs.Meeting.{met-append, met-short}
+use Rattle.kept_logs.proofs.Meeting.{met-append, met-short, same_byte}
 use Rattle.kept_logs.proofs.FieldsBack.{bytes_at-put, node_at-put}
 use Rattle.kept_logs.proofs.FramesBack.{check_length, take_over, taken_at_most}
 use Rattle.kept_logs.proofs.CallsBack.{ReadsCalls, reads_calls, calls_text-more, calls_text-split, all_within}
@@ -30,11 +30,20 @@ owner_length : (digest : List ℕ) (node : Node) → length digest ≡ 32 → le
 unfolding owner_text
 owner_length digest node h = omega (arith, length-append (node_text node) digest, node_length node, h)
 
-pub head_length : (digest : List ℕ) (node : Node) → length digest ≡ 32 → length (head_text digest node) ≡ 46
+-- a version, and the digest behind it
+one_version : (digest : List ℕ) → length digest ≡ 33 → length (take 1 digest) ≡ 1
+one_version [] h = absurd (omega (arith, h))
+one_version (version ∷ digest) h = refl
+
+behind_version : (digest : List ℕ) → length digest ≡ 33 → length (drop 1 digest) ≡ 32
+behind_version [] h = absurd (omega (arith, h))
+behind_version (version ∷ digest) h = omega (arith, h)
+
+pub head_length : (digest : List ℕ) (node : Node) → length digest ≡ 33 → length (head_text digest node) ≡ 46
 unfolding head_text
 head_length digest node h =
-    let owner : List ℕ = owner_text digest node in
-    omega (arith, length-append owner (check_of 0 owner), owner_length digest node h, check_length 0 owner)
+    let owner : List ℕ = owner_text (drop 1 digest) node in
+    omega (arith, length-append (take 1 digest) (owner ++ check_of 0 owner), one_version digest h, length-append owner (check_of 0 owner), owner_length (drop 1 digest) node (behind_version digest h), check_length 0 owner)
 
 node_at_owner : (digest : List ℕ) (node : Node) → FitsNode node → node_at (owner_text digest node) ≡ Some (node, digest)
 unfolding owner_text
@@ -43,11 +52,12 @@ node_at_owner digest node fits = node_at-put node digest fits
 met-self : (xs : List ℕ) → met xs xs ≡ Whole []
 met-self xs = ap (met xs) (sym (append-nil xs)) ∙ met-append xs []
 
-pub head_in-put : (digest : List ℕ) (node : Node) (rest : List ℕ) → length digest ≡ 32 → FitsNode node → head_in digest (head_text digest node ++ rest) ≡ Ok (node, rest)
+pub head_in-put : (digest : List ℕ) (node : Node) (rest : List ℕ) → length digest ≡ 33 → FitsNode node → head_in digest (head_text digest node ++ rest) ≡ Ok (node, rest)
 unfolding head_in head_text
-head_in-put digest node rest h fits =
+head_in-put [] node rest h fits = absurd (omega (arith, h))
+head_in-put (version ∷ digest) node rest h fits =
     let owner : List ℕ = owner_text digest node in
-    rw (append_assoc owner (check_of 0 owner) rest, bytes_at-put 35 owner (check_of 0 owner ++ rest) (owner_length digest node h), met-append (check_of 0 owner) rest, node_at_owner digest node fits, met-self digest) refl
+    rw (append_assoc owner (check_of 0 owner) rest, same_byte version, bytes_at-put 35 owner (check_of 0 owner ++ rest) (owner_length digest node (omega (arith, h))), met-append (check_of 0 owner) rest, node_at_owner digest node fits, met-self digest) refl
 
 no_owner : (bytes : List ℕ) → length bytes < 35 → bytes_at 35 bytes ≡ None
 unfolding bytes_at
@@ -56,35 +66,39 @@ no_owner bytes h = rw (less (length bytes) h) refl
     less : (m : ℕ) → m < 35 → nat_lt m 35 ≡ true
     less m h = grind (arith, nat_tests)
 
-pub head_in-short : (digest : List ℕ) (node : Node) (n : ℕ) (rest : List ℕ) → length digest ≡ 32 → n < 46 → head_in digest (take n (head_text digest node ++ rest)) ≡ Err Short
+pub head_in-short : (digest : List ℕ) (node : Node) (n : ℕ) (rest : List ℕ) → length digest ≡ 33 → n < 46 → head_in digest (take n (head_text digest node ++ rest)) ≡ Err Short
 unfolding head_in head_text
-head_in-short digest node zero rest h small = refl
-head_in-short digest node (suc zero) rest h small = refl
-head_in-short digest node (suc (suc zero)) rest h small = refl
-head_in-short digest node (suc (suc (suc m))) rest h small = elim (cases_lt m 35) [
-  | inl within ↦ rw (no_owner (take m ((owner ++ sum) ++ rest)) (omega (arith, taken_at_most m ((owner ++ sum) ++ rest), within))) refl
-  | inr behind ↦ rw (cut behind, bytes_at-put 35 owner (take (m - length owner) sum) (owner_length digest node h), met-short sum (m - length owner) (omega (arith, small, behind, owner_length digest node h, check_length 0 owner))) refl
+head_in-short [] node n rest h small = absurd (omega (arith, h))
+head_in-short (version ∷ digest) node zero rest h small = refl
+head_in-short (version ∷ digest) node (suc zero) rest h small = refl
+head_in-short (version ∷ digest) node (suc (suc zero)) rest h small = refl
+head_in-short (version ∷ digest) node (suc (suc (suc m))) rest h small = elim (cases_lt m 35) [
+  | inl within ↦ rw (same_byte version, no_owner (take m ((owner ++ sum) ++ rest)) (omega (arith, taken_at_most m ((owner ++ sum) ++ rest), within))) refl
+  | inr behind ↦ rw (same_byte version, cut behind, bytes_at-put 35 owner (take (m - length owner) sum) size, met-short sum (m - length owner) (omega (arith, small, behind, size, check_length 0 owner))) refl
 ]
   where
     owner : List ℕ
     owner = owner_text digest node
+
+    size : length owner ≡ 35
+    size = owner_length digest node (omega (arith, h))
 
     sum : List ℕ
     sum = check_of 0 owner
 
     cut : 35 ≤ m → take m ((owner ++ sum) ++ rest) ≡ owner ++ take (m - length owner) sum
     cut behind =
-        take-append-le m (owner ++ sum) rest (omega (arith, small, length-append owner sum, owner_length digest node h, check_length 0 owner))
-        ∙ take_over owner sum m (omega (arith, behind, owner_length digest node h))
+        take-append-le m (owner ++ sum) rest (omega (arith, small, length-append owner sum, size, check_length 0 owner))
+        ∙ take_over owner sum m (omega (arith, behind, size))
 
 -- ---- the log
 
-pub log_length : (digest : List ℕ) (log : NodeLog) → length digest ≡ 32 → length (log_text digest log) ≡ 46 + length (calls_text 1 log.calls)
+pub log_length : (digest : List ℕ) (log : NodeLog) → length digest ≡ 33 → length (log_text digest log) ≡ 46 + length (calls_text 1 log.calls)
 unfolding log_text
 log_length digest log h = omega (arith, length-append (head_text digest log.node) (calls_text 1 log.calls), head_length digest log.node h)
 
 -- a cut behind the head
-cut_text : (digest : List ℕ) (log : NodeLog) (n : ℕ) → length digest ≡ 32 → 46 ≤ n → take n (log_text digest log) ≡ head_text digest log.node ++ take (n - 46) (calls_text 1 log.calls)
+cut_text : (digest : List ℕ) (log : NodeLog) (n : ℕ) → length digest ≡ 33 → 46 ≤ n → take n (log_text digest log) ≡ head_text digest log.node ++ take (n - 46) (calls_text 1 log.calls)
 unfolding log_text
 cut_text digest log n h long =
     let head : List ℕ = head_text digest log.node in
@@ -92,7 +106,7 @@ cut_text digest log n h long =
     let e : length head ≡ 46 = head_length digest log.node h in
     take_over head text n (omega (arith, long, e)) ∙ ap (λ m. head ++ take (n - m) text) e
 
-read_by : (digest : List ℕ) (log : NodeLog) (n : ℕ) → length digest ≡ 32 → FitsLog log
+read_by : (digest : List ℕ) (log : NodeLog) (n : ℕ) → length digest ≡ 33 → FitsLog log
     → (left bytes : List ℕ) → left ≡ take n (calls_text 1 log.calls) → bytes ≡ head_text digest log.node ++ left → ReadsCalls (length bytes) 1 (length left) n log.calls (whole_within 1 n log.calls)
     → log_in digest bytes ≡ Ok (record { log = first_calls (whole_within 1 n log.calls) log; whole = length (log_text digest (first_calls (whole_within 1 n log.calls) log)) })
 unfolding log_in
@@ -111,7 +125,7 @@ text_split digest log k =
     let head : List ℕ = head_text digest log.node in
     ap (λ t. head ++ t) (calls_text-split 1 k log.calls) ∙ sym (append_assoc head (calls_text 1 (take k log.calls)) (calls_text (1 + k) (drop k log.calls)))
 
-pub reads_back : (digest : List ℕ) (log : NodeLog) (n : ℕ) → length digest ≡ 32 → FitsLog log → 46 ≤ n → ReadsBack digest n log
+pub reads_back : (digest : List ℕ) (log : NodeLog) (n : ℕ) → length digest ≡ 33 → FitsLog log → 46 ≤ n → ReadsBack digest n log
 reads_back digest log n h fits long =
     let k : ℕ = calls_within n log in
     let left : List ℕ = take (n - 46) (calls_text 1 log.calls) in
@@ -125,7 +139,7 @@ reads_back digest log n h fits long =
       text = ap (take (length (log_text digest (first_calls k log)))) (text_split digest log k) ∙ take_at (log_text digest (first_calls k log)) (calls_text (1 + k) (drop k log.calls)) (length (log_text digest (first_calls k log))) refl;
     }
 
-pub reads_whole : (digest : List ℕ) (log : NodeLog) → length digest ≡ 32 → FitsLog log → ReadsAs digest (log_text digest log) log
+pub reads_whole : (digest : List ℕ) (log : NodeLog) → length digest ≡ 33 → FitsLog log → ReadsAs digest (log_text digest log) log
 reads_whole digest log h fits =
     let text : List ℕ = log_text digest log in
     let n : ℕ = length text in
@@ -136,7 +150,7 @@ reads_whole digest log h fits =
     let same : log_within n log ≡ log = ap (λ (cs : List Logged). record { node = log.node; calls = cs }) calls in
     ap (log_in digest) (sym (take_all n text (omega arith))) ∙ back.read ∙ ap (λ (l : NodeLog). Ok (record { log = l; whole = length (log_text digest l) })) same
 
-pub reads_short : (digest : List ℕ) (log : NodeLog) (n : ℕ) → length digest ≡ 32 → n < 46 → log_in digest (take n (log_text digest log)) ≡ Err Short
+pub reads_short : (digest : List ℕ) (log : NodeLog) (n : ℕ) → length digest ≡ 33 → n < 46 → log_in digest (take n (log_text digest log)) ≡ Err Short
 unfolding log_in log_text
 reads_short digest log n h small = rw (head_in-short digest log.node n (calls_text 1 log.calls) h small) refl
 

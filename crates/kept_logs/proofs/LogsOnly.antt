@@ -243,8 +243,8 @@ after_owner digest owner = expected fault.DamagedHead (met (check_of 0 owner.0) 
 abbrev after_version : List ℕ → List ℕ → Head
 after_version digest known = some_or fault.Short (bytes_at 35 known) >>= after_owner digest
 
-abbrev after_name : List ℕ → List ℕ → Head
-after_name digest named = expected fault.Version (met (1 ∷ []) named) >>= after_version digest
+abbrev after_name : ℕ → List ℕ → List ℕ → Head
+after_name version digest named = expected fault.Version (met (version ∷ []) named) >>= after_version digest
 
 nothing : (xs : List ℕ) → length xs ≤ 0 → xs ≡ []
 nothing [] h = refl
@@ -257,14 +257,14 @@ owner_is digest owner node left own d o first second =
     let none : own ≡ [] = nothing own (omega (arith, d, o, ap length first, length-append (node_text node) left, ap length second, length-append digest own, node_length node)) in
     first ∙ ap (λ t. node_text node ++ t) (second ∙ ap (λ t. digest ++ t) none ∙ append-nil digest)
 
-head_text_is : (digest bytes named known owner sum rest : List ℕ) (node : Node) → bytes ≡ codes "PL" ++ named → named ≡ 1 ∷ known → known ≡ owner ++ sum → sum ≡ check_of 0 owner ++ rest → owner ≡ owner_text digest node
-    → bytes ≡ head_text digest node ++ rest
+head_text_is : (version : ℕ) (digest bytes named known owner sum rest : List ℕ) (node : Node) → bytes ≡ codes "PL" ++ named → named ≡ version ∷ known → known ≡ owner ++ sum → sum ≡ check_of 0 owner ++ rest → owner ≡ owner_text digest node
+    → bytes ≡ head_text (version ∷ digest) node ++ rest
 unfolding head_text
-head_text_is digest bytes named known owner sum rest node e1 e2 e3 e4 e5 =
+head_text_is version digest bytes named known owner sum rest node e1 e2 e3 e4 e5 =
     let full : List ℕ = owner_text digest node in
     let tail : known ≡ (full ++ check_of 0 full) ++ rest =
     e3 ∙ ap (λ t. owner ++ t) e4 ∙ ap (λ o. o ++ (check_of 0 o ++ rest)) e5 ∙ sym (append_assoc full (check_of 0 full) rest) in
-    e1 ∙ ap (λ t. codes "PL" ++ t) (e2 ∙ ap (λ t. 1 ∷ t) tail)
+    e1 ∙ ap (λ t. codes "PL" ++ t) (e2 ∙ ap (λ t. version ∷ t) tail)
 
 same_head : (a x : Node) (b y : List ℕ) → ◌≡◌ {A = Head} (Ok (a, b)) (Ok (x, y)) → (a ≡ x) × (b ≡ y)
 same_head a x b y h = let e : ◌≡◌ {A = Node × List ℕ} (a, b) (x, y) = cc in (ap (λ p. p.0) e, ap (λ p. p.1) e)
@@ -272,27 +272,28 @@ same_head a x b y h = let e : ◌≡◌ {A = Node × List ℕ} (a, b) (x, y) = c
 front_are : (front rest : List ℕ) → AreBytes (front ++ rest) → AreBytes front
 front_are front rest are = subst AreBytes (take_at front rest (length front) refl) (take_bytes (length front) (front ++ rest) are (omega (arith, length-append front rest)))
 
-pub head_in_taken : (digest bytes : List ℕ) (node : Node) (rest : List ℕ) → length digest ≡ 32 → AreBytes bytes → head_in digest bytes ≡ Ok (node, rest) → IsTaken bytes (head_text digest node) rest × FitsNode node
+pub head_in_taken : (digest bytes : List ℕ) (node : Node) (rest : List ℕ) → length digest ≡ 33 → AreBytes bytes → head_in digest bytes ≡ Ok (node, rest) → IsTaken bytes (head_text digest node) rest × FitsNode node
 unfolding head_in
-head_in_taken digest bytes node rest d are h =
+head_in_taken [] bytes node rest d are h = absurd (omega (arith, d))
+head_in_taken (version ∷ digest) bytes node rest d are h =
     let end : Node × List ℕ = (node, rest) in
-    let named = result_then (expected fault.NotALog (met (codes "PL") bytes)) (after_name digest) end h in
-    let known = result_then (expected fault.Version (met (1 ∷ []) named.0)) (after_version digest) end named.2 in
+    let named = result_then (expected fault.NotALog (met (codes "PL") bytes)) (after_name version digest) end h in
+    let known = result_then (expected fault.Version (met (version ∷ []) named.0)) (after_version digest) end named.2 in
     let owner = result_then (some_or fault.Short (bytes_at 35 known.0)) (after_owner digest) end known.2 in
     let sum = result_then (expected fault.DamagedHead (met (check_of 0 owner.0.0) owner.0.1)) (after_sum digest owner.0.0) end owner.2 in
     let found = result_then (some_or fault.NoNode (node_at owner.0.0)) (after_node digest sum.0) end sum.2 in
     let own = result_then (expected fault.OtherSettings (met digest found.0.1)) (λ (o : List ℕ). Ok (found.0.0, sum.0)) end found.2 in
     let first : IsTaken bytes (codes "PL") named.0 = whole_taken (codes "PL") bytes named.0 are (expected_whole fault.NotALog (met (codes "PL") bytes) named.0 named.1) in
-    let second : IsTaken named.0 (1 ∷ []) known.0 = whole_taken (1 ∷ []) named.0 known.0 first.rest_bytes (expected_whole fault.Version (met (1 ∷ []) named.0) known.0 known.1) in
+    let second : IsTaken named.0 (version ∷ []) known.0 = whole_taken (version ∷ []) named.0 known.0 first.rest_bytes (expected_whole fault.Version (met (version ∷ []) named.0) known.0 known.1) in
     let third = bytes_at_taken 35 known.0 owner.0.0 owner.0.1 second.rest_bytes (some_of fault.Short (bytes_at 35 known.0) owner.0 owner.1) in
     let fourth : IsTaken owner.0.1 (check_of 0 owner.0.0) sum.0 = whole_taken (check_of 0 owner.0.0) owner.0.1 sum.0 third.0.rest_bytes (expected_whole fault.DamagedHead (met (check_of 0 owner.0.0) owner.0.1) sum.0 sum.1) in
     let owner_bytes : AreBytes owner.0.0 = front_are owner.0.0 owner.0.1 (subst AreBytes third.0.all second.rest_bytes) in
     let fifth : IsTaken owner.0.0 (node_text found.0.0) found.0.1 = node_at_taken owner.0.0 found.0.0 found.0.1 owner_bytes (some_of fault.NoNode (node_at owner.0.0) found.0 found.1) in
     let sixth : found.0.1 ≡ digest ++ own.0 = met-whole digest found.0.1 own.0 (expected_whole fault.OtherSettings (met digest found.0.1) own.0 own.1) in
     let parts = same_head found.0.0 node sum.0 rest own.2 in
-    let text : bytes ≡ head_text digest found.0.0 ++ sum.0 = head_text_is digest bytes named.0 known.0 owner.0.0 owner.0.1 sum.0 found.0.0 first.all second.all third.0.all fourth.all (owner_is digest owner.0.0 found.0.0 found.0.1 own.0 d third.1 fifth.all sixth) in
-    let made : IsTaken bytes (head_text digest found.0.0) sum.0 = record { all = text; rest_bytes = fourth.rest_bytes } in
-    (subst (λ r. IsTaken bytes (head_text digest node) r) parts.1 (subst (λ (n : Node). IsTaken bytes (head_text digest n) sum.0) parts.0 made), subst FitsNode parts.0 (node_fits owner.0.0 found.0.0 found.0.1 owner_bytes (some_of fault.NoNode (node_at owner.0.0) found.0 found.1)))
+    let text : bytes ≡ head_text (version ∷ digest) found.0.0 ++ sum.0 = head_text_is version digest bytes named.0 known.0 owner.0.0 owner.0.1 sum.0 found.0.0 first.all second.all third.0.all fourth.all (owner_is digest owner.0.0 found.0.0 found.0.1 own.0 (omega (arith, d)) third.1 fifth.all sixth) in
+    let made : IsTaken bytes (head_text (version ∷ digest) found.0.0) sum.0 = record { all = text; rest_bytes = fourth.rest_bytes } in
+    (subst (λ r. IsTaken bytes (head_text (version ∷ digest) node) r) parts.1 (subst (λ (n : Node). IsTaken bytes (head_text (version ∷ digest) n) sum.0) parts.0 made), subst FitsNode parts.0 (node_fits owner.0.0 found.0.0 found.0.1 owner_bytes (some_of fault.NoNode (node_at owner.0.0) found.0 found.1)))
 
 -- ---- the log
 
@@ -314,7 +315,7 @@ log_is digest bytes node text calls rest front small found =
       fits = record { node = small; calls = found.fits };
     }
 
-pub log_in_taken : (digest bytes : List ℕ) (read : Reading) → length digest ≡ 32 → AreBytes bytes → log_in digest bytes ≡ Ok read → IsLogOf digest bytes read
+pub log_in_taken : (digest bytes : List ℕ) (read : Reading) → length digest ≡ 33 → AreBytes bytes → log_in digest bytes ≡ Ok read → IsLogOf digest bytes read
 unfolding log_in
 log_in_taken digest bytes read d are h =
     let head = result_then (head_in digest bytes) (λ (n : Node × List ℕ). calls_in (length bytes) 1 (length n.1) n.1 >>= λ (c : List Logged × List ℕ). Ok (record { log = record { node = n.0; calls = c.0 }; whole = length bytes - length c.1 })) read h in

@@ -1,5 +1,5 @@
 -- A node that makes the calls of a log as they are read.
-use Rattle.std.proofs.Common.{◌≡◌, ℕ, ◌+◌, ◌-◌, ◌<◌, Bool, true, List, [], ◌∷◌, ◌++◌, length, Option, Some, None, Result, Ok, Err, refl, sym, ap, ◌∙◌, arith, subst, length-append}
+use Rattle.std.proofs.Common.{◌≡◌, ℕ, ◌+◌, ◌-◌, ◌<◌, Bool, true, false, List, [], ◌∷◌, ◌++◌, length, Option, Some, None, Result, Ok, Err, refl, sym, ap, ◌∙◌, arith, subst, length-append}
 use Rattle.claim_model.specs.Context.{Context}
 use Rattle.claim_model.specs.Node.{Node, Done}
 use Rattle.claim_model.specs.Nodes.{AnyNode, node_step, same_node}
@@ -7,10 +7,10 @@ use Rattle.claim_model.specs.Logs.{Logged, node_after, replay, Makes}
 use Rattle.run_merge.specs.Order.{TellsMade}
 use Rattle.kept_logs.specs.declared.fault.LogFault.{LogFault}
 use Rattle.kept_logs.specs.declared.making.MadeCalls.{MadeCalls}
-use Rattle.kept_logs.specs.Logs.{behind, calls_in, head_in, log_in, record_in}
-use Rattle.kept_logs.specs.Making.{AreMade, IsMadeAsRead}
+use Rattle.kept_logs.specs.Logs.{behind, calls_in, head_in, log_in, record_in, records_in}
+use Rattle.kept_logs.specs.Making.{AreMade, AreNotMade, IsMadeAsRead}
 use Rattle.claim_model.proofs.Names.{same_is}
-use Rattle.kept_logs.proofs.Loops.{calls_taken, calls_cut, calls_all}
+use Rattle.kept_logs.proofs.Loops.{calls_taken, calls_cut, calls_stop, calls_all}
 
 -- the calls that were read were made, and with those that are left they are all
 pub record MadeSoFar (ctx : Context) (before : AnyNode) (total : ℕ) (bytes : List ℕ) (node : AnyNode) (place : ℕ) (rest : List ℕ) : Type 0 where
@@ -84,6 +84,34 @@ all_made ctx before total bytes node place rest so_far over = record {
   makes = so_far.makes;
   leads = so_far.leads;
 }
+
+-- a call that a node does not make behind those that it made: it does not make them all
+stops : (ctx : Context) (before : AnyNode) (calls : List Logged) (one : Logged) (more : List Logged) → ((after : AnyNode) → node_step ctx (replay ctx before calls) one.call ≡ Done after one.sent → ⊥) → Makes ctx before ((calls ++ one ∷ []) ++ more) → ⊥
+stops ctx before [] one more none m = none (node_after before (node_step ctx before one.call)) m.0
+stops ctx before (k ∷ calls) one more none m = stops ctx (node_after before (node_step ctx before k.call)) calls one more none m.1
+
+none_of_all : (ctx : Context) (before : AnyNode) (calls : List Logged) (one : Logged) (reading : Result (List Logged × List ℕ) LogFault)
+    → ((after : AnyNode) → node_step ctx (replay ctx before calls) one.call ≡ Done after one.sent → ⊥) → AreNotMade ctx before (behind (calls ++ one ∷ []) reading)
+none_of_all ctx before calls one (Ok read) none = λ m. stops ctx before calls one read.0 none m
+none_of_all ctx before calls one (Err why) none = tt
+
+-- the call that was read is not made
+pub not_made_here : (ctx : Context) (before : AnyNode) (total : ℕ) (bytes : List ℕ) (node next : AnyNode) (place : ℕ) (rest after : List ℕ) (told : Bool) (one entry : Logged)
+    → MadeSoFar ctx before total bytes node place rest → place < length bytes → record_in (place + 1) (total - length rest) rest ≡ Ok (Some (entry, after)) → one ≡ entry → told ≡ false → TellsMade told ctx node one next
+    → AreNotMade ctx before (records_in total bytes)
+not_made_here ctx before total bytes node next place rest after told one entry so_far within read same not_made made =
+    let none : (to : AnyNode) → node_step ctx node one.call ≡ Done to one.sent → ⊥ = rw not_made at made in
+    let here : (to : AnyNode) → node_step ctx (replay ctx before so_far.calls) entry.call ≡ Done to entry.sent → ⊥ =
+    subst (λ (l : Logged). (to : AnyNode) → node_step ctx (replay ctx before so_far.calls) l.call ≡ Done to l.sent → ⊥) same
+    (subst (λ (n : AnyNode). (to : AnyNode) → node_step ctx n one.call ≡ Done to one.sent → ⊥) so_far.leads none) in
+    subst (AreNotMade ctx before) (sym (so_far.same ∙ calls_taken total (length bytes) place so_far.calls rest entry after within read))
+    (none_of_all ctx before so_far.calls entry (calls_in total (place + 1 + 1) (length bytes - (place + 1)) after) here)
+
+-- what stands here is no record
+pub no_record_here : (ctx : Context) (before : AnyNode) (total : ℕ) (bytes : List ℕ) (node : AnyNode) (place : ℕ) (rest : List ℕ) (why : LogFault)
+    → MadeSoFar ctx before total bytes node place rest → place < length bytes → record_in (place + 1) (total - length rest) rest ≡ Err why → AreNotMade ctx before (records_in total bytes)
+no_record_here ctx before total bytes node place rest why so_far within read =
+    subst (AreNotMade ctx before) (sym (so_far.same ∙ calls_stop total (length bytes) place so_far.calls rest why within read)) tt
 
 -- what stands in an option
 abbrev in_some : {A : Type 0} → A → Option A → A

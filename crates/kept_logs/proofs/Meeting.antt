@@ -57,7 +57,7 @@ whole wanted bytes k other a b e t = ap Whole (take_rest bytes k) ∙ whole_at w
 
 -- ---- what follows from definitions alone
 
-same_byte : (n : ℕ) → (n == n) ≡ true
+pub same_byte : (n : ℕ) → (n == n) ≡ true
 same_byte n = grind (arith, nat_tests)
 
 is_byte : (m n : ℕ) → (m == n) ≡ true → m ≡ n

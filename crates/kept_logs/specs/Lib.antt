@@ -4,6 +4,7 @@ pub mod Fields
 pub mod Calls
 pub mod Records
 pub mod Frames
+pub mod Digests
 pub mod Logs
 pub mod Making
 pub mod Fits

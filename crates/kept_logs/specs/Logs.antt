@@ -1,5 +1,5 @@
 -- The text of a log, and what bytes are as a log.
-use Rattle.std.specs.Prelude.{◌≡◌, ℕ, zero, suc, ◌+◌, ◌-◌, List, [], ◌∷◌, ◌++◌, length, codes, Option, Some, None, Result, Ok, Err}
+use Rattle.std.specs.Prelude.{◌≡◌, ℕ, zero, suc, ◌+◌, ◌-◌, List, [], ◌∷◌, ◌++◌, length, take, drop, codes, Option, Some, None, Result, Ok, Err}
 use Rattle.claim_model.specs.Node.{Node}
 use Rattle.claim_model.specs.Logs.{Logged, NodeLog}
 use Rattle.kept_logs.specs.declared.fault.LogFault.{LogFault}
@@ -9,13 +9,14 @@ use Rattle.kept_logs.specs.Fields.{bytes_at, node_text, node_at}
 use Rattle.kept_logs.specs.Records.{logged_text, logged_in}
 use Rattle.kept_logs.specs.Frames.{check_of, frame_text, Met, Whole, Torn, Differs, met, Frame, Framed, CutOff, Damaged, frame_at}
 
--- whose log it is, and under which settings: a node, and the digest of the settings' text, 35 bytes
+-- whose log it is, and under which settings: a node, and a digest of the settings, 35 bytes
 unfoldable pub owner_text : List ℕ → Node → List ℕ
 owner_text digest node = node_text node ++ digest
 
--- the head of a log: its name, its version, its owner, and what vouches for that, under the number 0; 46 bytes
+-- the head of a log: its name, its version, its owner, and what vouches for that, under the number 0; 46 bytes. The version is the first byte of what
+-- the head has of the settings, and the digest is behind it
 unfoldable pub head_text : List ℕ → Node → List ℕ
-head_text digest node = codes "PL" ++ (1 ∷ (owner_text digest node ++ check_of 0 (owner_text digest node)))
+head_text digest node = codes "PL" ++ (take 1 digest ++ (owner_text (drop 1 digest) node ++ check_of 0 (owner_text (drop 1 digest) node)))
 
 -- the records of calls, numbered from here on
 unfoldable pub calls_text : ℕ → List Logged → List ℕ
@@ -38,11 +39,11 @@ expected why Differs = Err why
 unfoldable pub head_in : List ℕ → List ℕ → Result (Node × List ℕ) LogFault
 head_in digest bytes = do
   named ← expected fault.NotALog (met (codes "PL") bytes)
-  known ← expected fault.Version (met (1 ∷ []) named)
+  known ← expected fault.Version (met (take 1 digest) named)
   owner ← some_or fault.Short (bytes_at 35 known)
   rest ← expected fault.DamagedHead (met (check_of 0 owner.0) owner.1)
   node ← some_or fault.NoNode (node_at owner.0)
-  own ← expected fault.OtherSettings (met digest node.1)
+  own ← expected fault.OtherSettings (met (drop 1 digest) node.1)
   Ok (node.0, rest)
 
 -- the record that was read, and what follows it, where its body is an accepted call

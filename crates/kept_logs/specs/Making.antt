@@ -1,12 +1,13 @@
 -- A log that is made by its node as it is read.
-use Rattle.std.specs.Prelude.{◌≡◌, ⊤, ℕ, List, length, Option, Some, None, Ok}
+use Rattle.std.specs.Prelude.{◌≡◌, ⊤, ℕ, List, length, Option, Some, None, Result, Ok, Err}
 use Rattle.claim_model.specs.Context.{Context}
 use Rattle.claim_model.specs.Node.{Node}
 use Rattle.claim_model.specs.Nodes.{AnyNode}
 use Rattle.claim_model.specs.Logs.{Logged, NodeLog, replay, Makes}
+use Rattle.kept_logs.specs.declared.fault.LogFault.{LogFault}
 use Rattle.kept_logs.specs.declared.making.MadeCalls.{MadeCalls}
 use Rattle.kept_logs.specs.declared.making.MadeLog.{MadeLog}
-use Rattle.kept_logs.specs.Logs.{log_in, records_in}
+use Rattle.kept_logs.specs.Logs.{Reading, log_in, records_in}
 
 -- the calls of the records that bytes are: a node makes each of them, so many, and is then this one; so many bytes are left
 pub record AreMade (ctx : Context) (before : AnyNode) (total : ℕ) (bytes : List ℕ) (node : AnyNode) (count left : ℕ) : Type 0 where
@@ -28,11 +29,21 @@ pub record IsMadeAsRead (ctx : Context) (before : AnyNode) (digest : List ℕ) (
   pub makes : Makes ctx before log.calls
   pub leads : made.node ≡ replay ctx before log.calls
 
--- nothing is said where there is none
+-- what bytes are read as is not calls that a node makes from this state: they are no records, or it does not make each of them
+abbrev pub AreNotMade : Context → AnyNode → Result (List Logged × List ℕ) LogFault → Type 0
+AreNotMade ctx before (Ok read) = Makes ctx before read.0 → ⊥
+AreNotMade ctx before (Err why) = ⊤
+
+-- what bytes are read as is not a log that this node makes from this state: they are no log, or another node's, or it does not make each call
+abbrev pub IsNotMade : Context → AnyNode → Node → Result Reading LogFault → Type 0
+IsNotMade ctx before node (Ok read) = read.log.node ≡ node → Makes ctx before read.log.calls → ⊥
+IsNotMade ctx before node (Err why) = ⊤
+
 abbrev pub AreMadeIf : Context → AnyNode → ℕ → List ℕ → Option MadeCalls → Type 0
-AreMadeIf ctx before total bytes None = ⊤
+AreMadeIf ctx before total bytes None = AreNotMade ctx before (records_in total bytes)
 AreMadeIf ctx before total bytes (Some made) = AreMade ctx before total bytes made.node made.calls made.torn
 
+-- there is a node exactly where the bytes are this node's log, which it makes
 abbrev pub IsMadeIf : Context → AnyNode → List ℕ → Node → List ℕ → Option MadeLog → Type 0
-IsMadeIf ctx before digest node bytes None = ⊤
+IsMadeIf ctx before digest node bytes None = IsNotMade ctx before node (log_in digest bytes)
 IsMadeIf ctx before digest node bytes (Some made) = IsMadeAsRead ctx before digest node bytes made

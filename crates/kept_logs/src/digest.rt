@@ -1,44 +1,68 @@
 //! Digests: that of settings, and the eight bytes that vouch for a record.
 
-ghost use Rattle.std.specs.Prelude.{◌≡◌, length};
-ghost use Rattle.sha2.specs.Sha256.{sha256};
+ghost use Rattle.std.specs.Prelude.{◌≡◌, length, take, drop};
+ghost use Rattle.kept_logs.specs.Digests.{is_first, of_file, of_said};
 ghost use Rattle.kept_logs.specs.Frames.{check_of};
 
 use sha2::{Digest, Sha256};
 use std::marker::Model;
 
-/// The SHA-256 digest of the text of settings. Each log names the settings that its node was opened with by it.
+/// What the head of a log has of the settings that its node was opened with: the version of the log, and behind it a SHA-256
+/// digest. In version 1 that is the digest of the bytes of the settings' file, in version 2 of a text of what they say.
 #[derive(Clone, Copy, PartialEq, Eq)]
 pub struct SettingsDigest {
+    version: u8,
     bytes: [u8; 32],
 }
 
 impl Model for SettingsDigest {
-    ghost use Rattle.std.specs.Prelude.{List, ℕ};
+    ghost use Rattle.std.specs.Prelude.{List, ℕ, ◌∷◌, drop, slice_index};
 
     ghost Value = { List ℕ };
 
-    ghost view = { λ digest. digest.bytes };
+    ghost view = { λ digest. digest.version ∷ digest.bytes };
 
-    ghost inverse = { λ bytes. record { bytes = bytes } };
+    ghost inverse = { λ digest. record { version = slice_index digest 0; bytes = drop 1 digest } };
 }
 
 impl SettingsDigest {
-    /// The digest of this text.
-    pub fn of(text: &[u8]) -> SettingsDigest
-        ensures { result ≡ sha256 text.now }
+    /// That of version 1: of the bytes of the settings' file.
+    pub fn of_file(file: &[u8]) -> SettingsDigest
+        ensures { result ≡ of_file file.now }
     {
-        let bytes = Sha256::digest(text);
-        SettingsDigest { bytes }
+        let bytes = Sha256::digest(file);
+        SettingsDigest { version: 1, bytes }
     }
 
-    /// Its 32 bytes.
+    /// That of version 2: of a text of what the settings say.
+    pub fn of_said(said: &[u8]) -> SettingsDigest
+        ensures { result ≡ of_said said.now }
+    {
+        let bytes = Sha256::digest(said);
+        SettingsDigest { version: 2, bytes }
+    }
+
+    /// The version, a byte.
+    pub(crate) fn version(&self) -> [u8; 1]
+        ensures { result ≡ take 1 self.now }
+    {
+        [self.version]
+    }
+
+    /// The digest, 32 bytes.
     pub fn as_slice(&self) -> &[u8]
-        ensures bytes { result.now ≡ self.now }
-        ensures size { length self.now ≡ 32 }
+        ensures bytes { result.now ≡ drop 1 self.now }
+        ensures size { length self.now ≡ 33 }
     {
         &self.bytes
     }
+}
+
+/// Whether bytes have the version 1, if they are a log.
+pub fn is_first(bytes: &[u8]) -> bool
+    ensures { result ≡ is_first bytes.now }
+{
+    bytes.len() > 2 && bytes[2] == 1
 }
 
 /// The eight bytes that vouch for a body under a number.

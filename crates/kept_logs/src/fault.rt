@@ -19,8 +19,8 @@ pub enum LogFault {
     /// The first two bytes are not `PL`.
     #[error("not a log")]
     NotALog,
-    /// The version is not 1.
-    #[error("the version of a log is 1")]
+    /// The version is neither 1 nor 2.
+    #[error("the version of a log is 1 or 2")]
     Version,
     /// The head's check sum is not that of its node and its digest.
     #[error("the head of the log is damaged")]

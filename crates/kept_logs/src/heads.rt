@@ -1,6 +1,6 @@
 //! The heads of logs.
 
-ghost use Rattle.std.specs.Prelude.{◌≡◌, ◌++◌, Ok, Err, IfOk, IfErr, OnOk};
+ghost use Rattle.std.specs.Prelude.{◌≡◌, ◌++◌, drop, Ok, Err, IfOk, IfErr, OnOk};
 ghost use Rattle.world_setup.specs.Seen.{node_seen};
 ghost use Rattle.kept_logs.specs.Frames.{met};
 ghost use Rattle.kept_logs.specs.Logs.{owner_text, head_text, expected, head_in};
@@ -16,9 +16,6 @@ use world_setup::Node;
 
 /// The two bytes that begin a log (own).
 const NAME: [u8; 2] = *b"PL";
-
-/// The version that is written and read.
-const VERSION: [u8; 1] = [1];
 
 /// How many bytes the owner of a log has: a node and a digest.
 const OWNER: u64 = 35;
@@ -36,7 +33,7 @@ pub(crate) fn put_head(
 {
     let owner = owner_of(alloc, settings, node)?;
     out.extend_from_slice(&NAME)?;
-    out.extend_from_slice(&VERSION)?;
+    out.extend_from_slice(&settings.version())?;
     out.extend_from_slice(&owner)?;
     out.extend_from_slice(&check_of(0, &owner))
 }
@@ -44,7 +41,7 @@ pub(crate) fn put_head(
 /// Whose log it is, and under which settings.
 #[tactic(auto, unfolding(crate::specs::Logs::owner_text))]
 fn owner_of(alloc: Global, settings: &SettingsDigest, node: Node) -> Result<Vec<u8>, AllocError>
-    ensures text { IfOk result (λ owner. owner.items ≡ owner_text settings.now (node_seen node)) }
+    ensures text { IfOk result (λ owner. owner.items ≡ owner_text (drop 1 settings.now) (node_seen node)) }
     ensures fits { IfOk result (λ _. FitsNode (node_seen node)) }
 {
     let mut owner = Vec::new(alloc);
@@ -66,7 +63,7 @@ pub(crate) fn take_head<'a>(
     ensures fault { IfErr result (λ e. head_in settings.now bytes.now ≡ Err e) }
 {
     let named = expect(LogFault::NotALog, &NAME, bytes)?;
-    let known = expect(LogFault::Version, &VERSION, named)?;
+    let known = expect(LogFault::Version, &settings.version(), named)?;
     let Some((owner, sum)) = take_bytes(OWNER, known) else {
         return Err(LogFault::Short);
     };

@@ -14,11 +14,11 @@ ghost use Rattle.kept_logs.specs.Cuts.{EachIsByte, ReadsBack, Begins, IsLogOf};
 /// no text of fewer bytes than its head has.
 pub fn log_reads_back()
     ensures cut { (digest : List ℕ) (log : NodeLog) (n : ℕ)
-        → length digest ≡ 32 → FitsLog log → 46 ≤ n → ReadsBack digest n log }
+        → length digest ≡ 33 → FitsLog log → 46 ≤ n → ReadsBack digest n log }
     ensures short { (digest : List ℕ) (log : NodeLog) (n : ℕ)
-        → length digest ≡ 32 → n < 46 → log_in digest (take n (log_text digest log)) ≡ Err Short }
+        → length digest ≡ 33 → n < 46 → log_in digest (take n (log_text digest log)) ≡ Err Short }
     ensures whole { (digest : List ℕ) (log : NodeLog)
-        → length digest ≡ 32 → FitsLog log → ReadsAs digest (log_text digest log) log }
+        → length digest ≡ 33 → FitsLog log → ReadsAs digest (log_text digest log) log }
 {}
 
 /// The text of a log with one call more is its text, and behind it the record of that call under the next number.
@@ -31,7 +31,7 @@ pub fn log_takes_one_more()
 /// as some file systems leave them in the place of bytes that a crash has lost.
 pub fn log_is_its_text()
     ensures text { (digest bytes : List ℕ) (read : Reading)
-        → length digest ≡ 32 → EachIsByte bytes → log_in digest bytes ≡ Ok read → IsLogOf digest bytes read }
+        → length digest ≡ 33 → EachIsByte bytes → log_in digest bytes ≡ Ok read → IsLogOf digest bytes read }
     ensures cut { (number : ℕ) (bytes : List ℕ)
         → EachIsByte bytes → frame_at number bytes ≡ CutOff → Begins number bytes ⊎ (is_zeros bytes ≡ true) }
 {}

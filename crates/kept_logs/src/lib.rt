@@ -17,7 +17,7 @@ mod met;
 mod putting;
 mod records;
 
-pub use digest::SettingsDigest;
+pub use digest::{SettingsDigest, is_first};
 pub use fault::LogFault;
 pub use frames::behind_record;
 pub use laws::{log_is_its_text, log_reads_back, log_takes_one_more};

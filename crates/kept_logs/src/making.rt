@@ -1,10 +1,11 @@
 //! A log that is made by its node as it is read, so that no more of it is kept than the node.
 
-ghost use Rattle.std.specs.Prelude.{◌≡◌, None, Some, Ok, IfOk, IsSome};
+ghost use Rattle.std.specs.Prelude.{◌≡◌, ◌≢◌, None, Some, Ok, IfOk, IsSome, OnOk};
 ghost use Rattle.claim_model.specs.Bytes.{bytes_with};
 ghost use Rattle.claim_model.specs.Nodes.{AnyNode, node_at};
 ghost use Rattle.claim_model.specs.Settings.{opening, settings_fault};
 ghost use Rattle.world_setup.specs.Seen.{node_seen, settings_seen};
+ghost use Rattle.kept_logs.specs.declared.fault.LogFault.TheVariants.{OutOfMemory};
 ghost use Rattle.kept_logs.specs.Cuts.{IsLogOf};
 ghost use Rattle.kept_logs.specs.Logs.{Reading, log_in};
 ghost use Rattle.kept_logs.specs.Making.{AreMadeIf, IsMadeIf};
@@ -42,8 +43,9 @@ struct MadeCalls {
     torn: usize,
 }
 
-/// The node of a log under settings of this digest, which makes each call as it is read, from its opening state. `None` where the
-/// bytes are no log of this node, or where it does not make a call, or sends something else: `read_log` and `make_log` say why.
+/// The node of a log under settings of this digest, which makes each call as it is read, from its opening state. `None` exactly
+/// where the bytes are no log of this node, or where it does not make a call, or sends something else: `read_log` and `make_log`
+/// say why.
 ///
 /// The world is one that takes the settings, and has the node.
 ///
@@ -59,6 +61,7 @@ pub fn make_as_read(
 ) -> Result<Option<MadeLog>, AllocError>
     requires taken { settings_fault (settings_seen settings.now) ≡ None }
     requires there { IsSome (node_at (opening (settings_seen settings.now)) (node_seen node)) }
+    // There is a node exactly where the bytes are its log, and it makes each call of it.
     ensures made { IfOk result (λ made. (before : AnyNode)
         → node_at (opening (settings_seen settings.now)) (node_seen node) ≡ Some before
         → IsMadeIf (bytes_with routes.now) before digest.now (node_seen node) bytes.now made) }
@@ -131,8 +134,10 @@ fn make_calls(
                     torn: rest.len(),
                 }));
             }
-            Err(LogFault::OutOfMemory) => return Err(AllocError),
-            Err(_) => return Ok(None),
+            Err(fault) => {
+                no_record(fault)?;
+                return Ok(None);
+            }
         };
         if !makes(alloc, routes, &mut node, &one)? {
             return Ok(None);
@@ -144,4 +149,14 @@ fn make_calls(
         calls: bytes.len() as u64,
         torn: rest.len(),
     }))
+}
+
+/// That what stands here is no record, for this fault; want of memory says nothing of that.
+fn no_record(fault: LogFault) -> Result<(), AllocError>
+    ensures { OnOk result (fault ≢ OutOfMemory) }
+{
+    match fault {
+        LogFault::OutOfMemory => Err(AllocError),
+        _ => Ok(()),
+    }
 }

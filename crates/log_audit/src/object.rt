@@ -11,6 +11,7 @@ ghost use Rattle.table_text.specs.declared.layout.Style.TheVariants.{Json};
 use crate::fault::AuditFault;
 use crate::left::put_left_tables;
 use crate::reading::Audited;
+use crate::report::settings_alone;
 use crate::sentences::{Piece, put_pieces};
 use crate::tables::kinds::node_field;
 use run_merge::NodeLog;
@@ -30,7 +31,7 @@ pub(crate) fn run_object(
     let mut text = Vec::new(alloc);
     put_logs(&mut text, audited.logs.as_slice(), audited.torn.as_slice())?;
     put_count(&mut text, events.len() as u64)?;
-    put_left_tables(alloc, &mut text, audited.settings, events)?;
+    put_left_tables(alloc, &mut text, settings_alone(audited), events)?;
     text.extend_from_slice(b"\n}\n")?;
     Ok(text)
 }

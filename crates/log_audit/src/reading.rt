@@ -1,18 +1,19 @@
 //! What is read before anything is judged: the settings, and the logs.
 
-ghost use Rattle.std.specs.Prelude.{◌≡◌, ◌++◌, ◌∷◌, [], Some, None, Ok, IfOk, IfErr, OnOk};
-ghost use Rattle.sha2.specs.Sha256.{sha256};
+ghost use Rattle.std.specs.Prelude.{◌≡◌, ◌++◌, ◌∷◌, [], length, Some, None, Ok, IfOk, IfErr, OnOk};
 ghost use Rattle.world_setup.specs.Taken.{world_fault};
 ghost use Rattle.world_settings.specs.Document.{document_seen, living_in};
 ghost use Rattle.run_merge.specs.LogSeen.{logs_seen};
 ghost use Rattle.kept_logs.specs.Logs.{log_in};
 ghost use Rattle.kept_logs.specs.LogSeen.{reading_seen};
-ghost use Rattle.log_audit.specs.Given.{AreLogs, IsRead, bytes_of, torn_ends};
+ghost use Rattle.settings_digest.specs.Digests.{digest_under, under};
+ghost use Rattle.log_audit.specs.Given.{AreLogs, IsRead, ReadsOne, bytes_of, torn_ends};
 ghost use Rattle.log_audit.specs.Refused.{AreNoLogs, IsNoLog, IsRefused, SpellsNone, TakesNone};
 
 use crate::fault::AuditFault;
-use kept_logs::{LogFault, ReadLog, SettingsDigest, read_log};
+use kept_logs::{LogFault, ReadLog, read_log};
 use run_merge::NodeLog;
+use settings_digest::Digests;
 use std::alloc::{AllocError, Global};
 use world_settings::{SettingsFault, read_living_settings};
 use world_setup::{WorldFault, WorldSettings};
@@ -26,28 +27,29 @@ pub struct Audited {
     pub(crate) torn: Vec<usize>,
 }
 
-/// Reads the settings, a TOML document, and each of the logs, which have the digest of its text.
+/// Reads the settings, a TOML document, and each of the logs, which have the digest of its text or of what it says.
+/// The bytes of a log are let go once it is read.
 ///
 /// # Errors
 /// The first that stands: `Settings`, `World`, `Log` for the first log that is none under these settings. `OutOfMemory` may
 /// stand in place of any answer.
-pub fn read_audited(alloc: Global, text: Vec<u8>, logs: &[Vec<u8>]) -> Result<Audited, AuditFault>
+pub fn read_audited(alloc: Global, text: Vec<u8>, logs: Vec<Vec<u8>>) -> Result<Audited, AuditFault>
     // What is judged is what the text spells and the bytes are.
     ensures given { IfOk result (λ audited.
-        IsRead text.items (bytes_of logs.now) audited.settings (logs_seen audited.logs.items)) }
+        IsRead text.items (bytes_of logs.items) audited.settings (logs_seen audited.logs.items)) }
     // A world takes the settings.
     ensures taken { IfOk result (λ audited. world_fault audited.settings ≡ None) }
     // The cause is true, and those before it do not stand.
-    ensures refused { IfErr result (λ why. IsRefused text.items (bytes_of logs.now) why) }
+    ensures refused { IfErr result (λ why. IsRefused text.items (bytes_of logs.items) why) }
     // The torn ends are what stands behind the records that stand whole.
-    ensures torn { IfOk result (λ audited. audited.torn.items ≡ torn_ends (sha256 text.items) (bytes_of logs.now)) }
+    ensures torn { IfOk result (λ audited. audited.torn.items ≡ torn_ends (digest_under text.items) (bytes_of logs.items)) }
     // A schedule begins with the very text.
     ensures text { IfOk result (λ audited. audited.text.items ≡ text.items) }
 {
     let settings = settings_of(alloc, text.as_slice())?;
     check_world(alloc, &settings)?;
-    let digest = SettingsDigest::of(text.as_slice());
-    let ReadLogs { logs, torn } = read_logs(alloc, &digest, logs)?;
+    let digests = Digests::of(alloc, &settings, text.as_slice())?;
+    let ReadLogs { logs, torn } = read_logs(alloc, &digests, logs)?;
     Ok(Audited {
         text,
         settings,
@@ -64,6 +66,23 @@ struct ReadLogs {
 }
 
 impl ReadLogs {
+    /// Reads the next log, and lets its bytes go.
+    fn read_next(
+        &mut self,
+        alloc: Global,
+        digests: &Digests,
+        bytes: Vec<u8>,
+    ) -> Result<(), AuditFault>
+        ensures read { OnOk result (ReadsOne (under digests.now) bytes.items
+            (logs_seen self.old.logs.items) self.old.torn.items (logs_seen self.new.logs.items) self.new.torn.items) }
+        ensures refused { IfErr result (λ why. IsNoLog (under digests.now) bytes.items (length self.old.logs.items) why) }
+    {
+        let place = self.logs.len();
+        let ReadLog { log, whole } = read_one(alloc, digests, place, bytes.as_slice())?;
+        self.push(log, bytes.len().saturating_sub(whole))?;
+        Ok(())
+    }
+
     /// One log more.
     fn push(&mut self, log: NodeLog, torn: usize) -> Result<(), AllocError>
         ensures logs { OnOk result (self.new.logs.items ≡ self.old.logs.items ++ log ∷ []) }
@@ -76,22 +95,17 @@ impl ReadLogs {
 }
 
 /// Reads each of the logs, in order.
-fn read_logs(
-    alloc: Global,
-    digest: &SettingsDigest,
-    logs: &[Vec<u8>],
-) -> Result<ReadLogs, AuditFault>
-    ensures logs { IfOk result (λ read. AreLogs digest.now (bytes_of logs.now) (logs_seen read.logs.items)) }
-    ensures torn { IfOk result (λ read. read.torn.items ≡ torn_ends digest.now (bytes_of logs.now)) }
-    ensures refused { IfErr result (λ why. AreNoLogs digest.now (bytes_of logs.now) why) }
+fn read_logs(alloc: Global, digests: &Digests, logs: Vec<Vec<u8>>) -> Result<ReadLogs, AuditFault>
+    ensures logs { IfOk result (λ read. AreLogs (under digests.now) (bytes_of logs.items) (logs_seen read.logs.items)) }
+    ensures torn { IfOk result (λ read. read.torn.items ≡ torn_ends (under digests.now) (bytes_of logs.items)) }
+    ensures refused { IfErr result (λ why. AreNoLogs (under digests.now) (bytes_of logs.items) why) }
 {
     let mut read = ReadLogs {
         logs: Vec::new(alloc),
         torn: Vec::new(alloc),
     };
-    for (place, bytes) in logs.iter().enumerate() {
-        let ReadLog { log, whole } = read_one(alloc, digest, place, bytes.as_slice())?;
-        read.push(log, bytes.len().saturating_sub(whole))?;
+    for bytes in logs {
+        read.read_next(alloc, digests, bytes)?;
     }
     Ok(read)
 }
@@ -99,14 +113,14 @@ fn read_logs(
 /// Reads one log, which stands at this place among those handed in.
 fn read_one(
     alloc: Global,
-    digest: &SettingsDigest,
+    digests: &Digests,
     place: usize,
     bytes: &[u8],
 ) -> Result<ReadLog, AuditFault>
-    ensures read { IfOk result (λ read. log_in digest.now bytes.now ≡ Ok (reading_seen read)) }
-    ensures refused { IfErr result (λ why. IsNoLog digest.now bytes.now place why) }
+    ensures read { IfOk result (λ read. log_in (under digests.now bytes.now) bytes.now ≡ Ok (reading_seen read)) }
+    ensures refused { IfErr result (λ why. IsNoLog (under digests.now) bytes.now place why) }
 {
-    match read_log(alloc, digest, bytes) {
+    match read_log(alloc, &digests.under(bytes), bytes) {
         Ok(read) => Ok(read),
         Err(LogFault::OutOfMemory) => Err(AuditFault::OutOfMemory),
         Err(fault) => Err(AuditFault::Log { place, fault }),

@@ -21,7 +21,7 @@ use crate::sentences::{Manner, Piece, put_pieces};
 use crate::tables::table::Table;
 use run_merge::NodeLog;
 use std::alloc::{AllocError, Global};
-use world_setup::Event;
+use world_setup::{Event, WorldSettings};
 
 /// What is told of logs, and whether they are those of a legal run.
 #[derive(Drop)]
@@ -131,7 +131,7 @@ fn table_of(
     ensures { IfOk result (λ text. text.items ≡ run_csv audited.settings (map event_seen events.now) table) }
 {
     let mut text = Vec::new(alloc);
-    put_left_table(alloc, &mut text, audited.settings, events, table)?;
+    put_left_table(alloc, &mut text, settings_alone(audited), events, table)?;
     Ok(text)
 }
 
@@ -150,8 +150,21 @@ fn run_lines(alloc: Global, audited: Audited, events: &[Event]) -> Result<Vec<u8
     let mut text = Vec::new(alloc);
     put_logs(&mut text, audited.logs.as_slice(), audited.torn.as_slice())?;
     put_legal(&mut text, events.len() as u64)?;
-    put_left_counts(alloc, &mut text, audited.settings, events)?;
+    put_left_counts(alloc, &mut text, settings_alone(audited), events)?;
     Ok(text)
+}
+
+/// The settings, once the logs were told of. These are let go: a run is made from its events.
+pub(crate) fn settings_alone(audited: Audited) -> WorldSettings
+    ensures { result ≡ audited.settings }
+{
+    let Audited {
+        text: _,
+        settings,
+        logs: _,
+        torn: _,
+    } = audited;
+    settings
 }
 
 /// Appends that there is a legal run, and of how many events.

@@ -1,6 +1,7 @@
 -- What the theorems on settings that grow say of a log is what its start says.
 use Rattle.std.proofs.Common.{◌≡◌, ◌⊎◌, ℕ, zero, suc, List, [], ◌∷◌, Option, Some, None, Ok, Err, Result, inl, inr, refl, sym, ap, ◌∙◌, subst}
-use Rattle.sha2.specs.Sha256.{sha256}
+use Rattle.settings_digest.specs.Digests.{digest_in, digest_under}
+use Rattle.settings_digest.proofs.Keeping.{keeps_new}
 use Rattle.claim_model.specs.Context.{Context}
 use Rattle.claim_model.specs.Node.{Node, Sent, Outcome, Done, Refused}
 use Rattle.claim_model.specs.Settings.{opening}
@@ -60,12 +61,15 @@ made_under text log w t s before opens =
     let same : with_cap g.cap w.node ≡ before = cc in
     subst (λ (x : Document). Makes (context_in x) before log.calls) d (subst (λ (n : AnyNode). Makes (context_in (document_seen w.after)) n log.calls) same g.makes)
 
-refuted : (text : List ℕ) (log : NodeLog) (place : ℕ) → WasMade text log → DoesNotMake text log.node (log_text (sha256 text) log) place → ⊥
+refuted : (text : List ℕ) (log : NodeLog) (place : ℕ) → WasMade text log → DoesNotMake text log.node (log_text (digest_in text) log) place → ⊥
 refuted text log place w r =
-    let is : r.log ≡ log = begun_log (sha256 text) log.node (log_text (sha256 text) log) log r.log _ r.kept r.records w.back r.begun in
+    let digest = digest_in text in
+    let bytes = log_text digest log in
+    let own : digest_under text bytes ≡ digest = keeps_new text log in
+    let is : r.log ≡ log = begun_log digest log.node bytes log r.log _ r.kept r.records w.back (subst (λ (x : List ℕ). IsBegun x log.node bytes r.log r.kept r.records) own r.begun) in
     let opens = ap (λ (l : NodeLog). node_at (opening (settings_seen r.settings)) l.node) (sym is) ∙ r.breaks.opens in
     unbroken (bytes_with (routes_of r.settings.routes.items)) r.breaks.before log.calls r.breaks.count (made_under text log w r.settings r.spells r.breaks.before opens)
     (subst (λ (l : NodeLog). BreaksAt (bytes_with (routes_of r.settings.routes.items)) r.breaks.before l.calls r.breaks.count) is r.breaks.breaks)
 
-pub never_refused : (text : List ℕ) (log : NodeLog) (place : ℕ) → WasMade text log → IsRefused text log.node (log_text (sha256 text) log) (NotMade place) → ⊥
+pub never_refused : (text : List ℕ) (log : NodeLog) (place : ℕ) → WasMade text log → IsRefused text log.node (log_text (digest_in text) log) (NotMade place) → ⊥
 never_refused text log place w r = refuted text log place w r

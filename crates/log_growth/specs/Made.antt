@@ -1,6 +1,5 @@
 -- A log that its node made under settings that have grown since.
 use Rattle.std.specs.Prelude.{◌≡◌, ℕ, List, Some}
-use Rattle.sha2.specs.Sha256.{sha256}
 use Rattle.claim_model.specs.Settings.{opening}
 use Rattle.claim_model.specs.Nodes.{AnyNode, node_at}
 use Rattle.claim_model.specs.Logs.{NodeLog, Makes}
@@ -8,6 +7,7 @@ use Rattle.world_setup.specs.Seen.{settings_seen}
 use Rattle.world_setup.specs.declared.settings.WorldSettings.{WorldSettings}
 use Rattle.kept_logs.specs.Logs.{log_text, ReadsAs}
 use Rattle.node_service.specs.Opened.{Spells}
+use Rattle.settings_digest.specs.Digests.{digest_in}
 use Rattle.settings_growth.specs.Growth.{RejectionsStay}
 use Rattle.log_growth.specs.Compared.{reading_of, GrowsTo}
 
@@ -22,4 +22,4 @@ pub record WasMade (text : List ℕ) (log : NodeLog) : Type 0 where
   pub opens : node_at (opening (settings_seen before)) log.node ≡ Some node
   pub makes : Makes (reading_of before) node log.calls
   pub stays : RejectionsStay (reading_of before) (reading_of after) log.node log.calls
-  pub back : ReadsAs (sha256 text) (log_text (sha256 text) log) log
+  pub back : ReadsAs (digest_in text) (log_text (digest_in text) log) log

@@ -2,6 +2,7 @@
 
 ghost use Rattle.std.specs.Prelude.{◌≡◌, ◌≢◌, IfOk, IfErr, OnOk};
 ghost use Rattle.world_setup.specs.declared.world_fault.WorldFault.TheVariants.{OutOfMemory};
+ghost use Rattle.settings_digest.specs.Digests.{AreOf};
 ghost use Rattle.node_service.specs.Opened.{Spells};
 ghost use Rattle.log_growth.specs.Grown.{HasGrown, IsNoGrowth, SpellsNone};
 ghost use Rattle.log_growth.specs.declared.growth.Untaken.TheVariants.{Settings};
@@ -9,7 +10,8 @@ ghost use Rattle.log_growth.specs.declared.growth.Untaken.TheVariants.{Settings}
 use crate::comparing::first_ungrown;
 use crate::reason::reason;
 use crate::ungrown::Ungrown;
-use std::alloc::Global;
+use settings_digest::Digests;
+use std::alloc::{AllocError, Global};
 use thiserror::Error;
 use world_settings::{SettingsFault, read_living_settings};
 use world_setup::{WorldFault, WorldSettings};
@@ -32,13 +34,24 @@ pub enum GrowthFault {
     NotGrown(Ungrown, &'static str),
 }
 
+/// Settings, and others that they have grown to.
+#[derive(Clone, Copy)]
+pub struct Grown {
+    /// The digests of the old ones.
+    pub old: Digests,
+    /// The digests of the new ones.
+    pub new: Digests,
+}
+
 /// Whether the settings that the first text spells have grown to those of the second: all that a node did under the first it
-/// could have done under the second, as the theorems on settings that grow have it.
+/// could have done under the second, as the theorems on settings that grow have it. Then it gives the digests of both.
 ///
 /// # Errors
 /// The first cause that stands, in the order of `GrowthFault`.
-pub fn grows(alloc: Global, old: &[u8], new: &[u8]) -> Result<(), GrowthFault>
+pub fn grows(alloc: Global, old: &[u8], new: &[u8]) -> Result<Grown, GrowthFault>
     ensures grown { OnOk result (HasGrown old.now new.now) }
+    ensures old { IfOk result (λ grown. AreOf old.now grown.old) }
+    ensures new { IfOk result (λ grown. AreOf new.now grown.new) }
     ensures refused { IfErr result (λ why. IsNoGrowth old.now new.now why) }
 {
     let before = match settings_of(alloc, old) {
@@ -53,7 +66,20 @@ pub fn grows(alloc: Global, old: &[u8], new: &[u8]) -> Result<(), GrowthFault>
     };
     match first_ungrown(&before, &after) {
         Some(found) => Err(GrowthFault::NotGrown(found, reason(&before, &after, found))),
-        None => Ok(()),
+        None => Ok(Grown {
+            old: Digests::of(alloc, &before, old)?,
+            new: Digests::of(alloc, &after, new)?,
+        }),
+    }
+}
+
+impl From<AllocError> for GrowthFault {
+    ghost use Rattle.log_growth.specs.declared.growth.GrowthFault.TheVariants.{OutOfMemory};
+
+    ghost from_gives = { λ _ e. e ≡ OutOfMemory };
+
+    fn from(_refused: AllocError) -> GrowthFault {
+        GrowthFault::OutOfMemory
     }
 }
 

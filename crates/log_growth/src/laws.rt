@@ -1,12 +1,12 @@
 //! What the comparison of settings decides, and what it means for logs.
 
 ghost use Rattle.std.specs.Prelude.{◌≡◌, ◌↔◌, ℕ, List, None};
-ghost use Rattle.sha2.specs.Sha256.{sha256};
 ghost use Rattle.claim_model.specs.Settings.{WorldSettings};
 ghost use Rattle.claim_model.specs.Logs.{NodeLog};
 ghost use Rattle.kept_logs.specs.Logs.{log_text};
 ghost use Rattle.node_service.specs.Refused.{IsRefused};
 ghost use Rattle.node_service.specs.declared.fault.ServiceFault.TheVariants.{NotMade};
+ghost use Rattle.settings_digest.specs.Digests.{digest_in};
 ghost use Rattle.log_growth.specs.Compared.{NodesGrow, node_ungrown};
 ghost use Rattle.log_growth.specs.Made.{WasMade};
 
@@ -20,5 +20,5 @@ pub fn nodes_are_compared_exactly()
 /// the one premise: at a switch, that what it rejected for want of a route has none now.
 pub fn made_logs_go_over()
     ensures { (text : List ℕ) (log : NodeLog) (place : ℕ) → WasMade text log
-        → IsRefused text log.node (log_text (sha256 text) log) (NotMade place) → ⊥ }
+        → IsRefused text log.node (log_text (digest_in text) log) (NotMade place) → ⊥ }
 {}

@@ -1,6 +1,6 @@
 //! Settings that have grown, and logs that go over to them. Whether settings have grown to others is exact for pharmacies,
 //! switches and payers, and on the safe side for routes. A log goes over where its node opens from it under the new ones:
-//! the same records under a head with the new digest.
+//! the same records under a head of version 2 with the new digest.
 #![tactic(auto)]
 
 mod comparing;
@@ -14,7 +14,7 @@ mod rows;
 mod switches;
 mod ungrown;
 
-pub use growth::{GrowthFault, grows};
+pub use growth::{Grown, GrowthFault, grows};
 pub use laws::{made_logs_go_over, nodes_are_compared_exactly};
 pub use over::{Gone, OverFault, go_over};
 pub use ungrown::Ungrown;

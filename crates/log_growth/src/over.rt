@@ -1,16 +1,17 @@
 //! The log of a node, from old settings to new ones.
 
 ghost use Rattle.std.specs.Prelude.{◌≡◌, OnOk, IfOk, IfErr};
-ghost use Rattle.sha2.specs.Sha256.{sha256};
 ghost use Rattle.world_setup.specs.Seen.{node_seen};
 ghost use Rattle.kept_logs.specs.Logs.{log_in};
 ghost use Rattle.kept_logs.specs.LogSeen.{reading_seen};
 ghost use Rattle.kept_logs.specs.declared.fault.LogFault.TheVariants.{OtherSettings};
+ghost use Rattle.settings_digest.specs.Digests.{AreOf, digest_in, digest_under, under};
 ghost use Rattle.log_growth.specs.Over.{Becomes, IsOpen, IsShutFor, Opens, StaysFor};
 
 use kept_logs::{LogFault, ReadLog, SettingsDigest, read_log, write_log};
 use node_service::{Service, ServiceFault};
 use payer_book::HashKeys;
+use settings_digest::Digests;
 use std::alloc::{AllocError, Global};
 use thiserror::Error;
 use world_setup::Node;
@@ -20,7 +21,7 @@ use world_setup::Node;
 pub enum Gone {
     /// The log of this node is one of the new settings already.
     Already(Node),
-    /// The log of this node goes over, and these are its bytes then: a head with the new digest, and the records as they are.
+    /// The log of this node goes over, and these are its bytes then: a head of version 2 with the new digest, and the records as they are.
     Over(Node, Vec<u8>),
 }
 
@@ -49,26 +50,48 @@ impl From<AllocError> for OverFault {
     }
 }
 
-/// What becomes of the log that bytes are, under settings of the old digest, where the text spells the new ones. It goes over
-/// where its node opens from it under the new settings: it makes each call, and sends every byte that the log has as sent.
+/// What becomes of the log that bytes are, under settings of the old digests, where the text spells the new ones, of these
+/// digests. It goes over where its node opens from it under the new settings: it makes each call, and sends every byte that the
+/// log has as sent.
 /// What stands behind the last whole record is left behind, as at any start of a node.
 ///
 /// # Errors
 /// `Log` where the bytes are a log of neither settings, else `Refused`.
 pub fn go_over(
     alloc: Global,
-    old: &SettingsDigest,
+    old: &Digests,
+    new: &Digests,
     text: &[u8],
     bytes: &[u8],
 ) -> Result<Gone, OverFault>
+    requires { AreOf text.now new.now }
+    ensures over { IfOk result (λ gone. Becomes (under old.now bytes.now) text.now bytes.now gone) }
+    ensures stays { IfErr result (λ why. StaysFor (under old.now bytes.now) text.now bytes.now why) }
+{
+    let before = old.under(bytes);
+    let own = new.under(bytes);
+    go_under(alloc, &before, &own, &new.said, text, bytes)
+}
+
+/// The same, where a log of such bytes is one of the old settings under the old digest, and one of the new ones under its own; the
+/// new digest is the one that is written.
+fn go_under(
+    alloc: Global,
+    old: &SettingsDigest,
+    own: &SettingsDigest,
+    new: &SettingsDigest,
+    text: &[u8],
+    bytes: &[u8],
+) -> Result<Gone, OverFault>
+    requires own { own.now ≡ digest_under text.now bytes.now }
+    requires new { new.now ≡ digest_in text.now }
     ensures over { IfOk result (λ gone. Becomes old.now text.now bytes.now gone) }
     ensures stays { IfErr result (λ why. StaysFor old.now text.now bytes.now why) }
 {
-    let new = SettingsDigest::of(text);
-    match read_log(alloc, &new, bytes) {
+    match read_log(alloc, own, bytes) {
         Ok(read) => stay(alloc, text, read.log.node(), bytes),
         Err(LogFault::OutOfMemory) => Err(OverFault::OutOfMemory),
-        Err(LogFault::OtherSettings) => go(alloc, old, &new, text, bytes),
+        Err(LogFault::OtherSettings) => go(alloc, old, new, text, bytes),
         Err(fault) => Err(OverFault::Log(fault)),
     }
 }
@@ -90,8 +113,8 @@ fn go(
     text: &[u8],
     bytes: &[u8],
 ) -> Result<Gone, OverFault>
-    requires digest { new.now ≡ sha256 text.now }
-    requires other { log_in new.now bytes.now ≡ Err OtherSettings }
+    requires digest { new.now ≡ digest_in text.now }
+    requires other { log_in (digest_under text.now bytes.now) bytes.now ≡ Err OtherSettings }
     ensures over { IfOk result (λ gone. Becomes old.now text.now bytes.now gone) }
     ensures stays { IfErr result (λ why. StaysFor old.now text.now bytes.now why) }
 {

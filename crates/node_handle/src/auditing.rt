@@ -71,7 +71,7 @@ fn report_of(
     ensures refused { IfErr result (λ why. IsUnjudged settings.now logs.now sizes.now why place.old place.new) }
 {
     match pieces_of(alloc, logs, sizes) {
-        Ok(Some(pieces)) => report_on_pieces(alloc, style, settings, pieces.as_slice(), place),
+        Ok(Some(pieces)) => report_on_pieces(alloc, style, settings, pieces, place),
         Ok(None) => {
             *place = sizes.len();
             Err(Refusal::NotALog)
@@ -85,12 +85,12 @@ fn report_on_pieces(
     alloc: Global,
     style: Style,
     settings: &[u8],
-    logs: &[Vec<u8>],
+    logs: Vec<Vec<u8>>,
     place: &mut usize,
 ) -> Result<Report, Refusal>
-    ensures judged { IfOk result (λ report. IsReported settings.now (bytes_of logs.now) report.legal) }
+    ensures judged { IfOk result (λ report. IsReported settings.now (bytes_of logs.items) report.legal) }
     ensures refused { IfErr result (λ why.
-        RefusesRead settings.now (bytes_of logs.now) why place.old place.new) }
+        RefusesRead settings.now (bytes_of logs.items) why place.old place.new) }
 {
     match audited(alloc, settings, logs) {
         Ok(audited) => reported(alloc, style, audited),
@@ -110,9 +110,9 @@ fn reported(alloc: Global, style: Style, audited: Audited) -> Result<Report, Ref
 }
 
 /// The settings and the logs that bytes are.
-fn audited(alloc: Global, settings: &[u8], logs: &[Vec<u8>]) -> Result<Audited, AuditFault>
-    ensures read { IfOk result (λ a. IsRead settings.now (bytes_of logs.now) a.settings (logs_seen a.logs.items)) }
-    ensures refused { IfErr result (λ why. IsRefused settings.now (bytes_of logs.now) why) }
+fn audited(alloc: Global, settings: &[u8], logs: Vec<Vec<u8>>) -> Result<Audited, AuditFault>
+    ensures read { IfOk result (λ a. IsRead settings.now (bytes_of logs.items) a.settings (logs_seen a.logs.items)) }
+    ensures refused { IfErr result (λ why. IsRefused settings.now (bytes_of logs.items) why) }
 {
     match Vec::from_slice(alloc, settings) {
         Ok(text) => read_audited(alloc, text, logs),

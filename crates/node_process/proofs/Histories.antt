@@ -3,7 +3,6 @@ use Rattle.std.proofs.Common.{◌≡◌, ◌⊎◌, inl, inr, ℕ, zero, suc, �
 use Rattle.std.proofs.lemmas.Bool.{cases_lt}
 use Rattle.std.proofs.lemmas.List.{take_all, take_at, take-append-drop, take-append-le}
 use Rattle.std.proofs.Math.Seq.{take-append-add}
-use Rattle.sha2.specs.Sha256.{sha256}
 use Rattle.bin_routes.specs.Table.{routes_of}
 use Rattle.claim_model.specs.Bytes.{bytes_with}
 use Rattle.claim_model.specs.Context.{Context}
@@ -25,15 +24,17 @@ use Rattle.kept_logs.specs.Cuts.{calls_within}
 use Rattle.kept_logs.proofs.LogsBack.{log_length, reads_back, reads_short}
 use Rattle.node_service.specs.Asking.{Asked, Calls, Tells as Asks, asked_of}
 use Rattle.node_service.specs.Serving.{Serving, after_call, after_asked, after_line}
-use Rattle.node_service.specs.Lines.{after_lines, lines_calls}
+use Rattle.node_service.specs.Lines.{after_lines, lines_calls, IsServing}
 use Rattle.node_service.specs.Opened.{Spells, IsBegun, IsOpened, MakesAll}
-use Rattle.node_service.proofs.Lines.{digest_length, is_opened_serving, lines_serve}
+use Rattle.settings_digest.specs.Digests.{digest_in, digest_under}
+use Rattle.settings_digest.proofs.Keeping.{in_length}
+use Rattle.node_service.proofs.Lines.{is_opened_serving, lines_serve}
 use Rattle.node_service.proofs.Crashes.{longer_text}
 use Rattle.node_process.specs.Acts.{Act, Found, Cut, Append, Sync, Say, Hear, found, file, has_failed, kept, said}
 use Rattle.node_process.specs.Heard.{whole_lines}
 use Rattle.node_process.specs.Safe.{IsStartOf, asked, log_of, FitsInput, IsCovered, IsRead, GoesWell, IsSafe, IsUnopened, IsRun, Whose}
 use Rattle.node_process.specs.Histories.{zeros, Happening, Does, Dies, acts_of, left_of, file_or, file_of, on_disk, IsLeft, IsHistory, Step, Crashes, Restarts, steps_from, process_after, HasCalls, ReadsCalls, IsAlive, IsToldBy, IsProcess, IsCourse}
-use Rattle.node_process.proofs.Left.{IsTornOf, HasLeft, first_of, start_length, taken_length, untorn, torn_fits, torn_reads, zeros_read, text_cut, nothing_cut, begins_with, same_calls, left_reads, front_fits, same_reading, not_short}
+use Rattle.node_process.proofs.Left.{IsTornOf, HasLeft, first_of, start_length, taken_length, untorn, torn_fits, torn_reads, zeros_read, text_cut, nothing_cut, begins_with, same_calls, left_reads, front_fits, same_reading, not_short, torn_second}
 use Rattle.node_process.proofs.Spoken.{told_by, told_nothing, told_still}
 use Rattle.node_process.proofs.Stepping.{steps_append, makes_of, makes_all, syncs_of, syncs_all}
 
@@ -66,19 +67,19 @@ opens_of node d = node_at (opening d.world) node
 
 -- bytes are the text of a log of these calls, which its node makes
 record IsTextOf (whose : Whose) (settings : Settings) (bytes : List ℕ) (calls : List Logged) : Type 0 where
-  text : bytes ≡ log_text (sha256 whose.settings) (record { node = whose.node; calls = calls })
+  text : bytes ≡ log_text (digest_in whose.settings) (record { node = whose.node; calls = calls })
   fits : FitsLog (record { node = whose.node; calls = calls })
   before : AnyNode
   opens : node_at (opening (settings_seen settings)) whose.node ≡ Some before
   makes : MakesLog (context_of settings) before calls
 
-input_text : (whose : Whose) (settings : Settings) (bytes : List ℕ) (whole : ℕ) (start : Serving) (input : List ℕ) → Spells whose.settings settings → IsOpened whose.settings whose.node bytes whole start → FitsInput start input
+input_text : (whose : Whose) (settings : Settings) (bytes : List ℕ) (whole : ℕ) (start : Serving) (input : List ℕ) → Spells whose.settings settings → digest_under whose.settings bytes ≡ digest_in whose.settings → IsOpened whose.settings whose.node bytes whole start → FitsInput start input
     → (log : List Logged) × IsTextOf whose settings (log_of start (take whole bytes) input) (log ++ lines_calls start (whole_lines input))
-input_text whose settings bytes whole start input spells o fits =
+input_text whose settings bytes whole start input spells second o fits =
     let opened = is_opened_serving whose.settings whose.node bytes whole start o in
     let log = opened.0 in
     let calls = log.calls ++ lines_calls start (whole_lines input) in
-    let i = lines_serve (sha256 whose.settings) (take whole bytes) log start (whole_lines input) opened.1 fits in
+    let i = lines_serve (digest_in whose.settings) (take whole bytes) log start (whole_lines input) (subst (λ (x : List ℕ). IsServing x (take whole bytes) log start) second opened.1) fits in
     let own : log.node ≡ whose.node = sym opened.1.named ∙ o.named in
     let same : document_seen (asked start input).settings ≡ document_seen settings =
     ap document_seen (lines_settings start (whole_lines input)) ∙ same_some (document_seen start.settings) (document_seen settings) (sym o.spells.spelled ∙ spells.spelled) in
@@ -87,7 +88,7 @@ input_text whose settings bytes whole start input spells o fits =
     let opens : opens_of whose.node (document_seen settings) ≡ Some first.0 = sym (ap (λ (n : Node). opens_of n (document_seen settings)) own) ∙ (sym (ap (opens_of log.node) same) ∙ first.1) in (
       log.calls,
       record {
-        text = i.text ∙ ap (λ (n : Node). log_text (sha256 whose.settings) (record { node = n; calls = calls })) own;
+        text = i.text ∙ ap (λ (n : Node). log_text (digest_in whose.settings) (record { node = n; calls = calls })) own;
         fits = subst (λ (n : Node). FitsLog (record { node = n; calls = calls })) own i.fits;
         before = first.0;
         opens = opens;
@@ -127,24 +128,24 @@ heads a b s t e = (cc, cc)
 -- ---- between two happenings
 
 record IsInner (whose : Whose) (settings : Settings) (h : List Happening) (p : Process) : Type 0 where
-  disk : HasCalls (sha256 whose.settings) whose.node (on_disk h) p.synced
+  disk : HasCalls (digest_in whose.settings) whose.node (on_disk h) p.synced
   under : IsStartOf (on_disk h) (file_of h)
-  lies : IsTornOf (sha256 whose.settings) whose.node (file_of h) (model_file p)
+  lies : IsTornOf (digest_in whose.settings) whose.node (file_of h) (model_file p)
   -- what was found has the first of these calls
   first : List Logged
   more : List Logged
   goes : model_file p ≡ first ++ more
-  was : IsTornOf (sha256 whose.settings) whose.node (left_of h) first
+  was : IsTornOf (digest_in whose.settings) whose.node (left_of h) first
   keeps : (kept (acts_of h) ≡ []) ⊎ (kept (acts_of h) ≡ on_disk h)
   memory : IsAlive (context_of settings) (settings_seen settings) whose.node (acts_of h) p
   told : IsToldBy whose.node p.synced (said (acts_of h))
 
-nothing_read : (digest : List ℕ) (node : Node) (bytes : List ℕ) (calls : List Logged) → length digest ≡ 32 → bytes ≡ [] → ReadsCalls digest node bytes calls → calls ≡ []
+nothing_read : (digest : List ℕ) (node : Node) (bytes : List ℕ) (calls : List Logged) → length digest ≡ 33 → bytes ≡ [] → ReadsCalls digest node bytes calls → calls ≡ []
 nothing_read digest node bytes calls d none (inr short) = short.1
 nothing_read digest node bytes calls d none (inl read) =
     absurd (not_short (record { log = record { node = node; calls = calls }; whole = read.0 }) (sym read.1 ∙ (ap (log_in digest) none ∙ reads_short digest (record { node = node; calls = [] }) 0 d (omega arith))))
 
-short_small : (digest : List ℕ) (node : Node) (bytes : List ℕ) (calls : List Logged) → length digest ≡ 32 → IsTornOf digest node bytes calls → log_in digest bytes ≡ Err Short → length bytes < 46
+short_small : (digest : List ℕ) (node : Node) (bytes : List ℕ) (calls : List Logged) → length digest ≡ 33 → IsTornOf digest node bytes calls → log_in digest bytes ≡ Err Short → length bytes < 46
 short_small digest node bytes calls d t short = by_end t.ends
   where
     log : NodeLog
@@ -161,33 +162,33 @@ short_small digest node bytes calls d t short = by_end t.ends
         ]
 
 -- what was said is told by calls that are on the disk
-covered_told : (whose : Whose) (settings : Settings) (acts : List Act) (disk : List ℕ) (start : Serving) (whole : ℕ) (synced : List Logged) → Spells whose.settings settings → (o : IsOpened whose.settings whose.node (found acts) whole start)
-    → FitsLog (record { node = whose.node; calls = synced }) → HasCalls (sha256 whose.settings) whose.node disk synced → (kept acts ≡ []) ⊎ (kept acts ≡ disk) → (said acts ≡ []) ⊎ IsCovered start (take whole (found acts)) acts → IsToldBy whose.node synced (said acts)
-covered_told whose settings acts disk start whole synced spells o fits has keeps (inl silent) = told_nothing whose.node synced (said acts) silent
-covered_told whose settings acts disk start whole synced spells o fits has keeps (inr c) = by_disk has keeps
+covered_told : (whose : Whose) (settings : Settings) (acts : List Act) (disk : List ℕ) (start : Serving) (whole : ℕ) (synced : List Logged) → Spells whose.settings settings → digest_under whose.settings (found acts) ≡ digest_in whose.settings → (o : IsOpened whose.settings whose.node (found acts) whole start)
+    → FitsLog (record { node = whose.node; calls = synced }) → HasCalls (digest_in whose.settings) whose.node disk synced → (kept acts ≡ []) ⊎ (kept acts ≡ disk) → (said acts ≡ []) ⊎ IsCovered start (take whole (found acts)) acts → IsToldBy whose.node synced (said acts)
+covered_told whose settings acts disk start whole synced spells second o fits has keeps (inl silent) = told_nothing whose.node synced (said acts) silent
+covered_told whose settings acts disk start whole synced spells second o fits has keeps (inr c) = by_disk has keeps
   where
-    d : length (sha256 whose.settings) ≡ 32
-    d = digest_length whose.settings
+    d : length (digest_in whose.settings) ≡ 33
+    d = in_length whose.settings
 
     text : (log : List Logged) × IsTextOf whose settings (log_of start (take whole (found acts)) c.input) (log ++ lines_calls start (whole_lines c.input))
-    text = input_text whose settings (found acts) whole start c.input spells o c.fits
+    text = input_text whose settings (found acts) whole start c.input spells second o c.fits
 
     no_less : (bytes : List ℕ) → kept acts ≡ bytes → bytes ≡ [] → ⊥
     no_less bytes e none =
-        let long = log_length (sha256 whose.settings) (record { node = whose.node; calls = text.0 ++ lines_calls start (whole_lines c.input) }) d in
+        let long = log_length (digest_in whose.settings) (record { node = whose.node; calls = text.0 ++ lines_calls start (whole_lines c.input) }) d in
         let a = ap length text.1.text in
         let b = start_length _ (kept acts) c.logged in
         let n = ap length (e ∙ none) in
         omega (arith, long, a, b, n)
 
-    by_disk : HasCalls (sha256 whose.settings) whose.node disk synced → (kept acts ≡ []) ⊎ (kept acts ≡ disk) → IsToldBy whose.node synced (said acts)
+    by_disk : HasCalls (digest_in whose.settings) whose.node disk synced → (kept acts ≡ []) ⊎ (kept acts ≡ disk) → IsToldBy whose.node synced (said acts)
     by_disk has (inl none) = absurd (no_less [] none refl)
     by_disk (inr none) (inr same) = absurd (no_less disk same none.0)
     by_disk (inl is) (inr same) =
         let calls = text.0 ++ lines_calls start (whole_lines c.input) in
-        let own = log_text (sha256 whose.settings) (record { node = whose.node; calls = calls }) in
-        let start_of : IsStartOf own (log_text (sha256 whose.settings) (record { node = whose.node; calls = synced })) = subst (IsStartOf own) (same ∙ is) (subst (λ (x : List ℕ). IsStartOf x (kept acts)) text.1.text c.logged) in
-        told_by whose.node start c.input (said acts) text.0 synced _ o.silent (begins_with (sha256 whose.settings) whose.node calls synced (length own) d text.1.fits fits refl (first_of own _ start_of)) c.sent
+        let own = log_text (digest_in whose.settings) (record { node = whose.node; calls = calls }) in
+        let start_of : IsStartOf own (log_text (digest_in whose.settings) (record { node = whose.node; calls = synced })) = subst (IsStartOf own) (same ∙ is) (subst (λ (x : List ℕ). IsStartOf x (kept acts)) text.1.text c.logged) in
+        told_by whose.node start c.input (said acts) text.0 synced _ o.silent (begins_with (digest_in whose.settings) whose.node calls synced (length own) d text.1.fits fits refl (first_of own _ start_of)) c.sent
 
 -- ---- what happens
 
@@ -197,10 +198,10 @@ GoesOn whose settings h p = (steps : List Step) × IsInner whose settings h (ste
 
 module _ (whose : Whose) (settings : Settings) (spells : Spells whose.settings settings) (fits_node : FitsNode whose.node) (h : List Happening) (p : Process) (i : IsInner whose settings h p) where
   abbrev digest : List ℕ
-  digest = sha256 whose.settings
+  digest = digest_in whose.settings
 
-  d : length digest ≡ 32
-  d = digest_length whose.settings
+  d : length digest ≡ 33
+  d = in_length whose.settings
 
   abbrev node : Node
   node = whose.node
@@ -236,9 +237,9 @@ module _ (whose : Whose) (settings : Settings) (spells : Spells whose.settings s
       )
 
   -- what stands behind the whole records is cut off
-  cut_step : (size : ℕ) (done : Bool) (start : Serving) (whole : ℕ) → IsOpened whose.settings node (found t) whole start → found t ≡ left_of h → t ≡ Found (found t) ∷ [] → take size (found t) ≡ take whole (found t)
+  cut_step : (size : ℕ) (done : Bool) (start : Serving) (whole : ℕ) → digest_under whose.settings (found t) ≡ digest → IsOpened whose.settings node (found t) whole start → found t ≡ left_of h → t ≡ Found (found t) ∷ [] → take size (found t) ≡ take whole (found t)
       → GoesOn whose settings (Does (Cut size done) ∷ h) p
-  cut_step size done start whole o is only cuts = by_begun o.begun lies_found
+  cut_step size done start whole second o is only cuts = by_begun (subst (λ (x : List ℕ). IsBegun x node (found t) o.log whole start.records) second o.begun) lies_found
     where
       file_found : file t ≡ found t
       file_found = ap file only
@@ -318,7 +319,7 @@ module _ (whose : Whose) (settings : Settings) (spells : Spells whose.settings s
           by_reading : ReadsCalls digest node (found t) (model_file p) → GoesOn whose settings (Does (Cut size done) ∷ h) p
           by_reading (inl own) =
               let r = same_reading (record { log = o.log; whole = whole }) (record { log = record { node = node; calls = model_file p }; whole = own.0 }) (sym read.0 ∙ own.1) in
-              of_calls (cut_file ∙ (sym (append-nil (take whole (found t))) ∙ (ap (λ (x : List ℕ). take whole (found t) ++ x) (sym read.1) ∙ (o.text ∙ ap (λ (x : Reading). log_text digest x.log) r))))
+              of_calls (cut_file ∙ (sym (append-nil (take whole (found t))) ∙ (ap (λ (x : List ℕ). take whole (found t) ++ x) (sym read.1) ∙ (o.text ∙ (ap (λ (x : List ℕ). log_text x o.log) second ∙ ap (λ (x : Reading). log_text digest x.log) r)))))
           by_reading (inr short) = absurd (not_short (record { log = o.log; whole = whole }) (sym read.0 ∙ short.0))
       by_begun (inr begun) c = by_reading (torn_reads digest node (found t) (model_file p) d c)
         where
@@ -509,22 +510,25 @@ module _ (whose : Whose) (settings : Settings) (spells : Spells whose.settings s
 
   -- each act of a run
   run_step : (act : Act) → found (act ∷ t) ≡ left_of h → IsRun whose (act ∷ t) → GoesOn whose settings (Does act ∷ h) p
-  run_step act is r = by_act act is r.start r.whole r.opened (r.safe [] (act ∷ t) refl)
+  run_step act is r = by_act act is r.start r.whole (is_second act is) r.opened (r.safe [] (act ∷ t) refl)
     where
-      by_act : (act : Act) → found (act ∷ t) ≡ left_of h → (start : Serving) (whole : ℕ) → IsOpened whose.settings node (found (act ∷ t)) whole start → IsSafe start (take whole (found (act ∷ t))) (act ∷ t) → GoesOn whose settings (Does act ∷ h) p
-      by_act (Found bytes) is start whole o safe = found_step bytes safe.order is
-      by_act (Cut size done) is start whole o safe = cut_step size done start whole o is safe.order.0 safe.order.1
-      by_act (Append bytes done) is start whole o safe =
+      is_second : (act : Act) → found (act ∷ t) ≡ left_of h → digest_under whose.settings (found (act ∷ t)) ≡ digest
+      is_second act is = ap (digest_under whose.settings) is ∙ torn_second whose.settings node (left_of h) i.first i.was
+
+      by_act : (act : Act) → found (act ∷ t) ≡ left_of h → (start : Serving) (whole : ℕ) → digest_under whose.settings (found (act ∷ t)) ≡ digest → IsOpened whose.settings node (found (act ∷ t)) whole start → IsSafe start (take whole (found (act ∷ t))) (act ∷ t) → GoesOn whose settings (Does act ∷ h) p
+      by_act (Found bytes) is start whole second o safe = found_step bytes safe.order is
+      by_act (Cut size done) is start whole second o safe = cut_step size done start whole second o is safe.order.0 safe.order.1
+      by_act (Append bytes done) is start whole second o safe =
           let log = safe.order.1.1 in
-          let text = input_text whose settings (found t) whole start log.input spells o log.fits in
+          let text = input_text whose settings (found t) whole start log.input spells second o log.fits in
           append_step bytes done (text.0 ++ lines_calls start (whole_lines log.input)) safe.order.0 safe.order.1.0 (subst (λ (b : List ℕ). IsTextOf whose settings b (text.0 ++ lines_calls start (whole_lines log.input))) (sym log.is) text.1)
-      by_act (Sync done) is start whole o safe =
+      by_act (Sync done) is start whole second o safe =
           let log = safe.order.1 in
-          let text = input_text whose settings (found t) whole start log.input spells o log.fits in
+          let text = input_text whose settings (found t) whole start log.input spells second o log.fits in
           sync_step done (text.0 ++ lines_calls start (whole_lines log.input)) safe.order.0 (subst (λ (b : List ℕ). IsTextOf whose settings b (text.0 ++ lines_calls start (whole_lines log.input))) (sym log.is) text.1)
-      by_act (Say bytes done) is start whole o safe =
-          say_step bytes done safe.order (covered_told whose settings (Say bytes done ∷ t) (on_disk h) start whole p.synced spells o fits_synced i.disk i.keeps safe.covered)
-      by_act (Hear bytes) is start whole o safe = hear_step bytes safe.order
+      by_act (Say bytes done) is start whole second o safe =
+          say_step bytes done safe.order (covered_told whose settings (Say bytes done ∷ t) (on_disk h) start whole p.synced spells second o fits_synced i.disk i.keeps safe.covered)
+      by_act (Hear bytes) is start whole second o safe = hear_step bytes safe.order
 
   unopened_step : (act : Act) → found (act ∷ t) ≡ left_of h → IsUnopened (act ∷ t) → GoesOn whose settings (Does act ∷ h) p
   unopened_step act is (inl none) = absurd (let wrong : act ∷ t ≡ [] = none in cc)
@@ -545,7 +549,7 @@ earlier whose (Dies left) h is = is.0
 
 begun : (whose : Whose) (settings : Settings) → FitsNode whose.node → IsInner whose settings [] (record { memory = None; synced = []; unsynced = [] })
 begun whose settings fits =
-    let none = untorn (sha256 whose.settings) whose.node [] [] (nothing_cut (sha256 whose.settings) whose.node fits) in
+    let none = untorn (digest_in whose.settings) whose.node [] [] (nothing_cut (digest_in whose.settings) whose.node fits) in
     record {
       disk = inr (refl, refl);
       under = all_of [];
@@ -574,7 +578,7 @@ before_is whose (one ∷ later) h is = before_is whose later h (earlier whose on
 
 is_process : (whose : Whose) (settings : Settings) (h : List Happening) (p : Process) → IsInner whose settings h p → IsProcess whose settings h p
 is_process whose settings h p i =
-    record { disk = i.disk; lies = torn_reads (sha256 whose.settings) whose.node (file_of h) (model_file p) (digest_length whose.settings) i.lies; memory = i.memory; told = i.told }
+    record { disk = i.disk; lies = torn_reads (digest_in whose.settings) whose.node (file_of h) (model_file p) (in_length whose.settings) i.lies; memory = i.memory; told = i.told }
 
 pub course : (whose : Whose) (settings : Settings) (later before : List Happening) → Spells whose.settings settings → FitsNode whose.node → IsHistory whose (later ++ before) → IsCourse whose settings before (later ++ before)
 course whose settings later before spells fits is =

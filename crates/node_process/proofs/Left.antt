@@ -10,12 +10,13 @@ use Rattle.kept_logs.specs.declared.fault.LogFault.{LogFault}
 use Rattle.kept_logs.specs.declared.fault.LogFault.TheVariants.{Short}
 use Rattle.kept_logs.specs.Records.{logged_text}
 use Rattle.kept_logs.specs.Frames.{frame_text}
-use Rattle.kept_logs.specs.Logs.{Reading, calls_text, log_text, log_in}
+use Rattle.kept_logs.specs.Logs.{Reading, head_text, calls_text, log_text, log_in}
 use Rattle.kept_logs.specs.Fits.{FitsNode, FitsLogged, FitsLog}
 use Rattle.kept_logs.specs.Cuts.{whole_within, calls_within}
 use Rattle.kept_logs.proofs.FramesBack.{take_over}
 use Rattle.kept_logs.proofs.CallsBack.{all_within}
 use Rattle.kept_logs.proofs.LogsBack.{log_length, reads_back, reads_short, reads_whole}
+use Rattle.settings_digest.specs.Digests.{digest_in, digest_under}
 use Rattle.node_process.specs.Safe.{IsStartOf}
 use Rattle.node_process.specs.Histories.{zeros, IsWholeLog, HasCalls, ReadsCalls}
 use Rattle.node_process.proofs.Zeros.{zeros_length, reads_zeros}
@@ -97,7 +98,7 @@ pub record IsCutOf (digest : List ℕ) (node : Node) (bytes : List ℕ) (calls :
 pub calls_fit : (digest : List ℕ) (node : Node) (bytes : List ℕ) (calls : List Logged) → IsCutOf digest node bytes calls → FitsLog (record { node = node; calls = calls })
 calls_fit digest node bytes calls c = record { node = c.fits.node; calls = front_fits calls c.more (subst (AllByRecursion FitsLogged) c.are c.fits.calls) }
 
-pub cut_reads : (digest : List ℕ) (node : Node) (bytes : List ℕ) (calls : List Logged) → length digest ≡ 32 → IsCutOf digest node bytes calls → ReadsCalls digest node bytes calls
+pub cut_reads : (digest : List ℕ) (node : Node) (bytes : List ℕ) (calls : List Logged) → length digest ≡ 33 → IsCutOf digest node bytes calls → ReadsCalls digest node bytes calls
 cut_reads digest node bytes calls d c =
     let log : NodeLog = record { node = node; calls = c.all } in
     elim (cases_lt c.size 46) [
@@ -110,7 +111,7 @@ cut_reads digest node bytes calls d c =
           inl (count, ap (log_in digest) c.is ∙ (back.read ∙ ap (λ (cs : List Logged). let r : Reading = record { log = record { node = node; calls = cs }; whole = count } in Ok r) first))
     ]
 
-pub text_cut : (digest : List ℕ) (node : Node) (calls : List Logged) → length digest ≡ 32 → FitsLog (record { node = node; calls = calls }) → IsCutOf digest node (log_text digest (record { node = node; calls = calls })) calls
+pub text_cut : (digest : List ℕ) (node : Node) (calls : List Logged) → length digest ≡ 33 → FitsLog (record { node = node; calls = calls }) → IsCutOf digest node (log_text digest (record { node = node; calls = calls })) calls
 text_cut digest node calls d fits =
     let log : NodeLog = record { node = node; calls = calls } in
     let text = log_text digest log in
@@ -140,7 +141,7 @@ nothing_cut digest node fits =
     }
 
 -- a log whose text begins that of another has its first calls
-pub begins_with : (digest : List ℕ) (node : Node) (xs ys : List Logged) (n : ℕ) → length digest ≡ 32 → FitsLog (record { node = node; calls = xs }) → FitsLog (record { node = node; calls = ys })
+pub begins_with : (digest : List ℕ) (node : Node) (xs ys : List Logged) (n : ℕ) → length digest ≡ 33 → FitsLog (record { node = node; calls = xs }) → FitsLog (record { node = node; calls = ys })
     → n ≡ length (log_text digest (record { node = node; calls = xs })) → log_text digest (record { node = node; calls = xs }) ≡ take n (log_text digest (record { node = node; calls = ys }))
     → xs ≡ take (calls_within n (record { node = node; calls = ys })) ys
 begins_with digest node xs ys n d first fits is e =
@@ -153,7 +154,7 @@ begins_with digest node xs ys n d first fits is e =
     ap (λ (x : Reading). x.log.calls) r
 
 -- a text that is read as calls is the text of these
-pub same_calls : (digest : List ℕ) (node : Node) (xs ys : List Logged) (bytes : List ℕ) → length digest ≡ 32 → FitsLog (record { node = node; calls = xs }) → bytes ≡ log_text digest (record { node = node; calls = xs })
+pub same_calls : (digest : List ℕ) (node : Node) (xs ys : List Logged) (bytes : List ℕ) → length digest ≡ 33 → FitsLog (record { node = node; calls = xs }) → bytes ≡ log_text digest (record { node = node; calls = xs })
     → ReadsCalls digest node bytes ys → xs ≡ ys
 same_calls digest node xs ys bytes d fits is (inl read) =
     let a : NodeLog = record { node = node; calls = xs } in
@@ -164,7 +165,7 @@ same_calls digest node xs ys bytes d fits is (inr none) =
     absurd (not_short (record { log = a; whole = length (log_text digest a) }) (sym (ap (log_in digest) is ∙ reads_whole digest a d fits) ∙ none.0))
 
 -- bytes that begin the text of a log and end with a record of it are the text of its first calls
-whole_front : (digest : List ℕ) (node : Node) (front : List ℕ) (calls : List Logged) → length digest ≡ 32 → IsCutOf digest node front calls → IsWholeLog digest front → front ≡ log_text digest (record { node = node; calls = calls })
+whole_front : (digest : List ℕ) (node : Node) (front : List ℕ) (calls : List Logged) → length digest ≡ 33 → IsCutOf digest node front calls → IsWholeLog digest front → front ≡ log_text digest (record { node = node; calls = calls })
 whole_front digest node front calls d c (log, reads) =
     let all : NodeLog = record { node = node; calls = c.all } in
     let text = log_text digest all in
@@ -205,7 +206,7 @@ no_zeros : (front bytes : List ℕ) (n : ℕ) → bytes ≡ front ++ zeros n →
 no_zeros front bytes n is none = is ∙ (ap (λ m. front ++ zeros m) none ∙ append-nil front)
 
 -- zeros behind the text of a log
-pub zeros_read : (digest : List ℕ) (node : Node) (front bytes : List ℕ) (calls : List Logged) (n : ℕ) → length digest ≡ 32 → FitsLog (record { node = node; calls = calls })
+pub zeros_read : (digest : List ℕ) (node : Node) (front bytes : List ℕ) (calls : List Logged) (n : ℕ) → length digest ≡ 33 → FitsLog (record { node = node; calls = calls })
     → bytes ≡ front ++ zeros n → front ≡ log_text digest (record { node = node; calls = calls })
     → log_in digest bytes ≡ Ok (record { log = record { node = node; calls = calls }; whole = length front })
 zeros_read digest node front bytes calls n d fits is text =
@@ -213,12 +214,33 @@ zeros_read digest node front bytes calls n d fits is text =
     ap (log_in digest) (is ∙ ap (λ (x : List ℕ). x ++ zeros n) text)
     ∙ (reads_zeros digest log n d fits ∙ ap (λ (x : List ℕ). let r : Reading = record { log = log; whole = length x } in Ok r) (sym text))
 
-pub torn_reads : (digest : List ℕ) (node : Node) (bytes : List ℕ) (calls : List Logged) → length digest ≡ 32 → IsTornOf digest node bytes calls → ReadsCalls digest node bytes calls
+pub torn_reads : (digest : List ℕ) (node : Node) (bytes : List ℕ) (calls : List Logged) → length digest ≡ 33 → IsTornOf digest node bytes calls → ReadsCalls digest node bytes calls
 torn_reads digest node bytes calls d t = by_end t.ends
   where
     by_end : (t.lost ≡ 0) ⊎ (t.front ≡ log_text digest (record { node = node; calls = calls })) → ReadsCalls digest node bytes calls
     by_end (inl none) = subst (λ (b : List ℕ). ReadsCalls digest node b calls) (sym (no_zeros t.front bytes t.lost t.is none)) (cut_reads digest node t.front calls d t.cut)
     by_end (inr text) = inl (length t.front, zeros_read digest node t.front bytes calls t.lost d (torn_fits digest node bytes calls t) t.is text)
+
+-- ---- their version
+
+-- such bytes are of version 2, where the log is
+second_cut : (file : List ℕ) (log : NodeLog) (n lost : ℕ) → digest_under file (take n (log_text (digest_in file) log) ++ zeros lost) ≡ digest_in file
+unfolding digest_under digest_in log_text head_text
+second_cut file log zero zero = refl
+second_cut file log zero (suc zero) = refl
+second_cut file log zero (suc (suc zero)) = refl
+second_cut file log zero (suc (suc (suc lost))) = refl
+second_cut file log (suc zero) zero = refl
+second_cut file log (suc zero) (suc zero) = refl
+second_cut file log (suc zero) (suc (suc lost)) = refl
+second_cut file log (suc (suc zero)) zero = refl
+second_cut file log (suc (suc zero)) (suc lost) = refl
+second_cut file log (suc (suc (suc n))) lost = refl
+
+pub torn_second : (file : List ℕ) (node : Node) (bytes : List ℕ) (calls : List Logged) → IsTornOf (digest_in file) node bytes calls → digest_under file bytes ≡ digest_in file
+torn_second file node bytes calls t =
+    let c = t.cut in
+    ap (digest_under file) (t.is ∙ ap (λ (x : List ℕ). x ++ zeros t.lost) c.is) ∙ second_cut file (record { node = node; calls = c.all }) c.size t.lost
 
 -- ---- what a death leaves
 
@@ -230,7 +252,7 @@ pub record HasLeft (digest : List ℕ) (node : Node) (left : List ℕ) (calls sy
   pub most : count ≤ length calls
   pub begins : synced ≡ take (length synced) calls
 
-synced_within : (digest : List ℕ) (node : Node) (disk bytes : List ℕ) (calls synced : List Logged) (n : ℕ) → length digest ≡ 32 → (c : IsCutOf digest node bytes calls) → FitsLog (record { node = node; calls = synced })
+synced_within : (digest : List ℕ) (node : Node) (disk bytes : List ℕ) (calls synced : List Logged) (n : ℕ) → length digest ≡ 33 → (c : IsCutOf digest node bytes calls) → FitsLog (record { node = node; calls = synced })
     → HasCalls digest node disk synced → IsStartOf disk (take n (log_text digest (record { node = node; calls = c.all }))) → 46 ≤ n → calls_within n (record { node = node; calls = c.all }) ≤ length calls
     → (length synced ≤ calls_within n (record { node = node; calls = c.all })) × (synced ≡ take (length synced) calls)
 synced_within digest node disk bytes calls synced n d c fits (inr none) start large most =
@@ -260,7 +282,7 @@ record HasFront (digest : List ℕ) (node : Node) (left : List ℕ) (calls synce
   most : count ≤ length calls
   begins : synced ≡ take (length synced) calls
 
-front_reads : (digest : List ℕ) (node : Node) (disk left bytes : List ℕ) (calls synced : List Logged) → length digest ≡ 32 → FitsLog (record { node = node; calls = synced }) → HasCalls digest node disk synced
+front_reads : (digest : List ℕ) (node : Node) (disk left bytes : List ℕ) (calls synced : List Logged) → length digest ≡ 33 → FitsLog (record { node = node; calls = synced }) → HasCalls digest node disk synced
     → IsStartOf disk left → IsStartOf left bytes → IsCutOf digest node bytes calls → HasFront digest node left calls synced
 front_reads digest node disk left bytes calls synced d fits has under start c =
     let log : NodeLog = record { node = node; calls = c.all } in
@@ -310,7 +332,7 @@ front_reads digest node disk left bytes calls synced d fits has under start c =
         }
 
 -- what is on the disk stands before the zeros
-before_zeros : (digest : List ℕ) (node : Node) (disk front : List ℕ) (calls synced : List Logged) (n : ℕ) → length digest ≡ 32 → FitsLog (record { node = node; calls = calls }) → FitsLog (record { node = node; calls = synced })
+before_zeros : (digest : List ℕ) (node : Node) (disk front : List ℕ) (calls synced : List Logged) (n : ℕ) → length digest ≡ 33 → FitsLog (record { node = node; calls = calls }) → FitsLog (record { node = node; calls = synced })
     → HasCalls digest node disk synced → front ≡ log_text digest (record { node = node; calls = calls }) → IsStartOf disk (front ++ zeros n) → IsStartOf disk front
 before_zeros digest node disk front calls synced n d fits first (inr none) text start = record { rest = front; is = ap (λ (x : List ℕ). x ++ front) none.0 }
 before_zeros digest node disk front calls synced n d fits first (inl is) text start =
@@ -333,7 +355,7 @@ before_zeros digest node disk front calls synced n d fits first (inl is) text st
     ]
 
 -- some of the bytes that were there, and zeros where the others were
-pub left_reads : (digest : List ℕ) (node : Node) (disk front left bytes : List ℕ) (calls synced : List Logged) (lost : ℕ) → length digest ≡ 32 → FitsLog (record { node = node; calls = synced }) → HasCalls digest node disk synced
+pub left_reads : (digest : List ℕ) (node : Node) (disk front left bytes : List ℕ) (calls synced : List Logged) (lost : ℕ) → length digest ≡ 33 → FitsLog (record { node = node; calls = synced }) → HasCalls digest node disk synced
     → IsStartOf disk front → IsStartOf front bytes → left ≡ front ++ zeros lost → (lost ≡ 0) ⊎ IsWholeLog digest front → IsTornOf digest node bytes calls → HasLeft digest node left calls synced
 left_reads digest node disk front left bytes calls synced lost d fits has under start is ends t = elim (cases_lt (length t.front) (length front)) [
   | inl more ↦ by_zeros more t.ends

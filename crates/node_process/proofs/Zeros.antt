@@ -96,7 +96,7 @@ calls_then_zeros total number (suc most) n (r ∷ calls) fits room =
 
 -- ---- a log, and zeros behind it
 
-pub reads_zeros : (digest : List ℕ) (log : NodeLog) (n : ℕ) → length digest ≡ 32 → FitsLog log → log_in digest (log_text digest log ++ zeros n) ≡ Ok (record { log = log; whole = length (log_text digest log) })
+pub reads_zeros : (digest : List ℕ) (log : NodeLog) (n : ℕ) → length digest ≡ 33 → FitsLog log → log_in digest (log_text digest log ++ zeros n) ≡ Ok (record { log = log; whole = length (log_text digest log) })
 unfolding log_in log_text
 reads_zeros digest log n d fits =
     let front : List ℕ = head_text digest log.node in

@@ -1,7 +1,6 @@
 -- The processes of one node, one after another, and what is left of the file of its log where one dies; and the process of the model that they are.
 use Rattle.std.specs.Prelude.{◌≡◌, ◌⊎◌, ⊤, ℕ, not, ◌&&◌, cond, flat_map, false, map, List, [], ◌∷◌, ◌++◌, take, replicate, codes, Some, None, Ok, Err}
 use Rattle.std.specs.List.{AllByRecursion}
-use Rattle.sha2.specs.Sha256.{sha256}
 use Rattle.claim_model.specs.Context.{Context}
 use Rattle.claim_model.specs.Refusal.{Refusal}
 use Rattle.claim_model.specs.Node.{Node, Call, Sent}
@@ -18,6 +17,7 @@ use Rattle.world_setup.specs.declared.settings.WorldSettings.{WorldSettings as S
 use Rattle.node_logged.specs.Setting.{context_of}
 use Rattle.kept_logs.specs.declared.fault.LogFault.TheVariants.{Short}
 use Rattle.kept_logs.specs.Logs.{log_text, log_in, ReadsAs}
+use Rattle.settings_digest.specs.Digests.{digest_in}
 use Rattle.node_service.specs.Asking.{Asked, Calls, Tells as Asks}
 use Rattle.node_service.specs.Answering.{ready_line, sent_line, refused_line}
 use Rattle.node_service.specs.Serving.{last_line, told_of}
@@ -79,7 +79,7 @@ pub record IsLeft (whose : Whose) (before : List Happening) (left : List ℕ) : 
   pub is : left ≡ front ++ zeros lost
   pub kept : IsStartOf (on_disk before) front
   pub had : IsStartOf front (file_of before) ⊎ IsStartOf front (left_of before)
-  pub ends : (lost ≡ 0) ⊎ IsWholeLog (sha256 whose.settings) front
+  pub ends : (lost ≡ 0) ⊎ IsWholeLog (digest_in whose.settings) front
 
 -- each process finds what the one before it left, and at each moment is a run of its node (`serve_all`), or has done nothing but to read the log
 abbrev pub IsHistory : Whose → List Happening → Type 0
@@ -176,8 +176,8 @@ pub record IsToldBy (node : Node) (calls : List Logged) (text : List ℕ) : Type
 -- what a node has on its disk, in its file and in its memory is what the process of the model has, and what its process has said is what the
 -- synced calls of that process sent
 pub record IsProcess (whose : Whose) (settings : Settings) (history : List Happening) (p : Process) : Type 0 where
-  pub disk : HasCalls (sha256 whose.settings) whose.node (on_disk history) p.synced
-  pub lies : ReadsCalls (sha256 whose.settings) whose.node (file_of history) (model.file p)
+  pub disk : HasCalls (digest_in whose.settings) whose.node (on_disk history) p.synced
+  pub lies : ReadsCalls (digest_in whose.settings) whose.node (file_of history) (model.file p)
   pub memory : IsAlive (context_of settings) (settings_seen settings) whose.node (acts_of history) p
   pub told : IsToldBy whose.node p.synced (said (acts_of history))
 

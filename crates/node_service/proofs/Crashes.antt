@@ -3,7 +3,8 @@ use Rattle.std.proofs.Common.{◌≡◌, ℕ, suc, ◌+◌, ◌-◌, ◌<◌, �
 use Rattle.std.proofs.lemmas.Bool.{cases_lt}
 use Rattle.std.proofs.Math.Seq.{take-append-add}
 use Rattle.std.proofs.lemmas.List.{take-append-le, take-append-drop}
-use Rattle.sha2.specs.Sha256.{sha256}
+use Rattle.settings_digest.specs.Digests.{digest_under}
+use Rattle.settings_digest.proofs.Keeping.{keeps_cut, under_length}
 use Rattle.claim_model.specs.Node.{Node}
 use Rattle.claim_model.specs.Nodes.{AnyNode}
 use Rattle.claim_model.specs.Logs.{Logged, NodeLog}
@@ -22,7 +23,6 @@ use Rattle.kept_logs.specs.Cuts.{first_calls, calls_within, log_within}
 use Rattle.kept_logs.proofs.LogsBack.{log_length, reads_back}
 use Rattle.node_service.specs.Opened.{IsBegun}
 use Rattle.node_service.specs.Lines.{IsRestart}
-use Rattle.node_service.proofs.Lines.{digest_length}
 
 -- the first calls of a log have no more bytes than those with more calls
 pub longer_text : (number : ℕ) (calls more : List Logged) → length (calls_text number calls) ≤ length (calls_text number (calls ++ more))
@@ -33,7 +33,7 @@ longer_text number (r ∷ calls) more =
     omega (arith, inner, length-append (frame_text number (logged_text r)) (calls_text (number + 1) calls), length-append (frame_text number (logged_text r)) (calls_text (number + 1) (calls ++ more)))
 
 -- a cut behind the synced calls leaves them all
-all_synced : (digest : List ℕ) (node : Node) (p : Process) (n : ℕ) → length digest ≡ 32 → FitsLog (record { node = node; calls = file p }) → length (log_text digest (record { node = node; calls = p.synced })) ≤ n
+all_synced : (digest : List ℕ) (node : Node) (p : Process) (n : ℕ) → length digest ≡ 33 → FitsLog (record { node = node; calls = file p }) → length (log_text digest (record { node = node; calls = p.synced })) ≤ n
     → length p.synced ≤ calls_within n (record { node = node; calls = file p })
 all_synced digest node p n d fits long =
     let log : NodeLog = record { node = node; calls = file p } in
@@ -67,11 +67,11 @@ restarted_as digest node p image left whole kept settings state records log read
     let r = same_reading (record { log = log; whole = kept }) (record { log = record { node = node; calls = file (crashed p left) }; whole = whole }) (sym read.0 ∙ reads) in
     ap (λ (x : Reading). replayed settings node x.log.calls) (sym r) ∙ is
 
-pub crashed_restarts : (settings : List ℕ) (node : Node) (p : Process) (n : ℕ) → FitsLog (record { node = node; calls = file p }) → length (log_text (sha256 settings) (record { node = node; calls = p.synced })) ≤ n
-    → IsRestart settings node p (take n (log_text (sha256 settings) (record { node = node; calls = file p })))
-crashed_restarts settings node p n fits long =
-    let digest = sha256 settings in
-    let d = digest_length settings in
+pub crashed_restarts : (settings begun : List ℕ) (node : Node) (p : Process) (n : ℕ) → FitsLog (record { node = node; calls = file p }) → length (log_text (digest_under settings begun) (record { node = node; calls = p.synced })) ≤ n
+    → IsRestart settings node p (take n (log_text (digest_under settings begun) (record { node = node; calls = file p })))
+crashed_restarts settings begun node p n fits long =
+    let digest = digest_under settings begun in
+    let d = under_length settings begun in
     let log : NodeLog = record { node = node; calls = file p } in
     let synced : NodeLog = record { node = node; calls = p.synced } in
     let k = calls_within n log in
@@ -83,9 +83,11 @@ crashed_restarts settings node p n fits long =
     let whole = length (log_text digest (log_within n log)) in
     let reads : log_in digest (take n (log_text digest log)) ≡ Ok (record { log = record { node = node; calls = file (crashed p left) }; whole = whole }) =
     back.read ∙ ap (λ (cs : List Logged). let r : Reading = record { log = record { node = node; calls = cs }; whole = whole } in Ok r) calls in
+    let image = take n (log_text digest log) in
+    let own : digest_under settings image ≡ digest = keeps_cut settings begun log n (omega (arith, log_length digest synced d, long)) in
     record {
       left = left;
       whole = whole;
-      reads = reads;
-      restarts = λ s kept o. restarted_as digest node p (take n (log_text digest log)) left whole kept s.settings s.state s.records o.log reads o.begun o.state;
+      reads = ap (λ (x : List ℕ). log_in x image) own ∙ reads;
+      restarts = λ s kept o. restarted_as digest node p image left whole kept s.settings s.state s.records o.log reads (subst (λ (x : List ℕ). IsBegun x node image o.log kept s.records) own o.begun) o.state;
     }

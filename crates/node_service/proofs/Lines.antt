@@ -2,7 +2,8 @@
 use Rattle.std.proofs.Common.{◌≡◌, ℕ, ◌+◌, List, [], ◌∷◌, ◌++◌, length, take, Option, Some, None, Result, Ok, Err, refl, sym, ap, ◌∙◌, subst, ◌⊎◌, inl, inr, arith, append_assoc, append-nil, length-append}
 use Rattle.std.specs.Prelude.{option_map, codes}
 use Rattle.std.specs.List.{AllByRecursion}
-use Rattle.sha2.specs.Sha256.{sha256, digest_bytes}
+use Rattle.settings_digest.specs.Digests.{digest_under}
+use Rattle.settings_digest.proofs.Keeping.{keeps, under_length}
 use Rattle.bin_routes.specs.Table.{routes_of}
 use Rattle.claim_model.specs.Bytes.{bytes_with}
 use Rattle.claim_model.specs.Settings.{opening}
@@ -68,7 +69,7 @@ adds_all s (line ∷ lines) =
 
 -- ---- the log
 
-pub is_opened_serving : (settings : List ℕ) (node : Node) (bytes : List ℕ) (kept : ℕ) (s : Serving) → IsOpened settings node bytes kept s → (log : NodeLog) × IsServing (sha256 settings) (take kept bytes) log s
+pub is_opened_serving : (settings : List ℕ) (node : Node) (bytes : List ℕ) (kept : ℕ) (s : Serving) → IsOpened settings node bytes kept s → (log : NodeLog) × IsServing (digest_under settings bytes) (take kept bytes) log s
 is_opened_serving settings node bytes kept s o = (
   o.log,
   record {
@@ -146,10 +147,6 @@ cleared_serves digest file log s i = record { named = i.named; calls = i.calls; 
 
 -- ---- a restart
 
-pub digest_length : (text : List ℕ) → length (sha256 text) ≡ 32
-unfolding sha256 digest_bytes
-digest_length text = refl
-
 -- what a log makes of a node hangs on the document alone
 abbrev of_document : Node → List Logged → Document → Option AnyNode
 of_document node calls d = option_map (λ (n : AnyNode). replay (bytes_with (routes_of d.routes)) n calls) (node_at (opening d.world) node)
@@ -160,16 +157,17 @@ same_reading a b h = cc
 not_short : (a : Reading) → ◌≡◌ {A = Result Reading LogFault} (Ok a) (Err Short) → ⊥
 not_short a h = cc
 
-pub opens_again : (settings file : List ℕ) (log : NodeLog) (s t : Serving) (kept : ℕ) → IsServing (sha256 settings) file log s → document_seen t.settings ≡ document_seen s.settings → IsOpened settings log.node (file ++ s.records) kept t
+pub opens_again : (settings image file : List ℕ) (log : NodeLog) (s t : Serving) (kept : ℕ) → IsServing (digest_under settings image) file log s → document_seen t.settings ≡ document_seen s.settings → IsOpened settings log.node (file ++ s.records) kept t
     → (kept ≡ length (file ++ s.records)) × IsSame s t
-opens_again settings file log s t kept i same o =
-    let digest = sha256 settings in
+opens_again settings image file log s t kept i same o =
+    let digest = digest_under settings image in
     let bytes = file ++ s.records in
+    let own : digest_under settings bytes ≡ digest = ap (digest_under settings) i.text ∙ keeps settings image log in
     let whole : log_in digest bytes ≡ Ok (record { log = log; whole = length bytes }) =
-    ap (log_in digest) i.text ∙ (reads_whole digest log (digest_length settings) i.fits ∙ ap (λ (text : List ℕ). let r : Reading = record { log = log; whole = length text } in Ok r) (sym i.text)) in
-    by_begun whole o.begun
+    ap (log_in digest) i.text ∙ (reads_whole digest log (under_length settings image) i.fits ∙ ap (λ (text : List ℕ). let r : Reading = record { log = log; whole = length text } in Ok r) (sym i.text)) in
+    by_begun whole (subst (λ (d : List ℕ). IsBegun d log.node bytes o.log kept t.records) own o.begun)
   where
-    by_begun : log_in (sha256 settings) (file ++ s.records) ≡ Ok (record { log = log; whole = length (file ++ s.records) }) → IsBegun (sha256 settings) log.node (file ++ s.records) o.log kept t.records → (kept ≡ length (file ++ s.records)) × IsSame s t
+    by_begun : log_in (digest_under settings image) (file ++ s.records) ≡ Ok (record { log = log; whole = length (file ++ s.records) }) → IsBegun (digest_under settings image) log.node (file ++ s.records) o.log kept t.records → (kept ≡ length (file ++ s.records)) × IsSame s t
     by_begun whole (inr none) = absurd (not_short (record { log = log; whole = length (file ++ s.records) }) (sym whole ∙ none.0))
     by_begun whole (inl read) =
         let r = same_reading (record { log = o.log; whole = kept }) (record { log = log; whole = length (file ++ s.records) }) (sym read.0 ∙ whole) in

@@ -1,7 +1,6 @@
 -- A node that made its log as it was read is opened as one whose log was read first.
-use Rattle.std.proofs.Common.{◌≡◌, ℕ, List, [], ◌∷◌, ◌++◌, length, take, Option, Some, None, option_map, Ok, inl, refl, sym, ap, ◌∙◌, subst, append-nil}
+use Rattle.std.proofs.Common.{◌≡◌, ℕ, List, [], ◌∷◌, ◌++◌, length, take, Option, Some, None, option_map, Result, Ok, Err, inl, refl, sym, ap, ◌∙◌, subst, append-nil}
 use Rattle.std.specs.Prelude.{IsSome}
-use Rattle.sha2.specs.Sha256.{sha256}
 use Rattle.bin_routes.specs.Table.{RouteMaps, routes_of}
 use Rattle.claim_model.specs.Bytes.{bytes_with}
 use Rattle.claim_model.specs.Node.{Node}
@@ -9,12 +8,14 @@ use Rattle.claim_model.specs.Nodes.{AnyNode}
 use Rattle.claim_model.specs.Logs.{Makes, replay}
 use Rattle.world_setup.specs.declared.settings.WorldSettings.{WorldSettings}
 use Rattle.node_logged.specs.Setting.{context_of, opened}
+use Rattle.kept_logs.specs.declared.fault.LogFault.{LogFault}
 use Rattle.kept_logs.specs.declared.making.MadeLog.{MadeLog}
 use Rattle.kept_logs.specs.Cuts.{IsLogOf}
 use Rattle.kept_logs.specs.Logs.{Reading, log_in, log_text}
-use Rattle.kept_logs.specs.Making.{IsMadeIf}
+use Rattle.kept_logs.specs.Making.{IsMadeIf, IsNotMade}
+use Rattle.settings_digest.specs.Digests.{digest_under}
 use Rattle.node_service.specs.Serving.{Serving}
-use Rattle.node_service.specs.Opened.{IsOpened, IsRead, IsServedAs, Spells}
+use Rattle.node_service.specs.Opened.{IsOpened, IsRead, IsServedAs, IsUnmade, Spells}
 
 front_of : {A : Type 0} (xs ys : List A) → take (length xs) (xs ++ ys) ≡ xs
 front_of [] ys = refl
@@ -28,9 +29,14 @@ abbrev in_some : AnyNode → Option AnyNode → AnyNode
 in_some a None = a
 in_some a (Some b) = b
 
+-- what the node does not make from its opening it does not make
+unmade_by : (settings : WorldSettings) (node : Node) (before : AnyNode) (reading : Result Reading LogFault) → opened settings node ≡ Some before → IsNotMade (context_of settings) before node reading → IsUnmade settings node reading
+unmade_by settings node before (Ok read) opens none = λ own all. none own (all before opens)
+unmade_by settings node before (Err why) opens none = tt
+
 read_from : (settings : WorldSettings) (digest : List ℕ) (node : Node) (bytes : List ℕ) (before : AnyNode) (made : Option MadeLog) → opened settings node ≡ Some before
     → IsMadeIf (context_of settings) before digest node bytes made → ((read : Reading) → log_in digest bytes ≡ Ok read → IsLogOf digest bytes read) → IsRead settings digest node bytes made
-read_from settings digest node bytes before None opens is found = tt
+read_from settings digest node bytes before None opens is found = unmade_by settings node before (log_in digest bytes) opens is
 read_from settings digest node bytes before (Some made) opens is found =
     let log_is = found (record { log = is.log; whole = made.whole }) is.read in
     record {
@@ -54,7 +60,7 @@ is_read settings digest node bytes made some is found =
 
 -- the node that is served is opened
 pub is_opened : (text : List ℕ) (settings : WorldSettings) (node : Node) (bytes : List ℕ) (made : MadeLog) (stay : ℕ) (s : Serving)
-    → Spells text settings → IsRead settings (sha256 text) node bytes (Some made) → IsServedAs settings node made stay s → IsOpened text node bytes stay s
+    → Spells text settings → IsRead settings (digest_under text bytes) node bytes (Some made) → IsServedAs settings node made stay s → IsOpened text node bytes stay s
 is_opened text settings node bytes made stay s spells is served = record {
   spells = rw served.own spells;
   named = served.named;

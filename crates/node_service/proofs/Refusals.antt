@@ -1,7 +1,6 @@
 -- A node is refused for what one step on the way to it says.
 use Rattle.std.proofs.Common.{rules, ◌≡◌, ◌⊎◌, inl, inr, ℕ, zero, suc, ◌≤◌, length, [], ◌∷◌, Result, Err, true, List, Some, Ok, subst}
 use Rattle.std.proofs.Math.Nat.{suc-le-suc_iff}
-use Rattle.sha2.specs.Sha256.{sha256}
 use Rattle.claim_model.specs.Context.{Context}
 use Rattle.claim_model.specs.Node.{Node, Outcome, Done, Refused, Sent}
 use Rattle.claim_model.specs.Nodes.{AnyNode, node_step}
@@ -17,6 +16,7 @@ use Rattle.run_merge.specs.Order.{FitsBy}
 use Rattle.run_merge.specs.Misfits.{BreaksAt, IsMade}
 use Rattle.run_merge.specs.declared.misfit.FirstMisfit.{FirstMisfit}
 use Rattle.kept_logs.specs.Logs.{Reading, log_in}
+use Rattle.settings_digest.specs.Digests.{digest_under}
 use Rattle.node_service.specs.declared.fault.ServiceFault.{ServiceFault}
 use Rattle.node_service.specs.declared.fault.ServiceFault.TheVariants.{OutOfMemory, Settings, NoSuchNode, Log, OtherNode, NotMade}
 use Rattle.node_service.specs.Opened.{Spells, IsBegun}
@@ -73,7 +73,7 @@ settings_refused text node bytes (NotMade n) is = absurd is
 
 -- the log is refused
 pub log_refused : (text : List ℕ) (node : Node) (bytes : List ℕ) (s : WorldSettings) (why : ServiceFault) → Spells text s → is_there (settings_seen s) node ≡ true
-    → NoLog (sha256 text) node bytes why → IsRefused text node bytes why
+    → NoLog (digest_under text bytes) node bytes why → IsRefused text node bytes why
 log_refused text node bytes s OutOfMemory spells there found = tt
 log_refused text node bytes s Settings spells there found = absurd found
 log_refused text node bytes s NoSuchNode spells there found = absurd found
@@ -83,7 +83,7 @@ log_refused text node bytes s (NotMade n) spells there found = absurd found
 
 -- the log is not made
 pub making_refused : (text : List ℕ) (node : Node) (bytes : List ℕ) (s : WorldSettings) (log : NodeLog) (kept : ℕ) (records : List ℕ) (why : ServiceFault) → Spells text s
-    → is_there (settings_seen s) node ≡ true → log.node ≡ node → IsBegun (sha256 text) node bytes log kept records → IsNotMade (sha256 text) s log why → IsRefused text node bytes why
+    → is_there (settings_seen s) node ≡ true → log.node ≡ node → IsBegun (digest_under text bytes) node bytes log kept records → IsNotMade (digest_under text bytes) s log why → IsRefused text node bytes why
 making_refused text node bytes s log kept records OutOfMemory spells there own begun found = tt
 making_refused text node bytes s log kept records Settings spells there own begun found = absurd found
 making_refused text node bytes s log kept records NoSuchNode spells there own begun found = absurd found

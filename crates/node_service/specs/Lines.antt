@@ -4,12 +4,12 @@ use Rattle.claim_model.specs.Node.{Node, Call, Outcome, Done, Refused}
 use Rattle.claim_model.specs.Nodes.{AnyNode, node_step}
 use Rattle.claim_model.specs.Logs.{Logged, NodeLog}
 use Rattle.world_setup.specs.Seen.{call_seen, settings_seen}
-use Rattle.sha2.specs.Sha256.{sha256}
 use Rattle.crash_safety.specs.Network.{Process, file, crashed, restarted}
 use Rattle.run_merge.specs.Merged.{replayed}
 use Rattle.node_logged.specs.Setting.{context_of}
 use Rattle.kept_logs.specs.Logs.{log_text, log_in}
 use Rattle.kept_logs.specs.Fits.{FitsLog}
+use Rattle.settings_digest.specs.Digests.{digest_under}
 use Rattle.node_service.specs.Asking.{Asked, Calls, Tells, asked_of}
 use Rattle.node_service.specs.Serving.{Serving, after_line}
 use Rattle.node_service.specs.Opened.{IsOpened, MakesAll}
@@ -68,5 +68,5 @@ pub record IsSame (s t : Serving) : Type 0 where
 pub record IsRestart (settings : List ℕ) (node : Node) (p : Process) (image : List ℕ) : Type 0 where
   pub left : ℕ
   pub whole : ℕ
-  pub reads : log_in (sha256 settings) image ≡ Ok (record { log = record { node = node; calls = file (crashed p left) }; whole = whole })
+  pub reads : log_in (digest_under settings image) image ≡ Ok (record { log = record { node = node; calls = file (crashed p left) }; whole = whole })
   pub restarts : (s : Serving) (kept : ℕ) → IsOpened settings node image kept s → (restarted (context_of s.settings) (settings_seen s.settings) node (crashed p left)).memory ≡ Some s.state

@@ -1,16 +1,17 @@
 -- The node that is served, from the bytes of its log.
-use Rattle.std.specs.Prelude.{◌≡◌, ◌⊎◌, ⊤, ℕ, zero, List, [], ◌++◌, take, length, Option, Some, None, Ok, Err}
-use Rattle.sha2.specs.Sha256.{sha256}
+use Rattle.std.specs.Prelude.{◌≡◌, ◌⊎◌, ⊤, ℕ, zero, List, [], ◌++◌, take, length, Option, Some, None, Result, Ok, Err}
 use Rattle.claim_model.specs.Node.{Node}
 use Rattle.claim_model.specs.Nodes.{AnyNode}
 use Rattle.claim_model.specs.Logs.{Logged, NodeLog, Makes}
 use Rattle.world_setup.specs.Taken.{world_fault}
 use Rattle.world_setup.specs.declared.settings.WorldSettings.{WorldSettings}
 use Rattle.world_settings.specs.Document.{document_seen, living_in}
+use Rattle.kept_logs.specs.declared.fault.LogFault.{LogFault}
 use Rattle.kept_logs.specs.declared.fault.LogFault.TheVariants.{Short}
-use Rattle.kept_logs.specs.Logs.{log_text, log_in}
+use Rattle.kept_logs.specs.Logs.{Reading, log_text, log_in}
 use Rattle.kept_logs.specs.Fits.{FitsLog}
 use Rattle.kept_logs.specs.declared.making.MadeLog.{MadeLog}
+use Rattle.settings_digest.specs.Digests.{digest_under}
 use Rattle.run_merge.specs.Merged.{replayed}
 use Rattle.node_logged.specs.Setting.{context_of, opened}
 use Rattle.node_service.specs.Serving.{Serving}
@@ -46,8 +47,8 @@ pub record IsOpened (settings : List ℕ) (node : Node) (bytes : List ℕ) (kept
   pub named : s.node ≡ node
   pub log : NodeLog
   pub own : log.node ≡ node
-  pub begun : IsBegun (sha256 settings) node bytes log kept s.records
-  pub text : take kept bytes ++ s.records ≡ log_text (sha256 settings) log
+  pub begun : IsBegun (digest_under settings bytes) node bytes log kept s.records
+  pub text : take kept bytes ++ s.records ≡ log_text (digest_under settings bytes) log
   pub fits : FitsLog log
   pub calls : s.calls ≡ length log.calls
   pub makes : MakesAll s.settings node log.calls
@@ -75,9 +76,14 @@ pub record IsMadeLog (settings : WorldSettings) (digest : List ℕ) (node : Node
   pub makes : MakesAll settings node log.calls
   pub state : replayed settings node log.calls ≡ Some made.node
 
--- nothing is said where there is none
+-- what bytes are read as is not a log that this node makes from its opening: they are no log, or another node's, or it does not make each call
+abbrev pub IsUnmade : WorldSettings → Node → Result Reading LogFault → Type 0
+IsUnmade settings node (Ok read) = read.log.node ≡ node → MakesAll settings node read.log.calls → ⊥
+IsUnmade settings node (Err why) = ⊤
+
+-- there is a node exactly where the bytes are its log, which it makes
 abbrev pub IsRead : WorldSettings → List ℕ → Node → List ℕ → Option MadeLog → Type 0
-IsRead settings digest node bytes None = ⊤
+IsRead settings digest node bytes None = IsUnmade settings node (log_in digest bytes)
 IsRead settings digest node bytes (Some made) = IsMadeLog settings digest node bytes made
 
 -- the node that is served is this one, under these settings; so many bytes stay, and nothing is to be appended

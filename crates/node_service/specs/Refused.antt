@@ -1,6 +1,5 @@
 -- Why a node is not served: each cause is true, and those before it in the order do not stand.
 use Rattle.std.specs.Prelude.{◌≡◌, ◌≢◌, ◌⊎◌, ⊤, ℕ, true, false, List, length, Some, None, Ok, Err}
-use Rattle.sha2.specs.Sha256.{sha256}
 use Rattle.claim_model.specs.Node.{Node}
 use Rattle.claim_model.specs.Nodes.{AnyNode, same_node}
 use Rattle.claim_model.specs.Logs.{NodeLog}
@@ -16,6 +15,7 @@ use Rattle.node_logged.specs.Setting.{context_of, opened}
 use Rattle.kept_logs.specs.declared.fault.LogFault.TheVariants as log_fault
 use Rattle.kept_logs.specs.Logs.{Reading, log_text, log_in}
 use Rattle.kept_logs.specs.Cuts.{first_calls}
+use Rattle.settings_digest.specs.Digests.{digest_under}
 use Rattle.node_service.specs.declared.fault.ServiceFault.{ServiceFault}
 use Rattle.node_service.specs.declared.fault.ServiceFault.TheVariants.{OutOfMemory, Settings, NoSuchNode, Log, OtherNode, NotMade}
 use Rattle.node_service.specs.Opened.{Spells, IsBegun}
@@ -96,7 +96,7 @@ pub record HasNoLog (text : List ℕ) (node : Node) (bytes : List ℕ) (why : Se
   pub settings : WorldSettings
   pub spells : Spells text settings
   pub there : is_there (settings_seen settings) node ≡ true
-  pub refused : NoLog (sha256 text) node bytes why
+  pub refused : NoLog (digest_under text bytes) node bytes why
 
 -- the settings are taken and have the node, its log is read, and the node does not make it
 pub record DoesNotMake (text : List ℕ) (node : Node) (bytes : List ℕ) (place : ℕ) : Type 0 where
@@ -107,8 +107,8 @@ pub record DoesNotMake (text : List ℕ) (node : Node) (bytes : List ℕ) (place
   pub own : log.node ≡ node
   pub kept : ℕ
   pub records : List ℕ
-  pub begun : IsBegun (sha256 text) node bytes log kept records
-  pub breaks : BreaksAtPlace (sha256 text) settings log place
+  pub begun : IsBegun (digest_under text bytes) node bytes log kept records
+  pub breaks : BreaksAtPlace (digest_under text bytes) settings log place
 
 -- a node is refused for this cause, and for none before it
 abbrev pub IsRefused : List ℕ → Node → List ℕ → ServiceFault → Type 0

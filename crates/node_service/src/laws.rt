@@ -2,13 +2,13 @@
 
 ghost use Rattle.std.specs.Prelude.{◌≡◌, ℕ, ◌≤◌, ◌++◌, List, length, take};
 ghost use Rattle.std.specs.List.{AllByRecursion};
-ghost use Rattle.sha2.specs.Sha256.{sha256};
 ghost use Rattle.claim_model.specs.Node.{Node};
 ghost use Rattle.claim_model.specs.Logs.{NodeLog};
 ghost use Rattle.world_settings.specs.Document.{document_seen};
 ghost use Rattle.crash_safety.specs.Network.{Process, file};
 ghost use Rattle.kept_logs.specs.Logs.{log_text};
 ghost use Rattle.kept_logs.specs.Fits.{FitsLog, FitsLogged};
+ghost use Rattle.settings_digest.specs.Digests.{digest_under};
 ghost use Rattle.node_service.specs.Opened.{IsOpened};
 ghost use Rattle.node_service.specs.Serving.{Serving, after_line, cleared};
 ghost use Rattle.node_service.specs.Lines.{IsRestart, IsSame, IsServing, after_lines, joined, line_calls, lines_calls, with_calls};
@@ -23,7 +23,8 @@ pub fn lines_add()
 /// to what is to be appended.
 pub fn served_logs_grow()
     ensures opened { (settings : List ℕ) (node : Node) (bytes : List ℕ) (kept : ℕ) (s : Serving)
-        → IsOpened settings node bytes kept s → (log : NodeLog) × IsServing (sha256 settings) (take kept bytes) log s }
+        → IsOpened settings node bytes kept s
+        → (log : NodeLog) × IsServing (digest_under settings bytes) (take kept bytes) log s }
     ensures lines { (digest bytes : List ℕ) (log : NodeLog) (s : Serving) (lines : List (List ℕ))
         → IsServing digest bytes log s → AllByRecursion FitsLogged (lines_calls s lines)
         → IsServing digest bytes (with_calls log (lines_calls s lines)) (after_lines s lines) }
@@ -34,8 +35,8 @@ pub fn served_logs_grow()
 /// A node that was served, and whose file has all its records, is opened again as it was, under the same settings: nothing of
 /// the file is cut, nothing is to be appended.
 pub fn restarts_are_the_same()
-    ensures { (settings bytes : List ℕ) (log : NodeLog) (s t : Serving) (kept : ℕ)
-        → IsServing (sha256 settings) bytes log s → document_seen t.settings ≡ document_seen s.settings
+    ensures { (settings file bytes : List ℕ) (log : NodeLog) (s t : Serving) (kept : ℕ)
+        → IsServing (digest_under settings file) bytes log s → document_seen t.settings ≡ document_seen s.settings
         → IsOpened settings log.node (bytes ++ s.records) kept t → (kept ≡ length (bytes ++ s.records)) × IsSame s t }
 {}
 
@@ -43,7 +44,9 @@ pub fn restarts_are_the_same()
 /// a file is read as the log of the process after that crash, and opens as the process that is restarted: what the theorems
 /// on crashes say of processes is true of files.
 pub fn crashed_files_restart()
-    ensures { (settings : List ℕ) (node : Node) (p : Process) (n : ℕ) → FitsLog (record { node = node; calls = file p })
-        → length (log_text (sha256 settings) (record { node = node; calls = p.synced })) ≤ n
-        → IsRestart settings node p (take n (log_text (sha256 settings) (record { node = node; calls = file p }))) }
+    ensures { (settings begun : List ℕ) (node : Node) (p : Process) (n : ℕ)
+        → FitsLog (record { node = node; calls = file p })
+        → length (log_text (digest_under settings begun) (record { node = node; calls = p.synced })) ≤ n
+        → IsRestart settings node p
+        (take n (log_text (digest_under settings begun) (record { node = node; calls = file p }))) }
 {}

@@ -1,7 +1,6 @@
 //! From the bytes of a log to the node that is served.
 
 ghost use Rattle.std.specs.Prelude.{◌≡◌, [], ◌++◌, take, Some, IfOk, IfErr, IsSome};
-ghost use Rattle.sha2.specs.Sha256.{sha256};
 ghost use Rattle.world_setup.specs.Seen.{node_seen};
 ghost use Rattle.world_settings.specs.Document.{document_seen, living_in};
 ghost use Rattle.run_merge.specs.LogSeen.{log_seen};
@@ -9,6 +8,7 @@ ghost use Rattle.node_logged.specs.Setting.{opened};
 ghost use Rattle.kept_logs.specs.Logs.{log_text};
 ghost use Rattle.kept_logs.specs.LogSeen.{reading_seen};
 ghost use Rattle.kept_logs.specs.Fits.{FitsLog};
+ghost use Rattle.settings_digest.specs.Digests.{digest_under};
 ghost use Rattle.node_service.specs.declared.fault.ServiceFault.TheVariants.{OutOfMemory};
 ghost use Rattle.node_service.specs.Opened.{IsBegun, IsMadeBy, IsOpened, IsRead, IsServed, IsServedAs, Spells, empty_log};
 ghost use Rattle.node_service.specs.Refused.{IsAnothers, IsNotMade, IsRefused, NoLog, NoSettings};
@@ -22,6 +22,7 @@ use node_logged::Shared;
 use node_state::NodeState;
 use payer_book::HashKeys;
 use run_merge::{NodeLog, make_log};
+use settings_digest::Digests;
 use std::alloc::{AllocError, Global};
 use world_settings::{SettingsFault, read_living_settings};
 use world_setup::{Node, WorldSettings};
@@ -58,30 +59,44 @@ impl Service {
         if !shared.has(node) {
             return Err(ServiceFault::NoSuchNode);
         }
-        if let Some(made) = made(alloc, text, &shared, node, bytes)? {
+        let digest = digest_of(alloc, text, &shared, bytes)?;
+        if let Some(made) = made(alloc, &digest, &shared, node, bytes)? {
             return Ok(served(alloc, shared, node, made));
         }
         // Why it was not made, or a log that begins.
-        let begun = begin(alloc, text, node, bytes)?;
-        serve_from(alloc, text, shared, begun)
+        let begun = begin(alloc, &digest, node, bytes)?;
+        serve_from(alloc, &digest, shared, begun)
     }
+}
+
+/// The digest of the settings under which bytes are a log.
+fn digest_of(
+    alloc: Global,
+    text: &[u8],
+    shared: &Shared,
+    bytes: &[u8],
+) -> Result<SettingsDigest, AllocError>
+    requires { living_in text.now ≡ Some (document_seen shared.now) }
+    ensures { IfOk result (λ digest. digest ≡ digest_under text.now bytes.now) }
+{
+    let digests = Digests::of(alloc, shared.settings(), text)?;
+    Ok(digests.under(bytes))
 }
 
 /// The node that makes the log which bytes are, as they are read; `None` where they are none, or it does not make them.
 fn made(
     alloc: Global,
-    text: &[u8],
+    digest: &SettingsDigest,
     shared: &Shared,
     node: Node,
     bytes: &[u8],
 ) -> Result<Option<MadeLog>, AllocError>
     requires { IsSome (opened shared.now (node_seen node)) }
-    ensures { IfOk result (λ made. IsRead shared.now (sha256 text.now) (node_seen node) bytes.now made) }
+    ensures { IfOk result (λ made. IsRead shared.now digest.now (node_seen node) bytes.now made) }
 {
-    let digest = SettingsDigest::of(text);
     make_as_read(
         alloc,
-        &digest,
+        digest,
         shared.settings(),
         shared.routes(),
         node,
@@ -129,19 +144,23 @@ fn settings_of(alloc: Global, keys: &HashKeys, text: &[u8]) -> Result<WorldSetti
 }
 
 /// The log of this node that bytes are, or one that is begun where they end before its head does.
-fn begin(alloc: Global, text: &[u8], node: Node, bytes: &[u8]) -> Result<Begun, ServiceFault>
+fn begin(
+    alloc: Global,
+    digest: &SettingsDigest,
+    node: Node,
+    bytes: &[u8],
+) -> Result<Begun, ServiceFault>
     ensures own { IfOk result (λ begun. (log_seen begun.log).node ≡ node_seen node) }
     ensures begun { IfOk result (λ begun.
-        IsBegun (sha256 text.now) (node_seen node) bytes.now (log_seen begun.log) begun.kept begun.records.items) }
+        IsBegun digest.now (node_seen node) bytes.now (log_seen begun.log) begun.kept begun.records.items) }
     ensures text { IfOk result (λ begun.
-        take begun.kept bytes.now ++ begun.records.items ≡ log_text (sha256 text.now) (log_seen begun.log)) }
+        take begun.kept bytes.now ++ begun.records.items ≡ log_text digest.now (log_seen begun.log)) }
     ensures fits { IfOk result (λ begun. FitsLog (log_seen begun.log)) }
-    ensures refused { IfErr result (λ why. NoLog (sha256 text.now) (node_seen node) bytes.now why) }
+    ensures refused { IfErr result (λ why. NoLog digest.now (node_seen node) bytes.now why) }
 {
-    let digest = SettingsDigest::of(text);
-    match read_log(alloc, &digest, bytes) {
+    match read_log(alloc, digest, bytes) {
         Ok(read) => own(alloc, node, read),
-        Err(LogFault::Short) => new(alloc, &digest, node),
+        Err(LogFault::Short) => new(alloc, digest, node),
         Err(LogFault::OutOfMemory) => Err(ServiceFault::OutOfMemory),
         Err(fault) => Err(ServiceFault::Log(fault)),
     }
@@ -185,16 +204,16 @@ fn new(alloc: Global, digest: &SettingsDigest, node: Node) -> Result<Begun, Serv
 /// The node that makes a log.
 fn serve_from(
     alloc: Global,
-    text: &[u8],
+    digest: &SettingsDigest,
     shared: Shared,
     begun: Begun,
 ) -> Result<(Service, usize), ServiceFault>
     requires { IsSome (opened shared (log_seen begun.log).node) }
     ensures served { IfOk result (λ s. IsServed shared (log_seen begun.log) begun.kept begun.records.items s.1 s.0) }
-    ensures refused { IfErr result (λ why. IsNotMade (sha256 text.now) shared (log_seen begun.log) why) }
+    ensures refused { IfErr result (λ why. IsNotMade digest.now shared (log_seen begun.log) why) }
 {
     let Begun { log, kept, records } = begun;
-    let state = state_of(alloc, text, &shared, &log)?;
+    let state = state_of(alloc, digest, &shared, &log)?;
     let service = Service {
         shared,
         name: log.node(),
@@ -209,19 +228,18 @@ fn serve_from(
 /// The node that makes a log.
 fn state_of(
     alloc: Global,
-    text: &[u8],
+    digest: &SettingsDigest,
     shared: &Shared,
     log: &NodeLog,
 ) -> Result<NodeState, ServiceFault>
     requires { IsSome (opened shared.now (log_seen log.now).node) }
     ensures made { IfOk result (λ state. IsMadeBy shared.now (log_seen log.now) state) }
-    ensures refused { IfErr result (λ why. IsNotMade (sha256 text.now) shared.now (log_seen log.now) why) }
+    ensures refused { IfErr result (λ why. IsNotMade digest.now shared.now (log_seen log.now) why) }
 {
     match make_log(alloc, shared.settings(), log)? {
         Ok(state) => Ok(state),
         Err(first) => {
-            let digest = SettingsDigest::of(text);
-            let place = place_of(alloc, &digest, log, first.place)?;
+            let place = place_of(alloc, digest, log, first.place)?;
             Err(ServiceFault::NotMade(place))
         }
     }

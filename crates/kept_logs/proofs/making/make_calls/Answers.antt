@@ -2,7 +2,7 @@ use Rattle.std.proofs.Common.{◌+◌, ◌-◌, length, arith}
 use Rattle.claim_model.specs.Bytes.{bytes_with}
 use Rattle.kept_logs.specs.LogSeen.{entry_seen}
 use Rattle.kept_logs.proofs.Loops.{stepped}
-use Rattle.kept_logs.proofs.MadeSoFar.{all_made, cut_off_here, nothing_made, one_more_made}
+use Rattle.kept_logs.proofs.MadeSoFar.{all_made, cut_off_here, no_record_here, not_made_here, nothing_made, one_more_made}
 use Rattle.kept_logs.proofs.making.make_calls.Goals as goal
 
 pub loop-place-init : goal.loop-place-init
@@ -22,3 +22,15 @@ loop-place-preserved c =
 
 pub returns : goal.returns
 returns c = all_made (bytes_with c.args.routes.now) c.args.opening c.args.total c.args.bytes.now c.loop-place.node c.loop-place.place c.loop-place.rest.now c.loop-place.invariant (omega arith)
+
+pub returns-in-Err : goal.returns-in-Err
+returns-in-Err c =
+    no_record_here (bytes_with c.args.routes.now) c.args.opening c.args.total c.args.bytes.now c.loop-place.node c.loop-place.place c.loop-place.rest.now c.in-Err.fault c.loop-place.invariant c.loop-place-test.true
+    (grind (arith, c.in-Err.ensures.fault c.in_ok-no_record-in-Err.ensures, c.saturating_sub-start.ensures))
+
+pub returns-then-not-branch : goal.returns-then-not-branch
+returns-then-not-branch c =
+    not_made_here (bytes_with c.args.routes.now) c.args.opening c.args.total c.args.bytes.now c.loop-place.node c.makes.new.node c.loop-place.place c.loop-place.rest.now c.in-Ok-Some.after.now
+    _ _ (entry_seen c.in-Ok-Some.entry) c.loop-place.invariant c.loop-place-test.true
+    (stepped _ (c.loop-place.place + 1) c.saturating_sub-start.result (c.args.total - length c.loop-place.rest.now) c.loop-place.rest.now c.in-Ok-Some.field-0 _ c.saturating_sub-start.ensures c.in-Ok-Some.ensures.ok c.in-Ok-Some.field-0-is)
+    c.new.ensures c.if-not-branch.true c.in_ok-makes.ensures

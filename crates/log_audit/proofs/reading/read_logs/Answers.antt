@@ -1,22 +1,55 @@
-use Rattle.std.proofs.Common.{arith}
+use Rattle.std.proofs.Common.{◌≡◌, ℕ, ◌∷◌, [], ◌++◌, List, refl, length, sym, ap, ◌∙◌, subst, append_assoc, append-nil, arith}
 use Rattle.std.proofs.lemmas.Result.{err_from_is_err_and}
+use Rattle.std.specs.Global.{Vec}
+use Rattle.std.specs.Vec.Iter.{into_iter_items}
+use Rattle.run_merge.specs.LogSeen.{logs_seen}
+use Rattle.settings_digest.specs.Digests.{under}
+use Rattle.log_audit.specs.Given.{AreLogs, bytes_of, torn_ends}
 use Rattle.log_audit.proofs.Refusing.{no_log_here}
-use Rattle.log_audit.proofs.LogReading.{reads_on, torn_on, torn_is}
+use Rattle.log_audit.proofs.LogReading.{logs_on, torn_on}
 use Rattle.log_audit.proofs.reading.read_logs.Goals as goal
 
-pub loop-place-preserved : goal.loop-place-preserved
-loop-place-preserved c =
-    let read = c.in_ok-log.field-0 in
+nothing_left : {X : Type 0} (l : List X) → length l ≡ 0 → l ≡ []
+nothing_left [] h = refl
+nothing_left (x ∷ xs) h = absurd (omega arith)
+
+pub loop-bytes-preserved : goal.loop-bytes-preserved
+loop-bytes-preserved c =
+    let at = c.loop-bytes in
+    let x = c.in-Some.bytes in
+    let steps : into_iter_items at.bytes-iterator ≡ x ∷ into_iter_items c.next.new.self = c.in-Some.ensures.steps.0 in
     record {
-      logs = reads_on (λ bytes. bytes.items) c.args.digest.now c.args.logs.now c.loop-place.place c.index-logs-place.result c.loop-place.read.logs.items c.push.new.self.logs.items read.log
-          c.loop-place-test.true c.index-logs-place.is c.in_ok-push.ensures.logs (record { whole = read.whole; reads = rw c.as_slice.ensures.value at c.in_ok-log.ensures.read }) c.loop-place.invariant.logs;
-      torn = torn_on (λ bytes. bytes.items) c.args.digest.now c.args.logs.now c.loop-place.place c.index-logs-place.result c.loop-place.read.torn.items c.push.new.self.torn.items _
-          c.loop-place-test.true c.index-logs-place.is c.in_ok-push.ensures.torn
-          (torn_is c.args.digest.now _ read (rw c.as_slice.ensures.value at c.in_ok-log.ensures.read) _ (omega arith)) c.loop-place.invariant.torn;
+      all = append_assoc at.yielded (x ∷ []) _ ∙ rw (← steps) at.invariant.all;
+      left =
+          let was = at.invariant.left in
+          let gone = c.in-Some.ensures.steps.1 in
+          let short = ap length steps in
+          omega arith;
+      logs = logs_on (under c.args.digests.now) at.yielded x _ _ _ _ c.in_ok-read_next.ensures.read at.invariant.logs;
+      torn = torn_on (under c.args.digests.now) at.yielded x _ _ _ _ c.in_ok-read_next.ensures.read at.invariant.torn;
     }
 
-pub returns-in_err-log-clause-refused : goal.returns-in_err-log-clause-refused
-returns-in_err-log-clause-refused c =
+pub returns-clause-logs : goal.returns-clause-logs
+returns-clause-logs c =
+    let at = c.loop-bytes in
+    let none = c.in-None.ensures.steps in
+    let empty : into_iter_items at.bytes-iterator ≡ [] = nothing_left _ (sym at.invariant.left ∙ none.0) in
+    let all = sym (append-nil at.yielded) ∙ rw empty at at.invariant.all ∙ c.into_iter-bytes-iterator.ensures.into_iter_gives.0 in
+    subst (λ (xs : List (Vec ℕ)). AreLogs (under c.args.digests.now) (bytes_of xs) (logs_seen at.read.logs.items)) all at.invariant.logs
+
+pub returns-clause-torn : goal.returns-clause-torn
+returns-clause-torn c =
+    let at = c.loop-bytes in
+    let none = c.in-None.ensures.steps in
+    let empty : into_iter_items at.bytes-iterator ≡ [] = nothing_left _ (sym at.invariant.left ∙ none.0) in
+    let all = sym (append-nil at.yielded) ∙ rw empty at at.invariant.all ∙ c.into_iter-bytes-iterator.ensures.into_iter_gives.0 in
+    at.invariant.torn ∙ ap (λ (xs : List (Vec ℕ)). torn_ends (under c.args.digests.now) (bytes_of xs)) all
+
+pub returns-in_err-read_next-clause-refused : goal.returns-in_err-read_next-clause-refused
+returns-in_err-read_next-clause-refused c =
+    let at = c.loop-bytes in
+    let x = c.in-Some.bytes in
+    let steps : into_iter_items at.bytes-iterator ≡ x ∷ into_iter_items c.next.new.self = c.in-Some.ensures.steps.0 in
     let p = err_from_is_err_and c.from_residual.result c.from_residual.ensures.1 in
-    rw (p.1, p.2) (no_log_here (λ bytes. bytes.items) c.args.digest.now c.args.logs.now c.loop-place.place c.index-logs-place.result c.loop-place.read.logs.items c.in_err-log.field-0.0 c.loop-place-test.true
-    c.index-logs-place.is c.loop-place.invariant.logs (rw c.as_slice.ensures.value at c.in_err-log.ensures.refused))
+    rw (p.1, p.2) (no_log_here (under c.args.digests.now) at.yielded x (into_iter_items c.next.new.self) c.args.logs.items at.read.logs.items c.in_err-read_next.field-0.0
+    (rw (← steps) at.invariant.all ∙ c.into_iter-bytes-iterator.ensures.into_iter_gives.0) at.invariant.logs c.in_err-read_next.ensures.refused)

@@ -10,6 +10,6 @@ returns-in-Ok-clause-judged c =
     let audited = c.in-Ok.audited in
     IfOk-weaker c.reported.result
     (λ report. IsTold audited.settings (logs_seen audited.logs.items) report.legal)
-    (λ report. IsReported c.args.settings.now (map (λ bytes. bytes.items) c.args.logs.now) report.legal)
+    (λ report. IsReported c.args.settings.now (map (λ bytes. bytes.items) c.args.logs.items) report.legal)
     (λ report told. record { settings = audited.settings; logs = logs_seen audited.logs.items; read = c.in-Ok.ensures.read; told = told })
     c.reported.ensures.judged

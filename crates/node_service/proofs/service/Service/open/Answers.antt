@@ -1,6 +1,5 @@
 use Rattle.std.proofs.Common.{◌∙◌, sym}
 use Rattle.std.proofs.lemmas.Result.{IfOk-weaker, IfErr-weaker, err_from_is_err_and}
-use Rattle.sha2.specs.Sha256.{sha256}
 use Rattle.world_setup.specs.Seen.{node_seen}
 use Rattle.run_merge.specs.LogSeen.{log_seen}
 use Rattle.node_service.specs.Opened.{IsOpened, IsServed}
@@ -20,8 +19,8 @@ returns-clause-opened c =
       named = served.named ∙ facts.own;
       log = log_seen b.log;
       own = facts.own;
-      begun = rw (served.stays, served.append) facts.begun;
-      text = rw (served.stays, served.append) facts.text;
+      begun = rw (served.stays, served.append, ← c.in_ok-digest.ensures) facts.begun;
+      text = rw (served.stays, served.append, ← c.in_ok-digest.ensures) facts.text;
       fits = facts.fits;
       calls = served.calls;
       makes = rw (served.own, ← facts.own) served.made.makes;
@@ -36,10 +35,10 @@ returns-clause-refused c =
     let text = c.args.text.now in
     let node = node_seen c.args.node in
     IfErr-weaker c.serve_from.result
-    (λ why. IsNotMade (sha256 text) c.in_ok-shared.shared (log_seen b.log) why)
+    (λ why. IsNotMade c.in_ok-digest.digest c.in_ok-shared.shared (log_seen b.log) why)
     (λ why. IsRefused text node c.args.bytes.now why)
     (λ why not_made. making_refused text node c.args.bytes.now c.in_ok-shared.shared (log_seen b.log) b.kept b.records.items why c.in_ok-shared.ensures.spelled
-    (sym c.has.ensures.value ∙ c.if-not-has.false) facts.own facts.begun not_made) c.serve_from.ensures.refused
+    (sym c.has.ensures.value ∙ c.if-not-has.false) facts.own (rw (← c.in_ok-digest.ensures) facts.begun) (rw (← c.in_ok-digest.ensures) not_made)) c.serve_from.ensures.refused
 
 pub returns-then-not-has-clause-refused : goal.returns-then-not-has-clause-refused
 returns-then-not-has-clause-refused c = record {
@@ -52,4 +51,4 @@ pub returns-in_err-begun-clause-refused : goal.returns-in_err-begun-clause-refus
 returns-in_err-begun-clause-refused c =
     let p = err_from_is_err_and c.from_residual-in_err-begun.result c.from_residual-in_err-begun.ensures.1 in
     rw (p.1, p.2) (log_refused c.args.text.now (node_seen c.args.node) c.args.bytes.now c.in_ok-shared.shared c.in_err-begun.field-0.0 c.in_ok-shared.ensures.spelled
-    (sym c.has.ensures.value ∙ c.if-not-has.false) c.in_err-begun.ensures.refused)
+    (sym c.has.ensures.value ∙ c.if-not-has.false) (rw (← c.in_ok-digest.ensures) c.in_err-begun.ensures.refused))

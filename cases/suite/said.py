@@ -1,0 +1,46 @@
+"""What settings say, as a text (docs/FORMATS.md), written without the product: of it a log has the digest."""
+import struct
+import tomllib
+
+
+def number(value: int) -> bytes:
+    return struct.pack('>Q', value)
+
+
+def text(octets: bytes) -> bytes:
+    return number(len(octets)) + octets
+
+
+def listed(items: list[bytes]) -> bytes:
+    """How many there are, and each."""
+    return number(len(items)) + b''.join(items)
+
+
+def filled(value: str, width: int) -> bytes:
+    """An identity, filled with spaces."""
+    return text(value.encode().ljust(width))
+
+
+def pharmacy_said(document: dict, pharmacy: dict) -> bytes:
+    numbers = document['again'], document['tries'], pharmacy['cap']
+    parts = [filled(pharmacy['qualifier'], 2), filled(pharmacy['provider'], 15), listed([number(it) for it in pharmacy['nodes']])]
+    return b''.join([*parts, *map(number, numbers)])
+
+
+def payer_said(payer: dict) -> bytes:
+    numbers = payer.get('serial', 1), payer['cap'], payer['fee'], payer['copay']
+    prices = sorted((product.encode(), price) for product, price in payer.get('prices', {}).items())
+    return b''.join(map(number, numbers)) + listed([text(product) + number(price) for product, price in prices])
+
+
+def route_said(route: dict) -> bytes:
+    pcn = number(1) + text(route['pcn'].encode()) if 'pcn' in route else number(0)
+    return text(route['bin'].encode()) + pcn + number(route['payer'])
+
+
+def said_of(settings: bytes) -> bytes:
+    """What settings say."""
+    document = tomllib.loads(settings.decode())
+    return b''.join([
+        listed([pharmacy_said(document, it) for it in document['pharmacy']]), listed([number(it['cap']) for it in document['switch']]),
+        listed([payer_said(it) for it in document['payer']]), listed([route_said(it) for it in document['route']])])

@@ -1,0 +1,4 @@
+pub mod Apart
+pub mod SaidApart
+pub mod Putting
+pub mod Keeping

@@ -1,0 +1,56 @@
+-- What settings say, as a text that hangs on nothing else: each of their fields in a fixed order, so that each ends where it says.
+use Rattle.std.specs.Prelude.{ℕ, List, ◌++◌, length, Option, Some, None}
+use Rattle.std.specs.List.{flat_map}
+use Rattle.std.specs.Int.{w64, to_be_bytes}
+use Rattle.bin_routes.specs.Row.{Row}
+use Rattle.claim_model.specs.Journal.{PharmacySettings}
+use Rattle.claim_model.specs.Rows.{BookSettings}
+use Rattle.claim_model.specs.Settings.{PayerSettings}
+use Rattle.claim_model.specs.Words.{Plan}
+use Rattle.world_settings.specs.Document.{Document}
+use Rattle.kept_logs.specs.Fields.{text_of}
+
+-- a number, in eight bytes
+unfoldable pub number_text : ℕ → List ℕ
+number_text number = to_be_bytes w64 number
+
+-- a list: how many there are, and each of them
+unfoldable pub list_text : {A : Type 0} → (A → List ℕ) → List A → List ℕ
+list_text text items = number_text (length items) ++ flat_map text items
+
+-- a pharmacy: its identity, the switches that it tries in turn, its rule of retries, and its cap
+abbrev pub identity_text : PharmacySettings → List ℕ
+identity_text p = text_of p.qualifier ++ text_of p.provider
+
+abbrev pub retries_text : PharmacySettings → List ℕ
+retries_text p = number_text p.again ++ (number_text p.tries ++ number_text p.cap)
+
+unfoldable pub pharmacy_text : PharmacySettings → List ℕ
+pharmacy_text p = identity_text p ++ (list_text number_text p.nodes ++ retries_text p)
+
+-- a product and its price
+abbrev pub price_text : List ℕ × ℕ → List ℕ
+price_text price = text_of price.0 ++ number_text price.1
+
+-- a payer: its first serial number and its cap; its dispensing fee, its copay, and its prices in the order of their products
+abbrev pub book_text : BookSettings → List ℕ
+book_text b = number_text b.serial ++ number_text b.cap
+
+abbrev pub plan_text : Plan → List ℕ
+plan_text p = number_text p.fee ++ (number_text p.copay ++ list_text price_text p.prices)
+
+unfoldable pub payer_text : PayerSettings → List ℕ
+payer_text p = book_text p.book ++ plan_text p.plan
+
+-- a processor control number: 1 and the text, or 0 where there is none
+abbrev pub pcn_text : Option (List ℕ) → List ℕ
+pcn_text None = number_text 0
+pcn_text (Some pcn) = number_text 1 ++ text_of pcn
+
+-- a route, by its BIN number, its processor control number and its payer
+unfoldable pub route_text : Row → List ℕ
+route_text r = text_of r.bin ++ (pcn_text r.pcn ++ number_text r.payer)
+
+-- what settings say: pharmacies, switches by their caps, payers and routes
+unfoldable pub said : Document → List ℕ
+said d = list_text pharmacy_text d.world.pharmacies ++ (list_text number_text d.world.switches ++ (list_text payer_text d.world.payers ++ list_text route_text d.routes))

@@ -1,0 +1,24 @@
+//! What holds of all settings and of all logs, as facts that a caller cites by a call.
+
+ghost use Rattle.std.specs.Prelude.{◌≡◌, ℕ, ◌≤◌, List, take};
+ghost use Rattle.claim_model.specs.Logs.{NodeLog};
+ghost use Rattle.world_settings.specs.Document.{Document, living_in};
+ghost use Rattle.kept_logs.specs.Logs.{log_text};
+ghost use Rattle.settings_digest.specs.Said.{said};
+ghost use Rattle.settings_digest.specs.Fits.{FitsDocument};
+ghost use Rattle.settings_digest.specs.Digests.{digest_in, digest_under};
+
+/// Settings that say the same text are the same in every field, and files that spell the same settings have the same digest.
+pub fn said_tells_settings()
+    ensures same { (d e : Document) → FitsDocument d → FitsDocument e → said d ≡ said e → d ≡ e }
+    ensures digest { (file other : List ℕ) → living_in file ≡ living_in other → digest_in file ≡ digest_in other }
+{}
+
+/// A log is read under the digest that it was written under, and so are the first bytes of it, from the third on.
+pub fn logs_keep_their_digest()
+    ensures text { (file bytes : List ℕ) (log : NodeLog)
+        → digest_under file (log_text (digest_under file bytes) log) ≡ digest_under file bytes }
+    ensures cut { (file bytes : List ℕ) (log : NodeLog) (n : ℕ)
+        → 3 ≤ n → digest_under file (take n (log_text (digest_under file bytes) log)) ≡ digest_under file bytes }
+    ensures new { (file : List ℕ) (log : NodeLog) → digest_under file (log_text (digest_in file) log) ≡ digest_in file }
+{}
