@@ -2,6 +2,9 @@
 //! whether it goes over to the new settings, and where all do, writes each of them so.
 #![tactic(auto)]
 
+ghost use Rattle.std.specs.Prelude.{IfOk};
+ghost use Rattle.settings_digest.specs.Digests.{AreOf};
+
 mod copies;
 mod finding;
 mod locked;
@@ -52,21 +55,25 @@ fn run(rt: &HostRuntime) -> Result<(), Ungone> {
 }
 
 /// Whether the old settings have grown to the new ones, and the digests of both.
-fn check_growth(alloc: Global, old: &[u8], new: &[u8]) -> Result<Grown, Ungone> {
+fn check_growth(alloc: Global, old: &[u8], new: &[u8]) -> Result<Grown, Ungone>
+    ensures old { IfOk result (λ grown. AreOf old.now grown.old) }
+    ensures new { IfOk result (λ grown. AreOf new.now grown.new) }
+{
     match grows(alloc, old, new) {
         Ok(grown) => Ok(grown),
         Err(GrowthFault::OutOfMemory) => Err(End::OutOfMemory),
-        Err(GrowthFault::OldSettings) => why_refused(alloc, GrowthFault::OldSettings, old),
-        Err(GrowthFault::NewSettings) => why_refused(alloc, GrowthFault::NewSettings, new),
+        Err(GrowthFault::OldSettings) => Err(why_refused(alloc, GrowthFault::OldSettings, old)),
+        Err(GrowthFault::NewSettings) => Err(why_refused(alloc, GrowthFault::NewSettings, new)),
         Err(fault) => Err(End::Own(Finding::Growth(fault))),
     }
 }
 
-/// Ends for settings that are refused, with what is wrong in them.
-fn why_refused(alloc: Global, fault: GrowthFault, text: &[u8]) -> Result<Grown, Ungone> {
-    match living_settings_fault(alloc, text)? {
-        Some(why) => Err(End::Own(Finding::Refused(fault, why))),
-        None => Err(End::Own(Finding::Growth(fault))),
+/// The end for settings that are refused, with what is wrong in them.
+fn why_refused(alloc: Global, fault: GrowthFault, text: &[u8]) -> Ungone {
+    match living_settings_fault(alloc, text) {
+        Ok(Some(why)) => End::Own(Finding::Refused(fault, why)),
+        Ok(None) => End::Own(Finding::Growth(fault)),
+        Err(_) => End::OutOfMemory,
     }
 }
 
@@ -77,7 +84,10 @@ fn judge(
     grown: &Grown,
     old: &[u8],
     new: &[u8],
-) -> Result<Vec<Gone>, Ungone> {
+) -> Result<Vec<Gone>, Ungone>
+    requires old { AreOf old.now grown.now.old }
+    requires new { AreOf new.now grown.now.new }
+{
     let alloc = rt.alloc();
     let mut gone = Vec::new(alloc);
     let mut lines = Vec::new(alloc);
@@ -108,7 +118,9 @@ fn is_routed_now(
     old: &[u8],
     bytes: &[u8],
     becomes: &Result<Gone, OverFault>,
-) -> bool {
+) -> bool
+    requires { AreOf old.now digests.now }
+{
     match becomes {
         Err(OverFault::Refused(Node::Switch(_), ServiceFault::NotMade(_))) => {
             matches!(
