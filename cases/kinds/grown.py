@@ -114,7 +114,7 @@ class Network:
         self.nodes = Settings(SETTINGS).nodes()
         self.write('new.toml', new)
         for node in first:
-            self.write(f'{node}.log', head_of_file(node, SETTINGS) + self.dump.read(f'{node}.log')[HEAD:])
+            self.write(f'{node}.log', of_first(self.dump.read(f'{node}.log'), SETTINGS))
 
     def write(self, name: str, octets: bytes) -> None:
         with open(self.dump.path(name), 'wb') as file:
@@ -156,6 +156,12 @@ def kind_of(node: str) -> str:
     return f"{ {'ph': 'pharmacy', 'sw': 'switch', 'pr': 'payer'}[node[:2]] } {node[2:]}"
 
 
+def of_first(octets: bytes, settings: bytes) -> bytes:
+    """The calls of a log, as a log of version 1 under these settings."""
+    log = read_log(octets)
+    return write_log(log._replace(head=head_of_file(log.node, settings)))
+
+
 def places(octets: bytes) -> list[int]:
     """The places of the records of a log that is whole."""
     log = read_log(octets)
@@ -163,9 +169,9 @@ def places(octets: bytes) -> list[int]:
 
 
 def gone_over(network: Network, before: list[bytes]) -> str:
-    """What is to be seen once all logs went over: heads alone are others, all open, and they are one legal run."""
+    """What is to be seen once all logs went over: they have the same calls and are of version 2, all open, and they are one legal run."""
     for node, old, new in zip(network.nodes, before, network.octets()):
-        if new != head_of(node, network.new) + old[HEAD:]:
+        if new != write_log(read_log(old)._replace(head=head_of(node, network.new))):
             return f'{node} has other bytes'
     again = network.grow()
     if again.status or again.out.count(b' is under the new settings already\n') != len(network.nodes):
@@ -265,7 +271,7 @@ def tell(word: str, argument: bytes) -> str:
     if word == 'other-head':
         return altered(lambda octets: head_of('ph1', edited(text)) + octets[HEAD:])
     if word == 'other-file':
-        return altered(lambda octets: head_of_file('ph1', SETTINGS + text.encode()) + octets[HEAD:])
+        return altered(lambda octets: of_first(octets, SETTINGS + text.encode()))
     if word == 'forged':
         return altered(forged, text)
     if word == 'held':

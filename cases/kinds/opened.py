@@ -111,6 +111,12 @@ def ticks(*calls: Call) -> bytes:
     return write_log(Log(HEAD, calls))
 
 
+def under_other_head(version: str) -> bytes:
+    """The head of a version, and behind it the three ticks with the check sums of the other one."""
+    other = next(it for it in HEADS if it != version)
+    return HEADS[version] + write_log(Log(HEADS[other], (QUIET,) * TICKS))[len(HEAD):]
+
+
 def with_length(place: int, size: int) -> bytes:
     """The three ticks, where the record at a place says that it is so long."""
     octets, sizes = bytearray(ticks(*[QUIET] * TICKS)), struct.pack('>Q', size)
@@ -126,11 +132,15 @@ def tell(word: str, argument: bytes) -> str:
         return repair(turned(whole, int(place)), '--cut-at', typed)
     if word in HEADS:
         return went_on(HEADS[word], edited(argument.decode()))
+    if word == 'sums-of-other':
+        return start(under_other_head(argument.decode()))
     if word == 'words':
         return str(run('claimnode', *argument.decode().split(' '), '/dev/null', 'ph1', '/dev/null', given=b'').status)
     count = int(argument or b'0')
     if word == 'repair':
         return repair(turned(whole, count))
+    if word == 'repair-of-first':
+        return repair(turned(write_log(Log(HEADS['first'], (QUIET,) * TICKS)), count))
     if word == 'repair-first':
         return repair(whole[:count])
     if word == 'turned':

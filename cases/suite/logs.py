@@ -4,6 +4,7 @@ import struct
 from typing import NamedTuple
 
 from suite.said import said_of
+from suite.sums import check_sum
 
 HEAD = 46
 KINDS = ('ph', 'sw', 'pr')
@@ -44,14 +45,10 @@ def node_octets(name: str) -> bytes:
     return struct.pack('>BH', KINDS.index(name[:2]), int(name[2:]))
 
 
-def check_sum(number: int, octets: bytes) -> bytes:
-    return hashlib.sha256(struct.pack('>Q', number) + octets).digest()[:8]
-
-
 def headed(version: int, node: str, digested: bytes) -> bytes:
     """The head of a log of a version, with the digest of these bytes."""
     body = node_octets(node) + hashlib.sha256(digested).digest()
-    return b'PL' + bytes([version]) + body + check_sum(0, body)
+    return b'PL' + bytes([version]) + body + check_sum(version, 0, body)
 
 
 def head_of(node: str, settings: bytes) -> bytes:
@@ -103,13 +100,13 @@ def read_log(octets: bytes) -> Log:
 
 
 def write_log(log: Log) -> bytes:
-    """The bytes of a log."""
+    """The bytes of a log, each record as the version of its head has it."""
     parts = [log.head]
     for number, call in enumerate(log.calls, 1):
         body = bytes([call.kind]) + call.rest + struct.pack('>Q', len(call.sent))
         body += b''.join(node_octets(to) + text(packet) for to, packet in call.sent)
         size = struct.pack('>Q', len(body))
-        parts += [size, bytes(it ^ 255 for it in size), body, check_sum(number, body)]
+        parts += [size, bytes(it ^ 255 for it in size), body, check_sum(log.head[2], number, body)]
     return b''.join(parts)
 
 

@@ -5,7 +5,7 @@ use crate::finding::Finding;
 use crate::undamaged::{Run, runs_from};
 use crate::words::Words;
 use command_line::End;
-use kept_logs::{LogFault, behind_record};
+use kept_logs::{LogFault, LogVersion, behind_record};
 use node_process::{keep_end, sync_folder};
 use node_service::{Service, ServiceFault};
 use payer_book::HashKeys;
@@ -94,12 +94,13 @@ fn damaged(
 
 /// How many records stand between the head of a log and a place.
 fn calls_before(bytes: &[u8], place: usize) -> u64 {
+    let version = LogVersion::of(bytes);
     let mut left = bytes.get(HEAD..).unwrap_or(&[]);
     for number in 1..u64::MAX {
         if bytes.len().saturating_sub(left.len()) >= place {
             return number - 1;
         }
-        match behind_record(number, left) {
+        match behind_record(version, number, left) {
             Some(after) => left = after,
             None => return number - 1,
         }

@@ -1,6 +1,6 @@
 //! Records that stand undamaged somewhere in bytes: what is still there behind the damage of a log.
 
-use kept_logs::behind_record;
+use kept_logs::{LogVersion, behind_record};
 use std::alloc::{AllocError, Global};
 
 /// How many bytes a record has at least.
@@ -22,19 +22,20 @@ pub(crate) struct Run {
     pub(crate) to: usize,
 }
 
-/// The runs of undamaged records in bytes from a place on, where the record of a number is wanted.
+/// The runs of undamaged records in the bytes of a log from a place on, where the record of a number is wanted.
 pub(crate) fn runs_from(
     alloc: Global,
     bytes: &[u8],
     place: usize,
     number: u64,
 ) -> Result<Vec<Run>, AllocError> {
+    let version = LogVersion::of(bytes);
     let mut runs = Vec::new(alloc);
     let mut behind = place;
     let mut wanted = number;
     for at in place..bytes.len() {
         if at >= behind {
-            if let Some(run) = run_at(bytes, at, wanted, at.saturating_sub(behind)) {
+            if let Some(run) = run_at(version, bytes, at, wanted, at.saturating_sub(behind)) {
                 behind = run.to;
                 wanted = run.last.saturating_add(1);
                 runs.push(run)?;
@@ -45,7 +46,7 @@ pub(crate) fn runs_from(
 }
 
 /// The run that begins at a place, where so many bytes before it are no undamaged records.
-fn run_at(bytes: &[u8], at: usize, wanted: u64, passed: usize) -> Option<Run> {
+fn run_at(version: LogVersion, bytes: &[u8], at: usize, wanted: u64, passed: usize) -> Option<Run> {
     let rest = bytes.get(at..)?;
     if !has_length(rest) {
         return None;
@@ -53,19 +54,19 @@ fn run_at(bytes: &[u8], at: usize, wanted: u64, passed: usize) -> Option<Run> {
     let most = (passed / LEAST_RECORD) as u64;
     let last = wanted.saturating_add(most).saturating_add(LACKING);
     for number in wanted..=last {
-        if behind_record(number, rest).is_some() {
-            return Some(run_of(rest, number, at));
+        if behind_record(version, number, rest).is_some() {
+            return Some(run_of(version, rest, number, at));
         }
     }
     None
 }
 
 /// The run of the records that begin these bytes, which stand at a place.
-fn run_of(rest: &[u8], first: u64, from: usize) -> Run {
+fn run_of(version: LogVersion, rest: &[u8], first: u64, from: usize) -> Run {
     let mut left = rest;
     let mut last = first;
     for number in first..u64::MAX {
-        match behind_record(number, left) {
+        match behind_record(version, number, left) {
             Some(after) => {
                 left = after;
                 last = number;

@@ -16,80 +16,80 @@ use Rattle.kept_logs.proofs.FramesBack.{take_over, frame_length, frame_at-put, f
 
 -- ---- one record
 
-record_in-put : (number place : ℕ) (r : Logged) (after : List ℕ) → FitsLogged r → record_in number place (frame_text number (logged_text r) ++ after) ≡ Ok (Some (r, after))
+record_in-put : (version number place : ℕ) (r : Logged) (after : List ℕ) → FitsLogged r → record_in version number place (frame_text version number (logged_text r) ++ after) ≡ Ok (Some (r, after))
 unfolding record_in
-record_in-put number place r after fits =
-    ap (framed_record place) (frame_at-put number (logged_text r) after fits.body) ∙ ap (read_record place after) (logged_in-put r fits)
+record_in-put version number place r after fits =
+    ap (framed_record place) (frame_at-put version number (logged_text r) after fits.body) ∙ ap (read_record place after) (logged_in-put r fits)
 
-record_in-cut : (number place n : ℕ) (r : Logged) → FitsLogged r → n < length (frame_text number (logged_text r)) → record_in number place (take n (frame_text number (logged_text r))) ≡ Ok None
+record_in-cut : (version number place n : ℕ) (r : Logged) → FitsLogged r → n < length (frame_text version number (logged_text r)) → record_in version number place (take n (frame_text version number (logged_text r))) ≡ Ok None
 unfolding record_in
-record_in-cut number place n r fits h = ap (framed_record place) (frame_at-cut number (logged_text r) n fits.body h)
+record_in-cut version number place n r fits h = ap (framed_record place) (frame_at-cut version number (logged_text r) n fits.body h)
 
-record_in-nothing : (number place : ℕ) → record_in number place [] ≡ Ok None
+record_in-nothing : (version number place : ℕ) → record_in version number place [] ≡ Ok None
 unfolding record_in frame_at u64_at
-record_in-nothing number place = refl
+record_in-nothing version number place = refl
 
 -- nothing more is read where a record is cut off
-calls_in-stops : (total number most : ℕ) (bytes : List ℕ) → ((place : ℕ) → record_in number place bytes ≡ Ok None) → calls_in total number most bytes ≡ Ok ([], bytes)
+calls_in-stops : (version total number most : ℕ) (bytes : List ℕ) → ((place : ℕ) → record_in version number place bytes ≡ Ok None) → calls_in version total number most bytes ≡ Ok ([], bytes)
 unfolding calls_in
-calls_in-stops total number zero bytes h = refl
-calls_in-stops total number (suc most) bytes h = rw (h (total - length bytes)) refl
+calls_in-stops version total number zero bytes h = refl
+calls_in-stops version total number (suc most) bytes h = rw (h (total - length bytes)) refl
 
-calls_in-goes_on : (total number most : ℕ) (r : Logged) (after : List ℕ) → FitsLogged r
-    → calls_in total number (suc most) (frame_text number (logged_text r) ++ after) ≡ behind (r ∷ []) (calls_in total (number + 1) most after)
+calls_in-goes_on : (version total number most : ℕ) (r : Logged) (after : List ℕ) → FitsLogged r
+    → calls_in version total number (suc most) (frame_text version number (logged_text r) ++ after) ≡ behind (r ∷ []) (calls_in version total (number + 1) most after)
 unfolding calls_in
-calls_in-goes_on total number most r after fits =
-    ap (and_more bytes (λ rest. calls_in total (number + 1) most rest)) (record_in-put number (total - length bytes) r after fits)
+calls_in-goes_on version total number most r after fits =
+    ap (and_more bytes (λ rest. calls_in version total (number + 1) most rest)) (record_in-put version number (total - length bytes) r after fits)
   where
     bytes : List ℕ
-    bytes = frame_text number (logged_text r) ++ after
+    bytes = frame_text version number (logged_text r) ++ after
 
 -- ---- the text of calls
 
-pub one_call : (number : ℕ) (r : Logged) (calls : List Logged) → calls_text number (r ∷ calls) ≡ frame_text number (logged_text r) ++ calls_text (number + 1) calls
+pub one_call : (version number : ℕ) (r : Logged) (calls : List Logged) → calls_text version number (r ∷ calls) ≡ frame_text version number (logged_text r) ++ calls_text version (number + 1) calls
 unfolding calls_text
-one_call number r calls = refl
+one_call version number r calls = refl
 
 -- one call more
-pub calls_text-more : (number : ℕ) (calls : List Logged) (r : Logged) → calls_text number (calls ++ r ∷ []) ≡ calls_text number calls ++ frame_text (number + length calls) (logged_text r)
+pub calls_text-more : (version number : ℕ) (calls : List Logged) (r : Logged) → calls_text version number (calls ++ r ∷ []) ≡ calls_text version number calls ++ frame_text version (number + length calls) (logged_text r)
 unfolding calls_text
-calls_text-more number [] r =
+calls_text-more version number [] r =
     let e : number ≡ number + 0 = omega arith in
-    append-nil (frame_text number (logged_text r)) ∙ ap (λ n. frame_text n (logged_text r)) e
-calls_text-more number (first ∷ calls) r =
+    append-nil (frame_text version number (logged_text r)) ∙ ap (λ n. frame_text version n (logged_text r)) e
+calls_text-more version number (first ∷ calls) r =
     let e : number + 1 + length calls ≡ number + suc (length calls) = omega arith in
-    let front : List ℕ = frame_text number (logged_text first) in
-    ap (λ t. front ++ t) (calls_text-more (number + 1) calls r ∙ ap (λ n. calls_text (number + 1) calls ++ frame_text n (logged_text r)) e)
-    ∙ sym (append_assoc front (calls_text (number + 1) calls) (frame_text (number + suc (length calls)) (logged_text r)))
+    let front : List ℕ = frame_text version number (logged_text first) in
+    ap (λ t. front ++ t) (calls_text-more version (number + 1) calls r ∙ ap (λ n. calls_text version (number + 1) calls ++ frame_text version n (logged_text r)) e)
+    ∙ sym (append_assoc front (calls_text version (number + 1) calls) (frame_text version (number + suc (length calls)) (logged_text r)))
 
 -- the first calls, and the others
-pub calls_text-split : (number k : ℕ) (calls : List Logged) → calls_text number calls ≡ calls_text number (take k calls) ++ calls_text (number + k) (drop k calls)
+pub calls_text-split : (version number k : ℕ) (calls : List Logged) → calls_text version number calls ≡ calls_text version number (take k calls) ++ calls_text version (number + k) (drop k calls)
 unfolding calls_text
-calls_text-split number zero calls = let e : number ≡ number + 0 = omega arith in ap (λ n. calls_text n calls) e
-calls_text-split number (suc k) [] = refl
-calls_text-split number (suc k) (r ∷ calls) =
+calls_text-split version number zero calls = let e : number ≡ number + 0 = omega arith in ap (λ n. calls_text version n calls) e
+calls_text-split version number (suc k) [] = refl
+calls_text-split version number (suc k) (r ∷ calls) =
     let e : number + 1 + k ≡ number + suc k = omega arith in
-    let front : List ℕ = frame_text number (logged_text r) in
-    ap (λ t. front ++ t) (calls_text-split (number + 1) k calls ∙ ap (λ n. calls_text (number + 1) (take k calls) ++ calls_text n (drop k calls)) e)
-    ∙ sym (append_assoc front (calls_text (number + 1) (take k calls)) (calls_text (number + suc k) (drop k calls)))
+    let front : List ℕ = frame_text version number (logged_text r) in
+    ap (λ t. front ++ t) (calls_text-split version (number + 1) k calls ∙ ap (λ n. calls_text version (number + 1) (take k calls) ++ calls_text version n (drop k calls)) e)
+    ∙ sym (append_assoc front (calls_text version (number + 1) (take k calls)) (calls_text version (number + suc k) (drop k calls)))
 
 -- ---- what stands whole
 
 -- what is told of the first n bytes of the text of calls
-pub record ReadsCalls (total number most n : ℕ) (calls : List Logged) (k : ℕ) : Type 0 where
+pub record ReadsCalls (version total number most n : ℕ) (calls : List Logged) (k : ℕ) : Type 0 where
   pub rest : List ℕ
-  pub read : calls_in total number most (take n (calls_text number calls)) ≡ Ok (take k calls, rest)
-  pub count : length (calls_text number (take k calls)) + length rest ≡ length (take n (calls_text number calls))
-  pub stand : length (calls_text number (take k calls)) ≤ n
-  pub more : k < length calls → n < length (calls_text number (take (suc k) calls))
+  pub read : calls_in version total number most (take n (calls_text version number calls)) ≡ Ok (take k calls, rest)
+  pub count : length (calls_text version number (take k calls)) + length rest ≡ length (take n (calls_text version number calls))
+  pub stand : length (calls_text version number (take k calls)) ≤ n
+  pub more : k < length calls → n < length (calls_text version number (take (suc k) calls))
 
-none : (total number most n : ℕ) → ReadsCalls total number most n [] 0
+none : (version total number most n : ℕ) → ReadsCalls version total number most n [] 0
 unfolding calls_text
-none total number most n =
+none version total number most n =
     let e : take n [] ≡ [] = nothing n in
     record {
       rest = [];
-      read = ap (calls_in total number most) e ∙ calls_in-stops total number most [] (λ place. record_in-nothing number place);
+      read = ap (calls_in version total number most) e ∙ calls_in-stops version total number most [] (λ place. record_in-nothing version number place);
       count = sym (ap length e);
       stand = omega arith;
       more = λ h. absurd (omega arith);
@@ -99,14 +99,14 @@ none total number most n =
     nothing zero = refl
     nothing (suc n) = refl
 
-stops : (total number most n : ℕ) (r : Logged) (calls : List Logged) → FitsLogged r → n < length (frame_text number (logged_text r)) → ReadsCalls total number most n (r ∷ calls) 0
+stops : (version total number most n : ℕ) (r : Logged) (calls : List Logged) → FitsLogged r → n < length (frame_text version number (logged_text r)) → ReadsCalls version total number most n (r ∷ calls) 0
 unfolding calls_text
-stops total number most n r calls fits h =
-    let front : List ℕ = frame_text number (logged_text r) in
-    let cut : take n (front ++ calls_text (number + 1) calls) ≡ take n front = take-append-le n front (calls_text (number + 1) calls) (omega (arith, h)) in
+stops version total number most n r calls fits h =
+    let front : List ℕ = frame_text version number (logged_text r) in
+    let cut : take n (front ++ calls_text version (number + 1) calls) ≡ take n front = take-append-le n front (calls_text version (number + 1) calls) (omega (arith, h)) in
     record {
-      rest = take n (front ++ calls_text (number + 1) calls);
-      read = calls_in-stops total number most (take n (front ++ calls_text (number + 1) calls)) (λ place. ap (record_in number place) cut ∙ record_in-cut number place n r fits h);
+      rest = take n (front ++ calls_text version (number + 1) calls);
+      read = calls_in-stops version total number most (take n (front ++ calls_text version (number + 1) calls)) (λ place. ap (record_in version number place) cut ∙ record_in-cut version number place n r fits h);
       count = omega arith;
       stand = omega arith;
       more = λ _. omega (arith, h, length-append front []);
@@ -115,30 +115,30 @@ stops total number most n r calls fits h =
 put_before : (r : Logged) (calls : List Logged) (rest : List ℕ) (read : Result (List Logged × List ℕ) LogFault) → read ≡ Ok (calls, rest) → behind (r ∷ []) read ≡ Ok (r ∷ calls, rest)
 put_before r calls rest read e = ap (behind (r ∷ [])) e
 
-goes_on : (total number most n k : ℕ) (r : Logged) (calls : List Logged) → FitsLogged r → length (frame_text number (logged_text r)) ≤ n
-    → ReadsCalls total (number + 1) most (n - length (frame_text number (logged_text r))) calls k → ReadsCalls total number (suc most) n (r ∷ calls) (suc k)
+goes_on : (version total number most n k : ℕ) (r : Logged) (calls : List Logged) → FitsLogged r → length (frame_text version number (logged_text r)) ≤ n
+    → ReadsCalls version total (number + 1) most (n - length (frame_text version number (logged_text r))) calls k → ReadsCalls version total number (suc most) n (r ∷ calls) (suc k)
 unfolding calls_text
-goes_on total number most n k r calls fits h inner =
-    let front : List ℕ = frame_text number (logged_text r) in
-    let text : List ℕ = calls_text (number + 1) calls in
+goes_on version total number most n k r calls fits h inner =
+    let front : List ℕ = frame_text version number (logged_text r) in
+    let text : List ℕ = calls_text version (number + 1) calls in
     let left : List ℕ = take (n - length front) text in
     let cut : take n (front ++ text) ≡ front ++ left = take_over front text n h in
-    let some : List ℕ = calls_text (number + 1) (take k calls) in
+    let some : List ℕ = calls_text version (number + 1) (take k calls) in
     record {
       rest = inner.rest;
-      read = ap (calls_in total number (suc most)) cut ∙ calls_in-goes_on total number most r left fits ∙ put_before r (take k calls) inner.rest (calls_in total (number + 1) most left) inner.read;
+      read = ap (calls_in version total number (suc most)) cut ∙ calls_in-goes_on version total number most r left fits ∙ put_before r (take k calls) inner.rest (calls_in version total (number + 1) most left) inner.read;
       count = omega (arith, inner.count, length-append front some, ap length cut, length-append front left);
       stand = omega (arith, inner.stand, length-append front some, h);
-      more = λ l. omega (arith, inner.more (omega (arith, l)), length-append front (calls_text (number + 1) (take (suc k) calls)), h);
+      more = λ l. omega (arith, inner.more (omega (arith, l)), length-append front (calls_text version (number + 1) (take (suc k) calls)), h);
     }
 
-pub reads_calls : (total number most n : ℕ) (calls : List Logged) → AllByRecursion FitsLogged calls → length (take n (calls_text number calls)) ≤ most → ReadsCalls total number most n calls (whole_within number n calls)
-reads_calls total number most n [] fits room = none total number most n
-reads_calls total number most n (r ∷ calls) fits room =
-    by_test (nat_lt n (length front)) refl most room (λ m l. reads_calls total (number + 1) m (n - length front) calls fits.1 l)
+pub reads_calls : (version total number most n : ℕ) (calls : List Logged) → AllByRecursion FitsLogged calls → length (take n (calls_text version number calls)) ≤ most → ReadsCalls version total number most n calls (whole_within version number n calls)
+reads_calls version total number most n [] fits room = none version total number most n
+reads_calls version total number most n (r ∷ calls) fits room =
+    by_test (nat_lt n (length front)) refl most room (λ m l. reads_calls version total (number + 1) m (n - length front) calls fits.1 l)
   where
     front : List ℕ
-    front = frame_text number (logged_text r)
+    front = frame_text version number (logged_text r)
 
     less : (m k : ℕ) → nat_lt m k ≡ true → m < k
     less m k t = grind (arith, nat_tests)
@@ -149,30 +149,30 @@ reads_calls total number most n (r ∷ calls) fits room =
     left : ℕ → ℕ
     left m = m - length front
 
-    size : (m : ℕ) → length front ≤ n → length (take n (calls_text number (r ∷ calls))) ≤ m → length front + length (take (left n) (calls_text (number + 1) calls)) ≤ m
-    size m h l = omega (arith, ap length (ap (take n) (one_call number r calls) ∙ take_over front (calls_text (number + 1) calls) n h), length-append front (take (left n) (calls_text (number + 1) calls)), l)
+    size : (m : ℕ) → length front ≤ n → length (take n (calls_text version number (r ∷ calls))) ≤ m → length front + length (take (left n) (calls_text version (number + 1) calls)) ≤ m
+    size m h l = omega (arith, ap length (ap (take n) (one_call version number r calls) ∙ take_over front (calls_text version (number + 1) calls) n h), length-append front (take (left n) (calls_text version (number + 1) calls)), l)
 
-    by_most : (m : ℕ) → length front ≤ n → length (take n (calls_text number (r ∷ calls))) ≤ m
-        → ((m : ℕ) → length (take (left n) (calls_text (number + 1) calls)) ≤ m → ReadsCalls total (number + 1) m (left n) calls (whole_within (number + 1) (left n) calls))
-        → ReadsCalls total number m n (r ∷ calls) (suc (whole_within (number + 1) (left n) calls))
-    by_most zero h l inner = absurd (omega (arith, size zero h l, frame_length number (logged_text r)))
+    by_most : (m : ℕ) → length front ≤ n → length (take n (calls_text version number (r ∷ calls))) ≤ m
+        → ((m : ℕ) → length (take (left n) (calls_text version (number + 1) calls)) ≤ m → ReadsCalls version total (number + 1) m (left n) calls (whole_within version (number + 1) (left n) calls))
+        → ReadsCalls version total number m n (r ∷ calls) (suc (whole_within version (number + 1) (left n) calls))
+    by_most zero h l inner = absurd (omega (arith, size zero h l, frame_length version number (logged_text r)))
     by_most (suc m) h l inner =
-        goes_on total number m n (whole_within (number + 1) (left n) calls) r calls fits.0 h (inner m (omega (arith, size (suc m) h l, frame_length number (logged_text r))))
+        goes_on version total number m n (whole_within version (number + 1) (left n) calls) r calls fits.0 h (inner m (omega (arith, size (suc m) h l, frame_length version number (logged_text r))))
 
-    by_test : (test : Bool) → nat_lt n (length front) ≡ test → (m : ℕ) → length (take n (calls_text number (r ∷ calls))) ≤ m
-        → ((m : ℕ) → length (take (left n) (calls_text (number + 1) calls)) ≤ m → ReadsCalls total (number + 1) m (left n) calls (whole_within (number + 1) (left n) calls))
-        → ReadsCalls total number m n (r ∷ calls) (cond test 0 (suc (whole_within (number + 1) (left n) calls)))
-    by_test true t m l inner = stops total number m n r calls fits.0 (less n (length front) t)
+    by_test : (test : Bool) → nat_lt n (length front) ≡ test → (m : ℕ) → length (take n (calls_text version number (r ∷ calls))) ≤ m
+        → ((m : ℕ) → length (take (left n) (calls_text version (number + 1) calls)) ≤ m → ReadsCalls version total (number + 1) m (left n) calls (whole_within version (number + 1) (left n) calls))
+        → ReadsCalls version total number m n (r ∷ calls) (cond test 0 (suc (whole_within version (number + 1) (left n) calls)))
+    by_test true t m l inner = stops version total number m n r calls fits.0 (less n (length front) t)
     by_test false t m l inner = by_most m (more n (length front) t) l inner
 
 -- all of them stand whole in all of their text
-pub all_within : (number n : ℕ) (calls : List Logged) → length (calls_text number calls) ≤ n → whole_within number n calls ≡ length calls
+pub all_within : (version number n : ℕ) (calls : List Logged) → length (calls_text version number calls) ≤ n → whole_within version number n calls ≡ length calls
 unfolding calls_text
-all_within number n [] h = refl
-all_within number n (r ∷ calls) h =
-    let front : List ℕ = frame_text number (logged_text r) in
-    let text : List ℕ = calls_text (number + 1) calls in
-    rw (not_less n (length front) (omega (arith, h, length-append front text)), all_within (number + 1) (n - length front) calls (omega (arith, h, length-append front text))) refl
+all_within version number n [] h = refl
+all_within version number n (r ∷ calls) h =
+    let front : List ℕ = frame_text version number (logged_text r) in
+    let text : List ℕ = calls_text version (number + 1) calls in
+    rw (not_less n (length front) (omega (arith, h, length-append front text)), all_within version (number + 1) (n - length front) calls (omega (arith, h, length-append front text))) refl
   where
     not_less : (m k : ℕ) → k ≤ m → nat_lt m k ≡ false
     not_less m k h = grind (arith, nat_tests)

@@ -9,6 +9,7 @@ use Rattle.run_merge.specs.LogSeen.{with_call}
 use Rattle.kept_logs.specs.declared.fault.LogFault.TheVariants.{Short}
 use Rattle.kept_logs.specs.Fields.{bytes_at, node_text, node_at}
 use Rattle.kept_logs.specs.Records.{logged_text}
+use Rattle.kept_logs.specs.Digests.{version_of}
 use Rattle.kept_logs.specs.Frames.{check_of, frame_text, Whole, met}
 use Rattle.kept_logs.specs.Logs.{owner_text, head_text, calls_text, log_text, head_in, calls_in, log_in, ReadsAs}
 use Rattle.kept_logs.specs.Fits.{FitsNode, FitsLog}
@@ -43,7 +44,7 @@ pub head_length : (digest : List ℕ) (node : Node) → length digest ≡ 33 →
 unfolding head_text
 head_length digest node h =
     let owner : List ℕ = owner_text (drop 1 digest) node in
-    omega (arith, length-append (take 1 digest) (owner ++ check_of 0 owner), one_version digest h, length-append owner (check_of 0 owner), owner_length (drop 1 digest) node (behind_version digest h), check_length 0 owner)
+    omega (arith, length-append (take 1 digest) (owner ++ check_of (version_of digest) 0 owner), one_version digest h, length-append owner (check_of (version_of digest) 0 owner), owner_length (drop 1 digest) node (behind_version digest h), check_length (version_of digest) 0 owner)
 
 node_at_owner : (digest : List ℕ) (node : Node) → FitsNode node → node_at (owner_text digest node) ≡ Some (node, digest)
 unfolding owner_text
@@ -57,7 +58,7 @@ unfolding head_in head_text
 head_in-put [] node rest h fits = absurd (omega (arith, h))
 head_in-put (version ∷ digest) node rest h fits =
     let owner : List ℕ = owner_text digest node in
-    rw (append_assoc owner (check_of 0 owner) rest, same_byte version, bytes_at-put 35 owner (check_of 0 owner ++ rest) (owner_length digest node (omega (arith, h))), met-append (check_of 0 owner) rest, node_at_owner digest node fits, met-self digest) refl
+    rw (append_assoc owner (check_of version 0 owner) rest, same_byte version, bytes_at-put 35 owner (check_of version 0 owner ++ rest) (owner_length digest node (omega (arith, h))), met-append (check_of version 0 owner) rest, node_at_owner digest node fits, met-self digest) refl
 
 no_owner : (bytes : List ℕ) → length bytes < 35 → bytes_at 35 bytes ≡ None
 unfolding bytes_at
@@ -74,7 +75,7 @@ head_in-short (version ∷ digest) node (suc zero) rest h small = refl
 head_in-short (version ∷ digest) node (suc (suc zero)) rest h small = refl
 head_in-short (version ∷ digest) node (suc (suc (suc m))) rest h small = elim (cases_lt m 35) [
   | inl within ↦ rw (same_byte version, no_owner (take m ((owner ++ sum) ++ rest)) (omega (arith, taken_at_most m ((owner ++ sum) ++ rest), within))) refl
-  | inr behind ↦ rw (same_byte version, cut behind, bytes_at-put 35 owner (take (m - length owner) sum) size, met-short sum (m - length owner) (omega (arith, small, behind, size, check_length 0 owner))) refl
+  | inr behind ↦ rw (same_byte version, cut behind, bytes_at-put 35 owner (take (m - length owner) sum) size, met-short sum (m - length owner) (omega (arith, small, behind, size, check_length version 0 owner))) refl
 ]
   where
     owner : List ℕ
@@ -84,80 +85,80 @@ head_in-short (version ∷ digest) node (suc (suc (suc m))) rest h small = elim 
     size = owner_length digest node (omega (arith, h))
 
     sum : List ℕ
-    sum = check_of 0 owner
+    sum = check_of version 0 owner
 
     cut : 35 ≤ m → take m ((owner ++ sum) ++ rest) ≡ owner ++ take (m - length owner) sum
     cut behind =
-        take-append-le m (owner ++ sum) rest (omega (arith, small, length-append owner sum, size, check_length 0 owner))
+        take-append-le m (owner ++ sum) rest (omega (arith, small, length-append owner sum, size, check_length version 0 owner))
         ∙ take_over owner sum m (omega (arith, behind, size))
 
 -- ---- the log
 
-pub log_length : (digest : List ℕ) (log : NodeLog) → length digest ≡ 33 → length (log_text digest log) ≡ 46 + length (calls_text 1 log.calls)
+pub log_length : (digest : List ℕ) (log : NodeLog) → length digest ≡ 33 → length (log_text digest log) ≡ 46 + length (calls_text (version_of digest) 1 log.calls)
 unfolding log_text
-log_length digest log h = omega (arith, length-append (head_text digest log.node) (calls_text 1 log.calls), head_length digest log.node h)
+log_length digest log h = omega (arith, length-append (head_text digest log.node) (calls_text (version_of digest) 1 log.calls), head_length digest log.node h)
 
 -- a cut behind the head
-cut_text : (digest : List ℕ) (log : NodeLog) (n : ℕ) → length digest ≡ 33 → 46 ≤ n → take n (log_text digest log) ≡ head_text digest log.node ++ take (n - 46) (calls_text 1 log.calls)
+cut_text : (digest : List ℕ) (log : NodeLog) (n : ℕ) → length digest ≡ 33 → 46 ≤ n → take n (log_text digest log) ≡ head_text digest log.node ++ take (n - 46) (calls_text (version_of digest) 1 log.calls)
 unfolding log_text
 cut_text digest log n h long =
     let head : List ℕ = head_text digest log.node in
-    let text : List ℕ = calls_text 1 log.calls in
+    let text : List ℕ = calls_text (version_of digest) 1 log.calls in
     let e : length head ≡ 46 = head_length digest log.node h in
     take_over head text n (omega (arith, long, e)) ∙ ap (λ m. head ++ take (n - m) text) e
 
 read_by : (digest : List ℕ) (log : NodeLog) (n : ℕ) → length digest ≡ 33 → FitsLog log
-    → (left bytes : List ℕ) → left ≡ take n (calls_text 1 log.calls) → bytes ≡ head_text digest log.node ++ left → ReadsCalls (length bytes) 1 (length left) n log.calls (whole_within 1 n log.calls)
-    → log_in digest bytes ≡ Ok (record { log = first_calls (whole_within 1 n log.calls) log; whole = length (log_text digest (first_calls (whole_within 1 n log.calls) log)) })
+    → (left bytes : List ℕ) → left ≡ take n (calls_text (version_of digest) 1 log.calls) → bytes ≡ head_text digest log.node ++ left → ReadsCalls (version_of digest) (length bytes) 1 (length left) n log.calls (whole_within (version_of digest) 1 n log.calls)
+    → log_in digest bytes ≡ Ok (record { log = first_calls (whole_within (version_of digest) 1 n log.calls) log; whole = length (log_text digest (first_calls (whole_within (version_of digest) 1 n log.calls) log)) })
 unfolding log_in
 read_by digest log n h fits left bytes is all read =
-    let k : ℕ = whole_within 1 n log.calls in
+    let k : ℕ = whole_within (version_of digest) 1 n log.calls in
     let head : head_in digest bytes ≡ Ok (log.node, left) = ap (head_in digest) all ∙ head_in-put digest log.node left h fits.node in
-    let calls : calls_in (length bytes) 1 (length left) left ≡ Ok (take k log.calls, read.rest) = ap (calls_in (length bytes) 1 (length left)) is ∙ read.read in
+    let calls : calls_in (version_of digest) (length bytes) 1 (length left) left ≡ Ok (take k log.calls, read.rest) = ap (calls_in (version_of digest) (length bytes) 1 (length left)) is ∙ read.read in
     let count : length bytes - length read.rest ≡ length (log_text digest (first_calls k log)) =
     omega (arith, ap length all, length-append (head_text digest log.node) left, head_length digest log.node h, read.count, ap length is, log_length digest (first_calls k log) h) in
     rw (head, calls, count) refl
 
 -- the text of the first calls, and what follows
-text_split : (digest : List ℕ) (log : NodeLog) (k : ℕ) → log_text digest log ≡ log_text digest (first_calls k log) ++ calls_text (1 + k) (drop k log.calls)
+text_split : (digest : List ℕ) (log : NodeLog) (k : ℕ) → log_text digest log ≡ log_text digest (first_calls k log) ++ calls_text (version_of digest) (1 + k) (drop k log.calls)
 unfolding log_text
 text_split digest log k =
     let head : List ℕ = head_text digest log.node in
-    ap (λ t. head ++ t) (calls_text-split 1 k log.calls) ∙ sym (append_assoc head (calls_text 1 (take k log.calls)) (calls_text (1 + k) (drop k log.calls)))
+    ap (λ t. head ++ t) (calls_text-split (version_of digest) 1 k log.calls) ∙ sym (append_assoc head (calls_text (version_of digest) 1 (take k log.calls)) (calls_text (version_of digest) (1 + k) (drop k log.calls)))
 
 pub reads_back : (digest : List ℕ) (log : NodeLog) (n : ℕ) → length digest ≡ 33 → FitsLog log → 46 ≤ n → ReadsBack digest n log
 reads_back digest log n h fits long =
-    let k : ℕ = calls_within n log in
-    let left : List ℕ = take (n - 46) (calls_text 1 log.calls) in
+    let k : ℕ = calls_within digest n log in
+    let left : List ℕ = take (n - 46) (calls_text (version_of digest) 1 log.calls) in
     let bytes : List ℕ = take n (log_text digest log) in
     let all : bytes ≡ head_text digest log.node ++ left = cut_text digest log n h long in
-    let read = reads_calls (length bytes) 1 (length left) (n - 46) log.calls fits.calls (omega arith) in
+    let read = reads_calls (version_of digest) (length bytes) 1 (length left) (n - 46) log.calls fits.calls (omega arith) in
     record {
       read = read_by digest log (n - 46) h fits left bytes refl all read;
       stand = omega (arith, log_length digest (first_calls k log) h, read.stand, long);
       most = λ l. omega (arith, log_length digest (first_calls (suc k) log) h, read.more l, long);
-      text = ap (take (length (log_text digest (first_calls k log)))) (text_split digest log k) ∙ take_at (log_text digest (first_calls k log)) (calls_text (1 + k) (drop k log.calls)) (length (log_text digest (first_calls k log))) refl;
+      text = ap (take (length (log_text digest (first_calls k log)))) (text_split digest log k) ∙ take_at (log_text digest (first_calls k log)) (calls_text (version_of digest) (1 + k) (drop k log.calls)) (length (log_text digest (first_calls k log))) refl;
     }
 
 pub reads_whole : (digest : List ℕ) (log : NodeLog) → length digest ≡ 33 → FitsLog log → ReadsAs digest (log_text digest log) log
 reads_whole digest log h fits =
     let text : List ℕ = log_text digest log in
     let n : ℕ = length text in
-    let size : n ≡ 46 + length (calls_text 1 log.calls) = log_length digest log h in
+    let size : n ≡ 46 + length (calls_text (version_of digest) 1 log.calls) = log_length digest log h in
     let back = reads_back digest log n h fits (omega (arith, size)) in
-    let all : calls_within n log ≡ length log.calls = all_within 1 (n - 46) log.calls (omega (arith, size)) in
-    let calls : take (calls_within n log) log.calls ≡ log.calls = ap (λ k. take k log.calls) all ∙ take_all (length log.calls) log.calls (omega arith) in
-    let same : log_within n log ≡ log = ap (λ (cs : List Logged). record { node = log.node; calls = cs }) calls in
+    let all : calls_within digest n log ≡ length log.calls = all_within (version_of digest) 1 (n - 46) log.calls (omega (arith, size)) in
+    let calls : take (calls_within digest n log) log.calls ≡ log.calls = ap (λ k. take k log.calls) all ∙ take_all (length log.calls) log.calls (omega arith) in
+    let same : log_within digest n log ≡ log = ap (λ (cs : List Logged). record { node = log.node; calls = cs }) calls in
     ap (log_in digest) (sym (take_all n text (omega arith))) ∙ back.read ∙ ap (λ (l : NodeLog). Ok (record { log = l; whole = length (log_text digest l) })) same
 
 pub reads_short : (digest : List ℕ) (log : NodeLog) (n : ℕ) → length digest ≡ 33 → n < 46 → log_in digest (take n (log_text digest log)) ≡ Err Short
 unfolding log_in log_text
-reads_short digest log n h small = rw (head_in-short digest log.node n (calls_text 1 log.calls) h small) refl
+reads_short digest log n h small = rw (head_in-short digest log.node n (calls_text (version_of digest) 1 log.calls) h small) refl
 
-pub one_more : (digest : List ℕ) (log : NodeLog) (r : Logged) → log_text digest (with_call log r) ≡ log_text digest log ++ frame_text (length log.calls + 1) (logged_text r)
+pub one_more : (digest : List ℕ) (log : NodeLog) (r : Logged) → log_text digest (with_call log r) ≡ log_text digest log ++ frame_text (version_of digest) (length log.calls + 1) (logged_text r)
 unfolding log_text
 one_more digest log r =
     let head : List ℕ = head_text digest log.node in
     let e : 1 + length log.calls ≡ length log.calls + 1 = omega arith in
-    ap (λ t. head ++ t) (calls_text-more 1 log.calls r ∙ ap (λ n. calls_text 1 log.calls ++ frame_text n (logged_text r)) e)
-    ∙ sym (append_assoc head (calls_text 1 log.calls) (frame_text (length log.calls + 1) (logged_text r)))
+    ap (λ t. head ++ t) (calls_text-more (version_of digest) 1 log.calls r ∙ ap (λ n. calls_text (version_of digest) 1 log.calls ++ frame_text (version_of digest) n (logged_text r)) e)
+    ∙ sym (append_assoc head (calls_text (version_of digest) 1 log.calls) (frame_text (version_of digest) (length log.calls + 1) (logged_text r)))

@@ -7,6 +7,7 @@ use Rattle.kept_logs.specs.declared.fault.LogFault.{LogFault}
 use Rattle.kept_logs.specs.Fits.{FitsSent, FitsLogged}
 use Rattle.kept_logs.specs.Records.{sent_text, sent_at, sents_text, sents_in, logged_text}
 use Rattle.kept_records.specs.Options.{◌>>=◌}
+use Rattle.kept_logs.specs.Digests.{version_of}
 use Rattle.kept_logs.specs.Frames.{frame_text}
 use Rattle.kept_logs.specs.Logs.{head_text, calls_text, log_text, record_in, behind, calls_in}
 use Rattle.kept_records.proofs.EntriesRead.{one_less, none_left}
@@ -31,21 +32,21 @@ sents_end before now all left none so_far = (sym (append-nil now) ∙ ap (λ xs.
 
 -- ---- records that are put
 
-pub record PutsCalls (before now : List ℕ) (all : List Logged) (number : ℕ) (left : List Logged) : Type 0 where
-  pub text : now ++ calls_text number left ≡ before ++ calls_text 1 all
+pub record PutsCalls (version : ℕ) (before now : List ℕ) (all : List Logged) (number : ℕ) (left : List Logged) : Type 0 where
+  pub text : now ++ calls_text version number left ≡ before ++ calls_text version 1 all
   pub fits : AllByRecursion FitsLogged left → AllByRecursion FitsLogged all
 
-pub calls_go_on : (before now longer : List ℕ) (all : List Logged) (number : ℕ) (left : List Logged) (one : Logged) (rest : List Logged) → left ≡ one ∷ rest → longer ≡ now ++ frame_text number (logged_text one) → FitsLogged one
-    → PutsCalls before now all number left → PutsCalls before longer all (number + 1) rest
+pub calls_go_on : (version : ℕ) (before now longer : List ℕ) (all : List Logged) (number : ℕ) (left : List Logged) (one : Logged) (rest : List Logged) → left ≡ one ∷ rest → longer ≡ now ++ frame_text version number (logged_text one) → FitsLogged one
+    → PutsCalls version before now all number left → PutsCalls version before longer all (number + 1) rest
 unfolding calls_text
-calls_go_on before now longer all number left one rest is put fits so_far = record {
-  text = ap (λ t. t ++ calls_text (number + 1) rest) put ∙ append_assoc now (frame_text number (logged_text one)) (calls_text (number + 1) rest) ∙ ap (λ xs. now ++ calls_text number xs) (sym is) ∙ so_far.text;
+calls_go_on version before now longer all number left one rest is put fits so_far = record {
+  text = ap (λ t. t ++ calls_text version (number + 1) rest) put ∙ append_assoc now (frame_text version number (logged_text one)) (calls_text version (number + 1) rest) ∙ ap (λ xs. now ++ calls_text version number xs) (sym is) ∙ so_far.text;
   fits = λ f. so_far.fits (rw is (fits, f));
 }
 
-pub calls_end : (before now : List ℕ) (all : List Logged) (number : ℕ) (left : List Logged) → left ≡ [] → PutsCalls before now all number left → (now ≡ before ++ calls_text 1 all) × AllByRecursion FitsLogged all
+pub calls_end : (version : ℕ) (before now : List ℕ) (all : List Logged) (number : ℕ) (left : List Logged) → left ≡ [] → PutsCalls version before now all number left → (now ≡ before ++ calls_text version 1 all) × AllByRecursion FitsLogged all
 unfolding calls_text
-calls_end before now all number left none so_far = (sym (append-nil now) ∙ ap (λ xs. now ++ calls_text number xs) (sym none) ∙ so_far.text, so_far.fits (rw none tt))
+calls_end version before now all number left none so_far = (sym (append-nil now) ∙ ap (λ xs. now ++ calls_text version number xs) (sym none) ∙ so_far.text, so_far.fits (rw none tt))
 
 -- ---- packets that are taken
 
@@ -82,22 +83,22 @@ pub behind_more : (done : List Logged) (r : Logged) (reading : Result (List Logg
 behind_more done r (Ok read) = ap (λ cs. Ok (cs, read.1)) (sym (append_assoc done (r ∷ []) read.0))
 behind_more done r (Err why) = refl
 
-pub calls_taken : (total most i : ℕ) (done : List Logged) (bytes : List ℕ) (r : Logged) (rest : List ℕ) → i < most → record_in (i + 1) (total - length bytes) bytes ≡ Ok (Some (r, rest))
-    → behind done (calls_in total (i + 1) (most - i) bytes) ≡ behind (done ++ r ∷ []) (calls_in total (i + 1 + 1) (most - (i + 1)) rest)
+pub calls_taken : (version total most i : ℕ) (done : List Logged) (bytes : List ℕ) (r : Logged) (rest : List ℕ) → i < most → record_in version (i + 1) (total - length bytes) bytes ≡ Ok (Some (r, rest))
+    → behind done (calls_in version total (i + 1) (most - i) bytes) ≡ behind (done ++ r ∷ []) (calls_in version total (i + 1 + 1) (most - (i + 1)) rest)
 unfolding calls_in
-calls_taken total most i done bytes r rest h e = rw (one_less most i h, e) (behind_more done r (calls_in total (i + 1 + 1) (most - (i + 1)) rest))
+calls_taken version total most i done bytes r rest h e = rw (one_less most i h, e) (behind_more done r (calls_in version total (i + 1 + 1) (most - (i + 1)) rest))
 
-pub calls_cut : (total most i : ℕ) (done : List Logged) (bytes : List ℕ) → i < most → record_in (i + 1) (total - length bytes) bytes ≡ Ok None → behind done (calls_in total (i + 1) (most - i) bytes) ≡ Ok (done, bytes)
+pub calls_cut : (version total most i : ℕ) (done : List Logged) (bytes : List ℕ) → i < most → record_in version (i + 1) (total - length bytes) bytes ≡ Ok None → behind done (calls_in version total (i + 1) (most - i) bytes) ≡ Ok (done, bytes)
 unfolding calls_in
-calls_cut total most i done bytes h e = rw (one_less most i h, e) (ap (λ cs. Ok (cs, bytes)) (append-nil done))
+calls_cut version total most i done bytes h e = rw (one_less most i h, e) (ap (λ cs. Ok (cs, bytes)) (append-nil done))
 
-pub calls_stop : (total most i : ℕ) (done : List Logged) (bytes : List ℕ) (why : LogFault) → i < most → record_in (i + 1) (total - length bytes) bytes ≡ Err why → behind done (calls_in total (i + 1) (most - i) bytes) ≡ Err why
+pub calls_stop : (version total most i : ℕ) (done : List Logged) (bytes : List ℕ) (why : LogFault) → i < most → record_in version (i + 1) (total - length bytes) bytes ≡ Err why → behind done (calls_in version total (i + 1) (most - i) bytes) ≡ Err why
 unfolding calls_in
-calls_stop total most i done bytes why h e = rw (one_less most i h, e) refl
+calls_stop version total most i done bytes why h e = rw (one_less most i h, e) refl
 
-pub calls_all : (total most i : ℕ) (done : List Logged) (bytes : List ℕ) → most ≤ i → behind done (calls_in total (i + 1) (most - i) bytes) ≡ Ok (done, bytes)
+pub calls_all : (version total most i : ℕ) (done : List Logged) (bytes : List ℕ) → most ≤ i → behind done (calls_in version total (i + 1) (most - i) bytes) ≡ Ok (done, bytes)
 unfolding calls_in
-calls_all total most i done bytes h = rw (none_left most i h) (ap (λ cs. Ok (cs, bytes)) (append-nil done))
+calls_all version total most i done bytes h = rw (none_left most i h) (ap (λ cs. Ok (cs, bytes)) (append-nil done))
 
 pub taken_none : {A B : Type 0} (f : A → B) (o : Option A) (p : Option B) → option_map f o ≡ p → o ≡ None → p ≡ None
 taken_none f o p e n = sym e ∙ ap (option_map f) n
@@ -106,13 +107,14 @@ pub taken_some : {A B : Type 0} (f : A → B) (o : Option A) (p : Option B) (x :
 taken_some f o p x e n = sym e ∙ ap (option_map f) n
 
 -- the text of a log, piece by piece
-pub written : (digest : List ℕ) (node : Node) (log : NodeLog) (empty head text : List ℕ) (calls : List Logged) → empty ≡ [] → node ≡ log.node → calls ≡ log.calls → head ≡ empty ++ head_text digest node → text ≡ head ++ calls_text 1 calls → text ≡ log_text digest log
+pub written : (version : ℕ) (digest : List ℕ) (node : Node) (log : NodeLog) (empty head text : List ℕ) (calls : List Logged) → version ≡ version_of digest → empty ≡ [] → node ≡ log.node → calls ≡ log.calls
+    → head ≡ empty ++ head_text digest node → text ≡ head ++ calls_text version 1 calls → text ≡ log_text digest log
 unfolding log_text
-written digest node log empty head text calls none same these begun ended =
+written version digest node log empty head text calls own none same these begun ended =
     let head_is : head ≡ head_text digest log.node = begun ∙ ap (λ e. e ++ head_text digest node) none ∙ ap (head_text digest) same in
-    ended ∙ ap (λ h. h ++ calls_text 1 calls) head_is ∙ ap (λ cs. head_text digest log.node ++ calls_text 1 cs) these
+    ended ∙ ap (λ v. head ++ calls_text v 1 calls) own ∙ ap (λ h. h ++ calls_text (version_of digest) 1 calls) head_is ∙ ap (λ cs. head_text digest log.node ++ calls_text (version_of digest) 1 cs) these
 
 -- the step of a record, where its place is known
-pub stepped : {A : Type 0} (f : A → Logged × List ℕ) (number start place : ℕ) (bytes : List ℕ) (o p : Option A) → start ≡ place → record_in number start bytes ≡ Ok (option_map f o) → o ≡ p
-    → record_in number place bytes ≡ Ok (option_map f p)
-stepped f number start place bytes o p s e n = ap (λ at. record_in number at bytes) (sym s) ∙ e ∙ ap (λ x. Ok (option_map f x)) n
+pub stepped : {A : Type 0} (version : ℕ) (f : A → Logged × List ℕ) (number start place : ℕ) (bytes : List ℕ) (o p : Option A) → start ≡ place → record_in version number start bytes ≡ Ok (option_map f o) → o ≡ p
+    → record_in version number place bytes ≡ Ok (option_map f p)
+stepped version f number start place bytes o p s e n = ap (λ at. record_in version number at bytes) (sym s) ∙ e ∙ ap (λ x. Ok (option_map f x)) n

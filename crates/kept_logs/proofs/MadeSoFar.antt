@@ -7,15 +7,16 @@ use Rattle.claim_model.specs.Logs.{Logged, node_after, replay, Makes}
 use Rattle.run_merge.specs.Order.{TellsMade}
 use Rattle.kept_logs.specs.declared.fault.LogFault.{LogFault}
 use Rattle.kept_logs.specs.declared.making.MadeCalls.{MadeCalls}
+use Rattle.kept_logs.specs.Digests.{version_of}
 use Rattle.kept_logs.specs.Logs.{behind, calls_in, head_in, log_in, record_in, records_in}
 use Rattle.kept_logs.specs.Making.{AreMade, AreNotMade, IsMadeAsRead}
 use Rattle.claim_model.proofs.Names.{same_is}
 use Rattle.kept_logs.proofs.Loops.{calls_taken, calls_cut, calls_stop, calls_all}
 
 -- the calls that were read were made, and with those that are left they are all
-pub record MadeSoFar (ctx : Context) (before : AnyNode) (total : ℕ) (bytes : List ℕ) (node : AnyNode) (place : ℕ) (rest : List ℕ) : Type 0 where
+pub record MadeSoFar (ctx : Context) (before : AnyNode) (version total : ℕ) (bytes : List ℕ) (node : AnyNode) (place : ℕ) (rest : List ℕ) : Type 0 where
   pub calls : List Logged
-  pub same : calls_in total 1 (length bytes) bytes ≡ behind calls (calls_in total (place + 1) (length bytes - place) rest)
+  pub same : calls_in version total 1 (length bytes) bytes ≡ behind calls (calls_in version total (place + 1) (length bytes - place) rest)
   pub number : length calls ≡ place
   pub makes : Makes ctx before calls
   pub leads : node ≡ replay ctx before calls
@@ -32,40 +33,40 @@ behind_none : (reading : Result (List Logged × List ℕ) LogFault) → reading 
 behind_none (Ok read) = refl
 behind_none (Err why) = refl
 
-pub nothing_made : (ctx : Context) (before : AnyNode) (total : ℕ) (bytes : List ℕ) → MadeSoFar ctx before total bytes before 0 bytes
-nothing_made ctx before total bytes =
+pub nothing_made : (ctx : Context) (before : AnyNode) (version total : ℕ) (bytes : List ℕ) → MadeSoFar ctx before version total bytes before 0 bytes
+nothing_made ctx before version total bytes =
     let whole : length bytes ≡ length bytes - 0 = omega arith in
     record {
       calls = [];
-      same = ap (λ most. calls_in total 1 most bytes) whole ∙ behind_none (calls_in total 1 (length bytes - 0) bytes);
+      same = ap (λ most. calls_in version total 1 most bytes) whole ∙ behind_none (calls_in version total 1 (length bytes - 0) bytes);
       number = refl;
       makes = tt;
       leads = refl;
     }
 
 -- one call more was read, and made
-pub one_more_made : (ctx : Context) (before : AnyNode) (total : ℕ) (bytes : List ℕ) (node next : AnyNode) (place : ℕ) (rest after : List ℕ) (told : Bool) (one entry : Logged)
-    → MadeSoFar ctx before total bytes node place rest → place < length bytes → record_in (place + 1) (total - length rest) rest ≡ Ok (Some (entry, after)) → one ≡ entry → told ≡ true → TellsMade told ctx node one next
-    → MadeSoFar ctx before total bytes next (place + 1) after
-one_more_made ctx before total bytes node next place rest after told one entry so_far within read same is_made made =
+pub one_more_made : (ctx : Context) (before : AnyNode) (version total : ℕ) (bytes : List ℕ) (node next : AnyNode) (place : ℕ) (rest after : List ℕ) (told : Bool) (one entry : Logged)
+    → MadeSoFar ctx before version total bytes node place rest → place < length bytes → record_in version (place + 1) (total - length rest) rest ≡ Ok (Some (entry, after)) → one ≡ entry → told ≡ true → TellsMade told ctx node one next
+    → MadeSoFar ctx before version total bytes next (place + 1) after
+one_more_made ctx before version total bytes node next place rest after told one entry so_far within read same is_made made =
     let step : node_step ctx (replay ctx before so_far.calls) entry.call ≡ Done next entry.sent =
     subst (λ l. node_step ctx (replay ctx before so_far.calls) l.call ≡ Done next l.sent) same
     (subst (λ n. node_step ctx n one.call ≡ Done next one.sent) so_far.leads (rw is_made at made)) in
     record {
       calls = so_far.calls ++ entry ∷ [];
-      same = so_far.same ∙ calls_taken total (length bytes) place so_far.calls rest entry after within read;
+      same = so_far.same ∙ calls_taken version total (length bytes) place so_far.calls rest entry after within read;
       number = length-append so_far.calls (entry ∷ []) ∙ ap (λ n. n + 1) so_far.number;
       makes = makes_more ctx before next so_far.calls entry so_far.makes step;
       leads = replay_more ctx before next so_far.calls entry step;
     }
 
 -- the record that stands here is cut off, so all were read
-pub cut_off_here : (ctx : Context) (before : AnyNode) (total : ℕ) (bytes : List ℕ) (node : AnyNode) (place : ℕ) (rest : List ℕ)
-    → MadeSoFar ctx before total bytes node place rest → place < length bytes → record_in (place + 1) (total - length rest) rest ≡ Ok None → AreMade ctx before total bytes node place (length rest)
-cut_off_here ctx before total bytes node place rest so_far within read = record {
+pub cut_off_here : (ctx : Context) (before : AnyNode) (version total : ℕ) (bytes : List ℕ) (node : AnyNode) (place : ℕ) (rest : List ℕ)
+    → MadeSoFar ctx before version total bytes node place rest → place < length bytes → record_in version (place + 1) (total - length rest) rest ≡ Ok None → AreMade ctx before version total bytes node place (length rest)
+cut_off_here ctx before version total bytes node place rest so_far within read = record {
   calls = so_far.calls;
   rest = rest;
-  read = so_far.same ∙ calls_cut total (length bytes) place so_far.calls rest within read;
+  read = so_far.same ∙ calls_cut version total (length bytes) place so_far.calls rest within read;
   left_behind = refl;
   number = so_far.number;
   makes = so_far.makes;
@@ -73,12 +74,12 @@ cut_off_here ctx before total bytes node place rest so_far within read = record 
 }
 
 -- as many records were read as there can be
-pub all_made : (ctx : Context) (before : AnyNode) (total : ℕ) (bytes : List ℕ) (node : AnyNode) (place : ℕ) (rest : List ℕ)
-    → MadeSoFar ctx before total bytes node place rest → place ≡ length bytes → AreMade ctx before total bytes node (length bytes) (length rest)
-all_made ctx before total bytes node place rest so_far over = record {
+pub all_made : (ctx : Context) (before : AnyNode) (version total : ℕ) (bytes : List ℕ) (node : AnyNode) (place : ℕ) (rest : List ℕ)
+    → MadeSoFar ctx before version total bytes node place rest → place ≡ length bytes → AreMade ctx before version total bytes node (length bytes) (length rest)
+all_made ctx before version total bytes node place rest so_far over = record {
   calls = so_far.calls;
   rest = rest;
-  read = so_far.same ∙ calls_all total (length bytes) place so_far.calls rest (omega (arith, over));
+  read = so_far.same ∙ calls_all version total (length bytes) place so_far.calls rest (omega (arith, over));
   left_behind = refl;
   number = so_far.number ∙ over;
   makes = so_far.makes;
@@ -96,22 +97,22 @@ none_of_all ctx before calls one (Ok read) none = λ m. stops ctx before calls o
 none_of_all ctx before calls one (Err why) none = tt
 
 -- the call that was read is not made
-pub not_made_here : (ctx : Context) (before : AnyNode) (total : ℕ) (bytes : List ℕ) (node next : AnyNode) (place : ℕ) (rest after : List ℕ) (told : Bool) (one entry : Logged)
-    → MadeSoFar ctx before total bytes node place rest → place < length bytes → record_in (place + 1) (total - length rest) rest ≡ Ok (Some (entry, after)) → one ≡ entry → told ≡ false → TellsMade told ctx node one next
-    → AreNotMade ctx before (records_in total bytes)
-not_made_here ctx before total bytes node next place rest after told one entry so_far within read same not_made made =
+pub not_made_here : (ctx : Context) (before : AnyNode) (version total : ℕ) (bytes : List ℕ) (node next : AnyNode) (place : ℕ) (rest after : List ℕ) (told : Bool) (one entry : Logged)
+    → MadeSoFar ctx before version total bytes node place rest → place < length bytes → record_in version (place + 1) (total - length rest) rest ≡ Ok (Some (entry, after)) → one ≡ entry → told ≡ false → TellsMade told ctx node one next
+    → AreNotMade ctx before (records_in version total bytes)
+not_made_here ctx before version total bytes node next place rest after told one entry so_far within read same not_made made =
     let none : (to : AnyNode) → node_step ctx node one.call ≡ Done to one.sent → ⊥ = rw not_made at made in
     let here : (to : AnyNode) → node_step ctx (replay ctx before so_far.calls) entry.call ≡ Done to entry.sent → ⊥ =
     subst (λ (l : Logged). (to : AnyNode) → node_step ctx (replay ctx before so_far.calls) l.call ≡ Done to l.sent → ⊥) same
     (subst (λ (n : AnyNode). (to : AnyNode) → node_step ctx n one.call ≡ Done to one.sent → ⊥) so_far.leads none) in
-    subst (AreNotMade ctx before) (sym (so_far.same ∙ calls_taken total (length bytes) place so_far.calls rest entry after within read))
-    (none_of_all ctx before so_far.calls entry (calls_in total (place + 1 + 1) (length bytes - (place + 1)) after) here)
+    subst (AreNotMade ctx before) (sym (so_far.same ∙ calls_taken version total (length bytes) place so_far.calls rest entry after within read))
+    (none_of_all ctx before so_far.calls entry (calls_in version total (place + 1 + 1) (length bytes - (place + 1)) after) here)
 
 -- what stands here is no record
-pub no_record_here : (ctx : Context) (before : AnyNode) (total : ℕ) (bytes : List ℕ) (node : AnyNode) (place : ℕ) (rest : List ℕ) (why : LogFault)
-    → MadeSoFar ctx before total bytes node place rest → place < length bytes → record_in (place + 1) (total - length rest) rest ≡ Err why → AreNotMade ctx before (records_in total bytes)
-no_record_here ctx before total bytes node place rest why so_far within read =
-    subst (AreNotMade ctx before) (sym (so_far.same ∙ calls_stop total (length bytes) place so_far.calls rest why within read)) tt
+pub no_record_here : (ctx : Context) (before : AnyNode) (version total : ℕ) (bytes : List ℕ) (node : AnyNode) (place : ℕ) (rest : List ℕ) (why : LogFault)
+    → MadeSoFar ctx before version total bytes node place rest → place < length bytes → record_in version (place + 1) (total - length rest) rest ≡ Err why → AreNotMade ctx before (records_in version total bytes)
+no_record_here ctx before version total bytes node place rest why so_far within read =
+    subst (AreNotMade ctx before) (sym (so_far.same ∙ calls_stop version total (length bytes) place so_far.calls rest why within read)) tt
 
 -- what stands in an option
 abbrev in_some : {A : Type 0} → A → Option A → A
@@ -119,12 +120,14 @@ in_some a None = a
 in_some a (Some b) = b
 
 -- behind a head of this node, and calls that it makes, bytes are its log
-pub made_as_read : (ctx : Context) (state before : AnyNode) (digest : List ℕ) (own node : Node) (bytes records : List ℕ) (made : MadeCalls) (whole : ℕ)
-    → head_in digest bytes ≡ Ok (own, records) → same_node own node ≡ true → Some state ≡ Some before → AreMade ctx state (length bytes) records made.node made.calls made.torn → whole ≡ length bytes - made.torn
+pub made_as_read : (ctx : Context) (state before : AnyNode) (version : ℕ) (digest : List ℕ) (own node : Node) (bytes records : List ℕ) (made : MadeCalls) (whole : ℕ) → version ≡ version_of digest
+    → head_in digest bytes ≡ Ok (own, records) → same_node own node ≡ true → Some state ≡ Some before → AreMade ctx state version (length bytes) records made.node made.calls made.torn → whole ≡ length bytes - made.torn
     → IsMadeAsRead ctx before digest node bytes (record { node = made.node; calls = made.calls; whole = whole })
 unfolding log_in
-made_as_read ctx state before digest own node bytes records made whole head same opens are left =
+made_as_read ctx state before version digest own node bytes records made whole known head same opens are_so left =
     let begins : state ≡ before = ap (in_some state) opens in
+    let are : AreMade ctx state (version_of digest) (length bytes) records made.node made.calls made.torn =
+    subst (λ v. AreMade ctx state v (length bytes) records made.node made.calls made.torn) known are_so in
     record {
       log = record { node = own; calls = are.calls };
       own = same_is own node same;

@@ -7,6 +7,7 @@ use Rattle.kept_logs.specs.declared.fault.LogFault.TheVariants as fault
 use Rattle.kept_logs.specs.Faults.{◌>>=◌, some_or}
 use Rattle.kept_logs.specs.Fields.{bytes_at, node_text, node_at}
 use Rattle.kept_logs.specs.Records.{logged_text, logged_in}
+use Rattle.kept_logs.specs.Digests.{version_of}
 use Rattle.kept_logs.specs.Frames.{check_of, frame_text, Met, Whole, Torn, Differs, met, Frame, Framed, CutOff, Damaged, frame_at}
 
 -- whose log it is, and under which settings: a node, and a digest of the settings, 35 bytes
@@ -16,16 +17,16 @@ owner_text digest node = node_text node ++ digest
 -- the head of a log: its name, its version, its owner, and what vouches for that, under the number 0; 46 bytes. The version is the first byte of what
 -- the head has of the settings, and the digest is behind it
 unfoldable pub head_text : List ℕ → Node → List ℕ
-head_text digest node = codes "PL" ++ (take 1 digest ++ (owner_text (drop 1 digest) node ++ check_of 0 (owner_text (drop 1 digest) node)))
+head_text digest node = codes "PL" ++ (take 1 digest ++ (owner_text (drop 1 digest) node ++ check_of (version_of digest) 0 (owner_text (drop 1 digest) node)))
 
--- the records of calls, numbered from here on
-unfoldable pub calls_text : ℕ → List Logged → List ℕ
-calls_text number [] = []
-calls_text number (r ∷ calls) = frame_text number (logged_text r) ++ calls_text (number + 1) calls
+-- the records of calls in a log of this version, numbered from here on
+unfoldable pub calls_text : ℕ → ℕ → List Logged → List ℕ
+calls_text version number [] = []
+calls_text version number (r ∷ calls) = frame_text version number (logged_text r) ++ calls_text version (number + 1) calls
 
 -- the text of a log under settings of this digest
 unfoldable pub log_text : List ℕ → NodeLog → List ℕ
-log_text digest log = head_text digest log.node ++ calls_text 1 log.calls
+log_text digest log = head_text digest log.node ++ calls_text (version_of digest) 1 log.calls
 
 -- ---- what bytes are
 
@@ -41,7 +42,7 @@ head_in digest bytes = do
   named ← expected fault.NotALog (met (codes "PL") bytes)
   known ← expected fault.Version (met (take 1 digest) named)
   owner ← some_or fault.Short (bytes_at 35 known)
-  rest ← expected fault.DamagedHead (met (check_of 0 owner.0) owner.1)
+  rest ← expected fault.DamagedHead (met (check_of (version_of digest) 0 owner.0) owner.1)
   node ← some_or fault.NoNode (node_at owner.0)
   own ← expected fault.OtherSettings (met (drop 1 digest) node.1)
   Ok (node.0, rest)
@@ -57,9 +58,9 @@ framed_record place (Framed body after) = read_record place after (logged_in bod
 framed_record place CutOff = Ok None
 framed_record place Damaged = Err (fault.Damaged place)
 
--- the record of this number at this place
-unfoldable pub record_in : ℕ → ℕ → List ℕ → Result (Option (Logged × List ℕ)) LogFault
-record_in number place bytes = framed_record place (frame_at number bytes)
+-- the record of this number at this place of a log of this version
+unfoldable pub record_in : ℕ → ℕ → ℕ → List ℕ → Result (Option (Logged × List ℕ)) LogFault
+record_in version number place bytes = framed_record place (frame_at version number bytes)
 
 -- calls before those that were read
 abbrev pub behind : List Logged → Result (List Logged × List ℕ) LogFault → Result (List Logged × List ℕ) LogFault
@@ -72,15 +73,15 @@ and_more bytes more (Ok None) = Ok ([], bytes)
 and_more bytes more (Ok (Some (r, after))) = behind (r ∷ []) (more after)
 and_more bytes more (Err why) = Err why
 
--- the calls of records numbered from here on, up to one that is cut off, and the bytes of that; or the fault of the first record that is damaged or
+-- the calls of records of a log of this version, numbered from here on, up to one that is cut off, and the bytes of that; or the fault of the first record that is damaged or
 -- is no call, with its place in so many bytes. So many records are read at most
-unfoldable pub calls_in : ℕ → ℕ → ℕ → List ℕ → Result (List Logged × List ℕ) LogFault
-calls_in total number zero bytes = Ok ([], bytes)
-calls_in total number (suc most) bytes = and_more bytes (λ after. calls_in total (number + 1) most after) (record_in number (total - length bytes) bytes)
+unfoldable pub calls_in : ℕ → ℕ → ℕ → ℕ → List ℕ → Result (List Logged × List ℕ) LogFault
+calls_in version total number zero bytes = Ok ([], bytes)
+calls_in version total number (suc most) bytes = and_more bytes (λ after. calls_in version total (number + 1) most after) (record_in version number (total - length bytes) bytes)
 
 -- the same of all records, numbered from 1
-abbrev pub records_in : ℕ → List ℕ → Result (List Logged × List ℕ) LogFault
-records_in total bytes = calls_in total 1 (length bytes) bytes
+abbrev pub records_in : ℕ → ℕ → List ℕ → Result (List Logged × List ℕ) LogFault
+records_in version total bytes = calls_in version total 1 (length bytes) bytes
 
 -- a log that was read, and how many bytes its text has; what stands behind these is the beginning of a record that is cut off
 pub record Reading : Type 0 where
@@ -91,7 +92,7 @@ pub record Reading : Type 0 where
 unfoldable pub log_in : List ℕ → List ℕ → Result Reading LogFault
 log_in digest bytes = do
   head ← head_in digest bytes
-  calls ← records_in (length bytes) head.1
+  calls ← records_in (version_of digest) (length bytes) head.1
   Ok (record { log = record { node = head.0; calls = calls.0 }; whole = length bytes - length calls.1 })
 
 -- bytes are the whole text of this log

@@ -9,11 +9,11 @@ use Rattle.kept_logs.specs.declared.making.MadeCalls.{MadeCalls}
 use Rattle.kept_logs.specs.declared.making.MadeLog.{MadeLog}
 use Rattle.kept_logs.specs.Logs.{Reading, log_in, records_in}
 
--- the calls of the records that bytes are: a node makes each of them, so many, and is then this one; so many bytes are left
-pub record AreMade (ctx : Context) (before : AnyNode) (total : ℕ) (bytes : List ℕ) (node : AnyNode) (count left : ℕ) : Type 0 where
+-- the calls of the records of a log of this version that bytes are: a node makes each of them, so many, and is then this one; so many bytes are left
+pub record AreMade (ctx : Context) (before : AnyNode) (version total : ℕ) (bytes : List ℕ) (node : AnyNode) (count left : ℕ) : Type 0 where
   pub calls : List Logged
   pub rest : List ℕ
-  pub read : records_in total bytes ≡ Ok (calls, rest)
+  pub read : records_in version total bytes ≡ Ok (calls, rest)
   pub left_behind : length rest ≡ left
   pub number : length calls ≡ count
   pub makes : Makes ctx before calls
@@ -39,9 +39,9 @@ abbrev pub IsNotMade : Context → AnyNode → Node → Result Reading LogFault 
 IsNotMade ctx before node (Ok read) = read.log.node ≡ node → Makes ctx before read.log.calls → ⊥
 IsNotMade ctx before node (Err why) = ⊤
 
-abbrev pub AreMadeIf : Context → AnyNode → ℕ → List ℕ → Option MadeCalls → Type 0
-AreMadeIf ctx before total bytes None = AreNotMade ctx before (records_in total bytes)
-AreMadeIf ctx before total bytes (Some made) = AreMade ctx before total bytes made.node made.calls made.torn
+abbrev pub AreMadeIf : Context → AnyNode → ℕ → ℕ → List ℕ → Option MadeCalls → Type 0
+AreMadeIf ctx before version total bytes None = AreNotMade ctx before (records_in version total bytes)
+AreMadeIf ctx before version total bytes (Some made) = AreMade ctx before version total bytes made.node made.calls made.torn
 
 -- there is a node exactly where the bytes are this node's log, which it makes
 abbrev pub IsMadeIf : Context → AnyNode → List ℕ → Node → List ℕ → Option MadeLog → Type 0

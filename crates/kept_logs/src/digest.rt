@@ -1,9 +1,9 @@
-//! Digests: that of settings, and the eight bytes that vouch for a record.
+//! Digests of settings.
 
 ghost use Rattle.std.specs.Prelude.{◌≡◌, length, take, drop};
-ghost use Rattle.kept_logs.specs.Digests.{is_first, of_file, of_said};
-ghost use Rattle.kept_logs.specs.Frames.{check_of};
+ghost use Rattle.kept_logs.specs.Digests.{of_file, of_said, version_of, version_seen};
 
+use crate::version::LogVersion;
 use sha2::{Digest, Sha256};
 use std::marker::Model;
 
@@ -11,18 +11,21 @@ use std::marker::Model;
 /// digest. In version 1 that is the digest of the bytes of the settings' file, in version 2 of a text of what they say.
 #[derive(Clone, Copy, PartialEq, Eq)]
 pub struct SettingsDigest {
-    version: u8,
+    version: LogVersion,
     bytes: [u8; 32],
 }
 
 impl Model for SettingsDigest {
     ghost use Rattle.std.specs.Prelude.{List, ℕ, ◌∷◌, drop, slice_index};
+    ghost use Rattle.kept_logs.specs.Digests.{named_back, version_named, version_seen};
 
     ghost Value = { List ℕ };
 
-    ghost view = { λ digest. digest.version ∷ digest.bytes };
+    ghost view = { λ digest. version_seen digest.version ∷ digest.bytes };
 
-    ghost inverse = { λ digest. record { version = slice_index digest 0; bytes = drop 1 digest } };
+    ghost inverse = { λ digest. record { version = version_named (slice_index digest 0); bytes = drop 1 digest } };
+
+    ghost inverse_ok = { λ digest _ i. record { version = named_back digest.version i; bytes = digest.bytes } };
 }
 
 impl SettingsDigest {
@@ -31,7 +34,10 @@ impl SettingsDigest {
         ensures { result ≡ of_file file.now }
     {
         let bytes = Sha256::digest(file);
-        SettingsDigest { version: 1, bytes }
+        SettingsDigest {
+            version: LogVersion::First,
+            bytes,
+        }
     }
 
     /// That of version 2: of a text of what the settings say.
@@ -39,14 +45,24 @@ impl SettingsDigest {
         ensures { result ≡ of_said said.now }
     {
         let bytes = Sha256::digest(said);
-        SettingsDigest { version: 2, bytes }
+        SettingsDigest {
+            version: LogVersion::Second,
+            bytes,
+        }
+    }
+
+    /// The version of a log that has it.
+    pub fn version(&self) -> LogVersion
+        ensures { version_seen result ≡ version_of self.now }
+    {
+        self.version
     }
 
     /// The version, a byte.
-    pub(crate) fn version(&self) -> [u8; 1]
+    pub(crate) fn version_byte(&self) -> [u8; 1]
         ensures { result ≡ take 1 self.now }
     {
-        [self.version]
+        [self.version.number()]
     }
 
     /// The digest, 32 bytes.
@@ -56,23 +72,4 @@ impl SettingsDigest {
     {
         &self.bytes
     }
-}
-
-/// Whether bytes have the version 1, if they are a log.
-pub fn is_first(bytes: &[u8]) -> bool
-    ensures { result ≡ is_first bytes.now }
-{
-    bytes.len() > 2 && bytes[2] == 1
-}
-
-/// The eight bytes that vouch for a body under a number.
-#[tactic(auto, unfolding(crate::specs::Frames::check_of))]
-pub(crate) fn check_of(number: u64, body: &[u8]) -> [u8; 8]
-    ensures { result ≡ check_of number body.now }
-{
-    let mut hasher = Sha256::new();
-    hasher.update(&number.to_be_bytes());
-    hasher.update(body);
-    let d = hasher.finalize();
-    [d[0], d[1], d[2], d[3], d[4], d[5], d[6], d[7]]
 }

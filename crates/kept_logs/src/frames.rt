@@ -2,11 +2,13 @@
 
 ghost use Rattle.std.specs.Prelude.{◌≡◌, ◌==◌, true, length, IfOk};
 ghost use Rattle.std.specs.Option.{option_copied};
+ghost use Rattle.kept_logs.specs.Digests.{version_seen};
 ghost use Rattle.kept_logs.specs.Frames.{behind_frame, frame_text, frame_at, body_at, is_size, is_zeros, no_record};
 ghost use Rattle.kept_logs.specs.MetSeen.{frame_seen};
 
-use crate::digest::check_of;
 use crate::met::{Met, meet};
+use crate::sums::check_of;
+use crate::version::LogVersion;
 use kept_records::{put_u64, take_u64};
 use std::alloc::{AllocError, Global};
 
@@ -48,14 +50,19 @@ fn is_zero(byte: &u8) -> bool
     *byte == 0
 }
 
-/// The record of this number with this body.
+/// The record of this number with this body, in a log of this version.
 ///
 /// # Errors
 /// Memory was refused, or the body has more bytes than a record may: the process has to end then, as where there is no
 /// memory.
 #[tactic(auto, unfolding(crate::specs::Frames::frame_text))]
-pub(crate) fn frame_of(alloc: Global, number: u64, body: &[u8]) -> Result<Vec<u8>, AllocError>
-    ensures text { IfOk result (λ frame. frame.items ≡ frame_text number body.now) }
+pub(crate) fn frame_of(
+    alloc: Global,
+    version: LogVersion,
+    number: u64,
+    body: &[u8],
+) -> Result<Vec<u8>, AllocError>
+    ensures text { IfOk result (λ frame. frame.items ≡ frame_text (version_seen version) number body.now) }
     ensures fits { IfOk result (λ _. is_size (length body.now) ≡ true) }
 {
     let size = body.len() as u64;
@@ -66,14 +73,14 @@ pub(crate) fn frame_of(alloc: Global, number: u64, body: &[u8]) -> Result<Vec<u8
     put_u64(&mut frame, size)?;
     put_u64(&mut frame, u64::MAX - size)?;
     frame.extend_from_slice(body)?;
-    frame.extend_from_slice(&check_of(number, body))?;
+    frame.extend_from_slice(&check_of(version, number, body))?;
     Ok(frame)
 }
 
-/// The record of this number at the front of bytes.
+/// The record of this number at the front of bytes of a log of this version.
 #[tactic(auto, unfolding(crate::specs::Frames::frame_at))]
-pub(crate) fn take_frame(number: u64, bytes: &[u8]) -> Frame<'_>
-    ensures { frame_seen result ≡ frame_at number bytes.now }
+pub(crate) fn take_frame(version: LogVersion, number: u64, bytes: &[u8]) -> Frame<'_>
+    ensures { frame_seen result ≡ frame_at (version_seen version) number bytes.now }
 {
     let Some((size, rest)) = take_u64(bytes) else {
         return Frame::CutOff;
@@ -83,17 +90,17 @@ pub(crate) fn take_frame(number: u64, bytes: &[u8]) -> Frame<'_>
     }
     let complement = u64::MAX - size;
     match meet(&complement.to_be_bytes(), rest) {
-        Met::Whole(rest) => take_body(number, size, rest),
+        Met::Whole(rest) => take_body(version, number, size, rest),
         Met::Torn => Frame::CutOff,
         Met::Differs => Frame::Damaged,
     }
 }
 
-/// What follows the undamaged record of this number that begins these bytes; none where there is no such record, or it is cut off.
-pub fn behind_record(number: u64, bytes: &[u8]) -> Option<&[u8]>
-    ensures { option_copied result ≡ behind_frame (frame_at number bytes.now) }
+/// What follows the undamaged record of this number that begins these bytes of a log of this version; none where there is no such record, or it is cut off.
+pub fn behind_record(version: LogVersion, number: u64, bytes: &[u8]) -> Option<&[u8]>
+    ensures { option_copied result ≡ behind_frame (frame_at (version_seen version) number bytes.now) }
 {
-    match take_frame(number, bytes) {
+    match take_frame(version, number, bytes) {
         Frame::Whole(_, after) => Some(after),
         Frame::CutOff => None,
         Frame::Damaged => None,
@@ -113,15 +120,15 @@ fn no_record(size: u64, rest: &[u8]) -> Frame<'_>
 
 /// The record of this number with a body of so many bytes, which begins here.
 #[tactic(auto, unfolding(crate::specs::Frames::body_at))]
-fn take_body(number: u64, size: u64, bytes: &[u8]) -> Frame<'_>
-    ensures { frame_seen result ≡ body_at number size bytes.now }
+fn take_body(version: LogVersion, number: u64, size: u64, bytes: &[u8]) -> Frame<'_>
+    ensures { frame_seen result ≡ body_at (version_seen version) number size bytes.now }
 {
     if (bytes.len() as u64) < size {
         return Frame::CutOff;
     }
     let size = size as usize;
     let body = &bytes[..size];
-    match meet(&check_of(number, body), &bytes[size..]) {
+    match meet(&check_of(version, number, body), &bytes[size..]) {
         Met::Whole(after) => Frame::Whole(body, after),
         Met::Torn => Frame::CutOff,
         Met::Differs => Frame::Damaged,

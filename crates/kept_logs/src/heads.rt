@@ -6,11 +6,12 @@ ghost use Rattle.kept_logs.specs.Frames.{met};
 ghost use Rattle.kept_logs.specs.Logs.{owner_text, head_text, expected, head_in};
 ghost use Rattle.kept_logs.specs.Fits.{FitsNode};
 
-use crate::digest::{SettingsDigest, check_of};
+use crate::digest::SettingsDigest;
 use crate::fault::LogFault;
 use crate::fields::{take_bytes, take_node};
 use crate::met::{Met, meet};
 use crate::putting::put_node;
+use crate::sums::check_of;
 use std::alloc::{AllocError, Global};
 use world_setup::Node;
 
@@ -33,9 +34,9 @@ pub(crate) fn put_head(
 {
     let owner = owner_of(alloc, settings, node)?;
     out.extend_from_slice(&NAME)?;
-    out.extend_from_slice(&settings.version())?;
+    out.extend_from_slice(&settings.version_byte())?;
     out.extend_from_slice(&owner)?;
-    out.extend_from_slice(&check_of(0, &owner))
+    out.extend_from_slice(&check_of(settings.version(), 0, &owner))
 }
 
 /// Whose log it is, and under which settings.
@@ -63,11 +64,12 @@ pub(crate) fn take_head<'a>(
     ensures fault { IfErr result (λ e. head_in settings.now bytes.now ≡ Err e) }
 {
     let named = expect(LogFault::NotALog, &NAME, bytes)?;
-    let known = expect(LogFault::Version, &settings.version(), named)?;
+    let known = expect(LogFault::Version, &settings.version_byte(), named)?;
     let Some((owner, sum)) = take_bytes(OWNER, known) else {
         return Err(LogFault::Short);
     };
-    let rest = expect(LogFault::DamagedHead, &check_of(0, owner), sum)?;
+    let wanted = check_of(settings.version(), 0, owner);
+    let rest = expect(LogFault::DamagedHead, &wanted, sum)?;
     let Some((node, digest)) = take_node(owner) else {
         return Err(LogFault::NoNode);
     };

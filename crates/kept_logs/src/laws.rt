@@ -5,6 +5,7 @@ ghost use Rattle.claim_model.specs.Logs.{Logged, NodeLog};
 ghost use Rattle.run_merge.specs.LogSeen.{with_call};
 ghost use Rattle.kept_logs.specs.declared.fault.LogFault.TheVariants.{Short};
 ghost use Rattle.kept_logs.specs.Records.{logged_text};
+ghost use Rattle.kept_logs.specs.Digests.{version_of};
 ghost use Rattle.kept_logs.specs.Frames.{frame_text, frame_at, is_zeros, CutOff};
 ghost use Rattle.kept_logs.specs.Logs.{log_text, Reading, log_in, ReadsAs};
 ghost use Rattle.kept_logs.specs.Fits.{FitsLog};
@@ -24,7 +25,8 @@ pub fn log_reads_back()
 /// The text of a log with one call more is its text, and behind it the record of that call under the next number.
 pub fn log_takes_one_more()
     ensures { (digest : List ℕ) (log : NodeLog) (r : Logged)
-        → log_text digest (with_call log r) ≡ log_text digest log ++ frame_text (length log.calls + 1) (logged_text r) }
+        → log_text digest (with_call log r)
+        ≡ log_text digest log ++ frame_text (version_of digest) (length log.calls + 1) (logged_text r) }
 {}
 
 /// Bytes that are read as a log are its text, and behind it nothing, or the beginning of a record that is cut off, or zeros,
@@ -32,6 +34,6 @@ pub fn log_takes_one_more()
 pub fn log_is_its_text()
     ensures text { (digest bytes : List ℕ) (read : Reading)
         → length digest ≡ 33 → EachIsByte bytes → log_in digest bytes ≡ Ok read → IsLogOf digest bytes read }
-    ensures cut { (number : ℕ) (bytes : List ℕ)
-        → EachIsByte bytes → frame_at number bytes ≡ CutOff → Begins number bytes ⊎ (is_zeros bytes ≡ true) }
+    ensures cut { (version number : ℕ) (bytes : List ℕ) → EachIsByte bytes
+        → frame_at version number bytes ≡ CutOff → Begins version number bytes ⊎ (is_zeros bytes ≡ true) }
 {}

@@ -16,10 +16,13 @@ mod making;
 mod met;
 mod putting;
 mod records;
+mod sums;
+mod version;
 
-pub use digest::{SettingsDigest, is_first};
+pub use digest::SettingsDigest;
 pub use fault::LogFault;
 pub use frames::behind_record;
 pub use laws::{log_is_its_text, log_reads_back, log_takes_one_more};
 pub use logs::{ReadLog, place_of, read_log, record_bytes, write_log};
 pub use making::{MadeLog, make_as_read};
+pub use version::{LogVersion, is_first};

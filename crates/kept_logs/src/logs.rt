@@ -7,6 +7,7 @@ ghost use Rattle.world_setup.specs.Seen.{node_seen};
 ghost use Rattle.run_merge.specs.LogSeen.{log_seen};
 ghost use Rattle.kept_logs.specs.declared.fault.LogFault.TheVariants.{OutOfMemory};
 ghost use Rattle.kept_logs.specs.Records.{logged_text, logged_in};
+ghost use Rattle.kept_logs.specs.Digests.{version_seen};
 ghost use Rattle.kept_logs.specs.Frames.{frame_text};
 ghost use Rattle.kept_logs.specs.Logs.{calls_text, log_text, read_record, record_in, records_in, log_in, ReadsAs};
 ghost use Rattle.kept_logs.specs.Cuts.{IsLogOf, first_calls};
@@ -19,6 +20,7 @@ use crate::frames::{Frame, frame_of, take_frame};
 use crate::heads::{put_head, take_head};
 use crate::laws::{log_is_its_text, log_reads_back};
 use crate::records::{Entry, body_of, entry_of};
+use crate::version::LogVersion;
 use run_merge::{NodeLog, Record};
 use std::alloc::{AllocError, Global};
 use world_setup::Node;
@@ -56,17 +58,22 @@ fn put_log(alloc: Global, settings: &SettingsDigest, log: &NodeLog) -> Result<Ve
 {
     let mut text = Vec::new(alloc);
     put_head(alloc, &mut text, settings, log.node())?;
-    put_records(alloc, &mut text, log.records())?;
+    put_records(alloc, &mut text, settings.version(), log.records())?;
     Ok(text)
 }
 
-/// Puts records, numbered from 1.
-fn put_records(alloc: Global, text: &mut Vec<u8>, records: &[Record]) -> Result<(), AllocError>
-    ensures text { OnOk result (text.new.items ≡ text.old.items ++ calls_text 1 records.now) }
+/// Puts the records of a log of this version, numbered from 1.
+fn put_records(
+    alloc: Global,
+    text: &mut Vec<u8>,
+    version: LogVersion,
+    records: &[Record],
+) -> Result<(), AllocError>
+    ensures text { OnOk result (text.new.items ≡ text.old.items ++ calls_text (version_seen version) 1 records.now) }
     ensures fits { OnOk result (AllByRecursion FitsLogged records.now) }
 {
     for (place, one) in records.iter().enumerate() {
-        let bytes = record_bytes(alloc, place as u64 + 1, one)?;
+        let bytes = record_bytes(alloc, version, place as u64 + 1, one)?;
         text.extend_from_slice(&bytes)?;
     }
     Ok(())
@@ -87,17 +94,27 @@ pub fn place_of(
 {
     let mut text = Vec::new(alloc);
     put_head(alloc, &mut text, settings, log.node())?;
-    put_records(alloc, &mut text, &log.records()[..count])?;
+    put_records(
+        alloc,
+        &mut text,
+        settings.version(),
+        &log.records()[..count],
+    )?;
     Ok(text.as_slice().len())
 }
 
-/// What a host appends to a log's text for the call that is the next one, of this number from 1.
-pub fn record_bytes(alloc: Global, number: u64, one: &Record) -> Result<Vec<u8>, AllocError>
-    ensures text { IfOk result (λ bytes. bytes.items ≡ frame_text number (logged_text one.now)) }
+/// What a host appends to the text of a log of this version for the call that is the next one, of this number from 1.
+pub fn record_bytes(
+    alloc: Global,
+    version: LogVersion,
+    number: u64,
+    one: &Record,
+) -> Result<Vec<u8>, AllocError>
+    ensures text { IfOk result (λ bytes. bytes.items ≡ frame_text (version_seen version) number (logged_text one.now)) }
     ensures fits { IfOk result (λ _. FitsLogged one.now) }
 {
     let body = body_of(alloc, one)?;
-    frame_of(alloc, number, &body)
+    frame_of(alloc, version, number, &body)
 }
 
 /// Reads the log under settings of this digest that begins the bytes, up to a record that is cut off.
@@ -124,27 +141,29 @@ fn read_parts(alloc: Global, settings: &SettingsDigest, bytes: &[u8]) -> Result<
     ensures fault { IfErr result (λ e. e ≢ OutOfMemory → log_in settings.now bytes.now ≡ Err e) }
 {
     let (node, rest) = take_head(settings, bytes)?;
-    let (log, torn) = read_calls(alloc, node, bytes.len(), rest)?;
+    let (log, torn) = read_calls(alloc, settings.version(), node, bytes.len(), rest)?;
     let whole = bytes.len().saturating_sub(torn);
     Ok(ReadLog { log, whole })
 }
 
-/// The log of a node whose records these bytes are, and how many bytes its torn end has.
+/// The log of a node whose records these bytes of a log of this version are, and how many bytes its torn end has.
 fn read_calls(
     alloc: Global,
+    version: LogVersion,
     node: Node,
     total: usize,
     bytes: &[u8],
 ) -> Result<(NodeLog, usize), LogFault>
-    ensures ok { IfOk result (λ read. CallsAre (records_in total bytes.now) (log_seen read.0) (node_seen node) read.1) }
-    ensures fault { IfErr result (λ e. e ≢ OutOfMemory → records_in total bytes.now ≡ Err e) }
+    ensures ok { IfOk result (λ read.
+        CallsAre (records_in (version_seen version) total bytes.now) (log_seen read.0) (node_seen node) read.1) }
+    ensures fault { IfErr result (λ e. e ≢ OutOfMemory → records_in (version_seen version) total bytes.now ≡ Err e) }
 {
     let mut log = NodeLog::new(alloc, node);
     let mut rest = bytes;
     for place in 0..bytes.len() {
         let number = place as u64 + 1;
         let start = total.saturating_sub(rest.len());
-        let Some((entry, after)) = take_record(alloc, number, start, rest)? else {
+        let Some((entry, after)) = take_record(alloc, version, number, start, rest)? else {
             return Ok((log, rest.len()));
         };
         log.reserve()?;
@@ -154,19 +173,21 @@ fn read_calls(
     Ok((log, rest.len()))
 }
 
-/// The record of this number at this place and what follows it; none where it is cut off.
+/// The record of this number at this place of a log of this version, and what follows it; none where it is cut off.
 #[tactic(auto, unfolding(crate::specs::Logs::record_in))]
 pub(crate) fn take_record(
     alloc: Global,
+    version: LogVersion,
     number: u64,
     start: usize,
     bytes: &[u8],
 ) -> Result<Option<(Entry, &[u8])>, LogFault>
     ensures ok { IfOk result (λ o.
-        record_in number start bytes.now ≡ Ok (option_map (λ taken. (entry_seen taken.0, taken.1.now)) o)) }
-    ensures fault { IfErr result (λ e. e ≢ OutOfMemory → record_in number start bytes.now ≡ Err e) }
+        record_in (version_seen version) number start bytes.now
+        ≡ Ok (option_map (λ taken. (entry_seen taken.0, taken.1.now)) o)) }
+    ensures fault { IfErr result (λ e. e ≢ OutOfMemory → record_in (version_seen version) number start bytes.now ≡ Err e) }
 {
-    match take_frame(number, bytes) {
+    match take_frame(version, number, bytes) {
         Frame::Whole(body, after) => take_entry(alloc, start, body, after),
         Frame::CutOff => Ok(None),
         Frame::Damaged => Err(LogFault::Damaged(start)),

@@ -7,6 +7,7 @@ ghost use Rattle.claim_model.specs.Settings.{opening, settings_fault};
 ghost use Rattle.world_setup.specs.Seen.{node_seen, settings_seen};
 ghost use Rattle.kept_logs.specs.declared.fault.LogFault.TheVariants.{OutOfMemory};
 ghost use Rattle.kept_logs.specs.Cuts.{IsLogOf};
+ghost use Rattle.kept_logs.specs.Digests.{version_seen};
 ghost use Rattle.kept_logs.specs.Logs.{Reading, log_in};
 ghost use Rattle.kept_logs.specs.Making.{AreMadeIf, IsMadeIf};
 
@@ -15,6 +16,7 @@ use crate::fault::LogFault;
 use crate::heads::take_head;
 use crate::laws::log_is_its_text;
 use crate::logs::take_record;
+use crate::version::LogVersion;
 use bin_routes::Routes;
 use node_state::NodeState;
 use run_merge::{Record, is_same_node, makes};
@@ -100,6 +102,7 @@ fn make_parts(
         alloc,
         routes,
         state,
+        digest.version(),
         bytes.len(),
         records,
     )?
@@ -110,22 +113,23 @@ fn make_parts(
     Ok(Some(MadeLog { node, calls, whole }))
 }
 
-/// The node after the calls of these records, how many they are, and how many bytes the torn end has.
+/// The node after the calls of these records of a log of this version, how many they are, and how many bytes the torn end has.
 fn make_calls(
     alloc: Global,
     routes: &Routes,
     opening: NodeState,
+    version: LogVersion,
     total: usize,
     bytes: &[u8],
 ) -> Result<Option<MadeCalls>, AllocError>
-    ensures { IfOk result (λ made. AreMadeIf (bytes_with routes.now) opening total bytes.now made) }
+    ensures { IfOk result (λ made. AreMadeIf (bytes_with routes.now) opening (version_seen version) total bytes.now made) }
 {
     let mut node = opening;
     let mut rest = bytes;
     for place in 0..bytes.len() {
         let number = place as u64 + 1;
         let start = total.saturating_sub(rest.len());
-        let (one, after) = match take_record(alloc, number, start, rest) {
+        let (one, after) = match take_record(alloc, version, number, start, rest) {
             Ok(Some((entry, after))) => (Record::new(entry.call, entry.sent), after),
             Ok(None) => {
                 return Ok(Some(MadeCalls {

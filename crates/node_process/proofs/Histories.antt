@@ -18,6 +18,7 @@ use Rattle.world_setup.specs.declared.settings.WorldSettings.{WorldSettings as S
 use Rattle.world_settings.specs.Document.{Document, document_seen}
 use Rattle.node_logged.specs.Setting.{context_of}
 use Rattle.kept_logs.specs.declared.fault.LogFault.TheVariants.{Short}
+use Rattle.kept_logs.specs.Digests.{version_of}
 use Rattle.kept_logs.specs.Logs.{Reading, log_text, log_in}
 use Rattle.kept_logs.specs.Fits.{FitsNode, FitsLog}
 use Rattle.kept_logs.specs.Cuts.{calls_within}
@@ -283,7 +284,7 @@ module _ (whose : Whose) (settings : Settings) (spells : Spells whose.settings s
               let a = ap length is in
               let b = log_length digest (record { node = node; calls = p.synced }) d in
               let c = log_length digest (record { node = node; calls = model_file p }) d in
-              let e = longer_text 1 p.synced p.unsynced in
+              let e = longer_text (version_of digest) 1 p.synced p.unsynced in
               omega (arith, a, b, c, e, text_short)
           by_disk (inr none) = let a = ap length none.0 in omega (arith, a)
 
@@ -362,7 +363,7 @@ module _ (whose : Whose) (settings : Settings) (spells : Spells whose.settings s
           by_file (inl is) =
               let own = log_text digest (record { node = node; calls = model_file p }) in
               let e : own ≡ take (length own) (log_text digest (record { node = node; calls = calls })) = sym (ap (take (length own)) (sym text.text ∙ ap (λ (x : List ℕ). x ++ bytes) is) ∙ take_at own bytes (length own) refl) in
-              let k = calls_within (length own) (record { node = node; calls = calls }) in
+              let k = calls_within digest (length own) (record { node = node; calls = calls }) in
               let first : model_file p ≡ take k calls = begins_with digest node (model_file p) calls (length own) d fits text.fits refl e in
               (drop k calls, ap (λ (x : List Logged). x ++ drop k calls) first ∙ take-append-drop k calls)
 

@@ -9,6 +9,7 @@ use Rattle.claim_model.specs.Logs.{Logged, NodeLog}
 use Rattle.kept_logs.specs.declared.fault.LogFault.{LogFault}
 use Rattle.kept_logs.specs.declared.fault.LogFault.TheVariants.{Short}
 use Rattle.kept_logs.specs.Records.{logged_text}
+use Rattle.kept_logs.specs.Digests.{version_of}
 use Rattle.kept_logs.specs.Frames.{frame_text}
 use Rattle.kept_logs.specs.Logs.{Reading, head_text, calls_text, log_text, log_in}
 use Rattle.kept_logs.specs.Fits.{FitsNode, FitsLogged, FitsLog}
@@ -35,11 +36,11 @@ by_tests true false n m size a b e f h le = omega arith
 by_tests false true n m size a b e f h le = absurd (let high = not_less n size e in let low = less m size f in omega (arith, high, low, h))
 by_tests false false n m size a b e f h le = omega (arith, le)
 
-within_more : (number n m : ℕ) (calls : List Logged) → n ≤ m → whole_within number n calls ≤ whole_within number m calls
-within_more number n m [] h = omega arith
-within_more number n m (r ∷ calls) h =
-    let size = length (frame_text number (logged_text r)) in
-    by_tests (nat_lt n size) (nat_lt m size) n m size (whole_within (number + 1) (n - size) calls) (whole_within (number + 1) (m - size) calls) refl refl h (within_more (number + 1) (n - size) (m - size) calls (omega (arith, h)))
+within_more : (version number n m : ℕ) (calls : List Logged) → n ≤ m → whole_within version number n calls ≤ whole_within version number m calls
+within_more version number n m [] h = omega arith
+within_more version number n m (r ∷ calls) h =
+    let size = length (frame_text version number (logged_text r)) in
+    by_tests (nat_lt n size) (nat_lt m size) n m size (whole_within version (number + 1) (n - size) calls) (whole_within version (number + 1) (m - size) calls) refl refl h (within_more version (number + 1) (n - size) (m - size) calls (omega (arith, h)))
 
 -- ---- what begins what
 
@@ -92,7 +93,7 @@ pub record IsCutOf (digest : List ℕ) (node : Node) (bytes : List ℕ) (calls :
   pub fits : FitsLog (record { node = node; calls = all })
   pub size : ℕ
   pub is : bytes ≡ take size (log_text digest (record { node = node; calls = all }))
-  pub whole : 46 ≤ size → calls_within size (record { node = node; calls = all }) ≡ length calls
+  pub whole : 46 ≤ size → calls_within digest size (record { node = node; calls = all }) ≡ length calls
   pub none : size < 46 → calls ≡ []
 
 pub calls_fit : (digest : List ℕ) (node : Node) (bytes : List ℕ) (calls : List Logged) → IsCutOf digest node bytes calls → FitsLog (record { node = node; calls = calls })
@@ -105,7 +106,7 @@ cut_reads digest node bytes calls d c =
       | inl small ↦ inr (ap (log_in digest) c.is ∙ reads_short digest log c.size d small, c.none small)
       | inr large ↦
           let back = reads_back digest log c.size d c.fits large in
-          let k = calls_within c.size log in
+          let k = calls_within digest c.size log in
           let count : ℕ = length (log_text digest (record { node = node; calls = take k c.all })) in
           let first : take k c.all ≡ calls = ap (λ n. take n c.all) (c.whole large) ∙ (ap (take (length calls)) c.are ∙ take_at calls c.more (length calls) refl) in
           inl (count, ap (log_in digest) c.is ∙ (back.read ∙ ap (λ (cs : List Logged). let r : Reading = record { log = record { node = node; calls = cs }; whole = count } in Ok r) first))
@@ -115,7 +116,7 @@ pub text_cut : (digest : List ℕ) (node : Node) (calls : List Logged) → lengt
 text_cut digest node calls d fits =
     let log : NodeLog = record { node = node; calls = calls } in
     let text = log_text digest log in
-    let size : length text ≡ 46 + length (calls_text 1 calls) = log_length digest log d in
+    let size : length text ≡ 46 + length (calls_text (version_of digest) 1 calls) = log_length digest log d in
     record {
       all = calls;
       more = [];
@@ -123,7 +124,7 @@ text_cut digest node calls d fits =
       fits = fits;
       size = length text;
       is = sym (take_all (length text) text (omega arith));
-      whole = λ large. all_within 1 (length text - 46) calls (omega (arith, size));
+      whole = λ large. all_within (version_of digest) 1 (length text - 46) calls (omega (arith, size));
       none = λ small. absurd (omega (arith, size, small));
     }
 
@@ -143,12 +144,12 @@ nothing_cut digest node fits =
 -- a log whose text begins that of another has its first calls
 pub begins_with : (digest : List ℕ) (node : Node) (xs ys : List Logged) (n : ℕ) → length digest ≡ 33 → FitsLog (record { node = node; calls = xs }) → FitsLog (record { node = node; calls = ys })
     → n ≡ length (log_text digest (record { node = node; calls = xs })) → log_text digest (record { node = node; calls = xs }) ≡ take n (log_text digest (record { node = node; calls = ys }))
-    → xs ≡ take (calls_within n (record { node = node; calls = ys })) ys
+    → xs ≡ take (calls_within digest n (record { node = node; calls = ys })) ys
 begins_with digest node xs ys n d first fits is e =
     let a : NodeLog = record { node = node; calls = xs } in
     let b : NodeLog = record { node = node; calls = ys } in
     let back = reads_back digest b n d fits (omega (arith, is, log_length digest a d)) in
-    let k = calls_within n b in
+    let k = calls_within digest n b in
     let r = same_reading (record { log = a; whole = length (log_text digest a) }) (record { log = record { node = node; calls = take k ys }; whole = length (log_text digest (record { node = node; calls = take k ys })) })
     (sym (reads_whole digest a d first) ∙ (ap (log_in digest) e ∙ back.read)) in
     ap (λ (x : Reading). x.log.calls) r
@@ -173,7 +174,7 @@ whole_front digest node front calls d c (log, reads) =
       | inl small ↦ absurd (not_short (record { log = log; whole = length front }) (sym reads ∙ (ap (log_in digest) c.is ∙ reads_short digest all c.size d small)))
       | inr large ↦
           let back = reads_back digest all c.size d c.fits large in
-          let k = calls_within c.size all in
+          let k = calls_within digest c.size all in
           let within : NodeLog = record { node = node; calls = take k c.all } in
           let own = log_text digest within in
           let r = same_reading (record { log = log; whole = length front }) (record { log = within; whole = length own }) (sym reads ∙ (ap (log_in digest) c.is ∙ back.read)) in
@@ -253,8 +254,8 @@ pub record HasLeft (digest : List ℕ) (node : Node) (left : List ℕ) (calls sy
   pub begins : synced ≡ take (length synced) calls
 
 synced_within : (digest : List ℕ) (node : Node) (disk bytes : List ℕ) (calls synced : List Logged) (n : ℕ) → length digest ≡ 33 → (c : IsCutOf digest node bytes calls) → FitsLog (record { node = node; calls = synced })
-    → HasCalls digest node disk synced → IsStartOf disk (take n (log_text digest (record { node = node; calls = c.all }))) → 46 ≤ n → calls_within n (record { node = node; calls = c.all }) ≤ length calls
-    → (length synced ≤ calls_within n (record { node = node; calls = c.all })) × (synced ≡ take (length synced) calls)
+    → HasCalls digest node disk synced → IsStartOf disk (take n (log_text digest (record { node = node; calls = c.all }))) → 46 ≤ n → calls_within digest n (record { node = node; calls = c.all }) ≤ length calls
+    → (length synced ≤ calls_within digest n (record { node = node; calls = c.all })) × (synced ≡ take (length synced) calls)
 synced_within digest node disk bytes calls synced n d c fits (inr none) start large most =
     let e : length synced ≡ 0 = ap length none.1 in
     (omega (arith, e), none.1 ∙ sym (ap (λ m. take m calls) e))
@@ -267,11 +268,11 @@ synced_within digest node disk bytes calls synced n d c fits (inl is) start larg
     let short : size ≤ n = let a = start_length disk (take n text) start in let b = taken_length n text in omega (arith, long, a, b) in
     let first : log_text digest own ≡ take size text = sym is ∙ (first_of disk (take n text) start ∙ (ap (λ m. take m (take n text)) long ∙ take-take size n text short)) in
     let are = begins_with digest node synced c.all size d fits c.fits refl first in
-    let count : length synced ≤ calls_within size log = let b = taken_length (calls_within size log) c.all in let a = ap length are in omega (arith, a, b) in
-    let more : calls_within size log ≤ calls_within n log = within_more 1 (size - 46) (n - 46) c.all (omega (arith, short)) in
+    let count : length synced ≤ calls_within digest size log = let b = taken_length (calls_within digest size log) c.all in let a = ap length are in omega (arith, a, b) in
+    let more : calls_within digest size log ≤ calls_within digest n log = within_more (version_of digest) 1 (size - 46) (n - 46) c.all (omega (arith, short)) in
     let within : length synced ≤ length calls = omega (arith, count, more, most) in (
       omega (arith, count, more),
-      own_first synced c.all (calls_within size log) are ∙ (ap (take (length synced)) c.are ∙ take-append-le (length synced) calls c.more within),
+      own_first synced c.all (calls_within digest size log) are ∙ (ap (take (length synced)) c.are ∙ take-append-le (length synced) calls c.more within),
     )
 
 -- the same of bytes without zeros
@@ -293,8 +294,8 @@ front_reads digest node disk left bytes calls synced d fits has under start c =
     elim (cases_lt n 46) [
       | inl small ↦ by_disk has small is
       | inr large ↦
-          let k = calls_within n log in
-          let more : k ≤ calls_within c.size log = within_more 1 (n - 46) (c.size - 46) c.all (omega (arith, within)) in
+          let k = calls_within digest n log in
+          let more : k ≤ calls_within digest c.size log = within_more (version_of digest) 1 (n - 46) (c.size - 46) c.all (omega (arith, within)) in
           let most : k ≤ length calls = let e = c.whole (omega (arith, large, within)) in omega (arith, more, e) in
           let found = synced_within digest node disk bytes calls synced n d c fits has (subst (IsStartOf disk) is under) large most in
           record {

@@ -8,6 +8,7 @@ use Rattle.claim_model.specs.Logs.{Logged, NodeLog}
 use Rattle.kept_records.proofs.FieldsBack.{u64_at-put}
 use Rattle.kept_logs.specs.Records.{logged_text}
 use Rattle.kept_records.specs.Fields.{u64_at}
+use Rattle.kept_logs.specs.Digests.{version_of}
 use Rattle.kept_logs.specs.Frames.{frame_text, is_zeros, CutOff, Damaged, sized_frame, frame_at}
 use Rattle.kept_logs.specs.Logs.{head_text, calls_text, log_text, read_record, framed_record, record_in, behind, and_more, head_in, calls_in, log_in}
 use Rattle.kept_logs.specs.Fits.{FitsLogged, FitsLog}
@@ -38,61 +39,61 @@ few_bytes bytes h = rw (less (length bytes) h) refl
 eight_zeros : (n : ℕ) → zeros (suc (suc (suc (suc (suc (suc (suc (suc n)))))))) ≡ to_be_bytes w64 0 ++ zeros n
 eight_zeros n = refl
 
-zeros_cut : (number n : ℕ) → frame_at number (zeros n) ≡ CutOff
+zeros_cut : (version number n : ℕ) → frame_at version number (zeros n) ≡ CutOff
 unfolding frame_at
-zeros_cut number n = elim (cases_lt n 8) [
-  | inl few ↦ ap (sized_frame number) (few_bytes (zeros n) (omega (arith, zeros_length n, few)))
+zeros_cut version number n = elim (cases_lt n 8) [
+  | inl few ↦ ap (sized_frame version number) (few_bytes (zeros n) (omega (arith, zeros_length n, few)))
   | inr more ↦
       let m = n - 8 in
       let e : n ≡ suc (suc (suc (suc (suc (suc (suc (suc m))))))) = omega (arith, more) in
-      ap (λ k. sized_frame number (u64_at (zeros k))) e
-      ∙ (ap (λ (bytes : List ℕ). sized_frame number (u64_at bytes)) (eight_zeros m)
-      ∙ (ap (sized_frame number) (u64_at-put 0 (zeros m) (omega arith)) ∙ ap (λ b. cond b CutOff Damaged) (are_zeros m)))
+      ap (λ k. sized_frame version number (u64_at (zeros k))) e
+      ∙ (ap (λ (bytes : List ℕ). sized_frame version number (u64_at bytes)) (eight_zeros m)
+      ∙ (ap (sized_frame version number) (u64_at-put 0 (zeros m) (omega arith)) ∙ ap (λ b. cond b CutOff Damaged) (are_zeros m)))
 ]
 
-zeros_none : (number place n : ℕ) → record_in number place (zeros n) ≡ Ok None
+zeros_none : (version number place n : ℕ) → record_in version number place (zeros n) ≡ Ok None
 unfolding record_in
-zeros_none number place n = ap (framed_record place) (zeros_cut number n)
+zeros_none version number place n = ap (framed_record place) (zeros_cut version number n)
 
 -- ---- records, and zeros behind them
 
-zeros_stop : (total number most n : ℕ) → calls_in total number most (zeros n) ≡ Ok ([], zeros n)
+zeros_stop : (version total number most n : ℕ) → calls_in version total number most (zeros n) ≡ Ok ([], zeros n)
 unfolding calls_in
-zeros_stop total number zero n = refl
-zeros_stop total number (suc most) n = ap (and_more (zeros n) (λ rest. calls_in total (number + 1) most rest)) (zeros_none number (total - length (zeros n)) n)
+zeros_stop version total number zero n = refl
+zeros_stop version total number (suc most) n = ap (and_more (zeros n) (λ rest. calls_in version total (number + 1) most rest)) (zeros_none version number (total - length (zeros n)) n)
 
-one_record : (number place : ℕ) (r : Logged) (after : List ℕ) → FitsLogged r → record_in number place (frame_text number (logged_text r) ++ after) ≡ Ok (Some (r, after))
+one_record : (version number place : ℕ) (r : Logged) (after : List ℕ) → FitsLogged r → record_in version number place (frame_text version number (logged_text r) ++ after) ≡ Ok (Some (r, after))
 unfolding record_in
-one_record number place r after fits = ap (framed_record place) (frame_at-put number (logged_text r) after fits.body) ∙ ap (read_record place after) (logged_in-put r fits)
+one_record version number place r after fits = ap (framed_record place) (frame_at-put version number (logged_text r) after fits.body) ∙ ap (read_record place after) (logged_in-put r fits)
 
-one_more : (total number most : ℕ) (r : Logged) (after : List ℕ) → FitsLogged r → calls_in total number (suc most) (frame_text number (logged_text r) ++ after) ≡ behind (r ∷ []) (calls_in total (number + 1) most after)
+one_more : (version total number most : ℕ) (r : Logged) (after : List ℕ) → FitsLogged r → calls_in version total number (suc most) (frame_text version number (logged_text r) ++ after) ≡ behind (r ∷ []) (calls_in version total (number + 1) most after)
 unfolding calls_in
-one_more total number most r after fits =
-    let bytes : List ℕ = frame_text number (logged_text r) ++ after in
-    ap (and_more bytes (λ rest. calls_in total (number + 1) most rest)) (one_record number (total - length bytes) r after fits)
+one_more version total number most r after fits =
+    let bytes : List ℕ = frame_text version number (logged_text r) ++ after in
+    ap (and_more bytes (λ rest. calls_in version total (number + 1) most rest)) (one_record version number (total - length bytes) r after fits)
 
-no_calls : (number : ℕ) → calls_text number [] ≡ []
+no_calls : (version number : ℕ) → calls_text version number [] ≡ []
 unfolding calls_text
-no_calls number = refl
+no_calls version number = refl
 
-calls_then_zeros : (total number most n : ℕ) (calls : List Logged) → AllByRecursion FitsLogged calls → length (calls_text number calls) ≤ most
-    → calls_in total number most (calls_text number calls ++ zeros n) ≡ Ok (calls, zeros n)
-calls_then_zeros total number most n [] fits room = ap (λ (t : List ℕ). calls_in total number most (t ++ zeros n)) (no_calls number) ∙ zeros_stop total number most n
-calls_then_zeros total number zero n (r ∷ calls) fits room =
-    let front : List ℕ = frame_text number (logged_text r) in
-    let size = ap length (one_call number r calls) in
-    let sum = length-append front (calls_text (number + 1) calls) in
-    let long = frame_length number (logged_text r) in
+calls_then_zeros : (version total number most n : ℕ) (calls : List Logged) → AllByRecursion FitsLogged calls → length (calls_text version number calls) ≤ most
+    → calls_in version total number most (calls_text version number calls ++ zeros n) ≡ Ok (calls, zeros n)
+calls_then_zeros version total number most n [] fits room = ap (λ (t : List ℕ). calls_in version total number most (t ++ zeros n)) (no_calls version number) ∙ zeros_stop version total number most n
+calls_then_zeros version total number zero n (r ∷ calls) fits room =
+    let front : List ℕ = frame_text version number (logged_text r) in
+    let size = ap length (one_call version number r calls) in
+    let sum = length-append front (calls_text version (number + 1) calls) in
+    let long = frame_length version number (logged_text r) in
     absurd (omega (arith, size, sum, long, room))
-calls_then_zeros total number (suc most) n (r ∷ calls) fits room =
-    let front : List ℕ = frame_text number (logged_text r) in
-    let text : List ℕ = calls_text (number + 1) calls in
-    let size = ap length (one_call number r calls) in
+calls_then_zeros version total number (suc most) n (r ∷ calls) fits room =
+    let front : List ℕ = frame_text version number (logged_text r) in
+    let text : List ℕ = calls_text version (number + 1) calls in
+    let size = ap length (one_call version number r calls) in
     let sum = length-append front text in
-    let long = frame_length number (logged_text r) in
-    ap (λ (t : List ℕ). calls_in total number (suc most) (t ++ zeros n)) (one_call number r calls)
-    ∙ (ap (calls_in total number (suc most)) (append_assoc front text (zeros n))
-    ∙ (one_more total number most r (text ++ zeros n) fits.0 ∙ ap (behind (r ∷ [])) (calls_then_zeros total (number + 1) most n calls fits.1 (omega (arith, size, sum, long, room)))))
+    let long = frame_length version number (logged_text r) in
+    ap (λ (t : List ℕ). calls_in version total number (suc most) (t ++ zeros n)) (one_call version number r calls)
+    ∙ (ap (calls_in version total number (suc most)) (append_assoc front text (zeros n))
+    ∙ (one_more version total number most r (text ++ zeros n) fits.0 ∙ ap (behind (r ∷ [])) (calls_then_zeros version total (number + 1) most n calls fits.1 (omega (arith, size, sum, long, room)))))
 
 -- ---- a log, and zeros behind it
 
@@ -100,13 +101,13 @@ pub reads_zeros : (digest : List ℕ) (log : NodeLog) (n : ℕ) → length diges
 unfolding log_in log_text
 reads_zeros digest log n d fits =
     let front : List ℕ = head_text digest log.node in
-    let text : List ℕ = calls_text 1 log.calls in
+    let text : List ℕ = calls_text (version_of digest) 1 log.calls in
     let lost : List ℕ = zeros n in
     let bytes : List ℕ = (front ++ text) ++ lost in
     let total = length bytes in
     let all : bytes ≡ front ++ (text ++ lost) = append_assoc front text lost in
     let head : head_in digest bytes ≡ Ok (log.node, text ++ lost) = ap (head_in digest) all ∙ head_in-put digest log.node (text ++ lost) d fits.node in
-    let calls : calls_in total 1 (length (text ++ lost)) (text ++ lost) ≡ Ok (log.calls, lost) =
-    calls_then_zeros total 1 (length (text ++ lost)) n log.calls fits.calls (omega (arith, length-append text lost)) in
+    let calls : calls_in (version_of digest) total 1 (length (text ++ lost)) (text ++ lost) ≡ Ok (log.calls, lost) =
+    calls_then_zeros (version_of digest) total 1 (length (text ++ lost)) n log.calls fits.calls (omega (arith, length-append text lost)) in
     let count : total - length lost ≡ length (front ++ text) = omega (arith, length-append (front ++ text) lost) in
     rw (head, calls, count) refl

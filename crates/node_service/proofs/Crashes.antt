@@ -16,6 +16,7 @@ use Rattle.node_logged.specs.Setting.{context_of}
 use Rattle.kept_logs.specs.declared.fault.LogFault.{LogFault}
 use Rattle.kept_logs.specs.declared.fault.LogFault.TheVariants.{Short}
 use Rattle.kept_logs.specs.Records.{logged_text}
+use Rattle.kept_logs.specs.Digests.{version_of}
 use Rattle.kept_logs.specs.Frames.{frame_text}
 use Rattle.kept_logs.specs.Logs.{Reading, calls_text, log_text, log_in}
 use Rattle.kept_logs.specs.Fits.{FitsLog}
@@ -25,30 +26,30 @@ use Rattle.node_service.specs.Opened.{IsBegun}
 use Rattle.node_service.specs.Lines.{IsRestart}
 
 -- the first calls of a log have no more bytes than those with more calls
-pub longer_text : (number : ℕ) (calls more : List Logged) → length (calls_text number calls) ≤ length (calls_text number (calls ++ more))
+pub longer_text : (version number : ℕ) (calls more : List Logged) → length (calls_text version number calls) ≤ length (calls_text version number (calls ++ more))
 unfolding calls_text
-longer_text number [] more = omega arith
-longer_text number (r ∷ calls) more =
-    let inner = longer_text (number + 1) calls more in
-    omega (arith, inner, length-append (frame_text number (logged_text r)) (calls_text (number + 1) calls), length-append (frame_text number (logged_text r)) (calls_text (number + 1) (calls ++ more)))
+longer_text version number [] more = omega arith
+longer_text version number (r ∷ calls) more =
+    let inner = longer_text version (number + 1) calls more in
+    omega (arith, inner, length-append (frame_text version number (logged_text r)) (calls_text version (number + 1) calls), length-append (frame_text version number (logged_text r)) (calls_text version (number + 1) (calls ++ more)))
 
 -- a cut behind the synced calls leaves them all
 all_synced : (digest : List ℕ) (node : Node) (p : Process) (n : ℕ) → length digest ≡ 33 → FitsLog (record { node = node; calls = file p }) → length (log_text digest (record { node = node; calls = p.synced })) ≤ n
-    → length p.synced ≤ calls_within n (record { node = node; calls = file p })
+    → length p.synced ≤ calls_within digest n (record { node = node; calls = file p })
 all_synced digest node p n d fits long =
     let log : NodeLog = record { node = node; calls = file p } in
     let synced : NodeLog = record { node = node; calls = p.synced } in
-    let k = calls_within n log in
+    let k = calls_within digest n log in
     elim (cases_lt k (length p.synced)) [
       | inl less ↦
           let back = reads_back digest log n d fits (omega (arith, log_length digest synced d, long)) in
           let within : k < length (file p) = omega (arith, less, length-append p.synced p.unsynced) in
           let more = back.most within in
           let first : take (suc k) (file p) ≡ take (suc k) p.synced = take-append-le (suc k) p.synced p.unsynced (omega (arith, less)) in
-          let shorter : length (calls_text 1 (take (suc k) p.synced)) ≤ length (calls_text 1 p.synced) =
-          subst (λ (calls : List Logged). length (calls_text 1 (take (suc k) p.synced)) ≤ length (calls_text 1 calls)) (take-append-drop (suc k) p.synced) (longer_text 1 (take (suc k) p.synced) (drop (suc k) p.synced)) in
-          let all : length (log_text digest (first_calls (suc k) log)) ≡ 46 + length (calls_text 1 (take (suc k) p.synced)) =
-          log_length digest (first_calls (suc k) log) d ∙ ap (λ (calls : List Logged). 46 + length (calls_text 1 calls)) first in
+          let shorter : length (calls_text (version_of digest) 1 (take (suc k) p.synced)) ≤ length (calls_text (version_of digest) 1 p.synced) =
+          subst (λ (calls : List Logged). length (calls_text (version_of digest) 1 (take (suc k) p.synced)) ≤ length (calls_text (version_of digest) 1 calls)) (take-append-drop (suc k) p.synced) (longer_text (version_of digest) 1 (take (suc k) p.synced) (drop (suc k) p.synced)) in
+          let all : length (log_text digest (first_calls (suc k) log)) ≡ 46 + length (calls_text (version_of digest) 1 (take (suc k) p.synced)) =
+          log_length digest (first_calls (suc k) log) d ∙ ap (λ (calls : List Logged). 46 + length (calls_text (version_of digest) 1 calls)) first in
           absurd (omega (arith, more, all, shorter, log_length digest synced d, long))
       | inr enough ↦ enough
     ]
@@ -74,13 +75,13 @@ crashed_restarts settings begun node p n fits long =
     let d = under_length settings begun in
     let log : NodeLog = record { node = node; calls = file p } in
     let synced : NodeLog = record { node = node; calls = p.synced } in
-    let k = calls_within n log in
+    let k = calls_within digest n log in
     let left = k - length p.synced in
     let back = reads_back digest log n d fits (omega (arith, log_length digest synced d, long)) in
     let enough = all_synced digest node p n d fits long in
     let count : k ≡ length p.synced + left = omega (arith, enough) in
     let calls : take k (file p) ≡ file (crashed p left) = ap (λ m. take m (file p)) count ∙ take-append-add p.synced p.unsynced left in
-    let whole = length (log_text digest (log_within n log)) in
+    let whole = length (log_text digest (log_within digest n log)) in
     let reads : log_in digest (take n (log_text digest log)) ≡ Ok (record { log = record { node = node; calls = file (crashed p left) }; whole = whole }) =
     back.read ∙ ap (λ (cs : List Logged). let r : Reading = record { log = record { node = node; calls = cs }; whole = whole } in Ok r) calls in
     let image = take n (log_text digest log) in

@@ -21,6 +21,7 @@ use Rattle.node_logged.specs.Setting.{context_of, opened}
 use Rattle.kept_logs.specs.declared.fault.LogFault.{LogFault}
 use Rattle.kept_logs.specs.declared.fault.LogFault.TheVariants.{Short}
 use Rattle.kept_logs.specs.Records.{logged_text}
+use Rattle.kept_logs.specs.Digests.{version_of}
 use Rattle.kept_logs.specs.Frames.{frame_text}
 use Rattle.kept_logs.specs.Logs.{Reading, log_text, log_in}
 use Rattle.kept_logs.specs.Fits.{FitsLogged}
@@ -34,7 +35,7 @@ use Rattle.node_service.specs.Lines.{joined, after_lines, logged_of, logged_aske
 -- ---- what a line adds
 
 said : (s : Serving) (text : List ℕ) → saying s text ≡ joined s (saying (cleared s) text)
-said s text i = record { settings = s.settings; node = s.node; state = s.state; calls = s.calls; records = sym (append-nil s.records) i; out = s.out ++ text }
+said s text i = record { settings = s.settings; node = s.node; version = s.version; state = s.state; calls = s.calls; records = sym (append-nil s.records) i; out = s.out ++ text }
 
 called : (s : Serving) (call : Call) (outcome : Outcome AnyNode) → after_call s call outcome ≡ joined s (after_call (cleared s) call outcome)
 unfolding after_call
@@ -52,10 +53,10 @@ adds s line = asked s (asked_of line)
 
 -- in front of in front
 joined_twice : (s t u : Serving) → joined (joined s t) u ≡ joined s (joined t u)
-joined_twice s t u i = record { settings = u.settings; node = u.node; state = u.state; calls = u.calls; records = append_assoc s.records t.records u.records i; out = append_assoc s.out t.out u.out i }
+joined_twice s t u i = record { settings = u.settings; node = u.node; version = u.version; state = u.state; calls = u.calls; records = append_assoc s.records t.records u.records i; out = append_assoc s.out t.out u.out i }
 
 nothing_added : (s : Serving) → s ≡ joined s (cleared s)
-nothing_added s i = record { settings = s.settings; node = s.node; state = s.state; calls = s.calls; records = sym (append-nil s.records) i; out = sym (append-nil s.out) i }
+nothing_added s i = record { settings = s.settings; node = s.node; version = s.version; state = s.state; calls = s.calls; records = sym (append-nil s.records) i; out = sym (append-nil s.out) i }
 
 pub adds_all : (s : Serving) (lines : List (List ℕ)) → after_lines s lines ≡ joined s (after_lines (cleared s) lines)
 adds_all s [] = nothing_added s
@@ -74,6 +75,7 @@ is_opened_serving settings node bytes kept s o = (
   o.log,
   record {
     named = o.named ∙ sym o.own;
+    version = o.version;
     calls = o.calls;
     makes = subst (λ (n : Node). MakesAll s.settings n o.log.calls) (sym o.own) o.makes;
     state = ap (λ (n : Node). replayed s.settings n o.log.calls) o.own ∙ o.state;
@@ -93,15 +95,17 @@ one_call digest file log s call next sent i steps fits =
     let leads : replay ctx was.0 (log.calls ++ l ∷ []) ≡ next = replay_more ctx was.0 log.calls l ∙ ap (node_after (replay ctx was.0 log.calls)) there in
     record {
       named = i.named;
+      version = i.version;
       calls = let e = length-append log.calls (l ∷ []) in let n = i.calls in omega (arith, e, n);
       makes = λ before opens.
           makes_more ctx before next log.calls l (i.makes before opens)
           (subst (λ (b : AnyNode). node_step ctx (replay ctx b log.calls) call ≡ Done next sent) (same_some was.0 before (sym was.1 ∙ opens)) there);
       state = ap (option_map (λ (n : AnyNode). replay ctx n (log.calls ++ l ∷ []))) was.1 ∙ ap (λ (x : AnyNode). Some x) leads;
       text =
-          sym (append_assoc file s.records (frame_text (s.calls + 1) (logged_text l)))
-          ∙ (ap (λ (t : List ℕ). t ++ frame_text (s.calls + 1) (logged_text l)) i.text
-          ∙ (ap (λ (n : ℕ). log_text digest log ++ frame_text (n + 1) (logged_text l)) i.calls ∙ sym (one_more digest log l)));
+          sym (append_assoc file s.records (frame_text s.version (s.calls + 1) (logged_text l)))
+          ∙ (ap (λ (t : List ℕ). t ++ frame_text s.version (s.calls + 1) (logged_text l)) i.text
+          ∙ (ap (λ (v : ℕ). log_text digest log ++ frame_text v (s.calls + 1) (logged_text l)) i.version
+          ∙ (ap (λ (n : ℕ). log_text digest log ++ frame_text (version_of digest) (n + 1) (logged_text l)) i.calls ∙ sym (one_more digest log l))));
       fits = record { node = i.fits.node; calls = all_append FitsLogged log.calls (l ∷ []) i.fits.calls (fits, tt) };
     }
 
@@ -109,7 +113,7 @@ one_call digest file log s call next sent i steps fits =
 spoken : (digest file : List ℕ) (log : NodeLog) (s : Serving) (text : List ℕ) → IsServing digest file log s → IsServing digest file (with_calls log []) (saying s text)
 spoken digest file log s text i =
     subst (λ (calls : List Logged). IsServing digest file (record { node = log.node; calls = calls }) (saying s text)) (sym (append-nil log.calls))
-    (record { named = i.named; calls = i.calls; makes = i.makes; state = i.state; text = i.text; fits = i.fits })
+    (record { named = i.named; version = i.version; calls = i.calls; makes = i.makes; state = i.state; text = i.text; fits = i.fits })
 
 by_outcome : (digest file : List ℕ) (log : NodeLog) (s : Serving) (call : Call) (o : Outcome AnyNode) → node_step (context_of s.settings) s.state call ≡ o → IsServing digest file log s → AllByRecursion FitsLogged (logged_of call o)
     → IsServing digest file (with_calls log (logged_of call o)) (after_call s call o)
@@ -143,7 +147,7 @@ lines_serve digest file log s (line ∷ lines) i fits =
     (lines_serve digest file (with_calls log one) (after_line s line) lines (line_serves digest file log s line i (front_fits one more fits)) (behind_fits one more fits))
 
 pub cleared_serves : (digest file : List ℕ) (log : NodeLog) (s : Serving) → IsServing digest file log s → IsServing digest (file ++ s.records) log (cleared s)
-cleared_serves digest file log s i = record { named = i.named; calls = i.calls; makes = i.makes; state = i.state; text = append-nil (file ++ s.records) ∙ i.text; fits = i.fits }
+cleared_serves digest file log s i = record { named = i.named; version = i.version; calls = i.calls; makes = i.makes; state = i.state; text = append-nil (file ++ s.records) ∙ i.text; fits = i.fits }
 
 -- ---- a restart
 
@@ -177,6 +181,7 @@ opens_again settings image file log s t kept i same o =
           ap (λ (x : Reading). x.whole) r,
           record {
             node = o.named ∙ sym i.named;
+            version = o.version ∙ (ap version_of (ap (digest_under settings) i.text ∙ keeps settings image log) ∙ sym i.version);
             state = same_some t.state s.state state;
             calls = o.calls ∙ (ap (λ (x : NodeLog). length x.calls) logs ∙ sym i.calls);
             records = read.1;

@@ -11,6 +11,7 @@ use Rattle.node_logged.specs.Setting.{context_of, opened}
 use Rattle.kept_logs.specs.declared.fault.LogFault.{LogFault}
 use Rattle.kept_logs.specs.declared.making.MadeLog.{MadeLog}
 use Rattle.kept_logs.specs.Cuts.{IsLogOf}
+use Rattle.kept_logs.specs.Digests.{version_of}
 use Rattle.kept_logs.specs.Logs.{Reading, log_in, log_text}
 use Rattle.kept_logs.specs.Making.{IsMadeIf, IsNotMade}
 use Rattle.settings_digest.specs.Digests.{digest_under}
@@ -60,10 +61,11 @@ is_read settings digest node bytes made some is found =
 
 -- the node that is served is opened
 pub is_opened : (text : List ℕ) (settings : WorldSettings) (node : Node) (bytes : List ℕ) (made : MadeLog) (stay : ℕ) (s : Serving)
-    → Spells text settings → IsRead settings (digest_under text bytes) node bytes (Some made) → IsServedAs settings node made stay s → IsOpened text node bytes stay s
+    → Spells text settings → IsRead settings (digest_under text bytes) node bytes (Some made) → IsServedAs settings node (version_of (digest_under text bytes)) made stay s → IsOpened text node bytes stay s
 is_opened text settings node bytes made stay s spells is served = record {
   spells = rw served.own spells;
   named = served.named;
+  version = served.version;
   log = is.log;
   own = is.own;
   begun = inl (rw served.stays is.read, served.append);

@@ -7,6 +7,7 @@ use Rattle.world_setup.specs.Seen.{call_seen, settings_seen}
 use Rattle.crash_safety.specs.Network.{Process, file, crashed, restarted}
 use Rattle.run_merge.specs.Merged.{replayed}
 use Rattle.node_logged.specs.Setting.{context_of}
+use Rattle.kept_logs.specs.Digests.{version_of}
 use Rattle.kept_logs.specs.Logs.{log_text, log_in}
 use Rattle.kept_logs.specs.Fits.{FitsLog}
 use Rattle.settings_digest.specs.Digests.{digest_under}
@@ -16,7 +17,7 @@ use Rattle.node_service.specs.Opened.{IsOpened, MakesAll}
 
 -- what is made of it, with the records and the words of another in front
 abbrev pub joined : Serving → Serving → Serving
-joined s t = record { settings = t.settings; node = t.node; state = t.state; calls = t.calls; records = s.records ++ t.records; out = s.out ++ t.out }
+joined s t = record { settings = t.settings; node = t.node; version = t.version; state = t.state; calls = t.calls; records = s.records ++ t.records; out = s.out ++ t.out }
 
 -- what lines make of it, one after another
 abbrev pub after_lines : Serving → List (List ℕ) → Serving
@@ -49,15 +50,17 @@ with_calls log more = record { node = log.node; calls = log.calls ++ more }
 -- the node that is served makes this log, and is its replay; the bytes of its file, and behind them the records that are to be appended, are its text
 pub record IsServing (digest : List ℕ) (bytes : List ℕ) (log : NodeLog) (s : Serving) : Type 0 where
   pub named : s.node ≡ log.node
+  pub version : s.version ≡ version_of digest
   pub calls : s.calls ≡ length log.calls
   pub makes : MakesAll s.settings log.node log.calls
   pub state : replayed s.settings log.node log.calls ≡ Some s.state
   pub text : bytes ++ s.records ≡ log_text digest log
   pub fits : FitsLog log
 
--- a node is opened again as it was: the same calls, the same state, nothing to append
+-- a node is opened again as it was: the same version of its log, the same calls, the same state, nothing to append
 pub record IsSame (s t : Serving) : Type 0 where
   pub node : t.node ≡ s.node
+  pub version : t.version ≡ s.version
   pub state : t.state ≡ s.state
   pub calls : t.calls ≡ s.calls
   pub records : t.records ≡ []

@@ -8,6 +8,7 @@ use Rattle.world_setup.specs.declared.settings.WorldSettings.{WorldSettings}
 use Rattle.world_settings.specs.Document.{document_seen, living_in}
 use Rattle.kept_logs.specs.declared.fault.LogFault.{LogFault}
 use Rattle.kept_logs.specs.declared.fault.LogFault.TheVariants.{Short}
+use Rattle.kept_logs.specs.Digests.{version_of}
 use Rattle.kept_logs.specs.Logs.{Reading, log_text, log_in}
 use Rattle.kept_logs.specs.Fits.{FitsLog}
 use Rattle.kept_logs.specs.declared.making.MadeLog.{MadeLog}
@@ -45,6 +46,7 @@ IsBegun digest node bytes log kept records =
 pub record IsOpened (settings : List ℕ) (node : Node) (bytes : List ℕ) (kept : ℕ) (s : Serving) : Type 0 where
   pub spells : Spells settings s.settings
   pub named : s.node ≡ node
+  pub version : s.version ≡ version_of (digest_under settings bytes)
   pub log : NodeLog
   pub own : log.node ≡ node
   pub begun : IsBegun (digest_under settings bytes) node bytes log kept s.records
@@ -55,10 +57,11 @@ pub record IsOpened (settings : List ℕ) (node : Node) (bytes : List ℕ) (kept
   pub state : replayed s.settings node log.calls ≡ Some s.state
   pub silent : s.out ≡ []
 
--- the node that is served is the replay of this log under these settings; so many bytes stay, and this is to be appended
-pub record IsServed (settings : WorldSettings) (log : NodeLog) (kept : ℕ) (records : List ℕ) (stay : ℕ) (s : Serving) : Type 0 where
+-- the node that is served is the replay of this log, of this version, under these settings; so many bytes stay, and this is to be appended
+pub record IsServed (settings : WorldSettings) (log_version : ℕ) (log : NodeLog) (kept : ℕ) (records : List ℕ) (stay : ℕ) (s : Serving) : Type 0 where
   pub own : s.settings ≡ settings
   pub named : s.node ≡ log.node
+  pub version : s.version ≡ log_version
   pub calls : s.calls ≡ length log.calls
   pub made : IsMadeBy settings log s.state
   pub append : s.records ≡ records
@@ -86,10 +89,11 @@ abbrev pub IsRead : WorldSettings → List ℕ → Node → List ℕ → Option 
 IsRead settings digest node bytes None = IsUnmade settings node (log_in digest bytes)
 IsRead settings digest node bytes (Some made) = IsMadeLog settings digest node bytes made
 
--- the node that is served is this one, under these settings; so many bytes stay, and nothing is to be appended
-pub record IsServedAs (settings : WorldSettings) (node : Node) (made : MadeLog) (stay : ℕ) (s : Serving) : Type 0 where
+-- the node that is served is this one, under these settings, with a log of this version; so many bytes stay, and nothing is to be appended
+pub record IsServedAs (settings : WorldSettings) (node : Node) (log_version : ℕ) (made : MadeLog) (stay : ℕ) (s : Serving) : Type 0 where
   pub own : s.settings ≡ settings
   pub named : s.node ≡ node
+  pub version : s.version ≡ log_version
   pub calls : s.calls ≡ made.calls
   pub state : s.state ≡ made.node
   pub append : s.records ≡ []

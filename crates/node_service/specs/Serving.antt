@@ -18,10 +18,11 @@ use Rattle.node_service.specs.BookRow.{row_text}
 use Rattle.node_service.specs.Listing.{count_text, open_text}
 use Rattle.node_service.specs.Payments.{payments_text}
 
--- a node, how many calls its log has, the records that are to be appended to the log, and what is to be written once they are synced
+-- a node, the version of its log, how many calls that has, the records that are to be appended to the log, and what is to be written once they are synced
 pub record Serving : Type 0 where
   pub settings : WorldSettings
   pub node : Node
+  pub version : ℕ
   pub state : AnyNode
   pub calls : ℕ
   pub records : List ℕ
@@ -42,16 +43,17 @@ made_lines call sent next = sent_lines sent ++ last_line call next
 
 -- what is written without a call
 abbrev pub saying : Serving → List ℕ → Serving
-saying s text = record { settings = s.settings; node = s.node; state = s.state; calls = s.calls; records = s.records; out = s.out ++ text }
+saying s text = record { settings = s.settings; node = s.node; version = s.version; state = s.state; calls = s.calls; records = s.records; out = s.out ++ text }
 
 -- a call that was made is recorded under the next number, with what it sent; a refused one leaves all as it was
 unfoldable pub after_call : Serving → Call → Outcome AnyNode → Serving
 after_call s call (Done next sent) = record {
   settings = s.settings;
   node = s.node;
+  version = s.version;
   state = next;
   calls = s.calls + 1;
-  records = s.records ++ frame_text (s.calls + 1) (logged_text (record { call = call; sent = sent }));
+  records = s.records ++ frame_text s.version (s.calls + 1) (logged_text (record { call = call; sent = sent }));
   out = s.out ++ made_lines call sent next;
 }
 after_call s call (Refused why) = saying s (refused_line (refusal_name why))
@@ -87,7 +89,7 @@ telling s question = saying s (told_of (context_of s.settings) s.state s.node qu
 
 -- the records are on disk, and what was to be written was written
 abbrev pub cleared : Serving → Serving
-cleared s = record { settings = s.settings; node = s.node; state = s.state; calls = s.calls; records = []; out = [] }
+cleared s = record { settings = s.settings; node = s.node; version = s.version; state = s.state; calls = s.calls; records = []; out = [] }
 
 abbrev pub after_asked : Serving → Option Asked → Serving
 after_asked s None = saying s (refused_line (codes "Line"))

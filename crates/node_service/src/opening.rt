@@ -5,6 +5,7 @@ ghost use Rattle.world_setup.specs.Seen.{node_seen};
 ghost use Rattle.world_settings.specs.Document.{document_seen, living_in};
 ghost use Rattle.run_merge.specs.LogSeen.{log_seen};
 ghost use Rattle.node_logged.specs.Setting.{opened};
+ghost use Rattle.kept_logs.specs.Digests.{version_of, version_seen};
 ghost use Rattle.kept_logs.specs.Logs.{log_text};
 ghost use Rattle.kept_logs.specs.LogSeen.{reading_seen};
 ghost use Rattle.kept_logs.specs.Fits.{FitsLog};
@@ -16,7 +17,8 @@ ghost use Rattle.node_service.specs.Refused.{IsAnothers, IsNotMade, IsRefused, N
 use crate::fault::ServiceFault;
 use crate::service::Service;
 use kept_logs::{
-    LogFault, MadeLog, ReadLog, SettingsDigest, make_as_read, place_of, read_log, write_log,
+    LogFault, LogVersion, MadeLog, ReadLog, SettingsDigest, make_as_read, place_of, read_log,
+    write_log,
 };
 use node_logged::Shared;
 use node_state::NodeState;
@@ -61,7 +63,7 @@ impl Service {
         }
         let digest = digest_of(alloc, text, &shared, bytes)?;
         if let Some(made) = made(alloc, &digest, &shared, node, bytes)? {
-            return Ok(served(alloc, shared, node, made));
+            return Ok(served(alloc, shared, node, digest.version(), made));
         }
         // Why it was not made, or a log that begins.
         let begun = begin(alloc, &digest, node, bytes)?;
@@ -104,13 +106,20 @@ fn made(
     )
 }
 
-/// A node that has made its log is served.
-fn served(alloc: Global, shared: Shared, node: Node, made: MadeLog) -> (Service, usize)
-    ensures { IsServedAs shared (node_seen node) made result.1 result.0 }
+/// A node that has made its log, of this version, is served.
+fn served(
+    alloc: Global,
+    shared: Shared,
+    node: Node,
+    version: LogVersion,
+    made: MadeLog,
+) -> (Service, usize)
+    ensures { IsServedAs shared (node_seen node) (version_seen version) made result.1 result.0 }
 {
     let service = Service {
         shared,
         name: node,
+        version,
         state: made.node,
         calls: made.calls,
         records: Vec::new(alloc),
@@ -209,7 +218,8 @@ fn serve_from(
     begun: Begun,
 ) -> Result<(Service, usize), ServiceFault>
     requires { IsSome (opened shared (log_seen begun.log).node) }
-    ensures served { IfOk result (λ s. IsServed shared (log_seen begun.log) begun.kept begun.records.items s.1 s.0) }
+    ensures served { IfOk result (λ s.
+        IsServed shared (version_of digest.now) (log_seen begun.log) begun.kept begun.records.items s.1 s.0) }
     ensures refused { IfErr result (λ why. IsNotMade digest.now shared (log_seen begun.log) why) }
 {
     let Begun { log, kept, records } = begun;
@@ -217,6 +227,7 @@ fn serve_from(
     let service = Service {
         shared,
         name: log.node(),
+        version: digest.version(),
         state,
         calls: log.records().len() as u64,
         records,

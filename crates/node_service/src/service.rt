@@ -16,7 +16,7 @@ use crate::answering::put_refused;
 use crate::asking::{Asked, Question, asked_of};
 use crate::most::most_of;
 use crate::telling::{put_made, put_told};
-use kept_logs::record_bytes;
+use kept_logs::{LogVersion, record_bytes};
 use node_logged::Shared;
 use node_state::NodeState;
 use run_merge::Record;
@@ -29,6 +29,7 @@ use world_setup::{Call, Node, StepFault};
 pub struct Service {
     pub(crate) shared: Shared,
     pub(crate) name: Node,
+    pub(crate) version: LogVersion,
     pub(crate) state: NodeState,
     pub(crate) calls: u64,
     pub(crate) records: Vec<u8>,
@@ -37,6 +38,7 @@ pub struct Service {
 
 impl Model for Service {
     ghost use Rattle.world_setup.specs.Seen.{node_seen};
+    ghost use Rattle.kept_logs.specs.Digests.{version_seen};
     ghost use Rattle.node_service.specs.Serving.{Serving};
 
     ghost Value = { Serving };
@@ -44,6 +46,7 @@ impl Model for Service {
     ghost view = { λ s. record {
       settings = s.shared;
       node = node_seen s.name;
+      version = version_seen s.version;
       state = s.state;
       calls = s.calls;
       records = s.records.items;
@@ -109,7 +112,7 @@ impl Service {
         let Some(number) = self.calls.checked_add(1) else {
             return Err(AllocError);
         };
-        let bytes = record_bytes(alloc, number, one)?;
+        let bytes = record_bytes(alloc, self.version, number, one)?;
         self.records.extend_from_slice(bytes.as_slice())?;
         put_made(alloc, &mut self.out, &self.state, one)?;
         self.calls = number;

@@ -6,4 +6,4 @@ pub returns-clause-text : goal.returns-clause-text
 returns-clause-text c = λ digest bytes read d are h. log_in_taken digest bytes read d (record { below = are }) h
 
 pub returns-clause-cut : goal.returns-clause-cut
-returns-clause-cut c = λ number bytes are h. cut_begins number bytes (record { below = are }) h
+returns-clause-cut c = λ version number bytes are h. cut_begins version number bytes (record { below = are }) h

@@ -2,6 +2,7 @@ use Rattle.std.proofs.Common.{◌≡◌, ◌≢◌, ◌+◌, ◌-◌, ◌++◌, 
 use Rattle.claim_model.specs.Logs.{NodeLog}
 use Rattle.kept_logs.specs.declared.fault.LogFault.{LogFault}
 use Rattle.kept_logs.specs.declared.fault.LogFault.TheVariants.{OutOfMemory}
+use Rattle.kept_logs.specs.Digests.{version_seen}
 use Rattle.kept_logs.specs.Logs.{behind, calls_in}
 use Rattle.kept_logs.specs.LogSeen.{entry_seen}
 use Rattle.kept_logs.proofs.Loops.{calls_taken, calls_cut, calls_stop, calls_all, stepped}
@@ -15,8 +16,8 @@ passed_on (Err e) fault reading is h = rw is h
 pub returns-in_err-entry-clause-fault : goal.returns-in_err-entry-clause-fault
 returns-in_err-entry-clause-fault c =
     let bytes = c.args.bytes.now in
-    passed_on c.from_residual.result c.in_err-entry.field-0.0 (calls_in c.args.total 1 (length bytes) bytes) c.from_residual.ensures.1
-    (λ other. c.loop-place.invariant.same ∙ calls_stop c.args.total (length bytes) c.loop-place.place c.loop-place.log.calls.items c.loop-place.rest.now c.in_err-entry.field-0.0 c.loop-place-test.true (grind (arith, c.in_err-entry.ensures.fault other, c.saturating_sub-start.ensures)))
+    passed_on c.from_residual.result c.in_err-entry.field-0.0 (calls_in (version_seen c.args.version) c.args.total 1 (length bytes) bytes) c.from_residual.ensures.1
+    (λ other. c.loop-place.invariant.same ∙ calls_stop (version_seen c.args.version) c.args.total (length bytes) c.loop-place.place c.loop-place.log.calls.items c.loop-place.rest.now c.in_err-entry.field-0.0 c.loop-place-test.true (grind (arith, c.in_err-entry.ensures.fault other, c.saturating_sub-start.ensures)))
 
 pub loop-place-preserved : goal.loop-place-preserved
 loop-place-preserved c =
@@ -24,10 +25,10 @@ loop-place-preserved c =
     let done = c.loop-place.log.calls.items in
     let one = entry_seen c.in-Some.entry in
     let before = c.in_ok-reserve.ensures.same in
-    let step = calls_taken c.args.total (length bytes) c.loop-place.place done c.loop-place.rest.now one c.in-Some.after.now c.loop-place-test.true (stepped _ (c.loop-place.place + 1) c.saturating_sub-start.result (c.args.total - length c.loop-place.rest.now) c.loop-place.rest.now c.in_ok-entry.field-0 _ c.saturating_sub-start.ensures c.in_ok-entry.ensures.ok c.in-Some.is) in
+    let step = calls_taken (version_seen c.args.version) c.args.total (length bytes) c.loop-place.place done c.loop-place.rest.now one c.in-Some.after.now c.loop-place-test.true (stepped (version_seen c.args.version) _ (c.loop-place.place + 1) c.saturating_sub-start.result (c.args.total - length c.loop-place.rest.now) c.loop-place.rest.now c.in_ok-entry.field-0 _ c.saturating_sub-start.ensures c.in_ok-entry.ensures.ok c.in-Some.is) in
     record {
       node = ap (λ (l : NodeLog). l.node) c.record.ensures ∙ ap (λ (l : NodeLog). l.node) before ∙ c.loop-place.invariant.node;
-      same = c.loop-place.invariant.same ∙ step ∙ ap (λ d. behind d (calls_in c.args.total (c.loop-place.place + 1 + 1) (length bytes - (c.loop-place.place + 1)) c.in-Some.after.now))
+      same = c.loop-place.invariant.same ∙ step ∙ ap (λ d. behind d (calls_in (version_seen c.args.version) c.args.total (c.loop-place.place + 1 + 1) (length bytes - (c.loop-place.place + 1)) c.in-Some.after.now))
           (sym (ap (λ (l : NodeLog). l.calls) c.record.ensures ∙ ap (λ cs. cs ++ one ∷ []) (ap (λ (l : NodeLog). l.calls) before)));
     }
 
@@ -36,8 +37,8 @@ returns-in_default-clause-ok c =
     let bytes = c.args.bytes.now in
     record {
       rest = c.loop-place.rest.now;
-      read = c.loop-place.invariant.same ∙ calls_cut c.args.total (length bytes) c.loop-place.place c.loop-place.log.calls.items c.loop-place.rest.now c.loop-place-test.true
-          (stepped _ (c.loop-place.place + 1) c.saturating_sub-start.result (c.args.total - length c.loop-place.rest.now) c.loop-place.rest.now c.in_ok-entry.field-0 _ c.saturating_sub-start.ensures c.in_ok-entry.ensures.ok c.in_default.is);
+      read = c.loop-place.invariant.same ∙ calls_cut (version_seen c.args.version) c.args.total (length bytes) c.loop-place.place c.loop-place.log.calls.items c.loop-place.rest.now c.loop-place-test.true
+          (stepped (version_seen c.args.version) _ (c.loop-place.place + 1) c.saturating_sub-start.result (c.args.total - length c.loop-place.rest.now) c.loop-place.rest.now c.in_ok-entry.field-0 _ c.saturating_sub-start.ensures c.in_ok-entry.ensures.ok c.in_default.is);
       same = c.loop-place.invariant.node;
       count = refl;
     }
@@ -45,7 +46,7 @@ returns-in_default-clause-ok c =
 pub returns-clause-ok : goal.returns-clause-ok
 returns-clause-ok c = record {
   rest = c.loop-place.rest.now;
-  read = c.loop-place.invariant.same ∙ calls_all c.args.total (length c.args.bytes.now) c.loop-place.place c.loop-place.log.calls.items c.loop-place.rest.now (omega arith);
+  read = c.loop-place.invariant.same ∙ calls_all (version_seen c.args.version) c.args.total (length c.args.bytes.now) c.loop-place.place c.loop-place.log.calls.items c.loop-place.rest.now (omega arith);
   same = c.loop-place.invariant.node;
   count = refl;
 }

@@ -1,7 +1,8 @@
-use Rattle.std.proofs.Common.{◌∙◌, sym}
+use Rattle.std.proofs.Common.{◌∙◌, sym, ap}
 use Rattle.std.proofs.lemmas.Result.{IfOk-weaker, IfErr-weaker, err_from_is_err_and}
 use Rattle.world_setup.specs.Seen.{node_seen}
 use Rattle.run_merge.specs.LogSeen.{log_seen}
+use Rattle.kept_logs.specs.Digests.{version_of}
 use Rattle.node_service.specs.Opened.{IsOpened, IsServed}
 use Rattle.node_service.specs.Refused.{IsNotMade, IsRefused}
 use Rattle.node_service.proofs.Refusals.{log_refused, making_refused}
@@ -12,11 +13,12 @@ returns-clause-opened c =
     let b = c.in_ok-begun.begun in
     let facts = c.in_ok-begun.ensures in
     IfOk-weaker c.serve_from.result
-    (λ s. IsServed c.in_ok-shared.shared (log_seen b.log) b.kept b.records.items s.1 s.0)
+    (λ s. IsServed c.in_ok-shared.shared (version_of c.in_ok-digest.digest) (log_seen b.log) b.kept b.records.items s.1 s.0)
     (λ opened. IsOpened c.args.text.now (node_seen c.args.node) c.args.bytes.now opened.1 opened.0)
     (λ opened served. record {
       spells = rw served.own c.in_ok-shared.ensures.spelled;
       named = served.named ∙ facts.own;
+      version = served.version ∙ ap version_of c.in_ok-digest.ensures;
       log = log_seen b.log;
       own = facts.own;
       begun = rw (served.stays, served.append, ← c.in_ok-digest.ensures) facts.begun;

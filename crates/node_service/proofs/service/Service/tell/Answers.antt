@@ -2,11 +2,12 @@ use Rattle.std.proofs.Common.{ℕ, List, ap}
 use Rattle.std.proofs.lemmas.Result.{on_ok_weaker}
 use Rattle.bin_routes.specs.Table.{routes_of}
 use Rattle.world_setup.specs.Seen.{node_seen}
+use Rattle.kept_logs.specs.Digests.{version_seen}
 use Rattle.node_service.specs.Serving.{Serving}
 use Rattle.node_service.proofs.service.Service.tell.Goals as goal
 
 pub returns : goal.returns
 returns c =
     let s = c.self.inside in
-    let saying = λ (out : List ℕ). let it : Serving = record { settings = s.shared; node = node_seen s.name; state = s.state; calls = s.calls; records = s.records.items; out = out } in it in
+    let saying = λ (out : List ℕ). let it : Serving = record { settings = s.shared; node = node_seen s.name; version = version_seen s.version; state = s.state; calls = s.calls; records = s.records.items; out = out } in it in
     rw (← c.self.view_is) (on_ok_weaker c.put_told.result (λ said. ap saying said) (c.put_told.ensures (routes_of s.shared.routes.items)))
