@@ -98,7 +98,7 @@ body_is (p ∷ ps) (suc more) form within place (b ∷ bs) le are =
     body_is ps more form (within_behind within (b ∷ bs)) (place + size) (drop size (b ∷ bs)) fewer are.2 in
     λ i. are.1 i ∷ rest i
 
-transmission_is : (form : Form) (place : ℕ) (bytes : List ℕ) (parts : List PartSeen) → AreTransmission form place bytes parts → parts ≡ transmission_parts form place bytes
+pub transmission_is : (form : Form) (place : ℕ) (bytes : List ℕ) (parts : List PartSeen) → AreTransmission form place bytes parts → parts ≡ transmission_parts form place bytes
 transmission_is form place bytes parts t =
     let width : ℕ = width_of (header_rows form) in
     t.are ∙ ap (λ (ps : List PartSeen). head_parts (header_rows form) place bytes ++ ps)

@@ -14,5 +14,12 @@ pub mod Written
 pub mod InputLines
 pub mod Encoded
 pub mod Rows
+pub mod Meanings
+pub mod Sayings
+pub mod Faults
+pub mod Requests
+pub mod AllFound
+pub mod Envelopes
+pub mod Rulings
 pub mod RecordParts
 pub mod RecordLaws

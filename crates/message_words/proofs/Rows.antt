@@ -4,20 +4,21 @@ use Rattle.std.proofs.lemmas.List.{append_assoc, append-nil, take-append-le, tak
 use Rattle.std.proofs.lemmas.Bool.{false≢true}
 use Rattle.message_words.specs.declared.dissecting.Carried.{Carried}
 use Rattle.message_words.specs.declared.dissecting.MessageKind.{MessageKind}
+use Rattle.message_words.specs.declared.dissecting.MessageKind.TheVariants as message
 use Rattle.message_words.specs.declared.finding_page.FindingPage.{FindingPage}
-use Rattle.message_words.specs.declared.names.FieldName.{FieldName}
+use Rattle.message_words.specs.declared.layout.Form.TheVariants.{Request, Answer}
 use Rattle.message_words.specs.declared.page.Page.{Page}
-use Rattle.message_words.specs.declared.page.Style.{Style}
-use Rattle.message_words.specs.declared.part.PartKind.{PartKind}
-use Rattle.message_words.specs.declared.part.PartKind.TheVariants as kind
 use Rattle.message_words.specs.declared.text.Text.{Text}
-use Rattle.message_words.specs.Described.{Describes, between_text, end_text, head_text, is_refused}
+use Rattle.message_words.specs.AllFound.{FindsAll, found_text}
+use Rattle.message_words.specs.Described.{between_text, description, description_of, end_text, head_text, is_refused}
 use Rattle.message_words.specs.Encoded.{spaces, to_left, to_right}
-use Rattle.message_words.specs.FieldTitles.{Titles}
-use Rattle.message_words.specs.Messages.{AreOf}
+use Rattle.message_words.specs.Messages.{AreOf, message_told}
 use Rattle.message_words.specs.Parts.{PartSeen}
-use Rattle.message_words.specs.Rows.{Adds, AddsField, AddsRow, AddsRows, AreRows, AreTitles, IsRow, IsWritten, comma, counted_with, group_text, meaning_behind, one_more, row_text, value_in}
+use Rattle.message_words.specs.Rows.{AddsRow, AddsRows, TakesRow, counted_with, meaning_behind, next_row, rows_of}
+use Rattle.message_words.specs.Sayings.{IsTaken}
+use Rattle.message_words.specs.Steps.{head_parts, packet_form, packet_rows, width_of}
 use Rattle.message_words.specs.Written.{Takes}
+use Rattle.message_words.proofs.AtRest.{transmission_is}
 
 -- ---- pieces of a row
 
@@ -42,86 +43,32 @@ both_as u v w a b c is p q = λ e.
     let x = p y.0 in
     (x.0, y.1 ∙ ap (λ (bs : List ℕ). bs ++ v) (x.1 ∙ ap (λ (bs : List ℕ). a.bytes.items ++ bs) is) ∙ append_assoc a.bytes.items u v)
 
--- ---- a part
-
-abbrev pub is_group : PartKind → Bool
-is_group kind.Group = true
-is_group _ = false
-
-written_as : (style : Style) (count : ℕ) (p : PartSeen) (k : PartKind) (text : List ℕ) → is_group k ≡ false → IsRow style p text → IsWritten style count p k text
-written_as style count p (kind.Header name) text other row = row
-written_as style count p kind.Segment text other row = row
-written_as style count p kind.Group text other row = absurd (false≢true (sym other))
-written_as style count p (kind.Field name) text other row = row
-written_as style count p (kind.Mark mark) text other row = row
-written_as style count p kind.Stray text other row = row
-
--- a row is what is written of a part that is no group
-pub as_row : (p : PartSeen) (k : PartKind) (t : Titles) (old new : Page) → p.kind ≡ k → is_group k ≡ false → AreTitles k p.bytes t
-    → Adds t p.place (value_in k p.bytes) old new → AddsRow p old new
-as_row p k t old new is other titles adds = λ e.
-    let a = adds e in
-    let text : List ℕ = row_text old.style p.place t (value_in k p.bytes) a.1 in
-    let row : IsRow old.style p text = record {
-      names = t;
-      meaning = a.1;
-      titles = subst (λ x. AreTitles x p.bytes t) (sym is) titles;
-      is = ap (λ x. row_text old.style p.place t (value_in x p.bytes) a.1) (sym is);
-    } in
-    let written : IsWritten old.style (counted_with old.transactions p.kind) p p.kind text =
-    subst (λ x. IsWritten old.style (counted_with old.transactions x) p x text) (sym is) (written_as old.style (counted_with old.transactions k) p k text other row) in
-    (a.0, comma old.style old.started ++ text, record { row = text; written = written; is = refl }, a.2)
-
--- so is the row of a field
-pub field_row : (p : PartSeen) (name : Option FieldName) (old new : Page) → p.kind ≡ kind.Field name → AddsField name p.place p.bytes old new → AddsRow p old new
-field_row p name old new is adds = as_row p (kind.Field name) adds.0 old new is refl adds.1 adds.2
-
--- and what is written where a transaction begins
-pub group_row : (p : PartSeen) (old new : Page) → p.kind ≡ kind.Group
-    → Takes (comma old.style old.started ++ group_text old.style p.place (one_more old.transactions)) old.out new.out → AddsRow p old new
-group_row p old new is takes = λ e.
-    let a = takes e in
-    let text : List ℕ = group_text old.style p.place (one_more old.transactions) in
-    let written : IsWritten old.style (counted_with old.transactions p.kind) p p.kind text =
-    subst (λ x. IsWritten old.style (counted_with old.transactions x) p x text) (sym is) refl in
-    (a.0, comma old.style old.started ++ text, record { row = text; written = written; is = refl }, a.1)
-
 -- ---- all parts
 
--- the rows so far, and those of the parts that are left, are those of all
+-- whatever adds the rows of the parts that are left adds those of all
 abbrev pub AddsUpTo : (all left : List PartSeen) → (old now : Page) → Type 0
-AddsUpTo all left old now = now.out.refused ≡ false → (old.out.refused ≡ false) × (so_far : List ℕ) × (now.out.bytes.items ≡ old.out.bytes.items ++ so_far)
-    × ((rest : List ℕ) → AreRows now.style now.started now.transactions left rest → AreRows old.style old.started old.transactions all (so_far ++ rest))
+AddsUpTo all left old now = (n : Page) → TakesRow (rows_of now.style now.started now.transactions left) now n
+    → TakesRow (rows_of old.style old.started old.transactions all) old n
 
-pub no_row : (all : List PartSeen) (old : Page) → AddsUpTo all all old old
-no_row all old = λ e. (e, [], sym (append-nil old.out.bytes.items), λ rest rows. rows)
+both_rows : (u v : List ℕ) (a b c : Page) → TakesRow u a b → TakesRow v b c → TakesRow (u ++ v) a c
+both_rows u v a b c p q = λ out note.
+    let y = q out note in
+    let x = p y.0 y.1 in
+    (x.0, x.1, y.2 ∙ ap (λ (bs : List ℕ). bs ++ v) x.2 ∙ append_assoc a.out.bytes.items u v)
 
 -- one part more
 pub row_more : (all left behind : List PartSeen) (p : PartSeen) (old now new : Page) → left ≡ p ∷ behind → AddsUpTo all left old now → AddsRow p now new
     → new.style ≡ now.style → new.started ≡ true → new.transactions ≡ counted_with now.transactions p.kind → AddsUpTo all behind old new
-row_more all left behind p old now new is before adds style started count = λ e.
-    let a = adds e in
-    let b = before a.0 in
-    let row : List ℕ = a.1 in
-    let so_far : List ℕ = b.1 in (
-      b.0,
-      so_far ++ row,
-      a.3 ∙ ap (λ (bs : List ℕ). bs ++ row) b.2 ∙ append_assoc old.out.bytes.items so_far row,
-      λ rest rows.
-          let here : AreRows now.style true (counted_with now.transactions p.kind) behind rest =
-          subst (λ n. AreRows now.style true n behind rest) count (subst (λ s. AreRows now.style s new.transactions behind rest) started (subst (λ s. AreRows s new.started new.transactions behind rest) style rows)) in
-          let all_left : AreRows now.style now.started now.transactions left (row ++ rest) =
-          subst (λ (ps : List PartSeen). AreRows now.style now.started now.transactions ps (row ++ rest)) (sym is) (row, rest, a.2, here, refl) in
-          subst (λ (bs : List ℕ). AreRows old.style old.started old.transactions all bs) (sym (append_assoc so_far row rest)) (b.3 (row ++ rest) all_left),
-    )
+row_more all left behind p old now new is before adds style started count = λ n rest.
+    let here : TakesRow (rows_of now.style true (counted_with now.transactions p.kind) behind) new n =
+    subst (λ (bs : List ℕ). TakesRow bs new n) (λ i. rows_of (style i) (started i) (count i) behind) rest in
+    before n (subst (λ (ps : List PartSeen). TakesRow (rows_of now.style now.started now.transactions ps) now n) (sym is)
+    (both_rows (next_row now.style now.started now.transactions p) (rows_of now.style true (counted_with now.transactions p.kind) behind) now new n adds here))
 
 -- no part is left
 pub rows_done : (all left : List PartSeen) (old now : Page) → left ≡ [] → AddsUpTo all left old now → AddsRows all old now
-rows_done all left old now none before = λ e.
-    let b = before e in
-    let rows : AreRows old.style old.started old.transactions all (b.1 ++ []) =
-    b.3 [] (subst (λ (ps : List PartSeen). AreRows now.style now.started now.transactions ps []) (sym none) refl) in
-    (b.0, b.1, subst (λ (bs : List ℕ). AreRows old.style old.started old.transactions all bs) (append-nil b.1) rows, b.2)
+rows_done all left old now none before =
+    before now (λ out note. (out, note, sym (append-nil now.out.bytes.items) ∙ ap (λ (ps : List PartSeen). now.out.bytes.items ++ rows_of now.style now.started now.transactions ps) (sym none)))
 
 -- ---- a description
 
@@ -140,35 +87,64 @@ out_taken page e = or_left page.out.refused page.note.refused (or_left (page.out
 pub note_taken : (page : Page) → is_refused page ≡ false → page.note.refused ≡ false
 note_taken page e = or_right page.out.refused page.note.refused (or_left (page.out.refused || page.note.refused) _ e)
 
+pub findings_taken : (page : Page) → is_refused page ≡ false → IsTaken page.findings
+findings_taken page e =
+    let f : FindingPage = page.findings in
+    let all = or_right (page.out.refused || page.note.refused) (f.out.refused || f.note.refused || f.members.refused || f.around.refused || f.below.refused) e in
+    let four = or_left (f.out.refused || f.note.refused || f.members.refused || f.around.refused) f.below.refused all in
+    let three = or_left (f.out.refused || f.note.refused || f.members.refused) f.around.refused four in
+    let two = or_left (f.out.refused || f.note.refused) f.members.refused three in
+    record {
+      out = or_left f.out.refused f.note.refused two;
+      note = or_right f.out.refused f.note.refused two;
+      members = or_right (f.out.refused || f.note.refused) f.members.refused three;
+      around = or_right (f.out.refused || f.note.refused || f.members.refused) f.around.refused four;
+      below = or_right (f.out.refused || f.note.refused || f.members.refused || f.around.refused) f.below.refused all;
+    }
+
+-- the parts of a message, and what it carries, are a function of its bytes
+pub told_of_message : (k : MessageKind) (bytes : List ℕ) (parts : List PartSeen) (carried : List Carried) → AreOf k bytes parts carried
+    → (parts ≡ (message_told k bytes).parts) × (carried ≡ (message_told k bytes).carried)
+told_of_message message.Request bytes parts carried are = (transmission_is Request 0 bytes parts are.transmission, are.only)
+told_of_message message.Answer bytes parts carried are = (transmission_is Answer 0 bytes parts are.transmission, are.only)
+told_of_message message.Packet bytes parts carried are = (
+  are.are ∙ ap (λ (ps : List PartSeen). head_parts packet_rows 0 bytes ++ ps)
+      (transmission_is (packet_form bytes) (width_of packet_rows) (drop (width_of packet_rows) bytes) are.behind are.payload),
+  are.only,
+)
+told_of_message message.Record bytes parts carried are = (are.are, are.only)
+
 -- the head, the rows, what is found and the end
-pub described : (o b r f n : Page) (line : ℕ) (k : MessageKind) (bytes : List ℕ) (parts : List PartSeen) (carried : List Carried) (found : FindingPage) → AreOf k bytes parts carried
+pub described : (o b r f n : Page) (line : ℕ) (k : MessageKind) (bytes : List ℕ) (parts : List PartSeen) (carried : List Carried) (clear found : FindingPage) → AreOf k bytes parts carried
     → (b.out.refused ≡ false → (o.out.refused ≡ false) × (b.out.bytes.items ≡ head_text o.style line k (length bytes) o.dropped))
-    → b ≡ record o { out = b.out; started = false; transactions = 0 } → AddsRows parts (record b { findings = found }) r → r.style ≡ b.style
-    → Takes (between_text r.style ++ r.findings.out.bytes.items) r.out f.out → f ≡ record r { out = f.out } → Takes (end_text f.style) f.out n.out
-    → is_refused n ≡ false → Describes o.style o.dropped line k bytes n.out.bytes.items
-described o b r f n line k bytes parts carried found are begins same rows kept puts same_too ends e =
+    → b ≡ record o { out = b.out; started = false; transactions = 0 } → clear.out.bytes.items ≡ [] → clear.style ≡ b.style → FindsAll k bytes carried clear found
+    → AddsRows parts (record b { findings = found }) r → r.style ≡ b.style → r.findings ≡ found
+    → Takes (between_text r.style ++ r.findings.out.bytes.items) r.out f.out → f ≡ record r { out = f.out } → Takes (end_text f.style) f.out n.out → n ≡ record f { out = n.out }
+    → is_refused n ≡ false → n.out.bytes.items ≡ description o.style o.dropped line k bytes
+unfolding description
+described o b r f n line k bytes parts carried clear found are begins same empty cleared finds rows kept held puts same_too ends same_last e =
     let z = ends (out_taken n e) in
     let y = puts z.0 in
-    let x = rows y.0 in
+    let last_note : n.note ≡ r.note = ap (λ (p : Page). p.note) same_last ∙ ap (λ (p : Page). p.note) same_too in
+    let x = rows y.0 (ap (λ (t : Text). t.refused) (sym last_note) ∙ note_taken n e) in
     let w = begins x.0 in
+    let last_found : n.findings ≡ found = ap (λ (p : Page). p.findings) same_last ∙ ap (λ (p : Page). p.findings) same_too ∙ held in
+    let all = finds (subst IsTaken last_found (findings_taken n e)) in
     let style : b.style ≡ o.style = ap (λ (p : Page). p.style) same in
     let later : r.style ≡ o.style = kept ∙ style in
     let last : f.style ≡ o.style = ap (λ (p : Page). p.style) same_too ∙ later in
-    let rows_are : AreRows o.style false 0 parts x.1 =
-    subst (λ n. AreRows o.style false n parts x.1) (ap (λ (p : Page). p.transactions) same)
-    (subst (λ s. AreRows o.style s b.transactions parts x.1) (ap (λ (p : Page). p.started) same) (subst (λ s. AreRows s b.started b.transactions parts x.1) style x.2)) in
+    let started : b.started ≡ false = ap (λ (p : Page). p.started) same in
+    let count : b.transactions ≡ 0 = ap (λ (p : Page). p.transactions) same in
+    let told = told_of_message k bytes parts carried are in
+    let text : r.findings.out.bytes.items ≡ found_text o.style k bytes carried =
+    ap (λ (p : FindingPage). p.out.bytes.items) held ∙ all.text ∙ (λ i. empty i ++ found_text ((cleared ∙ style) i) k bytes carried) in
     let head : List ℕ = head_text o.style line k (length bytes) o.dropped in
-    let findings : List ℕ = r.findings.out.bytes.items in
-    record {
-      parts = parts;
-      carried = carried;
-      rows = x.1;
-      findings = findings;
-      are = are;
-      written = rows_are;
-      is = z.1 ∙ ap (λ s. f.out.bytes.items ++ end_text s) last ∙ ap (λ (bs : List ℕ). bs ++ end_text o.style) (y.1 ∙ ap (λ s. r.out.bytes.items ++ (between_text s ++ findings)) later
-          ∙ ap (λ (bs : List ℕ). bs ++ (between_text o.style ++ findings)) (x.3 ∙ ap (λ (bs : List ℕ). bs ++ x.1) w.1) ∙ sym (append_assoc (head ++ x.1) (between_text o.style) findings));
-    }
+    let whole : n.out.bytes.items ≡ (((head ++ rows_of o.style false 0 parts) ++ (between_text o.style ++ found_text o.style k bytes carried)) ++ end_text o.style) =
+    z.1 ∙ (λ i. f.out.bytes.items ++ end_text (last i)) ∙ ap (λ (bs : List ℕ). bs ++ end_text o.style)
+    (y.1 ∙ (λ i. r.out.bytes.items ++ (between_text (later i) ++ text i))
+    ∙ ap (λ (bs : List ℕ). bs ++ (between_text o.style ++ found_text o.style k bytes carried)) (x.2 ∙ (λ i. w.1 i ++ rows_of (style i) (started i) (count i) parts))) in
+    whole ∙ ap (λ (bs : List ℕ). bs ++ end_text o.style) (sym (append_assoc (head ++ rows_of o.style false 0 parts) (between_text o.style) (found_text o.style k bytes carried)))
+    ∙ (λ i. description_of o.style o.dropped line k bytes (told.0 i) (told.1 i))
 
 -- ---- columns
 

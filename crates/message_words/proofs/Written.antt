@@ -11,6 +11,13 @@ both u v a b c p q = λ e.
     let r = p s.0 in
     (r.0, s.1 ∙ ap (λ (bs : List ℕ). bs ++ v) r.1 ∙ append_assoc a.bytes.items u v)
 
+-- three and four of them
+pub three : (u v w : List ℕ) (a b c d : Text) → Takes u a b → Takes v b c → Takes w c d → Takes (u ++ v ++ w) a d
+three u v w a b c d p q r = both (u ++ v) w a c d (both u v a b c p q) r
+
+pub four : (u v w x : List ℕ) (a b c d e : Text) → Takes u a b → Takes v b c → Takes w c d → Takes x d e → Takes (u ++ v ++ w ++ x) a e
+four u v w x a b c d e p q r s = both (u ++ v ++ w) x a d e (three u v w a b c d p q r) s
+
 -- five of them behind nothing
 pub five : (u v w x y : List ℕ) (a b c d e f : Text) → a.bytes.items ≡ [] → Takes u a b → Takes v b c → Takes w c d → Takes x d e → Takes y e f → f.refused ≡ false → f.bytes.items ≡ u ++ v ++ w ++ x ++ y
 five u v w x y a b c d e f none p q r s t taken =

@@ -6,15 +6,17 @@ use Rattle.message_words.specs.declared.dissecting.MessageKind.{MessageKind}
 use Rattle.message_words.specs.declared.page.Page.{Page}
 use Rattle.message_words.specs.declared.page.Style.{Style}
 use Rattle.message_words.specs.declared.page.Style.TheVariants.{Lines, Json}
-use Rattle.message_words.specs.Messages.{AreOf}
+use Rattle.message_words.specs.AllFound.{found_text}
+use Rattle.message_words.specs.Messages.{message_told}
 use Rattle.message_words.specs.Naming.{kind_name}
 use Rattle.message_words.specs.Parts.{PartSeen}
-use Rattle.message_words.specs.Rows.{AreRows}
+use Rattle.message_words.specs.Rows.{rows_of}
 
 -- memory was refused for one of the texts of a page
 abbrev pub is_refused : Page → Bool
 is_refused page =
-    (page.out.refused || page.note.refused) || (page.findings.out.refused || page.findings.note.refused || page.findings.around.refused)
+    (page.out.refused || page.note.refused)
+    || (page.findings.out.refused || page.findings.note.refused || page.findings.members.refused || page.findings.around.refused || page.findings.below.refused)
 
 -- these words where a byte before the message was dropped, and those where one behind it was
 abbrev pub if_dropped : (before behind : List ℕ) → Bool × Bool → List ℕ
@@ -45,13 +47,14 @@ abbrev pub end_text : Style → List ℕ
 end_text Lines = codes "\n\n"
 end_text Json = codes "]}\n"
 
--- a text describes the message of this kind that these bytes are, on a line of the input: its head, a row for each of its
--- parts and in their order, and then what is found
-pub record Describes (style : Style) (dropped : Bool × Bool) (line : ℕ) (kind : MessageKind) (bytes : List ℕ) (text : List ℕ) : Type 0 where
-  pub parts : List PartSeen
-  pub carried : List Carried
-  pub rows : List ℕ
-  pub findings : List ℕ
-  pub are : AreOf kind bytes parts carried
-  pub written : AreRows style false 0 parts rows
-  pub is : text ≡ head_text style line kind (length bytes) dropped ++ rows ++ between_text style ++ findings ++ end_text style
+-- the description of a message of these parts, which carries these requests and answers: the head, a row for each part and
+-- in their order, and then what is found
+abbrev pub description_of : Style → Bool × Bool → (line : ℕ) → MessageKind → List ℕ → List PartSeen → List Carried → List ℕ
+description_of style dropped line kind bytes parts carried =
+    head_text style line kind (length bytes) dropped ++ rows_of style false 0 parts ++ between_text style
+    ++ found_text style kind bytes carried ++ end_text style
+
+-- the description of the message of this kind that these bytes are, on a line of the input
+unfoldable pub description : Style → Bool × Bool → (line : ℕ) → MessageKind → List ℕ → List ℕ
+description style dropped line kind bytes =
+    description_of style dropped line kind bytes (message_told kind bytes).parts (message_told kind bytes).carried

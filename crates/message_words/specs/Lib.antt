@@ -14,5 +14,16 @@ pub mod Spelled
 pub mod Written
 pub mod InputLines
 pub mod Encoded
+pub mod Figures
+pub mod CodeNames
+pub mod Meanings
+pub mod Unused
 pub mod Rows
+pub mod Sayings
+pub mod Wanted
+pub mod FaultWords
+pub mod RequestWords
+pub mod AnswerWords
+pub mod RecordWords
+pub mod AllFound
 pub mod Described

@@ -1,5 +1,5 @@
 -- How the parts of a message are written: a line for each, or an object of JSON.
-use Rattle.std.specs.Prelude.{◌≡◌, ℕ, ◌+◌, ◌-◌, ◌^◌, min, max, Bool, true, false, List, [], ◌∷◌, ◌++◌, ◌⊎◌, length, take, drop, codes, ◌==◌, if◌then◌else◌, Option, None, Some}
+use Rattle.std.specs.Prelude.{◌≡◌, ℕ, ◌+◌, ◌-◌, ◌^◌, min, max, Bool, true, false, List, [], ◌∷◌, ◌++◌, length, take, drop, codes, ◌==◌, if◌then◌else◌, Option, None, Some}
 use Rattle.std.specs.Fmt.{decimal}
 use Rattle.input_text.specs.Printing.{printed}
 use Rattle.overpunch.specs.Number.{number_text}
@@ -11,37 +11,60 @@ use Rattle.message_words.specs.declared.part.PartKind.{PartKind}
 use Rattle.message_words.specs.declared.part.PartKind.TheVariants as kind
 use Rattle.message_words.specs.Encoded.{spaces, to_left, to_right, word_member, printed_member, number_member}
 use Rattle.message_words.specs.FieldTitles.{Titles, titles, titles_of}
+use Rattle.message_words.specs.Meanings.{meaning_of, mark_meaning}
 use Rattle.message_words.specs.Naming.{mark_names, is_length}
 use Rattle.message_words.specs.Parts.{PartSeen}
+use Rattle.message_words.specs.Unused.{segment_meaning, unused_field}
 
--- ---- what a part is called, and its value
+-- ---- what a part is called, its value, and what that means
 
--- a field that the product does not know: its two letters are all that is told, or they end its number in the standard
-abbrev pub unknown : List ℕ → Titles
-unknown id = titles id (codes "unknown, carried unchanged") (codes "unknown")
-
-abbrev pub AreOfId : List ℕ → Titles → Type 0
-AreOfId id t = (t ≡ unknown id) ⊎ (drop 4 t.number ≡ id)
+-- the names of a field that the product does not read in its segment: of the standard, or its two letters
+abbrev pub names_or : List ℕ → Option Titles → Titles
+names_or id (Some t) = t
+names_or id None = titles id (codes "unknown, carried unchanged") (codes "unknown")
 
 -- the two bytes that name a field
 abbrev pub id_in : List ℕ → List ℕ
 id_in bytes = take 2 (drop 1 bytes)
 
+abbrev pub field_names : Option FieldName → List ℕ → Titles
+field_names (Some name) bytes = titles_of name
+field_names None bytes = names_or (id_in bytes) (unused_field (id_in bytes))
+
 -- how a part of this kind with these bytes is called
-abbrev pub AreTitles : PartKind → List ℕ → Titles → Type 0
-AreTitles (kind.Header name) bytes t = t ≡ titles_of name
-AreTitles kind.Segment bytes t = t ≡ titles (codes "111-AM") (codes "segment") (codes "segment")
-AreTitles kind.Group bytes t = t ≡ titles [] (codes "transaction") (codes "transaction")
-AreTitles (kind.Field None) bytes t = AreOfId (id_in bytes) t
-AreTitles (kind.Field (Some name)) bytes t = t ≡ titles_of name
-AreTitles (kind.Mark mark) bytes t = t ≡ titles [] (mark_names mark).words (mark_names mark).key
-AreTitles kind.Stray bytes t = t ≡ titles [] (codes "out of place") (codes "stray")
+abbrev pub names_in : PartKind → List ℕ → Titles
+names_in (kind.Header name) bytes = titles_of name
+names_in kind.Segment bytes = titles (codes "111-AM") (codes "segment") (codes "segment")
+names_in kind.Group bytes = titles [] (codes "transaction") (codes "transaction")
+names_in (kind.Field name) bytes = field_names name bytes
+names_in (kind.Mark mark) bytes = titles [] (mark_names mark).words (mark_names mark).key
+names_in kind.Stray bytes = titles [] (codes "out of place") (codes "stray")
 
 -- the value in its bytes: what stands behind a separator and a name
 abbrev pub value_in : PartKind → List ℕ → List ℕ
 value_in kind.Segment bytes = drop 4 bytes
 value_in (kind.Field name) bytes = drop 3 bytes
 value_in _ bytes = bytes
+
+-- what is said of a field of the standard that the product does not read
+unfoldable pub unused_words : List ℕ
+unused_words = codes "not used by this profile"
+
+abbrev pub unread_meaning : Option Titles → List ℕ
+unread_meaning (Some t) = unused_words
+unread_meaning None = []
+
+abbrev pub field_meaning : Option FieldName → List ℕ → List ℕ
+field_meaning (Some name) bytes = meaning_of name (drop 3 bytes)
+field_meaning None bytes = unread_meaning (unused_field (id_in bytes))
+
+-- what the value means; nothing where it says it itself
+abbrev pub meaning_in : PartKind → List ℕ → List ℕ
+meaning_in (kind.Header name) bytes = meaning_of name bytes
+meaning_in kind.Segment bytes = segment_meaning (drop 4 bytes)
+meaning_in (kind.Field name) bytes = field_meaning name bytes
+meaning_in (kind.Mark mark) bytes = mark_meaning mark bytes
+meaning_in _ bytes = []
 
 -- ---- a row
 
@@ -107,54 +130,39 @@ counted_with count _ = count
 
 -- ---- all parts
 
--- the row of a part: its place, its names and its value as they are, and some words on what the value means
-pub record IsRow (style : Style) (p : PartSeen) (text : List ℕ) : Type 0 where
-  pub names : Titles
-  pub meaning : List ℕ
-  pub titles : AreTitles p.kind p.bytes names
-  pub is : text ≡ row_text style p.place names (value_in p.kind p.bytes) meaning
-
--- what is written of a part, where so many transactions have begun with it
-abbrev pub IsWritten : Style → ℕ → PartSeen → PartKind → List ℕ → Type 0
-IsWritten style count p kind.Group text = text ≡ group_text style p.place count
-IsWritten style count p _ text = IsRow style p text
+-- the row of a part, where so many transactions have begun with it: its place, its names, its value, and what that means
+abbrev pub row_of : Style → ℕ → (place : ℕ) → (bytes : List ℕ) → PartKind → List ℕ
+row_of style count place bytes kind.Group = group_text style place count
+row_of style count place bytes kind = row_text style place (names_in kind bytes) (value_in kind bytes) (meaning_in kind bytes)
 
 -- the comma before an element of a list of JSON, but for the first one
 abbrev pub comma : Style → (started : Bool) → List ℕ
 comma Json true = codes ","
 comma _ _ = []
 
--- a part behind others is written so
-pub record IsNext (style : Style) (started : Bool) (count : ℕ) (p : PartSeen) (text : List ℕ) : Type 0 where
-  pub row : List ℕ
-  pub written : IsWritten style (counted_with count p.kind) p p.kind row
-  pub is : text ≡ comma style started ++ row
+-- a part behind others
+abbrev pub next_row : Style → (started : Bool) → (count : ℕ) → PartSeen → List ℕ
+next_row style started count p = comma style started ++ row_of style (counted_with count p.kind) p.place p.bytes p.kind
 
--- all parts are, one behind the other and in order, where so many transactions have begun before them
-abbrev pub AreRows : Style → (started : Bool) → (count : ℕ) → List PartSeen → List ℕ → Type 0
-AreRows style started count [] text = text ≡ []
-AreRows style started count (p ∷ ps) text =
-    (row : List ℕ) × (rest : List ℕ) × IsNext style started count p row × AreRows style true (counted_with count p.kind) ps rest × (text ≡ row ++ rest)
+-- all parts, one behind the other and in order, where so many transactions have begun before them
+abbrev pub rows_of : Style → (started : Bool) → (count : ℕ) → List PartSeen → List ℕ
+rows_of style started count [] = []
+rows_of style started count (p ∷ ps) = next_row style started count p ++ rows_of style true (counted_with count p.kind) ps
 
--- ---- what is added to a page, unless memory was refused, now or before
+-- ---- what is added to a page
 
--- a row with these names and this value, and some words on what the value means
-abbrev pub Adds : Titles → ℕ → List ℕ → (old new : Page) → Type 0
-Adds t place value old new = new.out.refused ≡ false → (old.out.refused ≡ false) × (meaning : List ℕ)
-    × (new.out.bytes.items ≡ old.out.bytes.items ++ (comma old.style old.started ++ row_text old.style place t value meaning))
+-- a text that is written by way of the note, unless memory was refused for either, now or before
+abbrev pub TakesRow : List ℕ → (old new : Page) → Type 0
+TakesRow text old new = new.out.refused ≡ false → new.note.refused ≡ false
+    → (old.out.refused ≡ false) × (old.note.refused ≡ false) × (new.out.bytes.items ≡ old.out.bytes.items ++ text)
 
--- the same, with the names of a field, and of one that the product does not know
-abbrev pub AddsField : Option FieldName → ℕ → List ℕ → (old new : Page) → Type 0
-AddsField name place bytes old new = (t : Titles) × AreTitles (kind.Field name) bytes t × Adds t place (drop 3 bytes) old new
-
-abbrev pub AddsOfId : List ℕ → ℕ → List ℕ → (old new : Page) → Type 0
-AddsOfId id place value old new = (t : Titles) × AreOfId id t × Adds t place value old new
+-- a row with these names, this value and this meaning
+abbrev pub Adds : Titles → ℕ → (value meaning : List ℕ) → (old new : Page) → Type 0
+Adds t place value meaning old new = TakesRow (comma old.style old.started ++ row_text old.style place t value meaning) old new
 
 -- what is written of a part, and of all these parts
 abbrev pub AddsRow : PartSeen → (old new : Page) → Type 0
-AddsRow p old new = new.out.refused ≡ false → (old.out.refused ≡ false) × (row : List ℕ)
-    × IsNext old.style old.started old.transactions p row × (new.out.bytes.items ≡ old.out.bytes.items ++ row)
+AddsRow p old new = TakesRow (next_row old.style old.started old.transactions p) old new
 
 abbrev pub AddsRows : List PartSeen → (old new : Page) → Type 0
-AddsRows ps old new = new.out.refused ≡ false → (old.out.refused ≡ false) × (rows : List ℕ)
-    × AreRows old.style old.started old.transactions ps rows × (new.out.bytes.items ≡ old.out.bytes.items ++ rows)
+AddsRows ps old new = TakesRow (rows_of old.style old.started old.transactions ps) old new

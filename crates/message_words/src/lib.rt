@@ -4,11 +4,16 @@
 
 mod answer_lines;
 mod books;
+mod cause_lines;
 mod causes;
+mod code_names;
 mod cutter;
+mod dates;
 mod describing;
 mod dissecting;
+mod envelope_lines;
 mod fault_lines;
+mod figures;
 mod finding_page;
 mod findings;
 mod found;
@@ -19,16 +24,20 @@ mod line_source;
 mod marks;
 mod meaning;
 mod names;
+mod order_lines;
 mod page;
 mod part;
 mod part_rows;
 mod record_lines;
 mod records;
 mod request_lines;
+mod ruling_lines;
+mod segments;
 mod spelling;
 mod standard;
 mod text;
 mod transmissions;
+mod unused;
 mod values;
 mod wanted;
 

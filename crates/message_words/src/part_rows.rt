@@ -1,10 +1,12 @@
 //! Parts as they are written.
 
-ghost use Rattle.std.specs.Prelude.{◌≡◌, ◌++◌, [], drop, codes, true};
+ghost use Rattle.std.specs.Prelude.{◌≡◌, ◌++◌, [], drop, codes, true, None};
 ghost use Rattle.message_words.specs.FieldTitles.{titles, titles_of, titles_seen};
+ghost use Rattle.message_words.specs.Meanings.{mark_meaning, meaning_of};
 ghost use Rattle.message_words.specs.Naming.{is_length, mark_names};
 ghost use Rattle.message_words.specs.Parts.{part_seen};
-ghost use Rattle.message_words.specs.Rows.{Adds, AddsField, AddsOfId, AddsRow, comma, counted_anew, counted_with, group_text, id_in, one_more, unknown};
+ghost use Rattle.message_words.specs.Rows.{Adds, AddsRow, comma, counted_anew, counted_with, field_meaning, field_names, group_text, id_in, names_or, one_more, unread_meaning, unused_words};
+ghost use Rattle.message_words.specs.Unused.{segment_meaning, unused_field};
 ghost use Rattle.message_words.specs.Written.{Takes};
 ghost use Rattle.message_words.specs.declared.page.Style.TheVariants as styled;
 
@@ -13,9 +15,10 @@ use crate::meaning::{put_mark, put_meaning};
 use crate::names::{FieldName, Named};
 use crate::page::{Page, Row, Style, columns};
 use crate::part::{Part, PartKind};
-use crate::standard::{unused_field, unused_segment};
+use crate::segments::segment_words;
 use crate::text::Text;
 use crate::transmissions::front_of;
+use crate::unused::unused_field;
 
 impl Page {
     /// Writes a part.
@@ -42,7 +45,8 @@ impl Page {
 
     /// Writes a field that the product knows.
     fn field(&mut self, place: usize, name: FieldName, value: &[u8])
-        ensures row { Adds (titles_of name) place value.now self.old self.new }
+        requires { self.old.note.bytes.items ≡ [] }
+        ensures row { Adds (titles_of name) place value.now (meaning_of name value.now) self.old self.new }
         ensures same { self.new ≡ record self.old { out = self.new.out; note = self.new.note; started = true } }
     {
         put_meaning(&mut self.note, name, value);
@@ -51,7 +55,7 @@ impl Page {
 
     /// Writes a field of this name, whose meaning stands in the note.
     fn named(&mut self, place: usize, named: Named, value: &[u8])
-        ensures row { Adds (titles_seen named) place value.now self.old self.new }
+        ensures row { Adds (titles_seen named) place value.now self.old.note.bytes.items self.old self.new }
         ensures same { self.new ≡ record self.old { out = self.new.out; started = true } }
     {
         let row = Row {
@@ -65,7 +69,9 @@ impl Page {
 
     /// Writes a field behind its separator and its name.
     fn behind_name(&mut self, place: usize, name: Option<FieldName>, bytes: &[u8])
-        ensures row { AddsField name place bytes.now self.old self.new }
+        requires { self.old.note.bytes.items ≡ [] }
+        ensures row { Adds (field_names name bytes.now) place (drop 3 bytes.now) (field_meaning name bytes.now)
+            self.old self.new }
         ensures same { self.new ≡ record self.old { out = self.new.out; note = self.new.note; started = true } }
     {
         let value = behind(bytes, 3);
@@ -77,7 +83,9 @@ impl Page {
 
     /// Writes a field that the product does not read in its segment.
     fn unread(&mut self, place: usize, bytes: &[u8])
-        ensures row { AddsOfId (id_in bytes.now) place (drop 3 bytes.now) self.old self.new }
+        requires { self.old.note.bytes.items ≡ [] }
+        ensures row { Adds (names_or (id_in bytes.now) (unused_field (id_in bytes.now))) place (drop 3 bytes.now)
+            (unread_meaning (unused_field (id_in bytes.now))) self.old self.new }
         ensures same { self.new ≡ record self.old { out = self.new.out; note = self.new.note; started = true } }
     {
         let rest = behind(bytes, 1);
@@ -91,16 +99,18 @@ impl Page {
 
     /// Writes a field of the standard that this profile does not use.
     fn unused(&mut self, place: usize, field: Named, value: &[u8])
-        ensures row { Adds (titles_seen field) place value.now self.old self.new }
+        requires { self.old.note.bytes.items ≡ [] }
+        ensures row { Adds (titles_seen field) place value.now unused_words self.old self.new }
         ensures same { self.new ≡ record self.old { out = self.new.out; note = self.new.note; started = true } }
     {
-        self.note.put("not used by this profile");
+        put_unused(&mut self.note);
         self.named(place, field, value);
     }
 
     /// Writes a field that the standard does not have.
     fn unknown(&mut self, place: usize, letters: &[u8], value: &[u8])
-        ensures row { Adds (unknown letters.now) place value.now self.old self.new }
+        requires { self.old.note.bytes.items ≡ [] }
+        ensures row { Adds (names_or letters.now None) place value.now [] self.old self.new }
         ensures same { self.new ≡ record self.old { out = self.new.out; started = true } }
     {
         let row = Row {
@@ -114,10 +124,12 @@ impl Page {
 
     /// Writes the head of a segment.
     fn segment(&mut self, place: usize, id: &[u8])
-        ensures row { Adds (titles (codes "111-AM") (codes "segment") (codes "segment")) place id.now self.old self.new }
+        requires { self.old.note.bytes.items ≡ [] }
+        ensures row { Adds (titles (codes "111-AM") (codes "segment") (codes "segment")) place id.now (segment_meaning id.now)
+            self.old self.new }
         ensures same { self.new ≡ record self.old { out = self.new.out; note = self.new.note; started = true } }
     {
-        self.note.put(segment_name(id));
+        self.note.put(segment_words(id));
         let row = Row {
             number: b"111-AM",
             name: "segment",
@@ -144,7 +156,9 @@ impl Page {
 
     /// Writes a part of an envelope's head or of a record.
     fn mark(&mut self, place: usize, mark: Mark, bytes: &[u8])
-        ensures row { Adds (titles [] (mark_names mark).words (mark_names mark).key) place bytes.now self.old self.new }
+        requires { self.old.note.bytes.items ≡ [] }
+        ensures row { Adds (titles [] (mark_names mark).words (mark_names mark).key) place bytes.now
+            (mark_meaning mark bytes.now) self.old self.new }
         ensures same { self.new ≡ record self.old {
           out = self.new.out;
           note = self.new.note;
@@ -152,7 +166,7 @@ impl Page {
           transactions = counted_anew (is_length mark) self.old.transactions;
         } }
     {
-        put_number(&mut self.note, mark, bytes);
+        put_mark(&mut self.note, mark, bytes);
         self.transactions = counted(mark, self.transactions);
         let (name, key) = mark.names();
         let row = Row {
@@ -166,7 +180,8 @@ impl Page {
 
     /// Writes bytes that stand where none should.
     fn stray(&mut self, place: usize, bytes: &[u8])
-        ensures row { Adds (titles [] (codes "out of place") (codes "stray")) place bytes.now self.old self.new }
+        requires { self.old.note.bytes.items ≡ [] }
+        ensures row { Adds (titles [] (codes "out of place") (codes "stray")) place bytes.now [] self.old self.new }
         ensures same { self.new ≡ record self.old { out = self.new.out; started = true } }
     {
         let row = Row {
@@ -179,11 +194,12 @@ impl Page {
     }
 }
 
-/// Appends the number that the bytes of a mark spell, where they spell one.
-fn put_number(out: &mut Text, mark: Mark, bytes: &[u8]) {
-    if mark.is_number() {
-        put_mark(out, bytes);
-    }
+/// Writes that this profile does not use a field.
+#[tactic(auto, unfolding(crate::specs::Rows::unused_words))]
+fn put_unused(out: &mut Text)
+    ensures { Takes unused_words out.old out.new }
+{
+    out.put("not used by this profile");
 }
 
 /// How many transactions of the transmission at hand have begun behind a mark.
@@ -231,20 +247,4 @@ pub(crate) fn behind(bytes: &[u8], count: usize) -> &[u8]
     ensures { result.now ≡ drop count bytes.now }
 {
     &bytes[count.min(bytes.len())..]
-}
-
-/// What a segment is about.
-fn segment_name(id: &[u8]) -> &'static str {
-    match id {
-        b"04" => "insurance",
-        b"07" => "claim",
-        b"11" => "pricing",
-        b"21" => "response status",
-        b"22" => "response claim",
-        b"23" => "response pricing",
-        _ => match unused_segment(id) {
-            Some(name) => name,
-            None => "unknown, carried unchanged",
-        },
-    }
 }

@@ -4,6 +4,7 @@ ghost use Rattle.std.specs.Prelude.{◌≡◌, ◌≤◌, ◌+◌, ◌-◌, List
 ghost use Rattle.std.specs.Option.{option_map};
 ghost use Rattle.kept_records.specs.Fields.{text_at};
 ghost use Rattle.message_words.specs.declared.part.PartKind.TheVariants as part;
+ghost use Rattle.message_words.specs.Meanings.{number_in};
 ghost use Rattle.message_words.specs.AtRest.{count_at, head_told, is_book, piece_told, record_told, taken_told, text_told};
 ghost use Rattle.message_words.specs.Steps.{IsPacket, packet_form, packet_rows, head_parts, width_of, some_carried};
 ghost use Rattle.message_words.specs.Added.{next_bytes, next_taken, left_of, AddsTransmission, Tells, TellsAll};
@@ -15,6 +16,7 @@ use crate::journals::cut_journal;
 use crate::layout::Form;
 use crate::marks::Mark;
 use crate::part::PartKind;
+use crate::part_rows::behind;
 use crate::transmissions::{cut_head, front_of};
 use envelope::LARGEST_PAYLOAD;
 use kept_records::take_u32;
@@ -112,7 +114,7 @@ pub(crate) fn cut_record(
 }
 
 /// Whether a record is a book.
-fn is_book(bytes: &[u8]) -> bool
+pub(crate) fn is_book(bytes: &[u8]) -> bool
     ensures { result ≡ is_book bytes.now }
 {
     match bytes {
@@ -209,13 +211,17 @@ pub(crate) fn count_at(bytes: &[u8], place: usize) -> u32
 }
 
 /// The number that so many bytes from a place on spell, their high byte first; of those that are there.
-pub(crate) fn number_at(bytes: &[u8], place: usize, size: usize) -> u64 {
-    let rest = &bytes[place.min(bytes.len())..];
-    number_of(front_of(rest, size))
+pub(crate) fn number_at(bytes: &[u8], place: usize, size: usize) -> u64
+    ensures { result ≡ number_in (take size (drop place bytes.now)) }
+{
+    number_of(front_of(behind(bytes, place), size))
 }
 
 /// The number that bytes spell, their high byte first. Of more than eight bytes the last eight count.
-pub(crate) fn number_of(bytes: &[u8]) -> u64 {
+#[tactic(auto, unfolding(crate::specs::Meanings::number_in))]
+pub(crate) fn number_of(bytes: &[u8]) -> u64
+    ensures { result ≡ number_in bytes.now }
+{
     let mut number = 0u64;
     for byte in bytes {
         number = number.wrapping_mul(256).wrapping_add(u64::from(*byte));

@@ -1,13 +1,37 @@
 //! What is found of a request, as it is written.
 
+ghost use Rattle.std.specs.Prelude.{◌≡◌, ◌-◌, ◌<◌, ◌++◌, [], ◌∷◌, codes, length};
+ghost use Rattle.d0_segments.specs.FramedParts.{framed_parts};
+ghost use Rattle.claim_profile.specs.Order.{placed_order};
+ghost use Rattle.message_words.specs.Causes.{cause_seen};
+ghost use Rattle.message_words.specs.Findings.{finding_seen, findings_seen, request_findings};
+ghost use Rattle.message_words.specs.Found.{found_seen};
+ghost use Rattle.message_words.specs.RequestWords.{
+  asked_members,
+  asked_said,
+  asked_words,
+  cause_said,
+  finding_said,
+  findings_said,
+  left_to_tell,
+  order_said,
+  request_said,
+  told_said,
+  transaction_of,
+  uncarried_said,
+  why_words,
+};
+ghost use Rattle.message_words.specs.Sayings.{Finds, says};
+
+use crate::cause_lines::{CauseTold, put_cause_members, put_cause_words};
 use crate::causes::Cause;
 use crate::finding_page::FindingPage;
 use crate::findings::{Finding, Uncarried, findings_of};
 use crate::found::Found;
-use crate::meaning::put_units;
 use crate::names::FieldName;
+use crate::order_lines::{put_asked_members, put_asked_words};
 use crate::wanted::wanted_in;
-use claim_profile::{Claim, Order, Reversal, TransactionCode, order_at};
+use claim_profile::{Order, TransactionCode, order_at};
 use d0_header::RequestHeader;
 use d0_segments::{Framed, check_request};
 use std::alloc::Global;
@@ -17,7 +41,10 @@ const TOLD: u64 = 5;
 
 impl FindingPage {
     /// Writes what is found of a request that stands at a place of the message.
-    pub(crate) fn request(&mut self, alloc: Global, bytes: &[u8], place: usize) {
+    #[tactic(auto, unfolding(crate::specs::RequestWords::request_said))]
+    pub(crate) fn request(&mut self, alloc: Global, bytes: &[u8], place: usize)
+        ensures { Finds (request_said place bytes.now) self.old self.new }
+    {
         match check_request(bytes) {
             Ok(framed) => self.framed_request(alloc, bytes, &framed),
             Err(fault) => self.framing_fault(fault, bytes, place),
@@ -25,7 +52,11 @@ impl FindingPage {
     }
 
     /// Writes what is found of a framed request.
-    fn framed_request(&mut self, alloc: Global, bytes: &[u8], framed: &Framed<'_, RequestHeader>) {
+    #[tactic(auto, using(crate::proofs::Sayings::refused))]
+    fn framed_request(&mut self, alloc: Global, bytes: &[u8], framed: &Framed<'_, RequestHeader>)
+        ensures { Finds (findings_said (framed_parts framed.now) 0 5 (request_findings bytes.now (framed_parts framed.now)))
+            self.old self.new }
+    {
         match findings_of(alloc, bytes, framed) {
             Ok(findings) => self.request_findings(framed, findings.as_slice()),
             Err(_) => self.refuse(),
@@ -33,17 +64,17 @@ impl FindingPage {
     }
 
     /// Writes findings one after another.
-    fn request_findings(&mut self, framed: &Framed<'_, RequestHeader>, findings: &[Finding<'_>]) {
+    fn request_findings(&mut self, framed: &Framed<'_, RequestHeader>, findings: &[Finding<'_>])
+        ensures { Finds (findings_said (framed_parts framed.now) 0 5 (findings_seen findings.now)) self.old self.new }
+    {
         let mut last = 0usize;
-        let mut causes = 0u64;
+        let mut left = TOLD;
         for finding in findings {
             let transaction = finding.transaction();
-            if transaction != last {
-                causes = 0;
-            }
+            let here = left_to_tell(last, transaction, left);
+            self.request_finding(framed, finding, here > 0);
             last = transaction;
-            causes = causes.saturating_add(1);
-            self.request_finding(framed, finding, causes <= TOLD);
+            left = here.saturating_sub(1);
         }
     }
 
@@ -53,7 +84,9 @@ impl FindingPage {
         framed: &Framed<'_, RequestHeader>,
         finding: &Finding<'_>,
         is_told: bool,
-    ) {
+    )
+        ensures { Finds (finding_said (framed_parts framed.now) (finding_seen finding.now) is_told) self.old self.new }
+    {
         match finding {
             Finding::NotCarried(why) => self.uncarried(*why),
             Finding::Asks(transaction) => self.order_of(framed, *transaction),
@@ -64,85 +97,50 @@ impl FindingPage {
     }
 
     /// Writes why a request is not carried.
-    fn uncarried(&mut self, why: Uncarried) {
-        self.begin_finding("not_carried");
-        let words = match why {
-            Uncarried::TooLong => "it has more than 32,768 bytes",
-            Uncarried::OtherVersion => "its version (102-A2) is not D0",
-            Uncarried::OtherCode => "its transaction code (103-A3) is neither B1 nor B2",
-        };
-        self.member("why", words);
-        self.note.put("framed, and not carried: ");
-        self.note.put(words);
-        self.end_finding();
+    #[tactic(auto, using(crate::proofs::Sayings::one_said))]
+    fn uncarried(&mut self, why: Uncarried)
+        ensures { Finds (uncarried_said why ∷ []) self.old self.new }
+    {
+        self.begin_finding();
+        self.members.word_member("why", why_words(why).as_bytes());
+        self.note
+            .worded("framed, and not carried: ", why_words(why).as_bytes());
+        self.end_finding("not_carried");
     }
 
-    /// Writes the order of the transaction of this number.
-    fn order_of(&mut self, framed: &Framed<'_, RequestHeader>, transaction: usize) {
+    /// Writes the order of the transaction of this number, where there is one.
+    #[tactic(auto, using(crate::proofs::Sayings::none_said))]
+    fn order_of(&mut self, framed: &Framed<'_, RequestHeader>, transaction: usize)
+        ensures { Finds (asked_said (framed_parts framed.now) transaction) self.old self.new }
+    {
         let place = transaction.saturating_sub(1);
         if place < framed.group_count() {
-            if let Ok(order) = order_at(framed, place) {
-                self.order(transaction as u64, &order);
-            }
+            self.order_at(framed, place, transaction);
+        }
+    }
+
+    /// Writes the order of the transaction at a place.
+    #[tactic(auto, using(crate::proofs::Sayings::none_said))]
+    fn order_at(&mut self, framed: &Framed<'_, RequestHeader>, place: usize, transaction: usize)
+        requires { place < length (framed_parts framed.now).groups }
+        ensures { Finds (order_said transaction (placed_order (framed_parts framed.now) place)) self.old self.new }
+    {
+        match order_at(framed, place) {
+            Ok(order) => self.order(transaction as u64, &order),
+            Err(_) => {}
         }
     }
 
     /// Writes an order.
-    fn order(&mut self, transaction: u64, order: &Order) {
-        self.begin_transaction("order", transaction);
-        self.note.put(" reads as an order: ");
-        match order {
-            Order::Claim(claim) => self.claim(claim),
-            Order::Reversal(reversal) => self.reversal(reversal),
-        }
-        self.end_finding();
-    }
-
-    /// Writes what a billing asks for.
-    fn claim(&mut self, claim: &Claim) {
-        self.member("order", "billing");
-        self.number_member("prescription", claim.fill.prescription);
-        self.number_member("fill", u64::from(claim.fill.fill));
-        self.printed_member("cardholder", claim.cardholder.as_slice());
-        self.printed_member("product", claim.product.as_slice());
-        self.number_member("quantity", claim.quantity);
-        self.number_member("cost", u64::from(claim.cost));
-        self.number_member("fee", u64::from(claim.fee));
-        self.note.put("billing of fill ");
-        self.note.number(u64::from(claim.fill.fill));
-        self.note.put(" of prescription ");
-        self.note.number(claim.fill.prescription);
-        self.note.put(" for ");
-        self.note.printed(claim.cardholder.as_slice());
-        self.note.put(": ");
-        put_units(&mut self.note, claim.quantity);
-        self.note.put(" of product ");
-        self.note.printed(claim.product.as_slice());
-        self.note.put(", cost ");
-        self.note.dollars(i64::from(claim.cost));
-        self.note.put(", fee ");
-        self.note.dollars(i64::from(claim.fee));
-        self.note
-            .put("; whether it is paid is for the plan and the book to say");
-    }
-
-    /// Writes what a reversal asks for.
-    fn reversal(&mut self, reversal: &Reversal) {
-        self.member("order", "reversal");
-        self.number_member("prescription", reversal.prescription);
-        self.note.put("reversal of ");
-        match reversal.fill {
-            Some(fill) => {
-                self.number_member("fill", u64::from(fill));
-                self.note.put("fill ");
-                self.note.number(u64::from(fill));
-            }
-            None => self.note.put("the one paid fill"),
-        }
-        self.note.put(" of prescription ");
-        self.note.number(reversal.prescription);
-        self.note
-            .put("; whether a payment stands is for the book to say");
+    #[tactic(auto, using(crate::proofs::Sayings::one_said))]
+    fn order(&mut self, transaction: u64, order: &Order)
+        ensures { Finds (says (codes "order") (asked_members transaction order.now) (asked_words transaction order.now) ∷ [])
+            self.old self.new }
+    {
+        self.begin_finding();
+        put_asked_members(&mut self.members, transaction, order);
+        put_asked_words(&mut self.note, transaction, order);
+        self.end_finding("order");
     }
 
     /// Writes a cause for which a transaction is rejected.
@@ -152,64 +150,59 @@ impl FindingPage {
         transaction: usize,
         cause: &Cause<'_>,
         is_told: bool,
-    ) {
-        self.begin_transaction("rejected", transaction as u64);
-        let named = cause.field.named();
-        self.printed_member("code", &cause.code.text());
-        self.member("code_name", cause.code.name());
-        self.member("field", named.number);
-        self.member("name", named.key);
-        self.note.put(" is rejected: ");
-        self.note.bytes(&cause.code.text());
-        self.note.put(" ");
-        self.note.put(cause.code.name());
-        self.note.put("; ");
-        self.note.put(named.number);
-        self.note.put(" ");
-        self.note.put(named.name);
-        self.note.put(": found ");
-        self.found(header, cause);
-        let wanted = wanted_in(cause.field, TransactionCode::read(header.code()));
-        self.member("wanted", wanted);
-        self.note.put(", wanted ");
-        self.note.put(wanted);
-        if !is_told {
-            self.member("told", "beyond the first five");
-            self.note.put("; not among the five that an answer tells");
-        }
-        self.end_finding();
-    }
-
-    /// Writes what stands in the field of a cause.
-    fn found(&mut self, header: &RequestHeader, cause: &Cause<'_>) {
-        if cause.field == FieldName::DateOfService {
-            self.found_value(&header.date());
-            return;
-        }
-        match cause.found {
-            Found::Nothing => self.found_words("nothing"),
-            Found::Several => self.found_words("several values"),
-            Found::One(value) => self.found_value(value),
+    )
+        ensures { Finds (cause_said header.now transaction (cause_seen cause.now) is_told ∷ []) self.old self.new }
+    {
+        let told = CauseTold {
+            code: cause.code,
+            field: cause.field,
+            wanted: wanted_in(cause.field, TransactionCode::read(header.code())),
+            is_told,
+        };
+        match cause.field {
+            FieldName::DateOfService => {
+                self.cause_told(transaction as u64, told, Found::One(&header.date()));
+            }
+            _ => self.cause_told(transaction as u64, told, cause.found),
         }
     }
 
-    /// Writes that nothing or several values were found.
-    fn found_words(&mut self, words: &str) {
-        self.member("found", words);
-        self.note.put(words);
+    /// Writes a cause as it is told, where this was found.
+    #[tactic(auto, using(crate::proofs::Sayings::one_said))]
+    fn cause_told(&mut self, transaction: u64, told: CauseTold, found: Found<'_>)
+        ensures { Finds (told_said transaction told.code told.field (found_seen found.entry) told.wanted.now
+            told.is_told ∷ []) self.old self.new }
+    {
+        self.begin_finding();
+        put_cause_members(&mut self.members, transaction, told, found);
+        put_cause_words(&mut self.note, transaction, told, found);
+        self.end_finding("rejected");
     }
+}
 
-    /// Writes the value that was found.
-    fn found_value(&mut self, value: &[u8]) {
-        self.member("found", "one value");
-        self.printed_member("value", value);
-        self.note.printed(value);
+/// How many causes of a transaction an answer still tells, where it told those of another one before.
+fn left_to_tell(last: usize, transaction: usize, left: u64) -> u64
+    ensures { result ≡ left_to_tell last transaction left }
+{
+    if last == transaction { left } else { TOLD }
+}
+
+/// Why a request is not carried, in words.
+fn why_words(why: Uncarried) -> &'static str
+    ensures { result.now ≡ why_words why }
+{
+    match why {
+        Uncarried::TooLong => "it has more than 32,768 bytes",
+        Uncarried::OtherVersion => "its version (102-A2) is not D0",
+        Uncarried::OtherCode => "its transaction code (103-A3) is neither B1 nor B2",
     }
 }
 
 impl Finding<'_> {
     /// The number of the transaction that it is about; 0 where it is about all.
-    fn transaction(&self) -> usize {
+    fn transaction(&self) -> usize
+        ensures { result ≡ transaction_of (finding_seen self.now) }
+    {
         match self {
             Finding::NotCarried(_) => 0,
             Finding::Asks(transaction) | Finding::Rejected(transaction, _) => *transaction,

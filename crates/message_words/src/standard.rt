@@ -1,13 +1,9 @@
 //! Fields of the standard that this profile carries and does not use, by number and name.
 
-ghost use Rattle.std.specs.Prelude.{◌≡◌, drop, IfSome, IsTrue};
-ghost use Rattle.message_words.specs.FieldTitles.{titles_seen};
-
-use crate::names::{Called, Named, named_by};
-use crate::part_rows::behind;
+use crate::names::Called;
 
 /// The patient segment, AM01.
-static PATIENT: [Called; 16] = [
+pub(crate) static PATIENT: [Called; 16] = [
     ("331-CX", "patient ID qualifier", "patient_id_qualifier"),
     ("332-CY", "patient ID", "patient_id"),
     ("304-C4", "date of birth", "date_of_birth"),
@@ -35,7 +31,7 @@ static PATIENT: [Called; 16] = [
 ];
 
 /// The pharmacy provider and the prescriber segment, AM02 and AM03.
-static PROVIDERS: [Called; 14] = [
+pub(crate) static PROVIDERS: [Called; 14] = [
     ("465-EY", "provider ID qualifier", "provider_id_qualifier"),
     ("444-E9", "provider ID", "provider_id"),
     (
@@ -85,7 +81,7 @@ static PROVIDERS: [Called; 14] = [
 ];
 
 /// The insurance segment, AM04.
-static INSURANCE: [Called; 14] = [
+pub(crate) static INSURANCE: [Called; 14] = [
     ("312-CC", "cardholder first name", "cardholder_first_name"),
     ("313-CD", "cardholder last name", "cardholder_last_name"),
     ("314-CE", "home plan", "home_plan"),
@@ -119,7 +115,7 @@ static INSURANCE: [Called; 14] = [
 ];
 
 /// The segment of coordination of benefits and other payments, AM05.
-static OTHER_PAYERS: [Called; 17] = [
+pub(crate) static OTHER_PAYERS: [Called; 17] = [
     ("337-4C", "other payments count", "other_payments_count"),
     (
         "338-5C",
@@ -188,7 +184,7 @@ static OTHER_PAYERS: [Called; 17] = [
 ];
 
 /// The workers' compensation segment, AM06.
-static WORKERS_COMPENSATION: [Called; 4] = [
+pub(crate) static WORKERS_COMPENSATION: [Called; 4] = [
     ("434-DY", "date of injury", "date_of_injury"),
     ("315-CF", "employer name", "employer_name"),
     ("327-CR", "carrier ID", "carrier_id"),
@@ -196,7 +192,7 @@ static WORKERS_COMPENSATION: [Called; 4] = [
 ];
 
 /// The claim segment, AM07: what is dispensed.
-static DISPENSED: [Called; 20] = [
+pub(crate) static DISPENSED: [Called; 20] = [
     ("405-D5", "days supply", "days_supply"),
     ("406-D6", "compound code", "compound_code"),
     ("408-D8", "dispense as written", "dispense_as_written"),
@@ -272,7 +268,7 @@ static DISPENSED: [Called; 20] = [
 ];
 
 /// The claim segment, AM07: under which terms.
-static TERMS: [Called; 15] = [
+pub(crate) static TERMS: [Called; 15] = [
     (
         "354-NX",
         "clarification code count",
@@ -331,7 +327,7 @@ static TERMS: [Called; 15] = [
 ];
 
 /// The pricing segment, AM11.
-static PRICING: [Called; 13] = [
+pub(crate) static PRICING: [Called; 13] = [
     (
         "426-DQ",
         "usual and customary charge",
@@ -384,7 +380,7 @@ static PRICING: [Called; 13] = [
 ];
 
 /// The segments of drug use review, coupons, compounds and diagnoses, AM08, AM09, AM10 and AM13.
-static CLINICAL: [Called; 21] = [
+pub(crate) static CLINICAL: [Called; 21] = [
     (
         "473-7E",
         "drug use review code counter",
@@ -449,7 +445,7 @@ static CLINICAL: [Called; 21] = [
 ];
 
 /// The segments of an answer, AM20 to AM25.
-static ANSWERS: [Called; 13] = [
+pub(crate) static ANSWERS: [Called; 13] = [
     ("504-F4", "message", "message"),
     (
         "526-FQ",
@@ -500,63 +496,3 @@ static ANSWERS: [Called; 13] = [
         "network_reimbursement_id",
     ),
 ];
-
-/// The field of the standard that two letters name, where it is one that this profile does not use.
-pub(crate) fn unused_field(letters: &[u8]) -> Option<Named>
-    ensures { IfSome result (λ named. drop 4 (titles_seen named).number ≡ letters.now) }
-{
-    let tables = [
-        PATIENT.as_slice(),
-        PROVIDERS.as_slice(),
-        INSURANCE.as_slice(),
-        OTHER_PAYERS.as_slice(),
-        WORKERS_COMPENSATION.as_slice(),
-        DISPENSED.as_slice(),
-        TERMS.as_slice(),
-        PRICING.as_slice(),
-        CLINICAL.as_slice(),
-        ANSWERS.as_slice(),
-    ];
-    for table in tables.as_slice() {
-        for called in *table {
-            if is_of(called.0.as_bytes(), letters) {
-                return Some(named_by(*called));
-            }
-        }
-    }
-    None
-}
-
-/// Whether a number ends with these letters, behind three digits and a dash.
-fn is_of(number: &[u8], letters: &[u8]) -> bool
-    ensures { IsTrue result → drop 4 number.now ≡ letters.now }
-{
-    behind(number, 4) == letters
-}
-
-/// What a segment of the standard is about that this profile does not use.
-pub(crate) fn unused_segment(id: &[u8]) -> Option<&'static str> {
-    Some(match id {
-        b"01" => "patient, not used by this profile",
-        b"02" => "pharmacy provider, not used by this profile",
-        b"03" => "prescriber, not used by this profile",
-        b"05" => "coordination of benefits, not used by this profile",
-        b"06" => "workers' compensation, not used by this profile",
-        b"08" => "drug use review, not used by this profile",
-        b"09" => "coupon, not used by this profile",
-        b"10" => "compound, not used by this profile",
-        b"12" => "prior authorization, not used by this profile",
-        b"13" => "clinical, not used by this profile",
-        b"14" => "additional documentation, not used by this profile",
-        b"15" => "facility, not used by this profile",
-        b"16" => "narrative, not used by this profile",
-        b"20" => "response message, not used by this profile",
-        b"24" => "response drug use review, not used by this profile",
-        b"25" => "response insurance, not used by this profile",
-        b"26" => "response prior authorization, not used by this profile",
-        b"27" => "response insurance information, not used by this profile",
-        b"28" => "response other payers, not used by this profile",
-        b"29" => "response patient, not used by this profile",
-        _ => return None,
-    })
-}

@@ -122,22 +122,6 @@ impl Text {
         }
     }
 
-    /// Appends a point and a number below a thousand by three digits.
-    pub(crate) fn thousandths(&mut self, number: u64) {
-        self.bytes(&[b'.', digit(number / 100), digit(number / 10), digit(number)]);
-    }
-
-    /// Appends cents as dollars, as `-1.23`.
-    pub(crate) fn dollars(&mut self, cents: i64) {
-        if cents < 0 {
-            self.put("-");
-        }
-        let amount = cents.unsigned_abs();
-        self.number(amount / 100);
-        let cents = amount % 100;
-        self.bytes(&[b'.', digit(cents / 10), digit(cents)]);
-    }
-
     /// Appends spaces up to a column, counted from a place in the text; at least two.
     pub(crate) fn pad(&mut self, from: usize, column: usize)
         requires { column ≤ 128 }
@@ -167,7 +151,7 @@ impl Text {
 
     /// Appends letters of a string of JSON.
     #[tactic(auto, using(crate::proofs::Encoded::plain_letters))]
-    fn letters(&mut self, text: &[u8])
+    pub(crate) fn letters(&mut self, text: &[u8])
         ensures { Takes (json_letters text.now) self.old self.new }
     {
         if is_plain(text) {
@@ -331,9 +315,4 @@ fn is_letter(byte: u8) -> bool
     ensures { result ≡ is_letter byte }
 {
     stands_for_itself(byte) && byte != QUOTE
-}
-
-/// The last digit of a number.
-pub(crate) fn digit(number: u64) -> u8 {
-    b'0' + (number % 10) as u8
 }

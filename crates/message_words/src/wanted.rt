@@ -1,11 +1,16 @@
 //! What a field has to hold, in words.
 
+ghost use Rattle.std.specs.Prelude.{◌≡◌};
+ghost use Rattle.message_words.specs.Wanted.{wanted_fill, wanted_in};
+
 use crate::names::FieldName;
 use claim_profile::TransactionCode;
 
 /// What a field of an order has to hold, under this transaction code. Of the fields of the last arm no transaction is
 /// rejected for what they hold; a field that is new has to be put among them, or gets words of its own.
-pub(crate) fn wanted_in(field: FieldName, code: Option<TransactionCode>) -> &'static str {
+pub(crate) fn wanted_in(field: FieldName, code: Option<TransactionCode>) -> &'static str
+    ensures { result.now ≡ wanted_in field code }
+{
     match field {
         FieldName::Cardholder => "one text of 1 to 20 bytes",
         FieldName::DateOfService => "a day of the calendar, CCYYMMDD",
@@ -38,7 +43,9 @@ pub(crate) fn wanted_in(field: FieldName, code: Option<TransactionCode>) -> &'st
 }
 
 /// What a fill number has to be. A reversal may leave it out.
-fn wanted_fill(code: Option<TransactionCode>) -> &'static str {
+fn wanted_fill(code: Option<TransactionCode>) -> &'static str
+    ensures { result.now ≡ wanted_fill code }
+{
     match code {
         Some(TransactionCode::Billing) => "one number of 1 or 2 digits",
         Some(TransactionCode::Reversal) => "at most one number of 1 or 2 digits",
