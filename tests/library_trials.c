@@ -2,7 +2,9 @@
 ** Trials of the library, for tests/library: handles that are closed, short buffers, logs that are torn, damaged or of others,
 ** texts, and each request for memory refused in turn. malloc, realloc and free are wrapped by the linker.
 **
-**     trials SETTINGS REQUEST
+**     trials SETTINGS REQUEST [EACH]
+**
+** With EACH only each EACH-th request is refused.
 */
 #include <stdio.h>
 #include <stdlib.h>
@@ -12,7 +14,7 @@
 
 enum { MOST = 1 << 16 };
 static int faults, tried;
-static long left = -1, lent;
+static long left = -1, lent, each = 1;
 static char settings[MOST], line[MOST], record[MOST], said[MOST], log_bytes[MOST];
 static size_t settings_size, line_size, record_size, said_size, log_size;
 
@@ -263,7 +265,7 @@ static void try_descriptions(void) {
         for (size_t cut = 0; cut < message_size; cut++)
             check(vogrilas_describe(message, cut, json, lines, MOST, &size) == VOGRILAS_OK, "a message that is cut off");
     }
-    for (long turn = 0;; turn++) {
+    for (long turn = 0;; turn += each) {
         left = turn;
         vogrilas_code code = vogrilas_describe(message, message_size, 1, again, MOST, &size);
         left = -1;
@@ -349,7 +351,7 @@ static void try_messages(void) {
     WRONG(wrong.cost++, VOGRILAS_FIELD_TOO_LONG, 409);
     WRONG(wrong.fee = UINT32_MAX, VOGRILAS_FIELD_TOO_LONG, 412);
     WRONG((wrong.fee++, wrong.header.vendor[0] = 0x1c), VOGRILAS_FIELD_SEPARATOR, 110);
-    for (long turn = 0;; turn++) {
+    for (long turn = 0;; turn += each) {
         left = turn, size = 77, field = 77;
         vogrilas_code code = vogrilas_make_billing(&a_billing, made, MOST, &size, &field);
         left = -1;
@@ -570,7 +572,7 @@ static void try_reading_memory(void) {
     for (size_t one = 0; one < NODES; one++) {
         for (int call = 0; call < 4; call++) {
             long before = lent;
-            for (long turn = 0;; turn++) {
+            for (long turn = 0;; turn += each) {
                 size_t size = 77;
                 uint64_t count = 77;
                 left = turn;
@@ -618,7 +620,7 @@ static void try_audits(void) {
     check(vogrilas_audit("again", 5, logs, all, sizes, NODES, 0, told, MOST, &size) == VOGRILAS_SETTINGS, "an audit under no settings");
     check(told[0] == 'x' && told[100] == 'x', "an audit that is not made writes nothing");
     logs[sizes[0] + sizes[1] - 1] ^= 1;
-    for (long turn = 0;; turn++) {
+    for (long turn = 0;; turn += each) {
         left = turn;
         vogrilas_code code = vogrilas_audit(settings, settings_size, logs, all, sizes, NODES, 0, told, MOST, &size);
         left = -1;
@@ -631,7 +633,7 @@ static void try_audits(void) {
 static void try_memory(void) {
     size_t kept, size;
     char text[8];
-    for (long turn = 0;; turn++) {
+    for (long turn = 0;; turn += each) {
         vogrilas_node node = VOGRILAS_NODE_INIT;
         left = turn;
         vogrilas_code code = open_as(&node, "ph1", log_bytes, log_size, &kept);
@@ -642,7 +644,7 @@ static void try_memory(void) {
         check(lent == 0, "memory is given back");
         if (is_done) break;
     }
-    for (long turn = 0;; turn++) {
+    for (long turn = 0;; turn += each) {
         vogrilas_node node = VOGRILAS_NODE_INIT;
         check(open_as(&node, "ph1", log_bytes, log_size, &kept) == VOGRILAS_OK, "open again");
         left = turn;
@@ -654,7 +656,7 @@ static void try_memory(void) {
         check(lent == 0, "memory is given back");
         if (is_done) break;
     }
-    for (long turn = 0;; turn++) {
+    for (long turn = 0;; turn += each) {
         left = turn;
         vogrilas_code code = vogrilas_print("\x01", 1, text, 8, &size);
         left = -1;
@@ -665,7 +667,8 @@ static void try_memory(void) {
 }
 
 int main(int count, char **words) {
-    if (count != 3) return 2;
+    if (count == 4) each = strtol(words[3], NULL, 10);
+    if (count < 3 || count > 4 || each < 1) return 2;
     settings_size = read_file(words[1], settings);
     memcpy(line, "submit ", 7);
     line_size = 7 + read_file(words[2], line + 7);

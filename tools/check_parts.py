@@ -8,7 +8,7 @@ from __future__ import annotations
 
 import re
 import sys
-from dataclasses import dataclass
+from dataclasses import dataclass, replace
 
 sys.dont_write_bytecode = True
 from check_programs import TOP, programs  # noqa: E402
@@ -18,10 +18,15 @@ PRODUCTS = ('claimswitch', 'claimpicture', 'claimdecode', 'claimnode', 'claimaud
 REFUSALS = '5'
 # So is each kill of a node that is not one of so many.
 KILLS = '3'
-# The parts of tests/replicated, in thirds that take about as long.
+# The parts that read sources of crates, beside those that need no program: pages are compared with them, or packed.
+READ_SOURCES = {'documents', 'words', 'package', 'units', 'image'}
+# The parts of tests/replicated and tests/losses, in shares that take about as long.
 HOSTS_OF_A_LOG = ('one_host', 'takeover', 'wiped', 'made_anew', 'copies', 'moved', 'torn', 'race')
-WORDS_OF_SERVERS = ('fenced', 'synced', 'killed_servers')
+WORDS_OF_SERVERS = ('synced', 'fenced')
 LOSSES_OF_SERVERS = ('restored', 'unread', 'permitted')
+KILLED_SERVERS = ('killed_servers',)
+CHANGED_STORES = ('current_store', 'new_name')
+OLDER_STORES = ('rolled_back', 'two_stores')
 
 
 @dataclass(frozen=True)
@@ -34,6 +39,13 @@ class Part:
     needs: tuple[str, ...] = ()
     # Whether it mostly waits: then it runs beside what computes, and, since it hangs on the time that a busy machine gives, once more where it failed.
     waits: bool = False
+    # Whether it computes in as many processes as there are processors: then few run beside it.
+    spreads: bool = False
+
+    @property
+    def reads_sources(self) -> bool:
+        """Whether it reads sources, specifications or proofs of crates."""
+        return not self.needs or self.name in READ_SOURCES
 
     @property
     def is_stored(self) -> bool:
@@ -46,24 +58,33 @@ class Part:
 
 
 SCRIPTS = (
+    Part('earlier', ('tests/upgraded', '--earlier')),
     Part('replicated', ('tests/replicated', *HOSTS_OF_A_LOG), ('library',), waits=True),
     Part('replicated-words', ('tests/replicated', *WORDS_OF_SERVERS), ('library',), waits=True),
     Part('replicated-losses', ('tests/replicated', *LOSSES_OF_SERVERS), ('library',), waits=True),
-    Part('losses', ('tests/losses',), ('library',), waits=True),
+    Part('losses', ('tests/losses', *CHANGED_STORES), ('library',), waits=True),
+    Part('losses-older', ('tests/losses', *OLDER_STORES), ('library',), waits=True),
+    Part('replicated-killed', ('tests/replicated', *KILLED_SERVERS), ('library',), waits=True),
     Part('torture-replicated', ('hosts/torture', '40', '1', '--replicated'), ('library', 'claimnode', 'claimaudit', 'claimswitch'), waits=True),
     Part('torture-unfenced', ('hosts/torture', '20', '2', '--replicated', '--wrong', 'NO_EXPECTATION'), ('library', 'claimnode', 'claimaudit', 'claimswitch'), waits=True),
     Part('units', ('tests/units',), (*PRODUCTS, 'library'), waits=True),
-    Part('library', ('tests/library',), ('library', 'claimnode')),
+    Part('front', ('tests/front',), ('claimnode', 'claimaudit', 'claimdecode', 'claimpicture', 'claimswitch'), waits=True),
+    Part('front-c', ('tests/front', 'c'), ('library', 'claimnode', 'claimaudit', 'claimdecode', 'claimpicture', 'claimswitch'), waits=True),
+    Part('console', ('tests/console',), ('claimnode', 'claimaudit', 'claimdecode', 'claimpicture', 'claimswitch'), waits=True),
+    Part('redundant', ('tests/redundant',), ('library', 'claimnode', 'claimaudit'), waits=True),
+    Part('retries', ('tests/retries',), ('claimnode', 'claimaudit'), waits=True),
+    Part('retries-c', ('tests/retries', 'c'), ('library', 'claimnode', 'claimaudit'), waits=True),
+    Part('library', ('tests/library', '--every', REFUSALS), ('library', 'claimnode'), spreads=True),
     Part('callers', ('trials/run', 'callers', '--unproved')),
-    Part('cases', ('cases/run',), PRODUCTS),
-    Part('refuse-memory', ('tests/refuse-memory', '--every', REFUSALS), ('claimswitch', 'claimdump', 'claimaudit', 'claimnode', 'claimgrow', 'rows')),
-    Part('killed', ('tests/killed', '--each', KILLS), ('claimnode', 'claimaudit')),
-    Part('killed-library', ('tests/killed', '--library', '--each', '20'), ('library', 'claimaudit')),
-    Part('killed-c', ('tests/killed', '--host', 'c', '--each', '9'), ('claimnode', 'library', 'claimaudit')),
-    Part('killed-c-unsynced', ('tests/killed', '--host', 'c', '--wrong', 'UNSYNCED', '--each', '29'), ('claimnode', 'library', 'claimaudit')),
-    Part('killed-c-early', ('tests/killed', '--host', 'c', '--wrong', 'SAID_EARLY', '--each', '29'), ('claimnode', 'library', 'claimaudit')),
-    Part('killed-lie', ('tests/killed', '--lie', '--each', '7'), ('claimnode', 'claimaudit')),
-    Part('audit', ('tests/audit',), ('claimdump', 'claimaudit', 'claimswitch')),
+    Part('cases', ('cases/run',), PRODUCTS, spreads=True),
+    Part('refuse-memory', ('tests/refuse-memory', '--every', REFUSALS), ('claimswitch', 'claimdump', 'claimaudit', 'claimnode', 'claimgrow', 'rows'), spreads=True),
+    Part('killed', ('tests/killed', '--each', KILLS), ('claimnode', 'claimaudit'), spreads=True),
+    Part('killed-library', ('tests/killed', '--library', '--each', '20'), ('library', 'claimaudit'), spreads=True),
+    Part('killed-c', ('tests/killed', '--host', 'c', '--each', '9'), ('claimnode', 'library', 'claimaudit'), spreads=True),
+    Part('killed-c-unsynced', ('tests/killed', '--host', 'c', '--wrong', 'UNSYNCED', '--each', '29'), ('claimnode', 'library', 'claimaudit'), spreads=True),
+    Part('killed-c-early', ('tests/killed', '--host', 'c', '--wrong', 'SAID_EARLY', '--each', '29'), ('claimnode', 'library', 'claimaudit'), spreads=True),
+    Part('killed-lie', ('tests/killed', '--lie', '--each', '7'), ('claimnode', 'claimaudit'), spreads=True),
+    Part('audit', ('tests/audit',), ('claimdump', 'claimaudit', 'claimswitch'), spreads=True),
     Part('closing', ('tests/closing',), ('claimdump', 'claimaudit')),
     Part('package', ('tests/package',), (*PRODUCTS, 'library'), waits=True),
     Part('documents', ('tests/documents',), PRODUCTS),
@@ -73,29 +94,23 @@ SCRIPTS = (
     Part('decode', ('tests/decode',), ('claimdecode',)),
     Part('hosts', ('tests/hosts',), ('claimnode', 'claimaudit'), waits=True),
     Part('hosts-c', ('tests/hosts', 'c'), ('library', 'claimnode', 'claimaudit'), waits=True),
-    Part('senders', ('tests/senders',), ('claimnode', 'claimaudit')),
+    Part('senders', ('tests/senders', '--quick'), ('claimnode', 'claimaudit')),
     Part('senders-jetstream', ('tests/senders', '--jetstream', '--quick'), ('claimnode', 'claimaudit')),
-    Part('senders-c', ('tests/senders', 'c'), ('library', 'claimnode', 'claimaudit')),
+    Part('senders-c', ('tests/senders', 'c', '--quick'), ('library', 'claimnode', 'claimaudit')),
     Part('connections', ('tests/connections',), ('claimnode', 'claimaudit'), waits=True),
     Part('connections-c', ('tests/connections', 'c'), ('library', 'claimnode', 'claimaudit'), waits=True),
     Part('disks', ('tests/disks',), ('claimnode', 'claimaudit')),
     Part('disks-c', ('tests/disks', 'c'), ('library', 'claimnode', 'claimaudit')),
     Part('watched', ('tests/watched',), ('claimnode', 'claimaudit')),
     Part('watched-c', ('tests/watched', 'c'), ('library', 'claimnode', 'claimaudit')),
-    Part('retries', ('tests/retries',), ('claimnode', 'claimaudit'), waits=True),
-    Part('retries-c', ('tests/retries', 'c'), ('library', 'claimnode', 'claimaudit'), waits=True),
     Part('reserved', ('tests/reserved',), ('claimgrow', 'claimnode', 'claimaudit'), waits=True),
     Part('reserved-c', ('tests/reserved', 'c'), ('library', 'claimgrow', 'claimnode', 'claimaudit'), waits=True),
-    Part('redundant', ('tests/redundant',), ('library', 'claimnode', 'claimaudit'), waits=True),
     Part('growing', ('tests/growing',), ('claimgrow', 'claimnode', 'claimaudit'), waits=True),
     Part('operating', ('tests/operating',), ('claimnode', 'claimaudit'), waits=True),
     Part('upgraded', ('tests/upgraded',), ('claimnode', 'claimaudit'), waits=True),
     Part('container', ('tests/container',), ('claimnode', 'claimaudit')),
     Part('image', ('tests/image',), (*PRODUCTS, 'library'), waits=True),
-    Part('front', ('tests/front',), ('claimnode', 'claimaudit', 'claimdecode', 'claimpicture', 'claimswitch'), waits=True),
-    Part('front-c', ('tests/front', 'c'), ('library', 'claimnode', 'claimaudit', 'claimdecode', 'claimpicture', 'claimswitch'), waits=True),
     Part('front-soak', ('tests/front-soak', '8'), ('claimnode', 'claimaudit', 'claimdecode'), waits=True),
-    Part('console', ('tests/console',), ('claimnode', 'claimaudit', 'claimdecode', 'claimpicture', 'claimswitch'), waits=True),
     Part('torture', ('hosts/torture', '6', '1'), ('claimnode', 'claimaudit', 'claimswitch'), waits=True),
     Part('torture-jetstream', ('hosts/torture', '6', '2', '--jetstream'), ('claimnode', 'claimaudit', 'claimswitch'), waits=True),
     Part('torture-unsynced', ('hosts/torture', '4', '1', '--unsynced', '3'), ('claimnode', 'claimaudit', 'claimswitch'), waits=True),
@@ -122,7 +137,7 @@ def parts() -> list[Part]:
     for script in SCRIPTS:
         if (TOP / script.words[0]).exists():
             needs = tuple(it for it in script.needs if it in there)
-            found.append(Part(script.name, script.words, needs, script.waits))
+            found.append(replace(script, needs=needs))
     return [it for it in stored if it.name not in PRODUCTS] + found + [it for it in stored if it.name in PRODUCTS]
 
 

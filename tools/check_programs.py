@@ -13,8 +13,11 @@ from dataclasses import dataclass
 
 TOP = pathlib.Path(__file__).resolve().parent.parent
 QUICK_BUILD = TOP / 'tools' / 'quick-build'
+COMPILED_BY = (QUICK_BUILD, TOP / 'tools' / 'quick_modules.py')
 # What a run of the compiler takes at most.
-BYTES_OF_A_RUN = 2 << 30
+BYTES_OF_A_RUN = 3 << 30
+# The programs that are compiled together, those first that most faults are seen by: what shows the rules, and what has logs.
+FIRST = ('rows', 'claimswitch', 'claimpicture', 'claimdecode')
 SOURCES = 'made-of'
 
 
@@ -73,7 +76,7 @@ def sum_of(program: Program, toolchain: pathlib.Path) -> str:
         for path in sorted((TOP / 'crates' / crate / 'src').rglob('*.rt')):
             text = path.read_bytes()
             made_of.update(f'{path.relative_to(TOP)} {len(text)}\n'.encode() + text)
-    made_of.update(QUICK_BUILD.read_bytes() + (toolchain / 'KIT-ID').read_bytes())
+    made_of.update(b''.join(it.read_bytes() for it in (*COMPILED_BY, toolchain / 'KIT-ID')))
     return made_of.hexdigest()
 
 
@@ -93,13 +96,9 @@ def compile_words(made: list[Program]) -> list[str]:
     return [str(QUICK_BUILD), *(word for program in made for word in (program.crate, str(program.path)))]
 
 
-def groups(lacking: dict[str, Program], at_once: int) -> list[list[str]]:
-    """What is compiled together. Programs share most of what they are made of, so that two groups of them take little more than two programs:
-    those that stand on most in one, the others in another where both can be compiled at once. A library is compiled by itself."""
-    library = [[name] for name in lacking if name == 'library']
-    others = sorted((name for name in lacking if name != 'library'), key=lambda it: len(below(lacking[it].crate)), reverse=True)
-    half = (len(others) + 1) // 2 if at_once > 1 else len(others)
-    return [it for it in (others[:half], *library, others[half:]) if it]
+def groups(lacking: dict[str, Program]) -> list[list[str]]:
+    """What is compiled together. Programs share most of what they are made of, so that a few take little more than one."""
+    return [it for it in ([name for name in FIRST if name in lacking], [name for name in lacking if name not in FIRST]) if it]
 
 
 def note_made(program: Program, made_of: str) -> None:

@@ -1,0 +1,68 @@
+"""What ./check knows of its last runs: which parts passed, and what they were made of then, as a sum. A part that passed, and of whose files none
+has changed since, need not be tried again.
+
+A part is made of its programs, and of all files of the repository but the sources of crates; some read these too."""
+
+from __future__ import annotations
+
+import hashlib
+import os
+import pathlib
+
+from check_parts import Part
+from check_programs import TOP, programs, sum_of
+
+# What no part is made of.
+LEFT_OUT = {'.git', 'out', '__pycache__'}
+# What of a crate its programs are made of, or proofs are.
+SOURCES = {'src', 'specs', 'proofs', 'must-fail'}
+
+
+def files(folder: pathlib.Path, left_out: set[str]) -> list[pathlib.Path]:
+    """The files below a folder, but for those below folders of these names."""
+    found = []
+    for at, inside, names in os.walk(folder):
+        inside[:] = sorted(set(inside) - left_out)
+        found += [pathlib.Path(at, name) for name in sorted(names)]
+    return found
+
+
+def sum_of_files(paths: list[pathlib.Path]) -> str:
+    """A sum of files, by their names, what they say and whether they can be run."""
+    made_of = hashlib.sha256()
+    for path in paths:
+        if path.is_file():
+            text = path.read_bytes()
+            made_of.update(f'{path.relative_to(TOP)} {len(text)} {os.access(path, os.X_OK)}\n'.encode() + text)
+    return made_of.hexdigest()
+
+
+class Kept:
+    """The parts that passed, each with its sum, in a file that has a line for each."""
+
+    def __init__(self, path: pathlib.Path, toolchain: pathlib.Path) -> None:
+        self.path, self.toolchain = path, toolchain
+        lines = path.read_text(encoding='ascii').splitlines() if path.is_file() else []
+        self.passed = dict(line.split() for line in lines)
+        sources = [it for it in files(TOP / 'crates', LEFT_OUT) if SOURCES.intersection(it.relative_to(TOP).parts)]
+        self.of_all = sum_of_files(files(TOP, LEFT_OUT | SOURCES)) + (toolchain / 'KIT-ID').read_text(encoding='utf-8')
+        self.of_sources = sum_of_files(sources)
+        self.of_programs = {name: sum_of(program, toolchain) for name, program in programs().items()}
+
+    def sum_of(self, part: Part) -> str:
+        """The sum of what a part is made of."""
+        made_of = [part.told(), self.of_all, *(self.of_programs[name] for name in part.needs)]
+        return hashlib.sha256('\n'.join([*made_of, self.of_sources] if part.reads_sources else made_of).encode()).hexdigest()
+
+    def has(self, part: Part) -> bool:
+        """Whether a part passed as it is."""
+        return self.passed.get(part.name) == self.sum_of(part)
+
+    def note(self, part: Part, has_passed: bool) -> None:
+        """Notes how a part ended: one that passed, made of what it was made of when this run began."""
+        self.passed.pop(part.name, None)
+        if has_passed:
+            self.passed[part.name] = self.sum_of(part)
+        beside = self.path.with_suffix('.new')
+        beside.write_text(''.join(f'{name} {made_of}\n' for name, made_of in sorted(self.passed.items())), encoding='ascii')
+        beside.replace(self.path)
