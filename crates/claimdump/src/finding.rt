@@ -9,8 +9,8 @@ pub(crate) enum Finding {
     /// The words are wrong.
     #[error("usage: claimdump DIR")]
     Usage,
-    /// The input has more than 16 MiB.
-    #[error("the input is longer than 16 MiB")]
+    /// The input has more than 1 GiB.
+    #[error("the input is longer than 1 GiB")]
     LongInput,
     /// The input is refused.
     #[error("{0}")]

@@ -19,8 +19,8 @@ use std::fs;
 use std::io::Read;
 use std::process::ExitCode;
 
-/// The most bytes of an input: 16 MiB.
-const MOST_INPUT: usize = 16_777_216;
+/// The most bytes of an input (own): 1 GiB, since a run under wide limits has a longer schedule than `claimswitch` takes.
+const MOST_INPUT: usize = 1_073_741_824;
 /// How many bytes are asked for in a call.
 const CHUNK: usize = 65_536;
 

@@ -16,3 +16,4 @@ pub mod Writing
 pub mod LoneMaking
 mod LastReason
 mod Pricing
+mod Ends

@@ -1,5 +1,5 @@
 -- Why nothing is read, from what one step says.
-use Rattle.std.proofs.Common.{◌≡◌, ℕ, List, [], ◌∷◌, ◌++◌, length, Some, None, sym, ap, ◌∙◌}
+use Rattle.std.proofs.Common.{◌≡◌, ℕ, List, ◌∷◌, ◌++◌, length, Some, None, sym, ap, ◌∙◌}
 use Rattle.std.proofs.lemmas.List.{length-map, map-append}
 use Rattle.std.specs.Global.{Vec}
 use Rattle.settings_digest.specs.Digests.{digest_under}
@@ -11,7 +11,7 @@ use Rattle.run_merge.specs.declared.log.NodeLog.{NodeLog as Kept}
 use Rattle.log_audit.specs.declared.fault.AuditFault.{AuditFault}
 use Rattle.log_audit.specs.declared.fault.AuditFault.TheVariants.{OutOfMemory, Settings, World, Log, NoLine}
 use Rattle.log_audit.specs.Given.{AreLogs, bytes_of}
-use Rattle.log_audit.specs.Refused.{IsFirstNoLog, IsRefused, TakesNone, IsNoLog, AreNoLogs}
+use Rattle.log_audit.specs.Refused.{IsRefused, TakesNone, IsNoLog, AreNoLogs}
 use Rattle.log_audit.proofs.LogReading.{as_many}
 
 -- no world takes the settings

@@ -10,6 +10,8 @@ pub mod Entries
 pub mod CountedRows
 pub mod Tables
 pub mod Senders
+pub mod Standing
+pub mod StandingSeen
 pub mod Judged
 pub mod Tabled
 pub mod Texts

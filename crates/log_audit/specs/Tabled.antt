@@ -1,5 +1,5 @@
 -- What is told of logs as a table.
-use Rattle.std.specs.Prelude.{ℕ, List}
+use Rattle.std.specs.Prelude.{ℕ, Bool, true, false, List}
 use Rattle.bin_routes.specs.Table.{routes_of}
 use Rattle.claim_model.specs.Context.{Context}
 use Rattle.claim_model.specs.Bytes.{bytes_with}
@@ -10,6 +10,7 @@ use Rattle.world_setup.specs.declared.settings.WorldSettings.{WorldSettings}
 use Rattle.log_audit.specs.Senders.{senders_from}
 use Rattle.log_audit.specs.Tables.{table_csv}
 use Rattle.log_audit.specs.declared.tables.table.Table.{Table}
+use Rattle.log_audit.specs.declared.tables.table.Table.TheVariants.{Payments, Entries, Rows, Packets, Counted as CountedTable}
 
 abbrev pub csv_after : Context → World → List Event → Table → List ℕ
 csv_after ctx w events table = table_csv ctx (run ctx w events) (senders_from ctx w 1 events) table
@@ -17,3 +18,11 @@ csv_after ctx w events table = table_csv ctx (run ctx w events) (senders_from ct
 -- a table of the world that events leave behind the opening of these settings
 unfoldable pub run_csv : WorldSettings → List Event → Table → List ℕ
 run_csv s events table = csv_after (bytes_with (routes_of s.routes.items)) (opening (settings_seen s)) events table
+
+-- a table says which event sent a packet
+abbrev pub tells_senders : Table → Bool
+tells_senders Payments = false
+tells_senders Entries = false
+tells_senders Rows = false
+tells_senders Packets = true
+tells_senders CountedTable = false

@@ -1,13 +1,22 @@
 //! Whether logs are those of one legal run.
 
-ghost use Rattle.std.specs.Prelude.{◌≡◌, map, IfOk};
-ghost use Rattle.world_setup.specs.Seen.{event_seen};
+ghost use Rattle.std.specs.Prelude.{◌≡◌, length, map, None, Some, IfOk};
+ghost use Rattle.bin_routes.specs.Fault.{first_fault};
+ghost use Rattle.bin_routes.specs.Table.{routes_of};
+ghost use Rattle.claim_model.specs.Settings.{opening, settings_fault};
+ghost use Rattle.world_setup.specs.Seen.{event_seen, settings_seen};
 ghost use Rattle.run_merge.specs.LogSeen.{logs_seen};
-ghost use Rattle.log_audit.specs.Judged.{IsJudged};
+ghost use Rattle.run_merge.specs.MergedRuns.{IsRunOf};
+ghost use Rattle.log_audit.specs.Judged.{IsFound, IsJudged, left_by};
+ghost use Rattle.log_audit.specs.Standing.{AreStanding};
+ghost use Rattle.log_audit.specs.StandingSeen.{nodes_seen};
 
-use run_merge::{MergeFault, NodeLog, merge};
+use crate::standing::{Nodes, nodes_left};
+use bin_routes::Routes;
+use run_merge::{MergeFault, MergedRun, NodeLog, merge, merge_fitting};
 use std::alloc::{AllocError, Global};
-use world_setup::{Event, WorldSettings};
+use world_core::{KnownParts, World};
+use world_setup::{Event, WorldFault, WorldSettings};
 
 /// What logs are judged to be.
 #[derive(Drop)]
@@ -31,5 +40,149 @@ pub fn judge(
         Ok(events) => Ok(Verdict::Legal(events)),
         Err(MergeFault::Tangled) => Ok(Verdict::NoRun),
         Err(MergeFault::OutOfMemory) => Err(AllocError),
+    }
+}
+
+/// What is found of logs, where the world that a run left is wanted too.
+#[derive(Drop)]
+pub(crate) enum Found {
+    /// A legal run.
+    Run(LegalRun),
+    /// That there is none.
+    NoRun,
+}
+
+/// A legal run, and the world that it left, where that is known.
+#[derive(Drop)]
+pub(crate) struct LegalRun {
+    pub(crate) events: Vec<Event>,
+    pub(crate) world: Option<World>,
+}
+
+impl LegalRun {
+    /// Its events; a world is let go.
+    pub(crate) fn into_events(self) -> Vec<Event>
+        ensures { result ≡ self.events }
+    {
+        let LegalRun { events, world: _ } = self;
+        events
+    }
+}
+
+/// As [`judge`], and no world is kept.
+pub(crate) fn run_alone(
+    alloc: Global,
+    settings: &WorldSettings,
+    logs: &[NodeLog],
+) -> Result<Found, AllocError>
+    ensures { IfOk result (λ found. IsFound settings.now (logs_seen logs.now) found) }
+{
+    match judge(alloc, settings, logs)? {
+        Verdict::Legal(events) => Ok(Found::Run(LegalRun {
+            events,
+            world: None,
+        })),
+        Verdict::NoRun => Ok(Found::NoRun),
+    }
+}
+
+/// As [`judge`], with the world that the run left: each call is made once, by its node, and these nodes are the world's. Where the
+/// logs are not one for each node, which makes it, they are judged alone.
+pub(crate) fn run_and_world(
+    alloc: Global,
+    settings: &WorldSettings,
+    logs: &[NodeLog],
+) -> Result<Found, AllocError>
+    ensures { IfOk result (λ found. IsFound settings.now (logs_seen logs.now) found) }
+{
+    match settings.checked_routes(alloc) {
+        Ok(routes) => found_by(alloc, settings, &routes, logs),
+        Err(WorldFault::OutOfMemory) => Err(AllocError),
+        Err(_) => Ok(Found::NoRun),
+    }
+}
+
+/// The same under settings that a world takes, by their routes.
+fn found_by(
+    alloc: Global,
+    settings: &WorldSettings,
+    routes: &Routes,
+    logs: &[NodeLog],
+) -> Result<Found, AllocError>
+    requires world { settings_fault (settings_seen settings.now) ≡ None }
+    requires rows { first_fault (length settings.now.payers.items) settings.now.routes.items ≡ None }
+    requires routes_are { routes.now ≡ routes_of settings.now.routes.items }
+    ensures { IfOk result (λ found. IsFound settings.now (logs_seen logs.now) found) }
+{
+    match nodes_left(alloc, settings, routes, logs)? {
+        Some(nodes) => found_standing(alloc, settings, nodes, logs),
+        None => run_alone(alloc, settings, logs),
+    }
+}
+
+/// What is found of logs that their nodes made: only the order of the calls is looked for.
+fn found_standing(
+    alloc: Global,
+    settings: &WorldSettings,
+    nodes: Nodes,
+    logs: &[NodeLog],
+) -> Result<Found, AllocError>
+    requires world { settings_fault (settings_seen settings.now) ≡ None }
+    requires rows { first_fault (length settings.now.payers.items) settings.now.routes.items ≡ None }
+    requires standing { AreStanding settings.now (logs_seen logs.now) (nodes_seen nodes) }
+    ensures { IfOk result (λ found. IsFound settings.now (logs_seen logs.now) found) }
+{
+    match merge_fitting(alloc, settings, logs) {
+        Ok(merged) => Ok(Found::Run(standing_run(alloc, settings, nodes, logs, merged)?)),
+        Err(MergeFault::Tangled) => Ok(Found::NoRun),
+        Err(MergeFault::OutOfMemory) => Err(AllocError),
+    }
+}
+
+/// A run of these logs, at whose end these nodes stand.
+fn standing_run(
+    alloc: Global,
+    settings: &WorldSettings,
+    nodes: Nodes,
+    logs: &[NodeLog],
+    run: MergedRun,
+) -> Result<LegalRun, AllocError>
+    requires world { settings_fault (settings_seen settings.now) ≡ None }
+    requires rows { first_fault (length settings.now.payers.items) settings.now.routes.items ≡ None }
+    requires standing { AreStanding settings.now (logs_seen logs.now) (nodes_seen nodes) }
+    requires run { IsRunOf settings.now (logs_seen logs.now) run }
+    ensures { IfOk result (λ legal. legal
+        ≡ record { events = run.events; world = Some (left_by settings.now (map event_seen run.events.items)) }) }
+{
+    let MergedRun { events, packets } = run;
+    let Nodes {
+        pharmacies,
+        switches,
+        payers,
+    } = nodes;
+    let parts = KnownParts {
+        pharmacies,
+        switches,
+        payers,
+        packets,
+    };
+    let world = opening_world(alloc, settings)?.led_to(events.as_slice(), parts);
+    Ok(LegalRun {
+        events,
+        world: Some(world),
+    })
+}
+
+/// The opening world of settings that a world takes: nothing but memory can be wanting.
+fn opening_world(alloc: Global, settings: &WorldSettings) -> Result<World, AllocError>
+    requires world { settings_fault (settings_seen settings.now) ≡ None }
+    requires rows { first_fault (length settings.now.payers.items) settings.now.routes.items ≡ None }
+    ensures { IfOk result (λ w. w
+        ≡ record { routes = routes_of settings.now.routes.items; world = opening (settings_seen settings.now) }) }
+{
+    match World::new(alloc, settings.copy()?) {
+        Ok(world) => Ok(world),
+        Err(WorldFault::OutOfMemory) => Err(AllocError),
+        Err(_) => unreachable!(),
     }
 }

@@ -5,10 +5,12 @@ ghost use Rattle.bin_routes.specs.Table.{routes_of};
 ghost use Rattle.claim_model.specs.Settings.{opening};
 ghost use Rattle.world_setup.specs.Seen.{event_seen, settings_seen};
 ghost use Rattle.table_text.specs.Adding.{Adds};
-ghost use Rattle.log_audit.specs.Tabled.{run_csv};
+ghost use Rattle.log_audit.specs.Judged.{IsLeft};
+ghost use Rattle.log_audit.specs.Tabled.{run_csv, tells_senders};
 ghost use Rattle.log_audit.specs.Telling.{run_ledger, run_members};
 
 use crate::fault::AuditFault;
+use crate::judging::LegalRun;
 use crate::ledger::put_ledger;
 use crate::tables::senders::run_noting;
 use crate::tables::table::{Table, put_csv, put_json};
@@ -16,8 +18,25 @@ use std::alloc::Global;
 use world_core::World;
 use world_setup::{Event, WorldFault, WorldSettings};
 
-/// Appends the counts of what a run of these events left.
+/// Appends the counts of what a run left.
 pub(crate) fn put_left_counts(
+    alloc: Global,
+    text: &mut Vec<u8>,
+    settings: WorldSettings,
+    run: LegalRun,
+) -> Result<(), AuditFault>
+    requires { IsLeft settings run }
+    ensures { OnOk result (Adds text.old text.new (run_ledger settings (map event_seen run.events.items))) }
+{
+    let LegalRun { events, world } = run;
+    match world {
+        Some(world) => Ok(put_ledger(alloc, text, &world)?),
+        None => put_made_counts(alloc, text, settings, events.as_slice()),
+    }
+}
+
+/// Appends the counts of what a run of these events left, which are made for that.
+fn put_made_counts(
     alloc: Global,
     text: &mut Vec<u8>,
     settings: WorldSettings,
@@ -32,8 +51,43 @@ pub(crate) fn put_left_counts(
     }
 }
 
-/// Appends a table of what a run of these events left, as CSV.
+/// Appends a table of what a run left, as CSV.
 pub(crate) fn put_left_table(
+    alloc: Global,
+    text: &mut Vec<u8>,
+    settings: WorldSettings,
+    run: LegalRun,
+    table: Table,
+) -> Result<(), AuditFault>
+    requires { IsLeft settings run }
+    ensures { OnOk result (Adds text.old text.new (run_csv settings (map event_seen run.events.items) table)) }
+{
+    if tells_senders(table) {
+        let events = run.into_events();
+        return put_made_table(alloc, text, settings, events.as_slice(), table);
+    }
+    let LegalRun { events, world } = run;
+    match world {
+        Some(world) => Ok(put_csv(alloc, text, &world, &[], table)?),
+        None => put_made_table(alloc, text, settings, events.as_slice(), table),
+    }
+}
+
+/// Whether a table says which event sent a packet. Only making the events tells that.
+pub(crate) fn tells_senders(table: Table) -> bool
+    ensures { result ≡ tells_senders table }
+{
+    match table {
+        Table::Payments => false,
+        Table::Entries => false,
+        Table::Rows => false,
+        Table::Packets => true,
+        Table::Counted => false,
+    }
+}
+
+/// Appends a table of what a run of these events left, as CSV; they are made for that.
+fn put_made_table(
     alloc: Global,
     text: &mut Vec<u8>,
     settings: WorldSettings,
@@ -48,7 +102,8 @@ pub(crate) fn put_left_table(
     Ok(())
 }
 
-/// Appends all tables of what a run of these events left, as members of an object of JSON, each behind a comma.
+/// Appends all tables of what a run of these events left, as members of an object of JSON, each behind a comma. The events are
+/// made for that, since it says of each packet which of them sent it.
 pub(crate) fn put_left_tables(
     alloc: Global,
     text: &mut Vec<u8>,

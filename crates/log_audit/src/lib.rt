@@ -21,6 +21,7 @@ mod reasons;
 mod report;
 mod scheduling;
 mod sentences;
+mod standing;
 mod tables;
 mod waiting;
 mod walking;

@@ -4,14 +4,14 @@ ghost use Rattle.std.specs.Prelude.{◌≡◌, ◌++◌, true, false, codes, map
 ghost use Rattle.world_setup.specs.Seen.{event_seen};
 ghost use Rattle.run_merge.specs.LogSeen.{log_seen, logs_seen};
 ghost use Rattle.table_text.specs.Adding.{Adds};
-ghost use Rattle.log_audit.specs.Judged.{IsTold};
+ghost use Rattle.log_audit.specs.Judged.{IsFound, IsLeft, IsTold};
 ghost use Rattle.log_audit.specs.Prices.{run_prices};
 ghost use Rattle.log_audit.specs.Tabled.{run_csv};
-ghost use Rattle.log_audit.specs.Telling.{log_line, log_lines, legal_line, run_lines, IsTextOf, IsNoRunLines, IsNoRunObject, IsUntold, IsWritten};
+ghost use Rattle.log_audit.specs.Telling.{log_line, log_lines, legal_line, run_lines, run_object, IsSchedule, IsTextOf, IsNoRunLines, IsNoRunObject, IsUntold, IsWritten};
 
 use crate::fault::AuditFault;
-use crate::judging::{Verdict, judge};
-use crate::left::{put_left_counts, put_left_table};
+use crate::judging::{Found, LegalRun, run_alone, run_and_world};
+use crate::left::{put_left_counts, put_left_table, tells_senders};
 use crate::object::{no_run_object, run_object, torn_at};
 use crate::prices::run_prices;
 use crate::reading::Audited;
@@ -21,7 +21,7 @@ use crate::sentences::{Manner, Piece, put_pieces};
 use crate::tables::table::Table;
 use run_merge::NodeLog;
 use std::alloc::{AllocError, Global};
-use world_setup::{Event, WorldSettings};
+use world_setup::WorldSettings;
 
 /// What is told of logs, and whether they are those of a legal run.
 #[derive(Drop)]
@@ -57,43 +57,63 @@ pub fn report_on(alloc: Global, audited: Audited, form: Form) -> Result<Report, 
     // What is written is told of such a run and of the world that it leaves, or says why there is none.
     ensures text { IfOk result (λ report. IsWritten audited form report.legal report.text.items) }
 {
-    match judge(alloc, &audited.settings, audited.logs.as_slice())? {
-        Verdict::Legal(events) => legal(alloc, audited, events.as_slice(), form),
-        Verdict::NoRun => tangled(alloc, &audited, form),
+    match found_for(alloc, &audited, form)? {
+        Found::Run(found) => legal(alloc, audited, found, form),
+        Found::NoRun => tangled(alloc, &audited, form),
+    }
+}
+
+/// What is found of logs, with the world of a run where this form tells of one alone.
+fn found_for(alloc: Global, audited: &Audited, form: Form) -> Result<Found, AllocError>
+    ensures { IfOk result (λ found. IsFound audited.now.settings (logs_seen audited.now.logs.items) found) }
+{
+    if wants_world(form) {
+        run_and_world(alloc, &audited.settings, audited.logs.as_slice())
+    } else {
+        run_alone(alloc, &audited.settings, audited.logs.as_slice())
+    }
+}
+
+/// Whether the world of a run is all that is told in this form. Which event sent a packet only making the events tells, and
+/// prices and schedules are told of events.
+fn wants_world(form: Form) -> bool {
+    match form {
+        Form::Lines => true,
+        Form::Json => false,
+        Form::Csv(table) => !tells_senders(table),
+        Form::Prices => false,
+        Form::Schedule => false,
     }
 }
 
 /// What is told of logs of a legal run.
-fn legal(
-    alloc: Global,
-    audited: Audited,
-    events: &[Event],
-    form: Form,
-) -> Result<Report, AuditFault>
+fn legal(alloc: Global, audited: Audited, run: LegalRun, form: Form) -> Result<Report, AuditFault>
+    requires { IsLeft audited.settings run }
     ensures legal { IfOk result (λ report. report.legal ≡ true) }
-    ensures text { IfOk result (λ report. IsTextOf audited (map event_seen events.now) form report.text.items) }
+    ensures text { IfOk result (λ report. IsTextOf audited (map event_seen run.events.items) form report.text.items) }
 {
-    match legal_text(alloc, audited, events, form) {
+    match legal_text(alloc, audited, run, form) {
         Ok(text) => Ok(Report { text, legal: true }),
         Err(fault) => Err(fault),
     }
 }
 
-/// The text that is told of these events.
+/// The text that is told of this run.
 fn legal_text(
     alloc: Global,
     audited: Audited,
-    events: &[Event],
+    run: LegalRun,
     form: Form,
 ) -> Result<Vec<u8>, AuditFault>
-    ensures { IfOk result (λ text. IsTextOf audited (map event_seen events.now) form text.items) }
+    requires { IsLeft audited.settings run }
+    ensures { IfOk result (λ text. IsTextOf audited (map event_seen run.events.items) form text.items) }
 {
     match form {
-        Form::Lines => run_lines(alloc, audited, events),
-        Form::Json => run_object(alloc, audited, events),
-        Form::Csv(table) => table_of(alloc, audited, events, table),
-        Form::Prices => prices_of(alloc, &audited, events),
-        Form::Schedule => scheduled(alloc, audited.text.as_slice(), events),
+        Form::Lines => run_lines(alloc, audited, run),
+        Form::Json => object_of(alloc, audited, run),
+        Form::Csv(table) => table_of(alloc, audited, run, table),
+        Form::Prices => prices_of(alloc, audited, run),
+        Form::Schedule => schedule_of(alloc, audited, run),
     }
 }
 
@@ -121,36 +141,55 @@ fn no_run_text(alloc: Global, audited: &Audited, form: Form) -> Result<Vec<u8>, 
     }
 }
 
-/// A table of what a run of these events left.
+/// The object of logs of a legal run.
+fn object_of(alloc: Global, audited: Audited, run: LegalRun) -> Result<Vec<u8>, AuditFault>
+    ensures { IfOk result (λ text. text.items ≡ run_object audited (map event_seen run.events.items)) }
+{
+    let events = run.into_events();
+    run_object(alloc, audited, events.as_slice())
+}
+
+/// A table of what a run left.
 fn table_of(
     alloc: Global,
     audited: Audited,
-    events: &[Event],
+    run: LegalRun,
     table: Table,
 ) -> Result<Vec<u8>, AuditFault>
-    ensures { IfOk result (λ text. text.items ≡ run_csv audited.settings (map event_seen events.now) table) }
+    requires { IsLeft audited.settings run }
+    ensures { IfOk result (λ text. text.items ≡ run_csv audited.settings (map event_seen run.events.items) table) }
 {
     let mut text = Vec::new(alloc);
-    put_left_table(alloc, &mut text, settings_alone(audited), events, table)?;
+    put_left_table(alloc, &mut text, settings_alone(audited), run, table)?;
     Ok(text)
 }
 
-/// The price changes of a run of these events.
-fn prices_of(alloc: Global, audited: &Audited, events: &[Event]) -> Result<Vec<u8>, AuditFault>
-    ensures { IfOk result (λ text. text.items ≡ run_prices audited.now.settings (map event_seen events.now)) }
+/// The price changes of a run.
+fn prices_of(alloc: Global, audited: Audited, run: LegalRun) -> Result<Vec<u8>, AuditFault>
+    ensures { IfOk result (λ text. text.items ≡ run_prices audited.settings (map event_seen run.events.items)) }
 {
-    Ok(run_prices(alloc, &audited.settings, events)?)
+    let events = run.into_events();
+    Ok(run_prices(alloc, &audited.settings, events.as_slice())?)
+}
+
+/// The input of a replay of a run.
+fn schedule_of(alloc: Global, audited: Audited, run: LegalRun) -> Result<Vec<u8>, AuditFault>
+    ensures { IfOk result (λ text. IsSchedule audited.text.items (map event_seen run.events.items) text.items) }
+{
+    let events = run.into_events();
+    scheduled(alloc, audited.text.as_slice(), events.as_slice())
 }
 
 /// The lines of logs of a legal run.
 #[tactic(auto, unfolding(crate::specs::Telling::run_lines))]
-fn run_lines(alloc: Global, audited: Audited, events: &[Event]) -> Result<Vec<u8>, AuditFault>
-    ensures { IfOk result (λ text. text.items ≡ run_lines audited (map event_seen events.now)) }
+fn run_lines(alloc: Global, audited: Audited, run: LegalRun) -> Result<Vec<u8>, AuditFault>
+    requires { IsLeft audited.settings run }
+    ensures { IfOk result (λ text. text.items ≡ run_lines audited (map event_seen run.events.items)) }
 {
     let mut text = Vec::new(alloc);
     put_logs(&mut text, audited.logs.as_slice(), audited.torn.as_slice())?;
-    put_legal(&mut text, events.len() as u64)?;
-    put_left_counts(alloc, &mut text, settings_alone(audited), events)?;
+    put_legal(&mut text, run.events.len() as u64)?;
+    put_left_counts(alloc, &mut text, settings_alone(audited), run)?;
     Ok(text)
 }
 

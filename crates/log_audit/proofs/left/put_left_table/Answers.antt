@@ -1,11 +1,10 @@
-use Rattle.std.proofs.Common.{List, ℕ, ◌++◌, map, ap, ◌∙◌}
+use Rattle.std.proofs.Common.{List, ℕ, ◌++◌, [], map, sym, ap, ◌∙◌}
 use Rattle.world_setup.specs.Seen.{event_seen}
-use Rattle.log_audit.proofs.Leaving.{csv_is}
+use Rattle.log_audit.proofs.Leaving.{table_left}
 use Rattle.log_audit.proofs.left.put_left_table.Goals as goal
 
-pub returns : goal.returns
-returns c =
-    c.in_ok-put_csv.ensures
+pub returns-in_ok-put_csv-in-Some : goal.returns-in_ok-put_csv-in-Some
+returns-in_ok-put_csv-in-Some c =
+    c.in_ok-put_csv-in-Some.ensures
     ∙ ap (λ (text : List ℕ). c.args.text.now.items ++ text)
-    (csv_is c.args.settings c.in_ok-world.world c.run_noting.new.world (map event_seen c.args.events.now) c.as_slice.result.now c.args.table
-    c.in_ok-world.ensures c.run_noting.ensures.routes c.in_ok-senders.ensures.made (c.as_slice.ensures.value ∙ c.in_ok-senders.ensures.senders))
+    (table_left c.args.settings (map event_seen c.args.run.events.items) c.in-Some.world [] c.args.table (sym c.tells_senders.ensures ∙ c.if-tells_senders.false) (rw c.in-Some.is at c.requires))

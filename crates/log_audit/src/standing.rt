@@ -1,0 +1,188 @@
+//! All nodes of settings as their logs leave them, each call made once.
+
+ghost use Rattle.std.specs.Prelude.{◌≡◌, List, None, IfOk, IfSome, IsTrue};
+ghost use Rattle.std.specs.BTreeMap.{get};
+ghost use Rattle.std.specs.Ordering.{nat_cmp};
+ghost use Rattle.bin_routes.specs.Table.{routes_of};
+ghost use Rattle.claim_model.specs.Bytes.{bytes_with};
+ghost use Rattle.claim_model.specs.Logs as model;
+ghost use Rattle.claim_model.specs.Settings.{settings_fault};
+ghost use Rattle.world_setup.specs.Seen.{node_seen, settings_seen};
+ghost use Rattle.world_setup.specs.declared.settings.WorldSettings.{WorldSettings as Settings};
+ghost use Rattle.run_merge.specs.LogSeen.{log_seen, logs_seen};
+ghost use Rattle.log_audit.specs.Standing.{AreByNumber, AreNumbered, AreStanding, Enters, IsInOrder, IsLeftBy, LeavesNode, StandsBy};
+ghost use Rattle.log_audit.specs.StandingSeen.{nodes_seen};
+
+use bin_routes::Routes;
+use node_state::{NodeState, PayerNode, PharmacyNode, StateKind, SwitchNode};
+use run_merge::{NodeLog, Record, is_there, makes};
+use std::alloc::{AllocError, Global};
+use std::collections::BTreeMap;
+use world_setup::{Node, WorldSettings};
+
+/// All nodes as they stand, each kind in the order of its numbers, from 1.
+#[derive(Drop)]
+pub(crate) struct Nodes {
+    pub(crate) pharmacies: Vec<PharmacyNode>,
+    pub(crate) switches: Vec<SwitchNode>,
+    pub(crate) payers: Vec<PayerNode>,
+}
+
+/// The nodes that logs leave, where each log is one that its node makes, and each node of the settings has one; else none, and
+/// the logs alone say what they are.
+pub(crate) fn nodes_left(
+    alloc: Global,
+    settings: &WorldSettings,
+    routes: &Routes,
+    logs: &[NodeLog],
+) -> Result<Option<Nodes>, AllocError>
+    requires world { settings_fault (settings_seen settings.now) ≡ None }
+    requires routes_are { routes.now ≡ routes_of settings.now.routes.items }
+    ensures { IfOk result (λ o. IfSome o (λ nodes. AreStanding settings.now (logs_seen logs.now) (nodes_seen nodes))) }
+{
+    let mut found = ByNumber::new(alloc);
+    for log in logs {
+        let Some(node) = node_left(alloc, settings, routes, log)? else {
+            return Ok(None);
+        };
+        if !found.enter(log.node(), node)? {
+            return Ok(None);
+        }
+    }
+    found.in_order(alloc, settings)
+}
+
+/// The node that a log leaves, where it is there and makes the log: it accepts each call, and sends with it each byte that the
+/// log has.
+fn node_left(
+    alloc: Global,
+    settings: &WorldSettings,
+    routes: &Routes,
+    log: &NodeLog,
+) -> Result<Option<NodeState>, AllocError>
+    requires world { settings_fault (settings_seen settings.now) ≡ None }
+    requires routes_are { routes.now ≡ routes_of settings.now.routes.items }
+    ensures { IfOk result (λ o. IfSome o (λ node. IsLeftBy settings.now (log_seen log.now) node)) }
+{
+    if !is_there(settings, log.node()) {
+        return Ok(None);
+    }
+    let mut node = NodeState::opening(alloc, settings, log.node())?;
+    if makes_all(alloc, routes, &mut node, log.records())? {
+        Ok(Some(node))
+    } else {
+        Ok(None)
+    }
+}
+
+/// Makes the calls of records on a node, and tells whether it made all of them as their records have them.
+fn makes_all(
+    alloc: Global,
+    routes: &Routes,
+    node: &mut NodeState,
+    records: &[Record],
+) -> Result<bool, AllocError>
+    ensures { IfOk result (λ yes. IsTrue yes → LeavesNode (bytes_with routes.now) node.old records.now node.new) }
+{
+    for record in records {
+        if !makes(alloc, routes, node, record)? {
+            return Ok(false);
+        }
+    }
+    Ok(true)
+}
+
+/// Nodes by their numbers.
+#[derive(Drop)]
+pub(crate) struct ByNumber {
+    pub(crate) pharmacies: BTreeMap<u64, PharmacyNode>,
+    pub(crate) switches: BTreeMap<u64, SwitchNode>,
+    pub(crate) payers: BTreeMap<u64, PayerNode>,
+}
+
+impl ByNumber {
+    /// No nodes.
+    fn new(alloc: Global) -> ByNumber
+        ensures { (s : Settings) (logs : List model.NodeLog) → AreByNumber s logs result }
+    {
+        ByNumber {
+            pharmacies: BTreeMap::new(alloc),
+            switches: BTreeMap::new(alloc),
+            payers: BTreeMap::new(alloc),
+        }
+    }
+
+    /// Enters the node of a name, and tells whether it is of that kind, and the only one of that name.
+    fn enter(&mut self, name: Node, node: NodeState) -> Result<bool, AllocError>
+        ensures { IfOk result (λ yes. IsTrue yes → (s : Settings) (logs : List model.NodeLog)
+            → StandsBy s logs (node_seen name) node → AreByNumber s logs self.old → AreByNumber s logs self.new) }
+    {
+        match node.into_kind() {
+            StateKind::Pharmacy(node) => match name {
+                Node::Pharmacy(number) => enter(&mut self.pharmacies, number, node),
+                _ => Ok(false),
+            },
+            StateKind::Switch(node) => match name {
+                Node::Switch(number) => enter(&mut self.switches, number, node),
+                _ => Ok(false),
+            },
+            StateKind::Payer(node) => match name {
+                Node::Payer(number) => enter(&mut self.payers, number, node),
+                _ => Ok(false),
+            },
+        }
+    }
+
+    /// The nodes in order, where all of the settings are there.
+    fn in_order(self, alloc: Global, settings: &WorldSettings) -> Result<Option<Nodes>, AllocError>
+        ensures { IfOk result (λ o. IfSome o (λ nodes. IsInOrder settings.now self (nodes_seen nodes))) }
+    {
+        let ByNumber {
+            pharmacies,
+            switches,
+            payers,
+        } = self;
+        let Some(pharmacies) = in_order(alloc, pharmacies, settings.pharmacies.len())? else {
+            return Ok(None);
+        };
+        let Some(switches) = in_order(alloc, switches, settings.switches.len())? else {
+            return Ok(None);
+        };
+        let Some(payers) = in_order(alloc, payers, settings.payers.len())? else {
+            return Ok(None);
+        };
+        Ok(Some(Nodes {
+            pharmacies,
+            switches,
+            payers,
+        }))
+    }
+}
+
+/// Enters a node under its number, and tells whether there was none.
+fn enter<N: Drop>(nodes: &mut BTreeMap<u64, N>, number: u16, node: N) -> Result<bool, AllocError>
+    ensures { IfOk result (λ yes. IsTrue yes → Enters (get nat_cmp nodes.old) number node (get nat_cmp nodes.new)) }
+{
+    match nodes.insert(u64::from(number), node) {
+        Ok(before) => Ok(before.is_none()),
+        Err(_) => Err(AllocError),
+    }
+}
+
+/// The nodes of the numbers from 1 to a count, where all are there.
+fn in_order<N: Drop>(
+    alloc: Global,
+    mut nodes: BTreeMap<u64, N>,
+    count: usize,
+) -> Result<Option<Vec<N>>, AllocError>
+    ensures { IfOk result (λ o. IfSome o (λ list. AreNumbered (get nat_cmp nodes) count list.items)) }
+{
+    let mut list = Vec::new(alloc);
+    for place in 0..count {
+        match nodes.remove(&(place as u64 + 1)) {
+            Some(node) => list.push(node)?,
+            None => return Ok(None),
+        }
+    }
+    Ok(Some(list))
+}
