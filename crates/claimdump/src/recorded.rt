@@ -1,7 +1,7 @@
 //! A world, and the log of each of its nodes.
 
+use node_log::NodeLog;
 use octets::Octets;
-use run_merge::NodeLog;
 use std::alloc::{AllocError, Global};
 use world_core::World;
 use world_setup::{Call, Event, Node, Packet, Sent, StepFault};

@@ -5,7 +5,7 @@ use Rattle.std.proofs.lemmas.Bool.Decides.{nat_tests}
 use Rattle.std.proofs.lemmas.List.{take_at, take_all, take-append-le}
 use Rattle.claim_model.specs.Node.{Node, Pharmacy, Switch, Payer}
 use Rattle.claim_model.specs.Logs.{Logged, NodeLog}
-use Rattle.run_merge.specs.LogSeen.{with_call}
+use Rattle.node_log.specs.LogSeen.{with_call}
 use Rattle.kept_logs.specs.declared.fault.LogFault.TheVariants.{Short}
 use Rattle.kept_logs.specs.Fields.{bytes_at, node_text, node_at}
 use Rattle.kept_logs.specs.Records.{logged_text}

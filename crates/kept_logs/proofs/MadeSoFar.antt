@@ -4,7 +4,7 @@ use Rattle.claim_model.specs.Context.{Context}
 use Rattle.claim_model.specs.Node.{Node, Done}
 use Rattle.claim_model.specs.Nodes.{AnyNode, node_step, same_node}
 use Rattle.claim_model.specs.Logs.{Logged, node_after, replay, Makes}
-use Rattle.run_merge.specs.Order.{TellsMade}
+use Rattle.node_log.specs.Fits.{TellsMade}
 use Rattle.kept_logs.specs.declared.fault.LogFault.{LogFault}
 use Rattle.kept_logs.specs.declared.making.MadeCalls.{MadeCalls}
 use Rattle.kept_logs.specs.Digests.{version_of}

@@ -3,7 +3,7 @@ use Rattle.std.specs.Prelude.{◌≡◌, ℕ, List, length, map, Result, Ok}
 use Rattle.claim_model.specs.Node.{Node}
 use Rattle.world_setup.specs.Seen.{call_seen, sent_seen}
 use Rattle.claim_model.specs.Logs.{Logged, NodeLog}
-use Rattle.run_merge.specs.LogSeen.{log_seen}
+use Rattle.node_log.specs.LogSeen.{log_seen}
 use Rattle.kept_logs.specs.Logs.{Reading}
 use Rattle.kept_logs.specs.declared.fault.LogFault.{LogFault}
 use Rattle.kept_logs.specs.declared.records.Entry.{Entry}

@@ -2,7 +2,7 @@
 
 ghost use Rattle.std.specs.Prelude.{◌≡◌, ◌⊎◌, ℕ, ◌+◌, ◌<◌, ◌≤◌, ◌++◌, true, List, length, take, Ok, Err};
 ghost use Rattle.claim_model.specs.Logs.{Logged, NodeLog};
-ghost use Rattle.run_merge.specs.LogSeen.{with_call};
+ghost use Rattle.node_log.specs.LogSeen.{with_call};
 ghost use Rattle.kept_logs.specs.declared.fault.LogFault.TheVariants.{Short};
 ghost use Rattle.kept_logs.specs.Records.{logged_text};
 ghost use Rattle.kept_logs.specs.Digests.{version_of};

@@ -4,7 +4,7 @@ ghost use Rattle.std.specs.Prelude.{◌≡◌, ◌≢◌, ◌≤◌, ◌++◌, l
 ghost use Rattle.std.specs.List.{AllByRecursion};
 ghost use Rattle.std.specs.Option.{option_map};
 ghost use Rattle.world_setup.specs.Seen.{node_seen};
-ghost use Rattle.run_merge.specs.LogSeen.{log_seen};
+ghost use Rattle.node_log.specs.LogSeen.{log_seen};
 ghost use Rattle.kept_logs.specs.declared.fault.LogFault.TheVariants.{OutOfMemory};
 ghost use Rattle.kept_logs.specs.Records.{logged_text, logged_in};
 ghost use Rattle.kept_logs.specs.Digests.{version_seen};
@@ -21,7 +21,7 @@ use crate::heads::{put_head, take_head};
 use crate::laws::{log_is_its_text, log_reads_back};
 use crate::records::{Entry, body_of, entry_of};
 use crate::version::LogVersion;
-use run_merge::{NodeLog, Record};
+use node_log::{NodeLog, Record};
 use std::alloc::{AllocError, Global};
 use world_setup::Node;
 

@@ -18,8 +18,8 @@ use crate::laws::log_is_its_text;
 use crate::logs::take_record;
 use crate::version::LogVersion;
 use bin_routes::Routes;
+use node_log::{Record, is_same_node, makes};
 use node_state::NodeState;
-use run_merge::{Record, is_same_node, makes};
 use std::alloc::{AllocError, Global};
 use world_setup::{Node, WorldSettings};
 

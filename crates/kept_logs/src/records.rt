@@ -12,8 +12,8 @@ use crate::calls::{put_call, take_call};
 use crate::fields::{take_node, take_text};
 use crate::putting::{put_node, put_text};
 use kept_records::{put_u64, take_u64};
+use node_log::Record;
 use octets::Octets;
-use run_merge::Record;
 use std::alloc::{AllocError, Global};
 use world_setup::{Call, Sent};
 

@@ -24,12 +24,12 @@ use Rattle.world_setup.specs.Seen.{event_seen, settings_seen}
 use Rattle.world_setup.specs.declared.event.Event.{Event as Made}
 use Rattle.world_setup.specs.declared.settings.WorldSettings.{WorldSettings}
 use Rattle.world_core.specs.NodeLists.{NodeLists, world_of}
-use Rattle.run_merge.specs.LogSeen.{log_seen, logs_seen}
+use Rattle.node_log.specs.LogSeen.{log_seen, logs_seen}
 use Rattle.run_merge.specs.Merged.{IsMerged, FitsThere, AllFit, packets_after}
-use Rattle.run_merge.specs.Naming.{is_there}
-use Rattle.run_merge.specs.declared.log.NodeLog.{NodeLog as Kept}
-use Rattle.run_merge.proofs.Breaking.{Leads}
-use Rattle.run_merge.proofs.Opens.{pharmacies_length, switches_length, payers_length}
+use Rattle.node_log.specs.There.{is_there}
+use Rattle.node_log.specs.declared.log.NodeLog.{NodeLog as Kept}
+use Rattle.node_log.proofs.Breaking.{Leads}
+use Rattle.node_log.proofs.Opens.{pharmacies_length, switches_length, payers_length}
 use Rattle.run_merge.proofs.Places.{found_at}
 use Rattle.log_audit.specs.Judged.{left_by, IsLegal}
 use Rattle.log_audit.specs.declared.judging.LegalRun.{LegalRun}

@@ -7,8 +7,8 @@ use Rattle.kept_logs.specs.Logs.{log_in}
 use Rattle.kept_logs.specs.LogSeen.{reading_seen}
 use Rattle.kept_logs.specs.declared.logs.ReadLog.{ReadLog}
 use Rattle.claim_model.specs.Logs.{NodeLog}
-use Rattle.run_merge.specs.LogSeen.{log_seen, logs_seen}
-use Rattle.run_merge.specs.declared.log.NodeLog.{NodeLog as Kept}
+use Rattle.node_log.specs.LogSeen.{log_seen, logs_seen}
+use Rattle.node_log.specs.declared.log.NodeLog.{NodeLog as Kept}
 use Rattle.log_audit.specs.Given.{IsLog, AreLogs, ReadsOne, bytes_of, left_behind, torn_end, torn_ends}
 
 are_more : (digest : List ℕ → List ℕ) (bytes : List (List ℕ)) (logs : List NodeLog) (b : List ℕ) (log : NodeLog) → AreLogs digest bytes logs → IsLog digest b log → AreLogs digest (bytes ++ b ∷ []) (logs ++ log ∷ [])

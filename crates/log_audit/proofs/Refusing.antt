@@ -6,8 +6,8 @@ use Rattle.settings_digest.specs.Digests.{digest_under}
 use Rattle.world_setup.specs.Taken.{world_fault}
 use Rattle.world_setup.specs.declared.settings.WorldSettings.{WorldSettings}
 use Rattle.world_settings.specs.Document.{document_seen, living_in}
-use Rattle.run_merge.specs.LogSeen.{log_seen, logs_seen}
-use Rattle.run_merge.specs.declared.log.NodeLog.{NodeLog as Kept}
+use Rattle.node_log.specs.LogSeen.{log_seen, logs_seen}
+use Rattle.node_log.specs.declared.log.NodeLog.{NodeLog as Kept}
 use Rattle.log_audit.specs.declared.fault.AuditFault.{AuditFault}
 use Rattle.log_audit.specs.declared.fault.AuditFault.TheVariants.{OutOfMemory, Settings, World, Log, NoLine}
 use Rattle.log_audit.specs.Given.{AreLogs, bytes_of}

@@ -2,7 +2,7 @@
 use Rattle.std.proofs.Common.{◌≡◌, true, Bool, List, sym, subst}
 use Rattle.std.specs.Prelude.{Result, Ok, Err, IfOk}
 use Rattle.claim_model.specs.World.{Event}
-use Rattle.run_merge.specs.LogSeen.{logs_seen}
+use Rattle.node_log.specs.LogSeen.{logs_seen}
 use Rattle.run_merge.specs.Merged.{IsMerged}
 use Rattle.log_audit.specs.Telling.{IsTextOf, IsWritten}
 use Rattle.log_audit.specs.declared.reading.Audited.{Audited}

@@ -1,7 +1,7 @@
 -- What logs come to by themselves, as the model sees it.
 use Rattle.std.specs.Prelude.{ℕ, List, Result, Ok, Err, map}
 use Rattle.claim_model.specs.Nodes.{AnyNode}
-use Rattle.run_merge.specs.LogSeen.{log_seen}
+use Rattle.node_log.specs.LogSeen.{log_seen}
 use Rattle.log_audit.specs.Lones as seen
 use Rattle.log_audit.specs.declared.alone.Came.{Came}
 use Rattle.log_audit.specs.declared.alone.Came.TheVariants.{Made, NotMade}

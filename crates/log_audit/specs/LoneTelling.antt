@@ -4,7 +4,7 @@ use Rattle.std.specs.List.{flat_map, list_all}
 use Rattle.claim_model.specs.Context.{Context}
 use Rattle.claim_model.specs.Nodes.{AnyNode}
 use Rattle.world_setup.specs.Seen.{settings_seen}
-use Rattle.run_merge.specs.LogSeen.{logs_seen}
+use Rattle.node_log.specs.LogSeen.{logs_seen}
 use Rattle.table_text.specs.Rows.{rows_text, head_text, list_text}
 use Rattle.table_text.specs.declared.layout.Style.TheVariants as style
 use Rattle.log_audit.specs.Prices.{log_prices}

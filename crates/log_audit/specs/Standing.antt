@@ -12,8 +12,9 @@ use Rattle.claim_model.specs.Numbered.{numbered}
 use Rattle.world_setup.specs.Seen.{settings_seen}
 use Rattle.world_setup.specs.declared.settings.WorldSettings.{WorldSettings}
 use Rattle.world_core.specs.NodeLists.{NodeLists}
-use Rattle.run_merge.specs.Merged.{AllFit, FitsAlone, replayed}
-use Rattle.run_merge.specs.Order.{Fits}
+use Rattle.node_log.specs.Replayed.{replayed}
+use Rattle.run_merge.specs.Merged.{AllFit, FitsAlone}
+use Rattle.node_log.specs.Fits.{Fits}
 use Rattle.log_audit.specs.declared.standing.ByNumber.{ByNumber}
 
 -- a node makes these calls, and is then this one

@@ -13,7 +13,7 @@ use Rattle.schedule.specs.Reading.{events_of}
 use Rattle.world_setup.specs.Seen.{event_seen, settings_seen}
 use Rattle.world_setup.specs.declared.event.Event.{Event as Kept}
 use Rattle.world_setup.specs.declared.settings.WorldSettings.{WorldSettings}
-use Rattle.run_merge.specs.LogSeen.{logs_seen}
+use Rattle.node_log.specs.LogSeen.{logs_seen}
 use Rattle.run_merge.specs.Merged.{IsMerged}
 use Rattle.table_text.specs.Members.{Row}
 use Rattle.log_audit.specs.Kinds.{number_member, node_member}

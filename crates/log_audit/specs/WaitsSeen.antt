@@ -1,5 +1,5 @@
 -- Logs and how many of their calls were made, as the model sees them.
-use Rattle.run_merge.specs.LogSeen.{log_seen}
+use Rattle.node_log.specs.LogSeen.{log_seen}
 use Rattle.log_audit.specs.Waits as seen
 use Rattle.log_audit.specs.declared.waiting.Progress.{Progress}
 

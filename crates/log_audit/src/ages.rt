@@ -4,7 +4,7 @@ ghost use Rattle.std.specs.Prelude.{◌≡◌, ◌++◌, ◌-◌, slice_index, I
 ghost use Rattle.world_setup.specs.Seen.{call_seen};
 ghost use Rattle.log_audit.specs.Alone.{ticked, submitted, ticks_after, submitted_at};
 
-use run_merge::Record;
+use node_log::Record;
 use std::alloc::{AllocError, Global};
 use world_setup::Call;
 

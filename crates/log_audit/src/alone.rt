@@ -4,7 +4,7 @@ ghost use Rattle.std.specs.Prelude.{◌≡◌, None, codes, IfOk};
 ghost use Rattle.claim_model.specs.Bytes.{bytes_with};
 ghost use Rattle.claim_model.specs.Settings.{settings_fault};
 ghost use Rattle.world_setup.specs.Seen.{settings_seen, node_seen};
-ghost use Rattle.run_merge.specs.LogSeen.{log_seen};
+ghost use Rattle.node_log.specs.LogSeen.{log_seen};
 ghost use Rattle.log_audit.specs.Lacks.{node_line};
 ghost use Rattle.log_audit.specs.Wrongs.{wrong_line};
 ghost use Rattle.log_audit.specs.WrongsSeen.{first_seen};
@@ -15,8 +15,8 @@ ghost use Rattle.log_audit.specs.AloneSeen.{came_seen, lone_seen};
 use crate::sentences::{Piece, put_pieces};
 use crate::wrongs::{FirstWrong, make_calls, put_wrong_line};
 use bin_routes::Routes;
+use node_log::{NodeLog, is_there};
 use node_state::NodeState;
-use run_merge::{NodeLog, is_there};
 use std::alloc::{AllocError, Global};
 use world_setup::{Node, WorldSettings};
 

@@ -5,7 +5,7 @@ ghost use Rattle.bin_routes.specs.Fault.{first_fault};
 ghost use Rattle.bin_routes.specs.Table.{routes_of};
 ghost use Rattle.claim_model.specs.Settings.{opening, settings_fault};
 ghost use Rattle.world_setup.specs.Seen.{event_seen, settings_seen};
-ghost use Rattle.run_merge.specs.LogSeen.{logs_seen};
+ghost use Rattle.node_log.specs.LogSeen.{logs_seen};
 ghost use Rattle.run_merge.specs.MergedRuns.{IsRunOf};
 ghost use Rattle.log_audit.specs.Judged.{IsFound, IsJudged, left_by};
 ghost use Rattle.log_audit.specs.Standing.{AreStanding};
@@ -13,7 +13,8 @@ ghost use Rattle.log_audit.specs.StandingSeen.{nodes_seen};
 
 use crate::standing::{Nodes, nodes_left};
 use bin_routes::Routes;
-use run_merge::{MergeFault, MergedRun, NodeLog, merge, merge_fitting};
+use node_log::NodeLog;
+use run_merge::{MergeFault, MergedRun, merge, merge_fitting};
 use std::alloc::{AllocError, Global};
 use world_core::{KnownParts, World};
 use world_setup::{Event, WorldFault, WorldSettings};

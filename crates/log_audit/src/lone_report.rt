@@ -6,7 +6,7 @@ ghost use Rattle.bin_routes.specs.Table.{RouteMaps, routes_of};
 ghost use Rattle.claim_model.specs.Bytes.{bytes_with};
 ghost use Rattle.claim_model.specs.Settings.{settings_fault};
 ghost use Rattle.world_setup.specs.Seen.{settings_seen};
-ghost use Rattle.run_merge.specs.LogSeen.{logs_seen};
+ghost use Rattle.node_log.specs.LogSeen.{logs_seen};
 ghost use Rattle.log_audit.specs.Alone.{all_made};
 ghost use Rattle.log_audit.specs.Lones.{lones_from, makes};
 ghost use Rattle.log_audit.specs.Prices.{log_prices};
@@ -22,7 +22,7 @@ use crate::object::torn_at;
 use crate::prices::log_prices;
 use crate::reading::Audited;
 use bin_routes::Routes;
-use run_merge::NodeLog;
+use node_log::NodeLog;
 use std::alloc::{AllocError, Global};
 use world_setup::{WorldFault, WorldSettings};
 

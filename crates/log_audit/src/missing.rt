@@ -3,13 +3,13 @@
 ghost use Rattle.std.specs.Prelude.{◌≡◌, None, IfOk, OnOk};
 ghost use Rattle.claim_model.specs.Settings.{settings_fault};
 ghost use Rattle.world_setup.specs.Seen.{node_seen, settings_seen};
-ghost use Rattle.run_merge.specs.LogSeen.{log_seen, logs_seen};
+ghost use Rattle.node_log.specs.LogSeen.{log_seen, logs_seen};
 ghost use Rattle.log_audit.specs.Adding.{AddsLine, AddsLines};
 ghost use Rattle.log_audit.specs.Sentences.{told_lines};
 ghost use Rattle.log_audit.specs.Lacks.{count_of, lack_of, lack_word, line_of_lack, lack_lines, node_line, kind_node, lacks_up_to, stranger_lines, strangers, missing_lines};
 
 use crate::sentences::{Manner, Piece, put_pieces, put_told};
-use run_merge::{NodeLog, is_there};
+use node_log::{NodeLog, is_there};
 use std::alloc::{AllocError, Global};
 use world_setup::{Node, WorldSettings};
 

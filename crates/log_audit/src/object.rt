@@ -2,7 +2,7 @@
 
 ghost use Rattle.std.specs.Prelude.{◌≡◌, ◌++◌, codes, length, map, slice_index, OnOk, IfOk};
 ghost use Rattle.world_setup.specs.Seen.{event_seen};
-ghost use Rattle.run_merge.specs.LogSeen.{log_seen, logs_seen};
+ghost use Rattle.node_log.specs.LogSeen.{log_seen, logs_seen};
 ghost use Rattle.table_text.specs.Adding.{Adds, AddsRow, AddsRows};
 ghost use Rattle.table_text.specs.Rows.{list_text};
 ghost use Rattle.log_audit.specs.Telling.{log_row, log_rows, logs_member, count_member, run_members, run_object};
@@ -14,7 +14,7 @@ use crate::reading::Audited;
 use crate::report::settings_alone;
 use crate::sentences::{Piece, put_pieces};
 use crate::tables::kinds::node_field;
-use run_merge::NodeLog;
+use node_log::NodeLog;
 use std::alloc::{AllocError, Global};
 use table_text::{Field, Style, put_list, put_row};
 use world_setup::Event;

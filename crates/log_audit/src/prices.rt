@@ -3,15 +3,15 @@
 ghost use Rattle.std.specs.Prelude.{◌≡◌, ◌++◌, [], bytes_eq, cond, map, slice_get, Some, None, IfOk, OnOk};
 ghost use Rattle.std.specs.List.{flat_map};
 ghost use Rattle.world_setup.specs.Seen.{call_seen, event_seen, node_seen};
-ghost use Rattle.run_merge.specs.LogSeen.{log_seen, logs_seen};
+ghost use Rattle.node_log.specs.LogSeen.{log_seen, logs_seen};
 ghost use Rattle.table_text.specs.Adding.{Adds, AddsRow, AddsRows};
 ghost use Rattle.table_text.specs.Rows.{head_text};
 ghost use Rattle.table_text.specs.declared.layout.Style.TheVariants.{Csv};
 ghost use Rattle.log_audit.specs.Adding.{Joined};
 ghost use Rattle.log_audit.specs.Prices.{change_seen, call_change, call_changes, changed_row, changes_csv, event_change, event_changes, listed_price, price_if, log_changes, log_prices, node_changes, opening_price, price_after, price_names, price_row, price_then, rows_behind, run_prices};
 
+use node_log::{NodeLog, Record};
 use plan_rules::Plan;
-use run_merge::{NodeLog, Record};
 use std::alloc::{AllocError, Global};
 use table_text::{Field, Style, put_head, put_row};
 use world_setup::{Call, Event, Node, WorldSettings};

@@ -3,7 +3,7 @@
 ghost use Rattle.std.specs.Prelude.{◌≡◌, ◌++◌, ◌∷◌, [], length, Some, None, Ok, IfOk, IfErr, OnOk};
 ghost use Rattle.world_setup.specs.Taken.{world_fault};
 ghost use Rattle.world_settings.specs.Document.{document_seen, living_in};
-ghost use Rattle.run_merge.specs.LogSeen.{logs_seen};
+ghost use Rattle.node_log.specs.LogSeen.{logs_seen};
 ghost use Rattle.kept_logs.specs.Logs.{log_in};
 ghost use Rattle.kept_logs.specs.LogSeen.{reading_seen};
 ghost use Rattle.settings_digest.specs.Digests.{digest_under, under};
@@ -12,7 +12,7 @@ ghost use Rattle.log_audit.specs.Refused.{AreNoLogs, IsNoLog, IsRefused, SpellsN
 
 use crate::fault::AuditFault;
 use kept_logs::{LogFault, ReadLog, read_log};
-use run_merge::NodeLog;
+use node_log::NodeLog;
 use settings_digest::Digests;
 use std::alloc::{AllocError, Global};
 use world_settings::{SettingsFault, read_living_settings};

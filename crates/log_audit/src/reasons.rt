@@ -4,7 +4,7 @@ ghost use Rattle.std.specs.Prelude.{◌≡◌, None, IfOk};
 ghost use Rattle.bin_routes.specs.Table.{routes_of};
 ghost use Rattle.claim_model.specs.Settings.{is_empty, settings_fault};
 ghost use Rattle.world_setup.specs.Seen.{settings_seen};
-ghost use Rattle.run_merge.specs.LogSeen.{logs_seen};
+ghost use Rattle.node_log.specs.LogSeen.{logs_seen};
 ghost use Rattle.log_audit.specs.Reasons.{IsReasons, LastReason, SomeReason};
 
 use crate::fault::AuditFault;
@@ -13,7 +13,7 @@ use crate::sentences::Manner;
 use crate::waiting::waiting_lines;
 use crate::wrongs::wrong_lines;
 use bin_routes::Routes;
-use run_merge::NodeLog;
+use node_log::NodeLog;
 use std::alloc::{AllocError, Global};
 use world_setup::{WorldFault, WorldSettings};
 

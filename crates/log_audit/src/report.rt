@@ -2,7 +2,7 @@
 
 ghost use Rattle.std.specs.Prelude.{◌≡◌, ◌++◌, true, false, codes, map, IfOk, OnOk};
 ghost use Rattle.world_setup.specs.Seen.{event_seen};
-ghost use Rattle.run_merge.specs.LogSeen.{log_seen, logs_seen};
+ghost use Rattle.node_log.specs.LogSeen.{log_seen, logs_seen};
 ghost use Rattle.table_text.specs.Adding.{Adds};
 ghost use Rattle.log_audit.specs.Judged.{IsFound, IsLeft, IsTold};
 ghost use Rattle.log_audit.specs.Prices.{run_prices};
@@ -19,7 +19,7 @@ use crate::reasons::reasons;
 use crate::scheduling::scheduled;
 use crate::sentences::{Manner, Piece, put_pieces};
 use crate::tables::table::Table;
-use run_merge::NodeLog;
+use node_log::NodeLog;
 use std::alloc::{AllocError, Global};
 use world_setup::WorldSettings;
 

@@ -9,13 +9,13 @@ ghost use Rattle.claim_model.specs.Logs as model;
 ghost use Rattle.claim_model.specs.Settings.{settings_fault};
 ghost use Rattle.world_setup.specs.Seen.{node_seen, settings_seen};
 ghost use Rattle.world_setup.specs.declared.settings.WorldSettings.{WorldSettings as Settings};
-ghost use Rattle.run_merge.specs.LogSeen.{log_seen, logs_seen};
+ghost use Rattle.node_log.specs.LogSeen.{log_seen, logs_seen};
 ghost use Rattle.log_audit.specs.Standing.{AreByNumber, AreNumbered, AreStanding, Enters, IsInOrder, IsLeftBy, LeavesNode, StandsBy};
 ghost use Rattle.log_audit.specs.StandingSeen.{nodes_seen};
 
 use bin_routes::Routes;
+use node_log::{NodeLog, Record, is_there, makes};
 use node_state::{NodeState, PayerNode, PharmacyNode, StateKind, SwitchNode};
-use run_merge::{NodeLog, Record, is_there, makes};
 use std::alloc::{AllocError, Global};
 use std::collections::BTreeMap;
 use world_setup::{Node, WorldSettings};

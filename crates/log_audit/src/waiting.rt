@@ -6,7 +6,7 @@ ghost use Rattle.std.specs.Option.{option_copied};
 ghost use Rattle.bin_routes.specs.Table.{RouteMaps};
 ghost use Rattle.claim_model.specs.Bytes.{bytes_with};
 ghost use Rattle.world_setup.specs.Seen.{node_seen, call_seen, sent_seen};
-ghost use Rattle.run_merge.specs.LogSeen.{log_seen, logs_seen};
+ghost use Rattle.node_log.specs.LogSeen.{log_seen, logs_seen};
 ghost use Rattle.table_text.specs.Adding.{Adds};
 ghost use Rattle.log_audit.specs.Adding.{Tells};
 ghost use Rattle.log_audit.specs.Sentences.{sentence, told_line, told_lines};
@@ -18,8 +18,8 @@ use crate::tables::packets::opened;
 use crate::walking::calls_that_go;
 use crate::wrongs::put_call;
 use envelope::Kind;
+use node_log::{NodeLog, Record, is_same_node};
 use octets::Octets;
-use run_merge::{NodeLog, Record, is_same_node};
 use std::alloc::{AllocError, Global};
 use world_setup::{Call, Node, Sent};
 

@@ -2,8 +2,8 @@
 //!
 //! What is found here is a guess: `waiting` judges it.
 
+use node_log::NodeLog;
 use octets::Octets;
-use run_merge::NodeLog;
 use std::alloc::{AllocError, Global};
 use std::collections::BTreeSet;
 use world_setup::{Call, Node, Sent};

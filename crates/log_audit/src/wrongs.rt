@@ -5,7 +5,7 @@ ghost use Rattle.std.specs.Option.{option_map};
 ghost use Rattle.claim_model.specs.Bytes.{bytes_with};
 ghost use Rattle.claim_model.specs.Settings.{settings_fault};
 ghost use Rattle.world_setup.specs.Seen.{node_seen, sent_seen, settings_seen};
-ghost use Rattle.run_merge.specs.LogSeen.{log_seen, logs_seen};
+ghost use Rattle.node_log.specs.LogSeen.{log_seen, logs_seen};
 ghost use Rattle.table_text.specs.Adding.{Adds};
 ghost use Rattle.log_audit.specs.Adding.{AddsLine, AddsLines};
 ghost use Rattle.log_audit.specs.Sentences.{sentence, told_lines};
@@ -14,8 +14,8 @@ ghost use Rattle.log_audit.specs.WrongsSeen.{wrong_seen, first_seen, made_as, en
 
 use crate::sentences::{Manner, Piece, put_pieces, put_told};
 use bin_routes::Routes;
+use node_log::{NodeLog, Record, is_same_node, is_there};
 use node_state::NodeState;
-use run_merge::{NodeLog, Record, is_same_node, is_there};
 use std::alloc::{AllocError, Global};
 use world_setup::{Node, Sent, StepFault, WorldSettings};
 

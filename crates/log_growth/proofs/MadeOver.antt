@@ -12,8 +12,8 @@ use Rattle.claim_model.specs.Bytes.{bytes_with}
 use Rattle.world_setup.specs.Seen.{settings_seen}
 use Rattle.world_setup.specs.declared.settings.WorldSettings.{WorldSettings}
 use Rattle.world_settings.specs.Document.{Document, document_seen, living_in}
-use Rattle.run_merge.specs.Order.{FitsBy}
-use Rattle.run_merge.specs.Misfits.{BreaksAt}
+use Rattle.node_log.specs.Fits.{FitsBy}
+use Rattle.node_log.specs.Misfits.{BreaksAt}
 use Rattle.kept_logs.specs.declared.fault.LogFault.{LogFault}
 use Rattle.kept_logs.specs.declared.fault.LogFault.TheVariants.{Short}
 use Rattle.kept_logs.specs.Logs.{Reading, log_text, log_in}

@@ -1,7 +1,7 @@
 //! Whether logs are those of one legal run, as claimaudit tells it.
 
 ghost use Rattle.std.specs.Prelude.{◌≡◌, ℕ, List, true, false, IfOk, IfErr, OnOk};
-ghost use Rattle.run_merge.specs.LogSeen.{logs_seen};
+ghost use Rattle.node_log.specs.LogSeen.{logs_seen};
 ghost use Rattle.log_audit.specs.Given.{IsRead};
 ghost use Rattle.log_audit.specs.Refused.{IsRefused};
 ghost use Rattle.log_audit.specs.Judged.{IsTold};

@@ -12,7 +12,7 @@ use Rattle.claim_model.specs.Nodes.{AnyNode, OfPharmacy, as_node}
 use Rattle.claim_model.specs.Logs.{Logged, NodeLog, node_after, replay}
 use Rattle.node_state.specs.Nodes.{journal_of}
 use Rattle.node_state.proofs.Openings.{length-pharmacies_from}
-use Rattle.run_merge.proofs.Opens.{pharmacy_there}
+use Rattle.node_log.proofs.Opens.{pharmacy_there}
 use Rattle.node_logged.specs.Ledgers.{Ledger}
 use Rattle.node_logged.specs.Replayed.{ledger_after, ledgers_from}
 

@@ -6,7 +6,7 @@ use Rattle.claim_model.specs.Node.{Call, Sent, Outcome, Done, Refused}
 use Rattle.claim_model.specs.Nodes.{AnyNode, node_step}
 use Rattle.claim_model.specs.Logs.{Logged, NodeLog, node_after, replay}
 use Rattle.world_setup.specs.declared.settings.WorldSettings.{WorldSettings}
-use Rattle.run_merge.specs.Order.{Fits, FitsBy}
+use Rattle.node_log.specs.Fits.{Fits, FitsBy}
 use Rattle.run_merge.specs.Merged.{FitsThere}
 use Rattle.node_logged.specs.Setting.{context_of, opened}
 use Rattle.node_logged.specs.Holding.{IsKept, recorded}

@@ -19,9 +19,9 @@ use Rattle.world_setup.specs.Seen.{settings_seen}
 use Rattle.world_setup.specs.declared.settings.WorldSettings.{WorldSettings}
 use Rattle.world_core.specs.NodeLists.{NodeLists, world_of}
 use Rattle.run_merge.specs.Merged.{IsMerged, FitsThere, FitsAlone, AllFit, packets_after}
-use Rattle.run_merge.specs.LogSeen.{log_seen, logs_seen}
-use Rattle.run_merge.specs.declared.log.NodeLog as declared
-use Rattle.run_merge.proofs.Opens.{pharmacies_length, switches_length, payers_length}
+use Rattle.node_log.specs.LogSeen.{log_seen, logs_seen}
+use Rattle.node_log.specs.declared.log.NodeLog as declared
+use Rattle.node_log.proofs.Opens.{pharmacies_length, switches_length, payers_length}
 use Rattle.node_logged.specs.Setting.{context_of, opened}
 use Rattle.node_logged.specs.Holding.{IsKept}
 use Rattle.node_logged.specs.Alike.{AreAlike}

@@ -6,7 +6,7 @@ use Rattle.claim_model.specs.Node.{Power}
 use Rattle.claim_model.specs.World.{World}
 use Rattle.claim_model.specs.Logs.{NodeLog}
 use Rattle.world_setup.specs.declared.settings.WorldSettings.{WorldSettings}
-use Rattle.run_merge.proofs.Opens.{pharmacies_length}
+use Rattle.node_log.proofs.Opens.{pharmacies_length}
 use Rattle.node_logged.specs.Setting.{context_of}
 use Rattle.node_logged.specs.Ledgers.{Ledger}
 use Rattle.node_logged.specs.Replayed.{AreOfWorld, ledger_in, ledgers_from, ledgers_of}

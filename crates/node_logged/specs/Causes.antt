@@ -2,9 +2,9 @@
 use Rattle.std.specs.Prelude.{◌≡◌, List, Option, MatchOption}
 use Rattle.std.specs.List.{AllByRecursion}
 use Rattle.world_setup.specs.declared.settings.WorldSettings.{WorldSettings}
-use Rattle.run_merge.specs.LogSeen.{logs_seen}
+use Rattle.node_log.specs.LogSeen.{logs_seen}
 use Rattle.run_merge.specs.Merged.{NoMerge}
-use Rattle.run_merge.specs.declared.log.NodeLog.{NodeLog}
+use Rattle.node_log.specs.declared.log.NodeLog.{NodeLog}
 use Rattle.node_logged.specs.Tills.{Till}
 use Rattle.node_logged.specs.Ledgers.{Ledger}
 use Rattle.node_logged.specs.Judged.{AreAsMany, AllReceipts, AllHeard, Lacks}

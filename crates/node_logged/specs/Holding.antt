@@ -4,7 +4,8 @@ use Rattle.claim_model.specs.Node.{Call, Stop, Start, Sent, Outcome, Done, Refus
 use Rattle.claim_model.specs.Nodes.{AnyNode, node_step}
 use Rattle.claim_model.specs.Logs.{Logged, NodeLog}
 use Rattle.world_setup.specs.declared.settings.WorldSettings.{WorldSettings}
-use Rattle.run_merge.specs.Merged.{FitsThere, replayed}
+use Rattle.node_log.specs.Replayed.{replayed}
+use Rattle.run_merge.specs.Merged.{FitsThere}
 use Rattle.node_logged.specs.Setting.{context_of, opened}
 
 -- the settings that all nodes share, a node, and its log

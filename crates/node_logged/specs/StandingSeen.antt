@@ -2,7 +2,7 @@
 use Rattle.std.specs.Prelude.{IsTrue}
 use Rattle.world_setup.specs.declared.settings.WorldSettings.{WorldSettings}
 use Rattle.world_core.specs.NodeLists.{NodeLists}
-use Rattle.run_merge.specs.LogSeen.{logs_seen}
+use Rattle.node_log.specs.LogSeen.{logs_seen}
 use Rattle.node_logged.specs.Standing.{AreStanding}
 use Rattle.node_logged.specs.declared.judging.standing.Nodes.{Nodes}
 use Rattle.node_logged.specs.declared.judging.standing.Standing.{Standing}

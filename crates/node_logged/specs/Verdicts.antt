@@ -3,9 +3,9 @@ use Rattle.std.specs.Prelude.{◌≡◌, List, [], map}
 use Rattle.claim_model.specs.Logs as model
 use Rattle.world_setup.specs.Seen.{event_seen}
 use Rattle.world_setup.specs.declared.settings.WorldSettings.{WorldSettings}
-use Rattle.run_merge.specs.LogSeen.{logs_seen}
+use Rattle.node_log.specs.LogSeen.{logs_seen}
 use Rattle.run_merge.specs.Merged.{IsMerged}
-use Rattle.run_merge.specs.declared.log.NodeLog.{NodeLog}
+use Rattle.node_log.specs.declared.log.NodeLog.{NodeLog}
 use Rattle.node_logged.specs.Tills.{Till}
 use Rattle.node_logged.specs.Setting.{world_after_run}
 use Rattle.node_logged.specs.Replayed.{AreOfWorld, ledgers_of}

@@ -7,7 +7,7 @@ ghost use Rattle.claim_model.specs.Node.{Pharmacy, Submit, Stop};
 ghost use Rattle.claim_model.specs.Nodes.{node_step, same_node};
 ghost use Rattle.node_state.specs.Outcomes.{Refuses};
 ghost use Rattle.node_state.specs.Nodes.{entries_of, held_of};
-ghost use Rattle.run_merge.specs.LogSeen.{log_seen};
+ghost use Rattle.node_log.specs.LogSeen.{log_seen};
 ghost use Rattle.run_merge.specs.Merged.{FitsAlone};
 ghost use Rattle.world_setup.specs.Seen.{node_seen, call_seen, sent_seen, settings_seen};
 ghost use Rattle.world_setup.specs.declared.fault.StepFault.TheVariants.{OutOfMemory};
@@ -21,9 +21,9 @@ use crate::alike::is_alike;
 use crate::shared::Shared;
 use crate::till::Till;
 use envelope::TxnId;
+use node_log::{NodeLog, Record};
 use node_state::NodeState;
 use octets::Octets;
-use run_merge::{NodeLog, Record};
 use std::alloc::{AllocError, Global};
 use std::marker::Model;
 use std::sync::Arc;
@@ -41,7 +41,7 @@ pub struct Held {
 
 impl Model for Held {
     ghost use Rattle.std.specs.Arc.{arc_value};
-    ghost use Rattle.run_merge.specs.LogSeen.{log_seen};
+    ghost use Rattle.node_log.specs.LogSeen.{log_seen};
     ghost use Rattle.node_logged.specs.Holding.{Holding, IsKept};
 
     ghost Value = { Holding };

@@ -4,14 +4,14 @@ ghost use Rattle.std.specs.Prelude.{◌≡◌, ◌⊎◌, length, None, Some, If
 ghost use Rattle.bin_routes.specs.Fault.{first_fault};
 ghost use Rattle.bin_routes.specs.Table.{routes_of};
 ghost use Rattle.claim_model.specs.Settings.{settings_fault};
-ghost use Rattle.run_merge.specs.Naming.{is_there};
+ghost use Rattle.node_log.specs.There.{is_there};
 ghost use Rattle.world_setup.specs.Seen.{node_seen, settings_seen};
 ghost use Rattle.world_setup.specs.Taken.{world_fault};
 ghost use Rattle.world_setup.specs.declared.world_fault.WorldFault.TheVariants.{OutOfMemory};
 ghost use Rattle.node_logged.specs.Setting.{opened};
 
 use bin_routes::Routes;
-use run_merge::is_there;
+use node_log::is_there;
 use std::alloc::Global;
 use std::marker::Model;
 use world_setup::{Node, WorldFault, WorldSettings};

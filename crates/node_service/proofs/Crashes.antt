@@ -11,7 +11,7 @@ use Rattle.claim_model.specs.Logs.{Logged, NodeLog}
 use Rattle.crash_safety.specs.Network.{Process, file, crashed, restarted}
 use Rattle.world_setup.specs.Seen.{settings_seen}
 use Rattle.world_setup.specs.declared.settings.WorldSettings.{WorldSettings}
-use Rattle.run_merge.specs.Merged.{replayed}
+use Rattle.node_log.specs.Replayed.{replayed}
 use Rattle.node_logged.specs.Setting.{context_of}
 use Rattle.kept_logs.specs.declared.fault.LogFault.{LogFault}
 use Rattle.kept_logs.specs.declared.fault.LogFault.TheVariants.{Short}

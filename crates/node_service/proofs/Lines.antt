@@ -16,7 +16,7 @@ use Rattle.crash_safety.proofs.Replaying.{replay_more, makes_more}
 use Rattle.world_setup.specs.Names.{refusal_name}
 use Rattle.world_setup.specs.Seen.{call_seen}
 use Rattle.world_settings.specs.Document.{Document, document_seen}
-use Rattle.run_merge.specs.Merged.{replayed}
+use Rattle.node_log.specs.Replayed.{replayed}
 use Rattle.node_logged.specs.Setting.{context_of, opened}
 use Rattle.kept_logs.specs.declared.fault.LogFault.{LogFault}
 use Rattle.kept_logs.specs.declared.fault.LogFault.TheVariants.{Short}

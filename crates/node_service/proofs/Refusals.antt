@@ -11,10 +11,10 @@ use Rattle.world_setup.specs.declared.settings.WorldSettings.{WorldSettings}
 use Rattle.world_setup.specs.declared.world_fault.WorldFault.{WorldFault}
 use Rattle.world_setup.specs.declared.world_fault.WorldFault.TheVariants as fault
 use Rattle.world_settings.specs.Document.{document_seen, living_in}
-use Rattle.run_merge.specs.Naming.{is_there}
-use Rattle.run_merge.specs.Order.{FitsBy}
-use Rattle.run_merge.specs.Misfits.{BreaksAt, IsMade}
-use Rattle.run_merge.specs.declared.misfit.FirstMisfit.{FirstMisfit}
+use Rattle.node_log.specs.There.{is_there}
+use Rattle.node_log.specs.Fits.{FitsBy}
+use Rattle.node_log.specs.Misfits.{BreaksAt, IsMade}
+use Rattle.node_log.specs.declared.misfit.FirstMisfit.{FirstMisfit}
 use Rattle.kept_logs.specs.Logs.{Reading, log_in}
 use Rattle.settings_digest.specs.Digests.{digest_under}
 use Rattle.node_service.specs.declared.fault.ServiceFault.{ServiceFault}

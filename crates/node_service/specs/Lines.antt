@@ -5,7 +5,7 @@ use Rattle.claim_model.specs.Nodes.{AnyNode, node_step}
 use Rattle.claim_model.specs.Logs.{Logged, NodeLog}
 use Rattle.world_setup.specs.Seen.{call_seen, settings_seen}
 use Rattle.crash_safety.specs.Network.{Process, file, crashed, restarted}
-use Rattle.run_merge.specs.Merged.{replayed}
+use Rattle.node_log.specs.Replayed.{replayed}
 use Rattle.node_logged.specs.Setting.{context_of}
 use Rattle.kept_logs.specs.Digests.{version_of}
 use Rattle.kept_logs.specs.Logs.{log_text, log_in}

@@ -13,7 +13,7 @@ use Rattle.kept_logs.specs.Logs.{Reading, log_text, log_in}
 use Rattle.kept_logs.specs.Fits.{FitsLog}
 use Rattle.kept_logs.specs.declared.making.MadeLog.{MadeLog}
 use Rattle.settings_digest.specs.Digests.{digest_under}
-use Rattle.run_merge.specs.Merged.{replayed}
+use Rattle.node_log.specs.Replayed.{replayed}
 use Rattle.node_logged.specs.Setting.{context_of, opened}
 use Rattle.node_service.specs.Serving.{Serving}
 

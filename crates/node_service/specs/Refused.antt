@@ -9,8 +9,8 @@ use Rattle.world_setup.specs.declared.settings.WorldSettings.{WorldSettings}
 use Rattle.world_setup.specs.declared.world_fault.WorldFault.{WorldFault}
 use Rattle.world_setup.specs.declared.world_fault.WorldFault.TheVariants as world_fault
 use Rattle.world_settings.specs.Document.{document_seen, living_in}
-use Rattle.run_merge.specs.Naming.{is_there}
-use Rattle.run_merge.specs.Misfits.{BreaksAt}
+use Rattle.node_log.specs.There.{is_there}
+use Rattle.node_log.specs.Misfits.{BreaksAt}
 use Rattle.node_logged.specs.Setting.{context_of, opened}
 use Rattle.kept_logs.specs.declared.fault.LogFault.TheVariants as log_fault
 use Rattle.kept_logs.specs.Logs.{Reading, log_text, log_in}

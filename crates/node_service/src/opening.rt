@@ -3,7 +3,7 @@
 ghost use Rattle.std.specs.Prelude.{◌≡◌, [], ◌++◌, take, Some, IfOk, IfErr, IsSome};
 ghost use Rattle.world_setup.specs.Seen.{node_seen};
 ghost use Rattle.world_settings.specs.Document.{document_seen, living_in};
-ghost use Rattle.run_merge.specs.LogSeen.{log_seen};
+ghost use Rattle.node_log.specs.LogSeen.{log_seen};
 ghost use Rattle.node_logged.specs.Setting.{opened};
 ghost use Rattle.kept_logs.specs.Digests.{version_of, version_seen};
 ghost use Rattle.kept_logs.specs.Logs.{log_text};
@@ -20,10 +20,10 @@ use kept_logs::{
     LogFault, LogVersion, MadeLog, ReadLog, SettingsDigest, make_as_read, place_of, read_log,
     write_log,
 };
+use node_log::{NodeLog, make_log};
 use node_logged::Shared;
 use node_state::NodeState;
 use payer_book::HashKeys;
-use run_merge::{NodeLog, make_log};
 use settings_digest::Digests;
 use std::alloc::{AllocError, Global};
 use world_settings::{SettingsFault, read_living_settings};

@@ -17,9 +17,9 @@ use crate::listing::{put_count, put_end, put_open};
 use crate::payment_lines::put_payments;
 use crate::payments::{page, payments_of};
 use envelope::TxnId;
+use node_log::Record;
 use node_state::NodeState;
 use octets::Octets;
-use run_merge::Record;
 use std::alloc::{AllocError, Global};
 use world_setup::{Call, Node};
 

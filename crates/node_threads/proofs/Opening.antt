@@ -4,7 +4,7 @@ use Rattle.std.specs.Prelude.{IsSome}
 use Rattle.std.proofs.lemmas.Bool.{lt-ltb}
 use Rattle.claim_model.specs.Node.{Pharmacy, Switch, Payer}
 use Rattle.world_setup.specs.declared.settings.WorldSettings.{WorldSettings}
-use Rattle.run_merge.proofs.Opens.{pharmacy_there, switch_there, payer_there}
+use Rattle.node_log.proofs.Opens.{pharmacy_there, switch_there, payer_there}
 use Rattle.node_logged.specs.Setting.{opened}
 
 pub pharmacy_opens : (s : WorldSettings) (k : ℕ) → k < length s.pharmacies.items → IsSome (opened s (Pharmacy (k + 1)))

@@ -5,7 +5,7 @@ use Rattle.world_setup.specs.Seen.{settings_seen}
 use Rattle.world_setup.specs.declared.settings.WorldSettings.{WorldSettings}
 use Rattle.world_setup.specs.declared.fault.StepFault.{StepFault}
 use Rattle.world_setup.specs.declared.fault.StepFault.TheVariants.{NoSuchNode}
-use Rattle.run_merge.specs.Naming.{is_there}
+use Rattle.node_log.specs.There.{is_there}
 
 -- there are so many pharmacies, switches and payers in the settings
 pub record AreStations (s : WorldSettings) (of_pharmacies of_switches of_payers : ℕ) : Type 0 where

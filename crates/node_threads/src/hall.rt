@@ -2,7 +2,7 @@
 
 ghost use Rattle.std.specs.Prelude.{◌≡◌, length, vec_len, is_some, IfOk};
 ghost use Rattle.std.specs.Arc.{arc_value};
-ghost use Rattle.run_merge.specs.Naming.{is_there, is_numbered};
+ghost use Rattle.node_log.specs.There.{is_there, is_numbered};
 ghost use Rattle.world_setup.specs.Seen.{node_seen, settings_seen};
 
 use crate::station::Station;

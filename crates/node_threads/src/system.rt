@@ -2,7 +2,7 @@
 
 ghost use Rattle.std.specs.Prelude.{◌≡◌, ◌⊎◌, ◌↔◌, [], false, None, Some, Err, is_ok, IfOk, IfErr, OnOk, OnErr, option_map};
 ghost use Rattle.claim_model.specs.Node.{Pharmacy, Payer};
-ghost use Rattle.run_merge.specs.Naming.{is_there};
+ghost use Rattle.node_log.specs.There.{is_there};
 ghost use Rattle.world_setup.specs.Seen.{node_seen, settings_seen};
 ghost use Rattle.world_setup.specs.Taken.{world_fault};
 ghost use Rattle.world_setup.specs.declared.fault.StepFault.TheVariants.{NoSuchNode};

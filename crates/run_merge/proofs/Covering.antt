@@ -10,10 +10,11 @@ use Rattle.claim_model.specs.Nodes.{same_node}
 use Rattle.claim_model.specs.Logs.{NodeLog}
 use Rattle.claim_model.specs.Interleavings.{HasLog}
 use Rattle.claim_model.proofs.Names.{same_self}
-use Rattle.run_merge.specs.Naming.{is_numbered, is_there, name_at, has_log, all_distinct}
+use Rattle.node_log.specs.There.{is_numbered, is_there}
+use Rattle.run_merge.specs.Naming.{name_at, has_log, all_distinct}
 use Rattle.run_merge.specs.Merged.{EachHasLog}
 use Rattle.run_merge.proofs.Names.{name_cases}
-use Rattle.run_merge.proofs.Opens.{pharmacy_there, switch_there, payer_there}
+use Rattle.node_log.proofs.Opens.{pharmacy_there, switch_there, payer_there}
 use Rattle.run_merge.proofs.Lines.{same_log, first_distinct}
 
 -- the log of a node

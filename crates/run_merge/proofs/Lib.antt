@@ -1,13 +1,9 @@
 pub mod Names
 pub mod Ordering
 pub mod Soundness
-pub mod Sents
-pub mod Opens
-pub mod Fitting
 pub mod Lines
 pub mod Covering
 pub mod Places
 pub mod Numbering
 pub mod Placing
 pub mod Merging
-pub mod Breaking

@@ -22,9 +22,9 @@ use Rattle.claim_model.proofs.Options.{same_some}
 use Rattle.claim_model.proofs.Replaying.{absent_stays}
 use Rattle.run_merge.specs.Naming.{has_log, all_distinct, calls_of}
 use Rattle.run_merge.specs.Order.{Completes, InOrder, NoOrder, Leads, none_left}
-use Rattle.run_merge.specs.LogSeen.{log_seen, logs_seen}
+use Rattle.node_log.specs.LogSeen.{log_seen, logs_seen}
 use Rattle.run_merge.specs.Merged.{IsMerged, NoMerge, EachHasLog, FitsThere, FitsAlone, AllFit}
-use Rattle.run_merge.specs.declared.log.NodeLog.{NodeLog as Kept}
+use Rattle.node_log.specs.declared.log.NodeLog.{NodeLog as Kept}
 use Rattle.run_merge.proofs.Ordering.{each_node}
 use Rattle.run_merge.proofs.Soundness.{sound, ordered, fits_none}
 use Rattle.run_merge.proofs.Lines.{calls_at, calls_found}

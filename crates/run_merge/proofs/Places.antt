@@ -1,8 +1,7 @@
 -- Elements of lists by their places.
-use Rattle.std.proofs.Common.{◌≡◌, ℕ, zero, suc, ◌+◌, ◌<◌, ◌==◌, true, false, List, [], ◌∷◌, ◌++◌, map, length, drop, get_or, Some, slice_get, refl, sym, ap, ◌∙◌, subst, inl, inr, arith, eqb-true}
+use Rattle.std.proofs.Common.{◌≡◌, ℕ, zero, suc, ◌+◌, ◌<◌, ◌==◌, true, false, List, [], ◌∷◌, ◌++◌, map, length, get_or, Some, slice_get, refl, sym, ap, ◌∙◌, subst, inl, inr, arith, eqb-true}
 use Rattle.std.specs.List.{list_all}
 use Rattle.std.proofs.lemmas.Bool.{and_parts, and_cases, eq-eqb, cases_eq}
-use Rattle.std.proofs.lemmas.List.{drop_more}
 use Rattle.claim_model.specs.World.{Packet}
 use Rattle.claim_model.specs.Logs.{Logged, NodeLog}
 use Rattle.claim_model.proofs.Options.{same_some}
@@ -19,10 +18,6 @@ pub get_below : {A B : Type 0} (f : A → B) (xs : List A) (k : ℕ) (y : B) →
 get_below f [] k y h = absurd cc
 get_below f (x ∷ xs) zero y h = omega arith
 get_below f (x ∷ xs) (suc k) y h = let r = get_below f xs k y h in omega arith
-
--- what is left at a place begins with what stands there
-pub left_at : {A : Type 0} (xs : List A) (k : ℕ) (x : A) → k < length xs → x ≡ get_or xs k x → drop k xs ≡ x ∷ drop (k + 1) xs
-left_at xs k x h e = drop_more xs k x h ∙ ap (λ y. y ∷ drop (k + 1) xs) (sym e)
 
 pub map_more : {A B : Type 0} (f : A → B) (xs : List A) (x : A) → map f (xs ++ x ∷ []) ≡ map f xs ++ f x ∷ []
 map_more f [] x = refl

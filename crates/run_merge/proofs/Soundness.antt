@@ -8,7 +8,8 @@ use Rattle.claim_model.specs.Nodes.{AnyNode, node_step, node_at, called, same_no
 use Rattle.claim_model.specs.Local.{Follows}
 use Rattle.claim_model.specs.Logs.{Logged, logged_by, log_in}
 use Rattle.claim_model.specs.Interleavings.{IsDone, AllAccepted}
-use Rattle.run_merge.specs.Order.{FitsBy, Fits, advanced, Asks, Leads, none_left}
+use Rattle.node_log.specs.Fits.{FitsBy, Fits}
+use Rattle.run_merge.specs.Order.{advanced, Asks, Leads, none_left}
 use Rattle.run_merge.specs.Merged.{FitsThere}
 use Rattle.claim_model.proofs.Options.{same_some}
 use Rattle.claim_model.proofs.PharmacyStep.{done_same}

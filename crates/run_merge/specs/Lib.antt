@@ -2,7 +2,6 @@
 pub mod Naming
 pub mod Order
 pub mod Line
-pub mod LogSeen
 pub mod LineSeen
 pub mod SamePacket
 pub mod PacketNumbers
@@ -10,4 +9,3 @@ pub mod Orders
 pub mod Found
 pub mod Merged
 pub mod MergedRuns
-pub mod Misfits

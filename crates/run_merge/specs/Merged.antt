@@ -1,6 +1,5 @@
 -- Events that merge logs.
 use Rattle.std.specs.Prelude.{◌≡◌, ℕ, List, [], length, map, slice_get, true, Option, Some, None, IsSome, MatchOption}
-use Rattle.std.specs.Option.{option_map}
 use Rattle.std.specs.Global.{Vec}
 use Rattle.bin_routes.specs.Fault.{first_fault}
 use Rattle.bin_routes.specs.Table.{routes_of}
@@ -14,10 +13,10 @@ use Rattle.world_setup.specs.Seen.{event_seen, settings_seen}
 use Rattle.world_setup.specs.declared.event.Event.{Event as Kept}
 use Rattle.world_setup.specs.declared.settings.WorldSettings.{WorldSettings}
 use Rattle.claim_model.specs.Nodes.{AnyNode, node_at}
-use Rattle.claim_model.specs.Logs.{Logged, NodeLog, replay}
+use Rattle.claim_model.specs.Logs.{Logged, NodeLog}
 use Rattle.claim_model.specs.Interleavings.{HasLog, IsInterleaving}
-use Rattle.run_merge.specs.Naming.{is_there}
-use Rattle.run_merge.specs.Order.{Fits}
+use Rattle.node_log.specs.There.{is_there}
+use Rattle.node_log.specs.Fits.{Fits}
 use Rattle.run_merge.specs.declared.history.MergeFault.{MergeFault}
 use Rattle.run_merge.specs.declared.history.MergeFault.TheVariants.{OutOfMemory, Tangled}
 
@@ -61,7 +60,3 @@ pub record FitsAlone (ctx : Context) (s : model.WorldSettings) (log : NodeLog) :
 -- each log fits its node
 abbrev pub AllFit : Context → model.WorldSettings → List NodeLog → Type 0
 AllFit ctx s logs = (k : ℕ) (log : NodeLog) → slice_get logs k ≡ Some log → FitsAlone ctx s log
-
--- the node of that name after these calls, from its opening state, where it is there
-abbrev pub replayed : WorldSettings → Node → List Logged → Option AnyNode
-replayed s node calls = option_map (λ n. replay (bytes_with (routes_of s.routes.items)) n calls) (node_at (opening (settings_seen s)) node)

@@ -1,19 +1,9 @@
--- The logs of nodes by their names, and the nodes that a world opens with.
-use Rattle.std.specs.Prelude.{ℕ, zero, suc, ◌+◌, ◌-◌, Bool, true, false, cond, not, ◌&&◌, nat_lt, List, [], ◌∷◌, is_some}
+-- The logs of nodes by their names.
+use Rattle.std.specs.Prelude.{ℕ, ◌+◌, ◌-◌, Bool, true, cond, not, ◌&&◌, nat_lt, List, [], ◌∷◌}
 use Rattle.std.specs.List.{list_any}
 use Rattle.claim_model.specs.Node.{Node, Pharmacy, Switch, Payer}
-use Rattle.claim_model.specs.Settings.{WorldSettings, opening}
-use Rattle.claim_model.specs.Nodes.{node_at, same_node}
+use Rattle.claim_model.specs.Nodes.{same_node}
 use Rattle.claim_model.specs.Logs.{Logged, NodeLog}
-
--- a number from 1 to a count
-abbrev pub is_numbered : ℕ → ℕ → Bool
-is_numbered count zero = false
-is_numbered count (suc k) = nat_lt k count
-
--- whether a world of these settings opens with a node of this name
-abbrev pub is_there : WorldSettings → Node → Bool
-is_there s node = is_some (node_at (opening s) node)
 
 -- the name at a place among those of all nodes: of pharmacies, then of switches, then of payers
 abbrev pub name_at : ℕ → ℕ → ℕ → Node

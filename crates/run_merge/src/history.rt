@@ -7,17 +7,16 @@ ghost use Rattle.claim_model.specs.Bytes.{bytes_with};
 ghost use Rattle.claim_model.specs.Limits.{most_pharmacies, most_switches, most_payers};
 ghost use Rattle.claim_model.specs.Settings.{settings_fault};
 ghost use Rattle.world_setup.specs.Seen.{event_seen, settings_seen, node_seen};
-ghost use Rattle.run_merge.specs.Naming.{is_numbered, is_there, name_at, has_log, all_distinct};
-ghost use Rattle.run_merge.specs.Order.{Tells};
-ghost use Rattle.run_merge.specs.LogSeen.{log_seen, logs_seen};
+ghost use Rattle.node_log.specs.There.{is_numbered, is_there};
+ghost use Rattle.run_merge.specs.Naming.{name_at, has_log, all_distinct};
+ghost use Rattle.node_log.specs.Fits.{Tells};
+ghost use Rattle.node_log.specs.LogSeen.{log_seen, logs_seen};
 ghost use Rattle.run_merge.specs.Merged.{IsMerged, MergeOf, WhereTangled, EachHasLog, FitsAlone, AllFit};
 ghost use Rattle.run_merge.specs.declared.history.MergeFault.TheVariants.{OutOfMemory};
 
-use crate::fits::fits;
-use crate::log::NodeLog;
 use crate::order::in_order;
-use crate::same::is_same_node;
 use bin_routes::Routes;
+use node_log::{NodeLog, fits, is_same_node, is_there};
 use node_state::NodeState;
 use std::alloc::{AllocError, Global};
 use thiserror::Error;
@@ -195,22 +194,4 @@ fn fits_alone(
     }
     let mut node = NodeState::opening(alloc, settings, log.node())?;
     fits(alloc, routes, &mut node, log.records())
-}
-
-/// Whether a world of these settings opens with a node of this name.
-pub fn is_there(settings: &WorldSettings, node: Node) -> bool
-    ensures { result ≡ is_there (settings_seen settings.now) (node_seen node) }
-{
-    match node {
-        Node::Pharmacy(number) => is_numbered(settings.pharmacies.len(), number),
-        Node::Switch(number) => is_numbered(settings.switches.len(), number),
-        Node::Payer(number) => is_numbered(settings.payers.len(), number),
-    }
-}
-
-/// Whether a number is from 1 to a count.
-fn is_numbered(count: usize, number: u16) -> bool
-    ensures { result ≡ is_numbered count number }
-{
-    number > 0 && number as usize <= count
 }

@@ -6,13 +6,13 @@ ghost use Rattle.bin_routes.specs.Table.{routes_of};
 ghost use Rattle.claim_model.specs.Bytes.{bytes_with};
 ghost use Rattle.claim_model.specs.Settings.{settings_fault};
 ghost use Rattle.world_setup.specs.Seen.{event_seen, packet_seen, settings_seen};
-ghost use Rattle.run_merge.specs.LogSeen.{logs_seen};
+ghost use Rattle.node_log.specs.LogSeen.{logs_seen};
 ghost use Rattle.run_merge.specs.Merged.{AllFit, IsMerged, WhereTangled, packets_after};
 ghost use Rattle.run_merge.specs.MergedRuns.{RunOf};
 
 use crate::history::{MergeFault, are_distinct, each_has_log};
-use crate::log::NodeLog;
 use crate::order::in_order;
+use node_log::NodeLog;
 use std::alloc::{AllocError, Global};
 use world_setup::{Event, Packet, WorldSettings};
 

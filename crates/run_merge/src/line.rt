@@ -3,13 +3,12 @@
 ghost use Rattle.std.specs.Prelude.{◌≡◌, ◌<◌, drop, length, IfOk};
 ghost use Rattle.world_setup.specs.Seen.{node_seen};
 ghost use Rattle.run_merge.specs.LineSeen.{line_seen};
-ghost use Rattle.run_merge.specs.LogSeen.{log_seen};
+ghost use Rattle.node_log.specs.LogSeen.{log_seen};
 ghost use Rattle.run_merge.specs.Found.{NextOf};
 
-use crate::log::NodeLog;
 use crate::posted::Posted;
-use crate::record::Record;
 use crate::turn::event_for;
+use node_log::{NodeLog, Record};
 use std::alloc::AllocError;
 use world_setup::{Event, Node};
 

@@ -5,15 +5,15 @@ ghost use Rattle.std.specs.List.{list_all};
 ghost use Rattle.world_setup.specs.Seen.{packet_seen};
 ghost use Rattle.run_merge.specs.Naming.{all_distinct, calls_of};
 ghost use Rattle.run_merge.specs.Line.{IsPlaced, Steps};
-ghost use Rattle.run_merge.specs.LogSeen.{logs_seen};
+ghost use Rattle.node_log.specs.LogSeen.{logs_seen};
 ghost use Rattle.run_merge.specs.Orders.{order_seen};
 ghost use Rattle.run_merge.specs.Found.{IsTurn, TurnIn, OrderOf};
 
 use crate::known::MergedRun;
 use crate::line::Line;
-use crate::log::NodeLog;
 use crate::posted::Posted;
 use crate::woken::Woken;
+use node_log::NodeLog;
 use std::alloc::{AllocError, Global};
 use world_setup::Event;
 

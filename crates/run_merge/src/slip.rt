@@ -4,7 +4,7 @@ ghost use Rattle.std.specs.Prelude.{◌≡◌, ◌∷◌, [], take, IfOk};
 ghost use Rattle.world_setup.specs.Seen.{node_seen, packet_seen};
 ghost use Rattle.run_merge.specs.LineSeen.{slip_seen};
 
-use crate::same::is_same_node;
+use node_log::is_same_node;
 use octets::Octets;
 use std::alloc::AllocError;
 use std::hash::{Hash, Hasher};

@@ -2,7 +2,7 @@
 
 ghost use Rattle.std.specs.Prelude.{◌<◌, length, IfSome};
 
-use crate::log::NodeLog;
+use node_log::NodeLog;
 use std::alloc::{AllocError, Global};
 use std::collections::HashMap;
 use world_setup::{Node, Sent};

@@ -4,7 +4,7 @@ ghost use Rattle.std.specs.Prelude.{◌≡◌};
 ghost use Rattle.node_logged.specs.declared.judging.finish_fault.FinishFault.TheVariants.{OutOfMemory};
 ghost use Rattle.node_logged.specs.FinishNames.{finish_name};
 
-use run_merge::NodeLog;
+use node_log::NodeLog;
 use std::alloc::AllocError;
 use thiserror::Error;
 

@@ -6,13 +6,13 @@ ghost use Rattle.claim_model.specs.Settings.{settings_fault, opening};
 ghost use Rattle.claim_model.specs.Nodes.{node_at};
 ghost use Rattle.world_setup.specs.Seen.{node_seen, settings_seen};
 ghost use Rattle.run_merge.specs.Naming.{calls_of};
-ghost use Rattle.run_merge.specs.LogSeen.{logs_seen};
-ghost use Rattle.run_merge.specs.Merged.{replayed};
+ghost use Rattle.node_log.specs.LogSeen.{logs_seen};
+ghost use Rattle.node_log.specs.Replayed.{replayed};
 ghost use Rattle.node_logged.specs.Replayed.{ledger_at, ledgers_of};
 
 use crate::judging::ledger::Ledger;
+use node_log::{NodeLog, replay_log};
 use node_state::NodeState;
-use run_merge::{NodeLog, replay_log};
 use std::alloc::{AllocError, Global};
 use world_setup::{Node, WorldSettings};
 

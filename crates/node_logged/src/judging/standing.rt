@@ -2,13 +2,13 @@
 
 ghost use Rattle.std.specs.Prelude.{◌≡◌, ◌++◌, ◌∷◌, [], suc, length, map, IfOk, IsTrue, OnOk};
 ghost use Rattle.world_setup.specs.Seen.{node_seen};
-ghost use Rattle.run_merge.specs.LogSeen.{logs_seen};
+ghost use Rattle.node_log.specs.LogSeen.{logs_seen};
 ghost use Rattle.node_logged.specs.Standing.{AreAll, next_name, with_node};
 ghost use Rattle.node_logged.specs.StandingSeen.{nodes_seen, StandsWhole};
 
 use crate::held::Held;
+use node_log::NodeLog;
 use node_state::{NodeState, PayerNode, PharmacyNode, StateKind, SwitchNode};
-use run_merge::NodeLog;
 use std::alloc::{AllocError, Global};
 use world_setup::{Node, WorldSettings};
 

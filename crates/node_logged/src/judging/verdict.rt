@@ -4,7 +4,7 @@ ghost use Rattle.std.specs.Prelude.{◌≡◌, List, length, map, None, IfOk, If
 ghost use Rattle.bin_routes.specs.Fault.{first_fault};
 ghost use Rattle.claim_model.specs.Settings.{settings_fault};
 ghost use Rattle.world_setup.specs.Seen.{event_seen, settings_seen};
-ghost use Rattle.run_merge.specs.LogSeen.{logs_seen};
+ghost use Rattle.node_log.specs.LogSeen.{logs_seen};
 ghost use Rattle.run_merge.specs.Merged.{IsMerged, NoMerge};
 ghost use Rattle.run_merge.specs.MergedRuns.{IsRunOf};
 ghost use Rattle.node_logged.specs.LedgerSeen.{tills_seen};
@@ -23,7 +23,8 @@ use crate::judging::finish_fault::FinishFault;
 use crate::judging::objection::{Objection, objection_in, objection_to};
 use crate::judging::standing::{Nodes, Standing, taken_apart};
 use crate::till::Till;
-use run_merge::{MergeFault, MergedRun, NodeLog, merge, merge_fitting};
+use node_log::NodeLog;
+use run_merge::{MergeFault, MergedRun, merge, merge_fitting};
 use std::alloc::{AllocError, Global};
 use world_core::{KnownParts, World};
 use world_setup::{Event, WorldFault, WorldSettings};

@@ -8,9 +8,9 @@ use crate::threads::tills;
 use crate::threads::words::{place_of, read_count, read_number};
 use case_files::{CaseFile, Subject, Told};
 use envelope::TxnId;
+use node_log::{NodeLog, replay_log};
 use node_state::NodeState;
 use node_threads::{FinishFault, Finished, Shared, Till, judge};
-use run_merge::{NodeLog, replay_log};
 use std::alloc::Global;
 use world_setup::WorldSettings;
 

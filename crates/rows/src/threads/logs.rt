@@ -1,9 +1,9 @@
 //! Nodes one by one, each with the log of its calls, and the packets that they sent.
 
+use node_log::{NodeLog, Record};
 use node_state::NodeState;
 use node_threads::Shared;
 use octets::Octets;
-use run_merge::{NodeLog, Record};
 use std::alloc::{AllocError, Global};
 use world_setup::{Call, Event, Node, Packet, StepFault};
 

@@ -1,7 +1,7 @@
 -- The text of a log with the first calls alone.
 use Rattle.std.proofs.Common.{◌∙◌, length, take, ap}
 use Rattle.world_setup.specs.Seen.{node_seen}
-use Rattle.run_merge.specs.LogSeen.{log_seen}
+use Rattle.node_log.specs.LogSeen.{log_seen}
 use Rattle.kept_logs.specs.Cuts.{first_calls}
 use Rattle.kept_logs.specs.Digests.{version_seen}
 use Rattle.kept_logs.proofs.Loops.{written}

@@ -1,4 +1,4 @@
-use Rattle.run_merge.specs.LogSeen.{log_seen}
+use Rattle.node_log.specs.LogSeen.{log_seen}
 use Rattle.std.proofs.Common.{ap}
 use Rattle.world_setup.specs.Seen.{node_seen}
 use Rattle.kept_logs.specs.Digests.{version_seen}

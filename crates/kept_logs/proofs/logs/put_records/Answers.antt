@@ -1,7 +1,7 @@
 use Rattle.std.proofs.Common.{◌+◌, ◌++◌, ◌∙◌, drop, ap, arith}
 use Rattle.std.proofs.lemmas.List.{drop_all}
 use Rattle.kept_logs.specs.Digests.{version_seen}
-use Rattle.run_merge.proofs.Places.{left_at}
+use Rattle.node_log.proofs.Lists.{left_at}
 use Rattle.kept_logs.proofs.Loops.{calls_go_on, calls_end}
 use Rattle.kept_logs.proofs.logs.put_records.Goals as goal
 

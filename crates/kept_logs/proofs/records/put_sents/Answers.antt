@@ -1,7 +1,7 @@
 use Rattle.std.proofs.Common.{◌+◌, map, drop, ap, arith}
 use Rattle.std.proofs.lemmas.List.{drop_all}
 use Rattle.world_setup.specs.Seen.{sent_seen}
-use Rattle.run_merge.proofs.Places.{left_at}
+use Rattle.node_log.proofs.Lists.{left_at}
 use Rattle.kept_logs.proofs.Loops.{sents_go_on, sents_end}
 use Rattle.kept_logs.proofs.records.put_sents.Goals as goal
 

@@ -1,4 +1,4 @@
-use Rattle.run_merge.specs.LogSeen.{logs_seen}
+use Rattle.node_log.specs.LogSeen.{logs_seen}
 use Rattle.log_audit.proofs.Ends.{legal_is}
 use Rattle.log_audit.proofs.judging.found_standing.Goals as goal
 

@@ -1,6 +1,6 @@
 use Rattle.std.proofs.Common.{map}
 use Rattle.world_setup.specs.Seen.{event_seen, packet_seen}
-use Rattle.run_merge.specs.LogSeen.{logs_seen}
+use Rattle.node_log.specs.LogSeen.{logs_seen}
 use Rattle.log_audit.specs.StandingSeen.{nodes_seen}
 use Rattle.log_audit.proofs.Ends.{standing_world}
 use Rattle.log_audit.proofs.judging.standing_run.Goals as goal

@@ -3,7 +3,7 @@ use Rattle.std.specs.List.{list_all}
 use Rattle.bin_routes.specs.Table.{routes_of}
 use Rattle.claim_model.specs.Bytes.{bytes_with}
 use Rattle.world_setup.specs.Seen.{settings_seen}
-use Rattle.run_merge.specs.LogSeen.{logs_seen}
+use Rattle.node_log.specs.LogSeen.{logs_seen}
 use Rattle.log_audit.specs.AloneSeen.{lone_seen}
 use Rattle.log_audit.specs.Lones.{Lone, makes}
 use Rattle.log_audit.specs.LoneTelling.{lones_of, lones_text, all_make}

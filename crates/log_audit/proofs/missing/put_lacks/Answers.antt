@@ -1,4 +1,4 @@
-use Rattle.run_merge.specs.LogSeen.{logs_seen}
+use Rattle.node_log.specs.LogSeen.{logs_seen}
 use Rattle.log_audit.proofs.Going.{lacks_more}
 use Rattle.log_audit.proofs.missing.put_lacks.Goals as goal
 

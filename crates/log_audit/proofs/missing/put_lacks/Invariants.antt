@@ -1,5 +1,5 @@
 use Rattle.std.proofs.Common.{◌≡◌, ◌++◌}
-use Rattle.run_merge.specs.LogSeen.{logs_seen}
+use Rattle.node_log.specs.LogSeen.{logs_seen}
 use Rattle.log_audit.specs.Sentences.{told_lines}
 use Rattle.log_audit.specs.Lacks.{lacks_up_to}
 use Rattle.log_audit.proofs.missing.put_lacks.Given as goal

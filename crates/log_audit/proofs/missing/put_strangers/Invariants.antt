@@ -1,6 +1,6 @@
 use Rattle.std.proofs.Common.{◌≡◌, ◌++◌, drop}
 use Rattle.world_setup.specs.Seen.{settings_seen}
-use Rattle.run_merge.specs.LogSeen.{logs_seen}
+use Rattle.node_log.specs.LogSeen.{logs_seen}
 use Rattle.log_audit.specs.Sentences.{told_lines}
 use Rattle.log_audit.specs.Lacks.{strangers}
 use Rattle.log_audit.proofs.missing.put_strangers.Given as goal

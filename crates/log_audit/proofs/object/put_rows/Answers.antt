@@ -1,8 +1,8 @@
 use Rattle.std.proofs.Common.{ℕ, [], ◌∷◌, List, refl}
 use Rattle.claim_model.specs.Logs.{NodeLog}
 use Rattle.std.specs.Prelude.{slice_index}
-use Rattle.run_merge.specs.LogSeen.{logs_seen}
-use Rattle.run_merge.specs.declared.log.NodeLog.{NodeLog as Kept}
+use Rattle.node_log.specs.LogSeen.{logs_seen}
+use Rattle.node_log.specs.declared.log.NodeLog.{NodeLog as Kept}
 use Rattle.table_text.specs.Members.{Row}
 use Rattle.log_audit.specs.Payments.{told_from}
 use Rattle.table_text.specs.Rows.{rows_text}

@@ -1,6 +1,6 @@
 use Rattle.std.proofs.Common.{◌≡◌, ◌++◌, [], ◌∷◌, drop}
 use Rattle.std.specs.Prelude.{slice_index}
-use Rattle.run_merge.specs.LogSeen.{logs_seen}
+use Rattle.node_log.specs.LogSeen.{logs_seen}
 use Rattle.log_audit.specs.Payments.{told_from}
 use Rattle.table_text.specs.Rows.{rows_text}
 use Rattle.log_audit.specs.Telling.{log_row, log_rows}

@@ -2,7 +2,7 @@ use Rattle.std.proofs.Common.{◌≡◌, ◌∙◌, ap, subst, Some, ℕ, List}
 use Rattle.std.proofs.lemmas.Result.{err_from_is_err_and}
 use Rattle.settings_digest.proofs.Keeping.{under_is}
 use Rattle.world_settings.specs.Document.{document_seen, living_in}
-use Rattle.run_merge.specs.LogSeen.{logs_seen}
+use Rattle.node_log.specs.LogSeen.{logs_seen}
 use Rattle.log_audit.specs.Given.{AreLogs, bytes_of, torn_ends}
 use Rattle.log_audit.specs.Refused.{AreNoLogs}
 use Rattle.log_audit.proofs.Refusing.{world_refused, logs_refused}

@@ -2,7 +2,7 @@ use Rattle.std.proofs.Common.{◌≡◌, ℕ, ◌∷◌, [], List, refl, length,
 use Rattle.std.proofs.lemmas.Result.{err_from_is_err_and}
 use Rattle.std.specs.Global.{Vec}
 use Rattle.std.specs.Vec.Iter.{into_iter_items}
-use Rattle.run_merge.specs.LogSeen.{logs_seen}
+use Rattle.node_log.specs.LogSeen.{logs_seen}
 use Rattle.settings_digest.specs.Digests.{under}
 use Rattle.log_audit.specs.Given.{AreLogs, bytes_of, torn_ends}
 use Rattle.log_audit.proofs.Refusing.{no_log_here}

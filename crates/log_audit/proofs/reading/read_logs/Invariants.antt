@@ -1,6 +1,6 @@
 use Rattle.std.proofs.Common.{◌≡◌, ◌++◌, length}
 use Rattle.std.specs.Vec.Iter.{into_iter_items, into_iter_len}
-use Rattle.run_merge.specs.LogSeen.{logs_seen}
+use Rattle.node_log.specs.LogSeen.{logs_seen}
 use Rattle.settings_digest.specs.Digests.{under}
 use Rattle.log_audit.specs.Given.{AreLogs, bytes_of, torn_ends}
 use Rattle.log_audit.proofs.reading.read_logs.Given as goal

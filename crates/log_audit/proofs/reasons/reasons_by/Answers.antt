@@ -1,6 +1,6 @@
 use Rattle.std.proofs.lemmas.Result.{IfOk-weaker}
 use Rattle.claim_model.specs.Bytes.{bytes_with}
-use Rattle.run_merge.specs.LogSeen.{logs_seen}
+use Rattle.node_log.specs.LogSeen.{logs_seen}
 use Rattle.log_audit.specs.Waits.{IsWaitingText}
 use Rattle.log_audit.specs.Reasons.{IsReasons}
 use Rattle.log_audit.proofs.Reasoning.{nothing_is_there, something_is_there, missing_is_why, wrong_is_why, waiting_is_why}

@@ -1,6 +1,6 @@
 use Rattle.std.proofs.Common.{◌≡◌, ◌++◌, drop}
 use Rattle.std.specs.Prelude.{slice_index}
-use Rattle.run_merge.specs.LogSeen.{logs_seen}
+use Rattle.node_log.specs.LogSeen.{logs_seen}
 use Rattle.log_audit.specs.Texts.{texts_from}
 use Rattle.log_audit.specs.Telling.{log_line, log_lines}
 use Rattle.log_audit.proofs.report.put_logs.Given as goal

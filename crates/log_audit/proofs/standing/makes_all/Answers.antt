@@ -1,6 +1,6 @@
 use Rattle.std.proofs.Common.{◌+◌, drop, subst, arith}
 use Rattle.claim_model.specs.Bytes.{bytes_with}
-use Rattle.run_merge.proofs.Breaking.{Leads, leads_step, drop_at}
+use Rattle.node_log.proofs.Breaking.{Leads, leads_step, drop_at}
 use Rattle.log_audit.proofs.Ends.{made_all}
 use Rattle.log_audit.proofs.standing.makes_all.Goals as goal
 

@@ -1,6 +1,6 @@
 use Rattle.std.proofs.Common.{drop}
 use Rattle.claim_model.specs.Bytes.{bytes_with}
-use Rattle.run_merge.proofs.Breaking.{Leads}
+use Rattle.node_log.proofs.Breaking.{Leads}
 use Rattle.log_audit.proofs.standing.makes_all.Given as goal
 
 -- what the calls that are left come to, all come to

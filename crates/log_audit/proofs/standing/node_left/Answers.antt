@@ -1,5 +1,5 @@
 use Rattle.std.proofs.Common.{◌∙◌, sym}
-use Rattle.run_merge.specs.LogSeen.{log_seen}
+use Rattle.node_log.specs.LogSeen.{log_seen}
 use Rattle.log_audit.proofs.Ends.{left_whole}
 use Rattle.log_audit.proofs.standing.node_left.Goals as goal
 

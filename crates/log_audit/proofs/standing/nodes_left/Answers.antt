@@ -2,7 +2,7 @@ use Rattle.std.proofs.Common.{arith, refl, sym, ap}
 use Rattle.bin_routes.specs.Table.{routes_of}
 use Rattle.claim_model.specs.Bytes.{bytes_with}
 use Rattle.world_setup.specs.Seen.{settings_seen, node_seen}
-use Rattle.run_merge.specs.LogSeen.{log_seen, logs_seen}
+use Rattle.node_log.specs.LogSeen.{log_seen, logs_seen}
 use Rattle.run_merge.proofs.Merging.{fit_next, fit_all}
 use Rattle.log_audit.proofs.Ends.{standing_by, stands_as, stands_at}
 use Rattle.log_audit.proofs.standing.nodes_left.Goals as goal

@@ -1,7 +1,7 @@
 use Rattle.bin_routes.specs.Table.{routes_of}
 use Rattle.claim_model.specs.Bytes.{bytes_with}
 use Rattle.world_setup.specs.Seen.{settings_seen}
-use Rattle.run_merge.specs.LogSeen.{logs_seen}
+use Rattle.node_log.specs.LogSeen.{logs_seen}
 use Rattle.run_merge.proofs.Merging.{FitBefore}
 use Rattle.log_audit.specs.Standing.{AreByNumber}
 use Rattle.log_audit.proofs.standing.nodes_left.Given as goal

@@ -1,5 +1,5 @@
 use Rattle.std.proofs.Common.{◌≡◌, take, map}
-use Rattle.run_merge.specs.LogSeen.{logs_seen}
+use Rattle.node_log.specs.LogSeen.{logs_seen}
 use Rattle.log_audit.specs.Waits.{Progress}
 use Rattle.log_audit.specs.WaitsSeen.{progress_seen}
 use Rattle.log_audit.proofs.waiting.progress_of.Given as goal

@@ -1,6 +1,6 @@
 use Rattle.std.proofs.Common.{map}
 use Rattle.std.proofs.lemmas.Result.{IfOk-weaker}
-use Rattle.run_merge.specs.LogSeen.{logs_seen}
+use Rattle.node_log.specs.LogSeen.{logs_seen}
 use Rattle.log_audit.specs.Judged.{IsTold}
 use Rattle.node_handle.specs.Audits.{IsReported}
 use Rattle.node_handle.proofs.auditing.report_on_pieces.Goals as goal

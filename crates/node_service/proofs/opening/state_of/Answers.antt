@@ -1,4 +1,4 @@
-use Rattle.run_merge.specs.LogSeen.{log_seen}
+use Rattle.node_log.specs.LogSeen.{log_seen}
 use Rattle.node_service.proofs.Refusals.{made_not}
 use Rattle.node_service.proofs.opening.state_of.Goals as goal
 

@@ -1,6 +1,6 @@
 use Rattle.claim_model.specs.Bytes.{bytes_with}
 use Rattle.world_setup.specs.Seen.{settings_seen}
-use Rattle.run_merge.specs.LogSeen.{logs_seen}
+use Rattle.node_log.specs.LogSeen.{logs_seen}
 use Rattle.run_merge.proofs.Merging.{FitBefore}
 use Rattle.run_merge.proofs.history.all_fit.Given as goal
 

@@ -5,7 +5,7 @@ use Rattle.claim_model.specs.Node.{Node}
 use Rattle.claim_model.proofs.Given.{passed}
 use Rattle.world_setup.specs.Seen.{node_seen, payer_seen, settings_seen}
 use Rattle.run_merge.specs.Naming.{name_at, has_log}
-use Rattle.run_merge.specs.LogSeen.{logs_seen}
+use Rattle.node_log.specs.LogSeen.{logs_seen}
 use Rattle.run_merge.proofs.Covering.{count_of, name_in, have_all, have_not}
 use Rattle.run_merge.proofs.history.each_has_log.Goals as goal
 

@@ -1,4 +1,4 @@
-use Rattle.run_merge.specs.LogSeen.{logs_seen}
+use Rattle.node_log.specs.LogSeen.{logs_seen}
 use Rattle.run_merge.proofs.Covering.{HaveLogs}
 use Rattle.run_merge.proofs.history.each_has_log.Given as goal
 

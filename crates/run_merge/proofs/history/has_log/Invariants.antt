@@ -1,7 +1,7 @@
 use Rattle.std.proofs.Common.{◌≡◌, drop}
 use Rattle.world_setup.specs.Seen.{node_seen}
 use Rattle.run_merge.specs.Naming.{has_log}
-use Rattle.run_merge.specs.LogSeen.{logs_seen}
+use Rattle.node_log.specs.LogSeen.{logs_seen}
 use Rattle.run_merge.proofs.history.has_log.Given as goal
 
 abbrev pub invariant-loop-log : goal.invariant-loop-log

@@ -2,7 +2,7 @@ use Rattle.std.proofs.Common.{◌∙◌, sym, subst, map}
 use Rattle.bin_routes.specs.Table.{RouteMaps}
 use Rattle.claim_model.specs.Bytes.{bytes_with}
 use Rattle.world_setup.specs.Seen.{settings_seen, event_seen}
-use Rattle.run_merge.specs.LogSeen.{logs_seen}
+use Rattle.node_log.specs.LogSeen.{logs_seen}
 use Rattle.run_merge.specs.Merged.{AllFit}
 use Rattle.run_merge.proofs.Merging.{not_each, not_distinct, not_fit, no_order, order_merged}
 use Rattle.run_merge.proofs.history.merged_by.Goals as goal

@@ -1,6 +1,6 @@
 use Rattle.std.proofs.Common.{◌∙◌, sym, refl}
 use Rattle.run_merge.specs.Naming.{calls_of}
-use Rattle.run_merge.specs.LogSeen.{logs_seen}
+use Rattle.node_log.specs.LogSeen.{logs_seen}
 use Rattle.run_merge.specs.Orders.{order_seen}
 use Rattle.run_merge.proofs.Lines.{made_more, fewer_left}
 use Rattle.run_merge.proofs.Placing.{still_done, still_none}

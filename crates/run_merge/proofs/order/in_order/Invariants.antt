@@ -2,7 +2,7 @@ use Rattle.run_merge.specs.Naming.{calls_of}
 use Rattle.run_merge.specs.Order.{calls_left}
 use Rattle.run_merge.specs.Line.{IsMadeByEvents}
 use Rattle.run_merge.specs.LineSeen.{lines_seen}
-use Rattle.run_merge.specs.LogSeen.{logs_seen}
+use Rattle.node_log.specs.LogSeen.{logs_seen}
 use Rattle.run_merge.specs.Orders.{order_seen}
 use Rattle.run_merge.proofs.order.in_order.Given as goal
 

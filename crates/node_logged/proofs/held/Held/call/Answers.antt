@@ -1,7 +1,7 @@
 use Rattle.std.proofs.Common.{map, ap, ◌∙◌}
 use Rattle.std.specs.Arc.{arc_value}
 use Rattle.claim_model.specs.Logs.{NodeLog}
-use Rattle.run_merge.specs.LogSeen.{log_seen}
+use Rattle.node_log.specs.LogSeen.{log_seen}
 use Rattle.world_setup.specs.Seen.{call_seen, sent_seen}
 use Rattle.node_logged.specs.Holding.{recorded}
 use Rattle.node_logged.proofs.Replays.{stays_kept}

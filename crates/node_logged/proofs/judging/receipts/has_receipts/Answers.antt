@@ -7,7 +7,7 @@ use Rattle.node_logged.specs.Ledgers.{receipts_of, receipts_at}
 use Rattle.node_logged.specs.LedgerSeen.{tills_seen}
 use Rattle.node_logged.specs.Marked.{Marks}
 use Rattle.node_logged.specs.declared.till.Till.{Till as Kept}
-use Rattle.run_merge.proofs.Places.{left_at}
+use Rattle.node_log.proofs.Lists.{left_at}
 use Rattle.node_logged.proofs.Rests.{take_whole}
 use Rattle.node_logged.proofs.Marking.{marks_tell}
 use Rattle.node_logged.proofs.judging.receipts.has_receipts.Goals as goal

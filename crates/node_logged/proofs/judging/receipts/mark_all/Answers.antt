@@ -2,7 +2,7 @@ use Rattle.std.proofs.Common.{◌++◌, ◌+◌, drop, List, subst}
 use Rattle.std.proofs.lemmas.List.{drop_all}
 use Rattle.node_logged.specs.Tills.{Receipt}
 use Rattle.node_logged.specs.Marked.{Marks}
-use Rattle.run_merge.proofs.Places.{left_at}
+use Rattle.node_log.proofs.Lists.{left_at}
 use Rattle.node_logged.proofs.judging.receipts.mark_all.Goals as goal
 
 pub loop-receipt-preserved : goal.loop-receipt-preserved

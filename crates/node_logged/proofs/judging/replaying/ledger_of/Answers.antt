@@ -4,7 +4,7 @@ use Rattle.claim_model.specs.Numbered.{numbered}
 use Rattle.claim_model.specs.Settings.{opening}
 use Rattle.world_setup.specs.Seen.{settings_seen}
 use Rattle.run_merge.specs.Naming.{calls_of}
-use Rattle.run_merge.specs.LogSeen.{logs_seen}
+use Rattle.node_log.specs.LogSeen.{logs_seen}
 use Rattle.node_logged.specs.Setting.{context_of}
 use Rattle.node_logged.proofs.Replaying.{there_at, has_journal}
 use Rattle.node_logged.proofs.judging.replaying.ledger_of.Goals as goal

@@ -1,7 +1,7 @@
 use Rattle.std.proofs.Common.{arith}
 use Rattle.claim_model.specs.Settings.{opening}
 use Rattle.world_setup.specs.Seen.{settings_seen}
-use Rattle.run_merge.specs.LogSeen.{logs_seen}
+use Rattle.node_log.specs.LogSeen.{logs_seen}
 use Rattle.node_logged.specs.Setting.{context_of}
 use Rattle.node_logged.specs.Replayed.{ledgers_of}
 use Rattle.node_logged.proofs.Replaying.{ledgers_step, ledgers_end}

@@ -1,7 +1,7 @@
 use Rattle.std.proofs.Common.{◌≡◌, ◌++◌, ◌+◌, drop}
 use Rattle.claim_model.specs.Settings.{opening}
 use Rattle.world_setup.specs.Seen.{settings_seen}
-use Rattle.run_merge.specs.LogSeen.{logs_seen}
+use Rattle.node_log.specs.LogSeen.{logs_seen}
 use Rattle.node_logged.specs.Setting.{context_of}
 use Rattle.node_logged.specs.Replayed.{ledgers_from, ledgers_of}
 use Rattle.node_logged.proofs.judging.replaying.ledgers.Given as goal

@@ -1,6 +1,6 @@
 use Rattle.std.proofs.Common.{◌∙◌, map, ap, List}
-use Rattle.run_merge.specs.LogSeen.{logs_seen}
-use Rattle.run_merge.specs.declared.log.NodeLog.{NodeLog}
+use Rattle.node_log.specs.LogSeen.{logs_seen}
+use Rattle.node_log.specs.declared.log.NodeLog.{NodeLog}
 use Rattle.node_logged.specs.LedgerSeen.{tills_seen}
 use Rattle.node_logged.proofs.Carrying.{ok_by, err_by, run_carried, run_whole, cause_carried, logs_carried}
 use Rattle.node_logged.proofs.judging.verdict.judge_nodes.Goals as goal

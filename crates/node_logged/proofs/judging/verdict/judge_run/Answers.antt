@@ -1,4 +1,4 @@
-use Rattle.run_merge.specs.LogSeen.{logs_seen}
+use Rattle.node_log.specs.LogSeen.{logs_seen}
 use Rattle.node_logged.specs.LedgerSeen.{tills_seen}
 use Rattle.node_logged.proofs.Carrying.{run_right, run_agrees}
 use Rattle.node_logged.proofs.judging.verdict.judge_run.Goals as goal

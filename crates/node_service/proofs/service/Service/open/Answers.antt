@@ -1,7 +1,7 @@
 use Rattle.std.proofs.Common.{◌∙◌, sym, ap}
 use Rattle.std.proofs.lemmas.Result.{IfOk-weaker, IfErr-weaker, err_from_is_err_and}
 use Rattle.world_setup.specs.Seen.{node_seen}
-use Rattle.run_merge.specs.LogSeen.{log_seen}
+use Rattle.node_log.specs.LogSeen.{log_seen}
 use Rattle.kept_logs.specs.Digests.{version_of}
 use Rattle.node_service.specs.Opened.{IsOpened, IsServed}
 use Rattle.node_service.specs.Refused.{IsNotMade, IsRefused}

@@ -1,6 +1,6 @@
 use Rattle.std.proofs.Common.{◌≡◌, length, ◌∙◌}
 use Rattle.std.specs.Arc.{arc_value}
-use Rattle.run_merge.proofs.Opens.{pharmacy_there, switch_there, payer_there}
+use Rattle.node_log.proofs.Opens.{pharmacy_there, switch_there, payer_there}
 use Rattle.node_threads.proofs.hall.Hall.station.Goals as goal
 
 pub returns-in-Pharmacy : goal.returns-in-Pharmacy

@@ -1,6 +1,6 @@
 use Rattle.std.proofs.Common.{◌≡◌, take}
 use Rattle.run_merge.specs.LineSeen.{lines_seen}
-use Rattle.run_merge.specs.LogSeen.{logs_seen}
+use Rattle.node_log.specs.LogSeen.{logs_seen}
 use Rattle.run_merge.proofs.order.Order.new.Given as goal
 
 abbrev pub invariant-loop-log : goal.invariant-loop-log

@@ -1,6 +1,6 @@
 use Rattle.std.proofs.Common.{ap}
 use Rattle.world_setup.specs.Seen.{node_seen}
-use Rattle.run_merge.specs.LogSeen.{log_seen, logs_seen}
+use Rattle.node_log.specs.LogSeen.{log_seen, logs_seen}
 use Rattle.node_logged.specs.StandingSeen.{nodes_seen}
 use Rattle.node_logged.proofs.Stands.{stands_next, logs_more}
 use Rattle.node_logged.proofs.judging.standing.Standing.add.Goals as goal

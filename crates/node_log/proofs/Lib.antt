@@ -1,0 +1,5 @@
+pub mod Lists
+pub mod Sents
+pub mod Opens
+pub mod Fitting
+pub mod Breaking

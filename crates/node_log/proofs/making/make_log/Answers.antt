@@ -1,0 +1,14 @@
+-- A log has no misfit where all of its calls are made.
+use Rattle.claim_model.specs.Bytes.{bytes_with}
+use Rattle.node_log.proofs.Breaking.{made_whole}
+use Rattle.node_log.proofs.making.make_log.Goals as goal
+
+pub returns : goal.returns
+returns c =
+    let before = c.in_ok-node.node in
+    let made = made_whole (bytes_with c.in_ok-routes.routes) before c.misfit_among.new.node c.records.result.now c.in_ok-first.field-0 c.in-None.is c.in_ok-first.ensures.first c.in_ok-first.ensures.ends in
+    record {
+      before = before;
+      opens = rw (← c.node.ensures) c.in_ok-node.ensures;
+      made = rw (← c.in_ok-routes.ensures, ← c.records.ensures) made;
+    }

@@ -1,0 +1,6 @@
+-- In the order in which one explains them.
+pub mod There
+pub mod LogSeen
+pub mod Fits
+pub mod Misfits
+pub mod Replayed
