@@ -43,6 +43,11 @@ class Part:
     spreads: bool = False
 
     @property
+    def tries_again(self) -> int:
+        """How often it may be tried again where it failed: what hangs on time once, a fault of a host that random kills have to find twice."""
+        return 2 if self.waits and '--wrong' in self.words else 1 if self.waits else 0
+
+    @property
     def reads_sources(self) -> bool:
         """Whether it reads sources, specifications or proofs of crates."""
         return not self.needs or self.name in READ_SOURCES
