@@ -1,7 +1,8 @@
 """What ./check knows of its last runs: which parts passed, and what they were made of then, as a sum. A part that passed, and of whose files none
 has changed since, need not be tried again.
 
-A part is made of its programs, and of all files of the repository but the sources of crates; some read these too."""
+A part is made of its programs, byte for byte, and of all files of the repository but the sources of crates; some read these too. So a change
+of a crate that leaves a program as it was leaves the parts as they were that try this program."""
 
 from __future__ import annotations
 
@@ -10,7 +11,7 @@ import os
 import pathlib
 
 from check_parts import Part
-from check_programs import TOP, programs, sum_of
+from check_programs import TOP, programs
 
 # What no part is made of.
 LEFT_OUT = {'.git', 'out', '__pycache__'}
@@ -44,25 +45,36 @@ class Kept:
         self.path, self.toolchain = path, toolchain
         lines = path.read_text(encoding='ascii').splitlines() if path.is_file() else []
         self.passed = dict(line.split() for line in lines)
-        sources = [it for it in files(TOP / 'crates', LEFT_OUT) if SOURCES.intersection(it.relative_to(TOP).parts)]
         self.of_all = sum_of_files(files(TOP, LEFT_OUT | SOURCES)) + (toolchain / 'KIT-ID').read_text(encoding='utf-8')
-        self.of_sources = sum_of_files(sources)
-        self.of_programs = {name: sum_of(program, toolchain) for name, program in programs().items()}
+        self.of_crates = {}
+        for crate in sorted(it for it in (TOP / 'crates').iterdir() if it.is_dir()):
+            self.of_crates[crate.name] = sum_of_files([it for it in files(crate, LEFT_OUT) if SOURCES.intersection(it.relative_to(TOP).parts)])
+        self.programs, self.of_programs = programs(), {}
+
+    def of_program(self, name: str) -> str:
+        """The sum of a program as it stands."""
+        path = self.programs[name].path
+        told = path.stat()
+        known = (name, told.st_mtime_ns, told.st_size)
+        if known not in self.of_programs:
+            self.of_programs[known] = hashlib.sha256(path.read_bytes()).hexdigest()
+        return self.of_programs[known]
 
     def sum_of(self, part: Part) -> str:
-        """The sum of what a part is made of."""
-        made_of = [part.told(), self.of_all, *(self.of_programs[name] for name in part.needs)]
-        return hashlib.sha256('\n'.join([*made_of, self.of_sources] if part.reads_sources else made_of).encode()).hexdigest()
+        """The sum of what a part is made of, once all of its programs are there."""
+        made_of = [part.told(), self.of_all, *(f'{name} {self.of_program(name)}' for name in part.needs)]
+        made_of += [f'{crate} {self.of_crates[crate]}' for crate in part.reads(self.of_crates)]
+        return hashlib.sha256('\n'.join(made_of).encode()).hexdigest()
 
     def has(self, part: Part) -> bool:
-        """Whether a part passed as it is."""
+        """Whether a part passed as it is, where all of its programs are there."""
         return self.passed.get(part.name) == self.sum_of(part)
 
-    def note(self, part: Part, has_passed: bool) -> None:
-        """Notes how a part ended: one that passed, made of what it was made of when this run began."""
+    def note(self, part: Part, made_of: str | None) -> None:
+        """Notes how a part ended: one that passed by the sum of what it was made of when it began."""
         self.passed.pop(part.name, None)
-        if has_passed:
-            self.passed[part.name] = self.sum_of(part)
+        if made_of:
+            self.passed[part.name] = made_of
         beside = self.path.with_suffix('.new')
         beside.write_text(''.join(f'{name} {made_of}\n' for name, made_of in sorted(self.passed.items())), encoding='ascii')
         beside.replace(self.path)

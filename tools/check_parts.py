@@ -8,18 +8,24 @@ from __future__ import annotations
 
 import re
 import sys
+from collections.abc import Iterable
 from dataclasses import dataclass, replace
 
 sys.dont_write_bytecode = True
-from check_programs import TOP, programs  # noqa: E402
+from check_programs import TOP, below, programs  # noqa: E402
 
 PRODUCTS = ('claimswitch', 'claimpicture', 'claimdecode', 'claimnode', 'claimaudit', 'claimdump', 'claimgrow')
 # Each refusal of memory that is not one of so many is left to the gate.
 REFUSALS = '5'
 # So is each kill of a node that is not one of so many.
 KILLS = '3'
-# The parts that read sources of crates, beside those that need no program: pages are compared with them, or packed.
-READ_SOURCES = {'documents', 'words', 'package', 'units', 'image'}
+# The parts that read sources of any crate, beside those that need no program: pages are compared with them.
+READ_SOURCES = {'documents', 'words'}
+# Those that read the sources of some crates, and perhaps of what these stand on: callers of some, what the library's header is compared with.
+READ_SOME = {
+    'callers': tuple(sorted({it.parent.name for it in TOP.glob('trials/*/*.trial')})),
+    'library': ('vogrilas_c', 'node_handle', 'message_making'),
+}
 # The parts of tests/replicated and tests/losses, in shares that take about as long.
 HOSTS_OF_A_LOG = ('one_host', 'takeover', 'wiped', 'made_anew', 'copies', 'moved', 'torn', 'race')
 WORDS_OF_SERVERS = ('synced', 'fenced')
@@ -47,10 +53,11 @@ class Part:
         """How often it may be tried again where it failed: what hangs on time once, a fault of a host that random kills have to find twice."""
         return 2 if self.waits and '--wrong' in self.words else 1 if self.waits else 0
 
-    @property
-    def reads_sources(self) -> bool:
-        """Whether it reads sources, specifications or proofs of crates."""
-        return not self.needs or self.name in READ_SOURCES
+    def reads(self, crates: Iterable[str]) -> list[str]:
+        """Those of some crates whose sources, specifications or proofs it reads."""
+        if self.name in READ_SOME:
+            return sorted(set().union(*map(below, READ_SOME[self.name])).intersection(crates))
+        return sorted(crates) if not self.needs or self.name in READ_SOURCES else []
 
     @property
     def is_stored(self) -> bool:

@@ -9,6 +9,7 @@ import os
 import pathlib
 import shutil
 import subprocess
+from collections.abc import Iterable
 from dataclasses import dataclass
 
 TOP = pathlib.Path(__file__).resolve().parent.parent
@@ -96,9 +97,12 @@ def compile_words(made: list[Program]) -> list[str]:
     return [str(QUICK_BUILD), *(word for program in made for word in (program.crate, str(program.path)))]
 
 
-def groups(lacking: dict[str, Program]) -> list[list[str]]:
-    """What is compiled together. Programs share most of what they are made of, so that a few take little more than one."""
-    return [it for it in ([name for name in FIRST if name in lacking], [name for name in lacking if name not in FIRST]) if it]
+def groups(lacking: Iterable[str], there: Iterable[str] | None = None) -> list[list[str]]:
+    """What is compiled together of what lacks. Programs share most of what they are made of, so that a few take little more than one. Of programs
+    that are named besides, all of a group are compiled where one lacks: so they are cut into the parts that they were cut into before."""
+    names = sorted(lacking if there is None else there)
+    both = [name for name in FIRST if name in names], [name for name in names if name not in FIRST]
+    return [it for it in both if set(it).intersection(lacking)]
 
 
 def note_made(program: Program, made_of: str) -> None:
