@@ -14,6 +14,7 @@ pub mod Journal
 pub mod Counted
 pub mod Table
 pub mod Node
+pub mod Refused
 pub mod World
 pub mod Limits
 pub mod Settings

@@ -11,7 +11,7 @@ use Rattle.claim_model.specs.Numbered.{numbered}
 use Rattle.claim_model.specs.Journal.{JournalAtRest, Kept}
 use Rattle.claim_model.specs.Counted.{Counted, named, told, counted}
 use Rattle.claim_model.specs.Table.{Slot, Table}
-use Rattle.claim_model.specs.Refusal.{Refusal, NoSuchNode, NoSuchPacket, Down, AlreadyUp, NoEnvelope, Unreadable, Version, CodeNotCarried, NotOwnProvider, TooLong, JournalFull, NotMine, NoSuchNumber, AlreadySettled, Differs, NumberReused, NotWaiting, NotOurs, BookFull, SerialsUsedUp, NotPriced}
+use Rattle.claim_model.specs.Refusal.{Refusal, NoSuchPacket, Down, AlreadySettled, NotWaiting, BookFull, SerialsUsedUp}
 use Rattle.claim_model.specs.Node.{Node, Up, Refused}
 use Rattle.claim_model.specs.World.{World, Packet, Event, Delivery, step, run}
 use Rattle.claim_model.specs.Settings.{WorldSettings, Accepts, opening}
@@ -166,21 +166,7 @@ MayMeet NotWaiting = ⊤
 MayMeet AlreadySettled = ⊤
 MayMeet BookFull = ⊤
 MayMeet SerialsUsedUp = ⊤
-MayMeet NoSuchNode = ⊥
-MayMeet AlreadyUp = ⊥
-MayMeet (NoEnvelope fault) = ⊥
-MayMeet Unreadable = ⊥
-MayMeet Version = ⊥
-MayMeet CodeNotCarried = ⊥
-MayMeet NotOwnProvider = ⊥
-MayMeet TooLong = ⊥
-MayMeet JournalFull = ⊥
-MayMeet NotMine = ⊥
-MayMeet NoSuchNumber = ⊥
-MayMeet Differs = ⊥
-MayMeet NumberReused = ⊥
-MayMeet NotOurs = ⊥
-MayMeet (NotPriced fault) = ⊥
+MayMeet other = ⊥
 
 -- a delivery is refused for these reasons alone
 abbrev pub DeliveriesMeet : Context → World → Type 0

@@ -2,7 +2,7 @@
 //! step by step, and what holds of every world that events lead to. What each node did in a run, as a log of its own,
 //! and which lists of events are an interleaving of such logs: calls are local, packets are never used up, and so one
 //! enabled call after another finds an interleaving where there is one. It has definitions and theorems, the limits
-//! of settings, and no node's code.
+//! of settings and the refusals of calls, and no node's code.
 #![tactic(auto)]
 
 mod answers;
@@ -12,6 +12,7 @@ mod interleavings;
 mod limits;
 mod local;
 mod payments;
+mod refusal;
 mod replays;
 mod tables;
 
@@ -31,5 +32,6 @@ pub use local::{calls_are_local, enabled_calls_stay, equal_packets_serve_alike};
 pub use payments::{
     counted_payments_stand, one_standing_payment, reversed_by_owner, standing_payments_are_counted,
 };
+pub use refusal::{Fault, Refusal};
 pub use replays::{asked_calls_are_accepted, logs_are_posted, logs_go_on, logs_replay};
 pub use tables::tables_keep_their_cap;

@@ -7,7 +7,7 @@ use Rattle.claim_model.specs.Words.{TxnId, RequestHeader}
 use Rattle.claim_model.specs.Context.{Context}
 use Rattle.claim_model.specs.Laws.{IsEnvelope}
 use Rattle.claim_model.specs.Readable.{readable, longest, payer_for, rejection, request_envelope, answer_envelope, is_request}
-use Rattle.claim_model.specs.Refusal.{Refusal}
+use Rattle.claim_model.specs.declared.refusal.Refusal.{Refusal}
 use Rattle.claim_model.specs.Numbered.{numbered}
 use Rattle.claim_model.specs.Journal.{JournalAtRest, Kept}
 use Rattle.claim_model.specs.Table.{Slot, Table, Forward, Back, slot_of, entered_where, Requested, requested, requested_by, requested_readable, requested_again, routed_by}

@@ -5,7 +5,7 @@ use Rattle.std.proofs.lemmas.Bool.{cases_eq, cond-true, and_from, not_from_false
 use Rattle.claim_model.specs.Words.{TxnId, RequestHeader, Envelope, Answer}
 use Rattle.claim_model.specs.Context.{Context}
 use Rattle.claim_model.specs.Readable.{fits, settles, same_id, answer_envelope, is_request}
-use Rattle.claim_model.specs.Refusal.{Refusal}
+use Rattle.claim_model.specs.declared.refusal.Refusal.{Refusal}
 use Rattle.claim_model.specs.Numbered.{numbered, renumbered}
 use Rattle.claim_model.specs.Rows.{Book}
 use Rattle.claim_model.specs.Book.{Answered, answered}

@@ -15,11 +15,10 @@ use claim_reports::{
 };
 use command_line::{End, given_words, read_file, read_settings_file};
 use log_audit::{
-    AuditFault, Audited, Form, LoneForm, LoneReport, Report as AuditReport, read_audited,
-    report_alone, report_on,
+    AuditFault, Form, LoneForm, Outgoing, WriterSink, put_alone, put_report, read_audited,
 };
 use std::alloc::Global;
-use std::io::Write;
+use std::io::{Stdout, Write};
 use std::process::ExitCode;
 use world_settings::living_settings_fault;
 
@@ -40,16 +39,21 @@ fn run(rt: &HostRuntime) -> Result<bool, Unjudged> {
     let alloc = rt.alloc();
     let given = given_words(rt)?;
     let words = words_of(alloc, given.as_slice())?;
-    let told = match words.asked {
-        Asked::Report(report) => reported(rt, &words, report)?,
+    let good = match words.asked {
+        Asked::Report(report) => write_told(rt, reported(rt, &words, report)?)?,
         Asked::Together(_) | Asked::Alone(_) => audit(rt, &words)?,
     };
+    if !good {
+        say_why_nothing(rt, words.asked);
+    }
+    Ok(good)
+}
+
+/// Writes what is told; whether it is good.
+fn write_told(rt: &HostRuntime, told: Told) -> Result<bool, Unjudged> {
     let mut writer = rt.stdout();
     writer.write_all(told.text.as_slice())?;
     writer.flush()?;
-    if !told.good {
-        say_why_nothing(rt, words.asked);
-    }
     Ok(told.good)
 }
 
@@ -68,7 +72,7 @@ fn say_why_nothing(rt: &HostRuntime, asked: Asked) {
     }
 }
 
-/// What is written, and whether there is a legal run, or each node makes its log.
+/// What is written of a report on tables, and whether its sides agree.
 #[derive(Drop)]
 struct Told {
     text: Vec<u8>,
@@ -128,16 +132,21 @@ fn table_at(tables: &[Vec<u8>], place: usize) -> &[u8] {
     }
 }
 
-/// Reads the files and judges them.
-fn audit(rt: &HostRuntime, words: &Words<'_>) -> Result<Told, Unjudged> {
+/// Reads the files, judges them, and writes what is told as it is made; whether there is a legal run, or each node makes its
+/// log.
+fn audit(rt: &HostRuntime, words: &Words<'_>) -> Result<bool, Unjudged> {
     let alloc = rt.alloc();
     let text = read_settings_file(rt, words.settings)?;
     let mut logs = Vec::new(alloc);
     for name in &words.logs {
         logs.push(read_file(rt, name)?)?;
     }
-    match judged(alloc, text, logs, words.asked) {
-        Ok(told) => Ok(told),
+    let mut out = Outgoing::new(alloc, WriterSink::new(rt.stdout()));
+    match judged(alloc, text, logs, words.asked, &mut out) {
+        Ok(good) => {
+            out.finish()?.end()?;
+            Ok(good)
+        }
         Err(AuditFault::Settings) => Err(End::Own(why_refused(rt, words)?)),
         Err(fault) => Err(named(alloc, words, fault)),
     }
@@ -152,31 +161,20 @@ fn why_refused(rt: &HostRuntime, words: &Words<'_>) -> Result<Finding, Unjudged>
     }
 }
 
-/// Judges logs under settings.
+/// Judges logs under settings, and puts what is told of them.
 fn judged(
     alloc: Global,
     text: Vec<u8>,
     logs: Vec<Vec<u8>>,
     asked: Asked,
-) -> Result<Told, AuditFault> {
+    out: &mut Outgoing<WriterSink<Stdout>>,
+) -> Result<bool, AuditFault> {
     let audited = read_audited(alloc, text, logs)?;
     match asked {
-        Asked::Together(form) => told_together(alloc, audited, form),
-        Asked::Alone(form) => told_alone(alloc, audited, form),
+        Asked::Together(form) => put_report(alloc, audited, form, out),
+        Asked::Alone(form) => put_alone(alloc, &audited, form, out),
         Asked::Report(_) => Err(AuditFault::Settings),
     }
-}
-
-/// What is told of logs of one run.
-fn told_together(alloc: Global, audited: Audited, form: Form) -> Result<Told, AuditFault> {
-    let AuditReport { text, legal } = report_on(alloc, audited, form)?;
-    Ok(Told { text, good: legal })
-}
-
-/// What is told of logs one by one.
-fn told_alone(alloc: Global, audited: Audited, form: LoneForm) -> Result<Told, AuditFault> {
-    let LoneReport { text, made } = report_alone(alloc, &audited, form)?;
-    Ok(Told { text, good: made })
 }
 
 /// What is wrong with the settings, or with a log of this name.

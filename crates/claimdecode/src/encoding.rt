@@ -3,9 +3,9 @@
 use crate::stop::Stop;
 use input_text::{is_skipped, put_decimal, put_printed};
 use message_encoding::{Described, Misfit, PartFault, ReadFault};
-use message_words::{LineSource, MessageKind, Page, Spelling, Style};
+use message_words::{ByteSource, LineSource, MessageKind, Page, Spelling, Style};
 use std::alloc::{AllocError, Global};
-use std::io::{Read, Write};
+use std::io::Write;
 
 /// Why a description gives no message.
 #[derive(Clone, Copy)]
@@ -29,7 +29,7 @@ struct Made {
 }
 
 /// Writes the message that each line describes, and says whether each line described one.
-pub(crate) fn each_line<R: Read + Drop, W: Write>(
+pub(crate) fn each_line<R: ByteSource + Drop, W: Write>(
     alloc: Global,
     spelling: Spelling,
     source: &mut LineSource<R>,
@@ -53,7 +53,7 @@ pub(crate) fn each_line<R: Read + Drop, W: Write>(
 }
 
 /// Writes the message that the whole input describes, as its bytes; where it describes none a line on `words` says why.
-pub(crate) fn whole<R: Read + Drop, W: Write, E: Write>(
+pub(crate) fn whole<R: ByteSource + Drop, W: Write, E: Write>(
     alloc: Global,
     source: &mut LineSource<R>,
     writer: &mut W,

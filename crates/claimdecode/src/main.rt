@@ -11,11 +11,12 @@ use clap::Error as ClapError;
 use clap::error::ErrorKind;
 use input_text::is_skipped;
 use message_words::{
-    LineSource, MessageKind, Page, Spelling, SpellingFault, hex_bytes, printed_bytes, unwrapped,
+    ByteSource, LineSource, MessageKind, Page, ReaderBytes, Spelling, SpellingFault, hex_bytes,
+    printed_bytes, unwrapped,
 };
 use std::alloc::{AllocError, Global};
 use std::env;
-use std::io::{Read, Write};
+use std::io::Write;
 use std::process::ExitCode;
 
 fn main(rt: HostRuntime) -> ExitCode {
@@ -63,7 +64,7 @@ fn decode(rt: &HostRuntime, asked: Asked) -> ExitCode {
 /// The same, and whether each line spelled a message.
 fn described(rt: &HostRuntime, asked: Asked) -> Result<bool, Stop> {
     let alloc = rt.alloc();
-    let mut source = LineSource::new(alloc, rt.stdin());
+    let mut source = LineSource::new(alloc, ReaderBytes::new(rt.stdin()));
     if asked.encode {
         return encoded(rt, asked.spelling, &mut source);
     }
@@ -76,7 +77,7 @@ fn described(rt: &HostRuntime, asked: Asked) -> Result<bool, Stop> {
 }
 
 /// Makes the messages that the input describes.
-fn encoded<R: Read + Drop>(
+fn encoded<R: ByteSource + Drop>(
     rt: &HostRuntime,
     spelling: Spelling,
     source: &mut LineSource<R>,
@@ -89,7 +90,7 @@ fn encoded<R: Read + Drop>(
 }
 
 /// Describes the whole input as one message.
-fn whole<R: Read + Drop, W: Write>(
+fn whole<R: ByteSource + Drop, W: Write>(
     alloc: Global,
     asked: Asked,
     source: &mut LineSource<R>,
@@ -107,7 +108,7 @@ fn whole<R: Read + Drop, W: Write>(
 }
 
 /// Describes the message of each line, and says whether each line spelled one.
-fn each_line<R: Read + Drop, W: Write>(
+fn each_line<R: ByteSource + Drop, W: Write>(
     alloc: Global,
     asked: Asked,
     source: &mut LineSource<R>,

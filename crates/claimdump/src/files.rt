@@ -12,7 +12,7 @@ use settings_digest::said;
 use std::alloc::{AllocError, Global};
 use world_core::World;
 use world_settings::{SettingsFault, living_settings_fault, read_living_settings};
-use world_setup::{Event, Node, StepFault, WorldFault};
+use world_setup::{Event, Fault, Node, WorldFault};
 
 /// The files of a replay: `settings.toml`; of each node its log, as `ph1.log`; of each pharmacy the record of its
 /// journal, as `ph1.journal`, and of each payer that of its book, as `pr1.book`, as they are after all events.
@@ -108,7 +108,7 @@ fn add_records(
 /// Stops a node; one that is down stays so.
 fn stop(world: &mut World, node: Node) -> Result<(), AllocError> {
     match world.step(&Event::Stop(node)) {
-        Err(StepFault::OutOfMemory) => Err(AllocError),
+        Err(Fault::OutOfMemory) => Err(AllocError),
         _ => Ok(()),
     }
 }

@@ -4,7 +4,7 @@ use node_log::NodeLog;
 use octets::Octets;
 use std::alloc::{AllocError, Global};
 use world_core::World;
-use world_setup::{Call, Event, Node, Packet, Sent, StepFault};
+use world_setup::{Call, Event, Fault, Node, Packet, Sent};
 
 /// A world, and the log of each of its nodes.
 #[derive(Drop)]
@@ -34,7 +34,7 @@ impl Recorded {
     pub(crate) fn make(&mut self, event: &Event) -> Result<(), AllocError> {
         match self.world.step(event) {
             Ok(numbers) => self.record(event, numbers.start),
-            Err(StepFault::OutOfMemory) => Err(AllocError),
+            Err(Fault::OutOfMemory) => Err(AllocError),
             Err(_) => Ok(()),
         }
     }

@@ -5,7 +5,9 @@ use Rattle.bin_routes.specs.Table.{RouteMaps}
 use Rattle.envelope.specs.Txn.{Txn}
 use Rattle.input_text.specs.Printing.{printed}
 use Rattle.schedule.proofs.EventLists.{joined}
-use Rattle.claim_model.specs.Refusal.{Refusal}
+use Rattle.claim_model.specs.declared.refusal.Refusal.{Refusal}
+use Rattle.claim_model.specs.declared.refusal.Fault.{Fault}
+use Rattle.claim_model.specs.declared.refusal.Fault.TheVariants.{OutOfMemory, Refused}
 use Rattle.claim_model.specs.Rows.{Row, Book}
 use Rattle.claim_model.specs.Bytes.{bytes_with}
 use Rattle.claim_model.specs.Book.{Answered, answered}
@@ -13,8 +15,6 @@ use Rattle.claim_model.proofs.Lists.{get_exists}
 use Rattle.payer_book.specs.Answers.{Refuses}
 use Rattle.payer_book.specs.Placing.{AnswersAt}
 use Rattle.payer_book.specs.declared.book.placing.Placed.{Placed}
-use Rattle.payer_book.specs.declared.fault.BookFault.{BookFault}
-use Rattle.payer_book.specs.declared.fault.BookFault.TheVariants.{OutOfMemory, Unreadable, NotOurs, NumberReused, BookFull, SerialsUsedUp}
 use Rattle.program_io.specs.declared.fault.CheckFault.{CheckFault}
 use Rattle.program_io.specs.declared.fault.CheckFault.TheVariants as check
 use Rattle.program_io.specs.declared.fault.InputFault.TheVariants.{Line}
@@ -25,28 +25,20 @@ use Rattle.claims_read.specs.Lines.{told, line_of, book_after, said_to, answer_l
 use Rattle.claims_read.specs.Said.{answer_of, said_text}
 
 -- the same text, unless memory ran out
-pub said_is_told : (maps : RouteMaps) (before : Book) (id : Txn) (request : List ℕ) (said : Result Placed BookFault) (after : Book)
+pub said_is_told : (maps : RouteMaps) (before : Book) (id : Txn) (request : List ℕ) (said : Result Placed Fault) (after : Book)
     → AnswersAt maps before id request after said → Refuses maps before id request said → (said ≡ Err OutOfMemory → ⊥) → said_text after.rows said ≡ told (answered (bytes_with maps) before id request)
 said_is_told maps before id request (Ok placed) after is why known =
     let row = get_exists after.rows placed.place is.within in ap (λ (o : Option Row). codes " " ++ printed (answer_of o)) row.1 ∙ sym (ap told (is.ruled row.0 row.1))
 said_is_told maps before id request (Err OutOfMemory) after is why known = absurd (known refl)
-said_is_told maps before id request (Err Unreadable) after is why known = sym (ap told why)
-said_is_told maps before id request (Err NotOurs) after is why known = sym (ap told why)
-said_is_told maps before id request (Err NumberReused) after is why known = sym (ap told why)
-said_is_told maps before id request (Err BookFull) after is why known = sym (ap told why)
-said_is_told maps before id request (Err SerialsUsedUp) after is why known = sym (ap told why)
+said_is_told maps before id request (Err (Refused refusal)) after is why known = sym (ap told why)
 
 -- the book that is left, unless memory ran out
-pub book_is_left : (maps : RouteMaps) (before : Book) (id : Txn) (request : List ℕ) (said : Result Placed BookFault) (after : Book)
+pub book_is_left : (maps : RouteMaps) (before : Book) (id : Txn) (request : List ℕ) (said : Result Placed Fault) (after : Book)
     → AnswersAt maps before id request after said → Refuses maps before id request said → OnErr said (after ≡ before) → (said ≡ Err OutOfMemory → ⊥)
     → after ≡ book_after before (answered (bytes_with maps) before id request)
 book_is_left maps before id request (Ok placed) after is why same known = let row = get_exists after.rows placed.place is.within in sym (ap (book_after before) (is.ruled row.0 row.1))
 book_is_left maps before id request (Err OutOfMemory) after is why same known = absurd (known refl)
-book_is_left maps before id request (Err Unreadable) after is why same known = same ∙ sym (ap (book_after before) why)
-book_is_left maps before id request (Err NotOurs) after is why same known = same ∙ sym (ap (book_after before) why)
-book_is_left maps before id request (Err NumberReused) after is why same known = same ∙ sym (ap (book_after before) why)
-book_is_left maps before id request (Err BookFull) after is why same known = same ∙ sym (ap (book_after before) why)
-book_is_left maps before id request (Err SerialsUsedUp) after is why same known = same ∙ sym (ap (book_after before) why)
+book_is_left maps before id request (Err (Refused refusal)) after is why same known = same ∙ sym (ap (book_after before) why)
 
 -- number, text and newline behind what was there
 pub line_joined : (front first second third said : List ℕ) (number : ℕ) (answer : Result Answered Refusal)

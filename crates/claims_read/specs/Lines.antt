@@ -2,22 +2,14 @@
 use Rattle.std.specs.Prelude.{ℕ, List, [], ◌∷◌, ◌++◌, Result, Ok, Err, codes, decimal}
 use Rattle.input_text.specs.Printing.{printed}
 use Rattle.bin_routes.specs.Table.{RouteMaps}
-use Rattle.claim_model.specs.Refusal.{Refusal, Unreadable, NotOurs, NumberReused, BookFull, SerialsUsedUp}
+use Rattle.claim_model.specs.declared.refusal.Refusal.{Refusal}
+use Rattle.claim_model.specs.Refusal.{refusal_name}
 use Rattle.claim_model.specs.Rows.{Book}
 use Rattle.claim_model.specs.Book.{Answered, answered}
 use Rattle.claim_model.specs.Bytes.{bytes_with}
 use Rattle.program_io.specs.declared.fault.InputFault.{InputFault}
 use Rattle.claims_read.specs.Entries.{Entry, entries_of}
 use Rattle.claims_read.specs.Sample.{sample_routes, opening_book}
-
--- the name of what a book refuses, as it is printed
-abbrev pub refusal_name : Refusal → List ℕ
-refusal_name Unreadable = codes "Unreadable"
-refusal_name NotOurs = codes "NotOurs"
-refusal_name NumberReused = codes "NumberReused"
-refusal_name BookFull = codes "BookFull"
-refusal_name SerialsUsedUp = codes "SerialsUsedUp"
-refusal_name other = []
 
 -- what stands behind the number: the answer in printed bytes, or the name of the refusal
 abbrev pub told : Result Answered Refusal → List ℕ

@@ -1,10 +1,10 @@
 //! The lines that the book's answers make.
 
 ghost use Rattle.std.specs.Prelude.{◌≡◌, ◌≢◌, ◌++◌, Ok, Err, IfOk, IfErr, OnOk};
-ghost use Rattle.payer_book.specs.declared.fault.BookFault.TheVariants.{OutOfMemory as NoMemory};
+ghost use Rattle.claim_model.specs.declared.refusal.Fault.TheVariants.{OutOfMemory as NoMemory};
 ghost use Rattle.claims_read.specs.Entries.{entries_in, entries_of, entry_with};
 ghost use Rattle.claims_read.specs.Lines.{book_after, entry_line, lines_behind, output_of, said_to};
-ghost use Rattle.claims_read.specs.Said.{answer_in, fault_name, said_text};
+ghost use Rattle.claims_read.specs.Said.{answer_in, said_text};
 ghost use Rattle.program_io.specs.Stops.{RefusedFor, schedule_told};
 
 use crate::entries::read_entry;
@@ -12,7 +12,7 @@ use crate::sample;
 use bin_routes::Routes;
 use envelope::TxnId;
 use input_text::{Lines, is_skipped, put_decimal, put_printed};
-use payer_book::{Book, BookFault, HashKeys, Placed};
+use payer_book::{Book, Fault, HashKeys, Placed};
 use schedule::ScheduleFault as LineFault;
 use std::alloc::{AllocError, Global};
 
@@ -85,7 +85,7 @@ fn put_line(
 fn put_said(
     output: &mut Vec<u8>,
     book: &Book,
-    said: Result<Placed, BookFault>,
+    said: Result<Placed, Fault>,
 ) -> Result<(), AllocError>
     ensures text { OnOk result (output.new.items ≡ output.old.items ++ said_text book.now.rows said) }
     ensures known { OnOk result (said ≢ Err NoMemory) }
@@ -95,10 +95,10 @@ fn put_said(
             output.extend_from_slice(b" ")?;
             put_printed(output, answer_in(book, placed.place))?;
         }
-        Err(BookFault::OutOfMemory) => return Err(AllocError),
+        Err(Fault::OutOfMemory) => return Err(AllocError),
         Err(fault) => {
             output.extend_from_slice(b" refused ")?;
-            output.extend_from_slice(name_of(fault))?;
+            output.extend_from_slice(fault.name().as_bytes())?;
         }
     }
     Ok(())
@@ -111,19 +111,5 @@ fn answer_in(book: &Book, place: usize) -> &[u8]
     match book.row(place) {
         Some(row) => row.answer(),
         None => &[],
-    }
-}
-
-/// The name of a refusal, as it is printed.
-fn name_of(fault: BookFault) -> &'static [u8]
-    ensures { result.now ≡ fault_name fault }
-{
-    match fault {
-        BookFault::OutOfMemory => b"OutOfMemory",
-        BookFault::Unreadable => b"Unreadable",
-        BookFault::NotOurs => b"NotOurs",
-        BookFault::NumberReused => b"NumberReused",
-        BookFault::BookFull => b"BookFull",
-        BookFault::SerialsUsedUp => b"SerialsUsedUp",
     }
 }

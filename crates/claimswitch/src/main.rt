@@ -10,7 +10,7 @@ use schedule_replay::replay_leaving;
 use schedule_run::{RunFault, run_schedule_keyed};
 use std::alloc::{AllocError, Global};
 use std::fmt::{Display, Formatter};
-use std::io::{IsTerminal, Read, Write};
+use std::io::{IsTerminal, Read};
 use std::mem::ManuallyDrop;
 use std::process::ExitCode;
 use std::sync::Wait;
@@ -142,7 +142,8 @@ fn why(
     }
 }
 
-/// Answers standard input on standard output.
+/// Answers standard input on standard output. The process ends behind it, so the world that a replay leaves stays where it is:
+/// giving it back piece by piece is a fifteenth of the time of a long one.
 fn serve<T, R: Read>(rt: &HostRuntime, threads: &T, word: Word, reader: &mut R) -> Result<(), End>
 where
     T: Threads + Wait + Clock + Copy + Send + 'static,
@@ -152,25 +153,16 @@ where
     let mut writer = rt.stdout();
     match word {
         Word::Read => Ok(read_claims_keyed(alloc, &keys, reader, &mut writer)?),
-        Word::Replay => Ok(replay(alloc, &keys, reader, &mut writer)?),
+        Word::Replay => {
+            let mut source = ReaderSource::new(reader);
+            let mut sink = WriterSink::new(&mut writer);
+            let mut left = None;
+            let done = replay_leaving(alloc, &keys, &mut source, &mut sink, &mut left);
+            let _stays = ManuallyDrop::new(left);
+            Ok(done?)
+        }
         Word::Run => Ok(run_schedule_keyed(threads, alloc, &keys, reader, &mut writer)?),
     }
-}
-
-/// Runs a schedule, as `replay_keyed` does. The process ends behind it, so the world that was run stays where it is: giving it
-/// back piece by piece is a fifteenth of the time of a long one.
-fn replay<R: Read, W: Write>(
-    alloc: Global,
-    keys: &HashKeys,
-    reader: &mut R,
-    writer: &mut W,
-) -> Result<(), ProgramFault> {
-    let mut source = ReaderSource::new(reader);
-    let mut sink = WriterSink::new(writer);
-    let mut left = None;
-    let done = replay_leaving(alloc, keys, &mut source, &mut sink, &mut left);
-    let _stays = ManuallyDrop::new(left);
-    done
 }
 
 /// What the maps of books hash with: keys that nobody knows. Where the system has no random bytes to give, the fixed keys

@@ -1,9 +1,10 @@
 //! A log that is made by its node as it is read, so that no more of it is kept than the node.
 
 ghost use Rattle.std.specs.Prelude.{◌≡◌, ◌≢◌, None, Some, Ok, IfOk, IsSome, OnOk};
+ghost use Rattle.bin_routes.specs.Table.{routes_of};
 ghost use Rattle.claim_model.specs.Bytes.{bytes_with};
 ghost use Rattle.claim_model.specs.Nodes.{AnyNode, node_at};
-ghost use Rattle.claim_model.specs.Settings.{opening, settings_fault};
+ghost use Rattle.claim_model.specs.Settings.{opening};
 ghost use Rattle.world_setup.specs.Seen.{node_seen, settings_seen};
 ghost use Rattle.kept_logs.specs.declared.fault.LogFault.TheVariants.{OutOfMemory};
 ghost use Rattle.kept_logs.specs.Cuts.{IsLogOf};
@@ -21,7 +22,7 @@ use bin_routes::Routes;
 use node_log::{Record, is_same_node, makes};
 use node_state::NodeState;
 use std::alloc::{AllocError, Global};
-use world_setup::{Node, WorldSettings};
+use world_setup::{CheckedSettings, Node};
 
 /// A node that has made its log.
 #[derive(Drop)]
@@ -49,30 +50,28 @@ struct MadeCalls {
 /// where the bytes are no log of this node, or where it does not make a call, or sends something else: `read_log` and `make_log`
 /// say why.
 ///
-/// The world is one that takes the settings, and has the node.
+/// The node is one of the settings.
 ///
 /// # Errors
 /// Memory was refused.
 pub fn make_as_read(
     alloc: Global,
     digest: &SettingsDigest,
-    settings: &WorldSettings,
-    routes: &Routes,
+    settings: &CheckedSettings,
     node: Node,
     bytes: &[u8],
 ) -> Result<Option<MadeLog>, AllocError>
-    requires taken { settings_fault (settings_seen settings.now) ≡ None }
-    requires there { IsSome (node_at (opening (settings_seen settings.now)) (node_seen node)) }
+    requires { IsSome (node_at (opening (settings_seen settings.now)) (node_seen node)) }
     // There is a node exactly where the bytes are its log, and it makes each call of it.
     ensures made { IfOk result (λ made. (before : AnyNode)
         → node_at (opening (settings_seen settings.now)) (node_seen node) ≡ Some before
-        → IsMadeIf (bytes_with routes.now) before digest.now (node_seen node) bytes.now made) }
+        → IsMadeIf (bytes_with (routes_of settings.now.routes.items)) before digest.now (node_seen node) bytes.now made) }
     // What is read is the text of what it is read as, and behind it how a record begins.
     ensures found { (read : Reading) → log_in digest.now bytes.now ≡ Ok read → IsLogOf digest.now bytes.now read }
 {
     log_is_its_text();
     let _ = digest.as_slice();
-    make_parts(alloc, digest, settings, routes, node, bytes)
+    make_parts(alloc, digest, settings, node, bytes)
 }
 
 /// Reads the head, and makes the calls behind it.
@@ -80,16 +79,14 @@ pub fn make_as_read(
 fn make_parts(
     alloc: Global,
     digest: &SettingsDigest,
-    settings: &WorldSettings,
-    routes: &Routes,
+    settings: &CheckedSettings,
     node: Node,
     bytes: &[u8],
 ) -> Result<Option<MadeLog>, AllocError>
-    requires taken { settings_fault (settings_seen settings.now) ≡ None }
-    requires there { IsSome (node_at (opening (settings_seen settings.now)) (node_seen node)) }
+    requires { IsSome (node_at (opening (settings_seen settings.now)) (node_seen node)) }
     ensures { IfOk result (λ made. (before : AnyNode)
         → node_at (opening (settings_seen settings.now)) (node_seen node) ≡ Some before
-        → IsMadeIf (bytes_with routes.now) before digest.now (node_seen node) bytes.now made) }
+        → IsMadeIf (bytes_with (routes_of settings.now.routes.items)) before digest.now (node_seen node) bytes.now made) }
 {
     let Ok((own, records)) = take_head(digest, bytes) else {
         return Ok(None);
@@ -100,7 +97,7 @@ fn make_parts(
     let state = NodeState::opening(alloc, settings, node)?;
     let Some(MadeCalls { node, calls, torn }) = make_calls(
         alloc,
-        routes,
+        settings.routes(),
         state,
         digest.version(),
         bytes.len(),

@@ -5,14 +5,14 @@ use Rattle.std.specs.Global.{Vec}
 use Rattle.std.specs.BTreeMap.{is_at}
 use Rattle.std.specs.Ordering.{is_eq, nat_cmp}
 use Rattle.std.proofs.lemmas.Bool.Decides.{nat_tests}
-use Rattle.std.proofs.lemmas.List.{drop_all, length_push}
-use Rattle.bin_routes.specs.Table.{RouteMaps, routes_of}
+use Rattle.std.proofs.lemmas.List.{length_push}
+use Rattle.bin_routes.specs.Table.{routes_of}
 use Rattle.claim_model.specs.Bytes.{bytes_with}
 use Rattle.claim_model.specs.Context.{Context}
 use Rattle.claim_model.specs.Journal.{Journal, JournalAtRest}
-use Rattle.claim_model.specs.Logs.{Logged, NodeLog, log_in, replay}
-use Rattle.claim_model.specs.Node.{Node, Pharmacy, Switch, Payer, Power}
-use Rattle.claim_model.specs.Nodes.{AnyNode, OfPharmacy, OfSwitch, OfPayer, node_at}
+use Rattle.claim_model.specs.Logs.{Logged, NodeLog, Makes, log_in, node_after, replay}
+use Rattle.claim_model.specs.Node.{Node, Outcome, Pharmacy, Switch, Payer, Power}
+use Rattle.claim_model.specs.Nodes.{AnyNode, OfPharmacy, OfSwitch, OfPayer, node_at, node_step}
 use Rattle.claim_model.specs.Numbered.{numbered}
 use Rattle.claim_model.specs.Rows.{Book}
 use Rattle.claim_model.specs.Settings.{opening}
@@ -26,33 +26,33 @@ use Rattle.world_setup.specs.declared.settings.WorldSettings.{WorldSettings}
 use Rattle.world_core.specs.NodeLists.{NodeLists, world_of}
 use Rattle.node_log.specs.LogSeen.{log_seen, logs_seen}
 use Rattle.run_merge.specs.Merged.{IsMerged, FitsThere, AllFit, packets_after}
+use Rattle.node_log.specs.Fits.{Fits, FitsBy}
+use Rattle.node_log.specs.Misfits.{IsMade}
 use Rattle.node_log.specs.There.{is_there}
 use Rattle.node_log.specs.declared.log.NodeLog.{NodeLog as Kept}
-use Rattle.node_log.proofs.Breaking.{Leads}
 use Rattle.node_log.proofs.Opens.{pharmacies_length, switches_length, payers_length}
 use Rattle.run_merge.proofs.Places.{found_at}
 use Rattle.log_audit.specs.Judged.{left_by, IsLegal}
 use Rattle.log_audit.specs.declared.judging.LegalRun.{LegalRun}
-use Rattle.log_audit.specs.Standing.{LeavesNode, IsLeftBy, StandsBy, EachStands, AreByNumber, Enters, AreNumbered, IsInOrder, AreStanding}
+use Rattle.log_audit.specs.Standing.{IsLeftBy, StandsBy, EachStands, AreByNumber, Enters, AreNumbered, IsInOrder, AreStanding}
 use Rattle.log_audit.specs.StandingSeen.{nodes_seen}
 use Rattle.log_audit.specs.declared.standing.ByNumber.{ByNumber}
 use Rattle.log_audit.specs.declared.standing.Nodes.{Nodes}
 
 -- one log
 
-pub made_all : (ctx : Context) (s t : AnyNode) (all : List Logged) (i : ℕ) → length all ≤ i → Leads ctx s (drop i all) t all i → LeavesNode ctx t all s
-made_all ctx s t all i le f =
-    let g : Leads ctx s [] t all i = subst (λ (left : List Logged). Leads ctx s left t all i) (drop_all i all le) f in
-    record { fits = g.fits tt; ends = sym g.ends }
+makes_fits : (ctx : Context) (s : AnyNode) (calls : List Logged) → Makes ctx s calls → Fits ctx s calls
+makes_fits ctx s [] m = tt
+makes_fits ctx s (r ∷ more) m =
+    subst (λ (o : Outcome AnyNode). FitsBy (λ x. Fits ctx x more) r.sent o) (sym m.0) (refl, makes_fits ctx (node_after s (node_step ctx s r.call)) more m.1)
 
-pub left_whole : (s : WorldSettings) (log : NodeLog) (routes : RouteMaps) (before after : AnyNode) → routes ≡ routes_of s.routes.items → is_there (settings_seen s) log.node ≡ true → node_at (opening (settings_seen s)) log.node ≡ Some before
-    → LeavesNode (bytes_with routes) before log.calls after → IsLeftBy s log after
-left_whole s log routes before after same there opens made =
+-- a node that makes its log is what the log leaves
+pub left_whole : (s : WorldSettings) (log : NodeLog) (after : AnyNode) → is_there (settings_seen s) log.node ≡ true → IsMade s log.node log.calls (Ok after) → IsLeftBy s log after
+left_whole s log after there m =
     let ctx = bytes_with (routes_of s.routes.items) in
-    let m : LeavesNode ctx before log.calls after = subst (λ (r : RouteMaps). LeavesNode (bytes_with r) before log.calls after) same made in
     record {
-      fits = record { there = there; fits = subst (λ (o : Option AnyNode). FitsThere ctx o log.calls) (sym opens) m.fits };
-      left = ap (λ (o : Option AnyNode). option_map (λ n. replay ctx n log.calls) o) opens ∙ ap (λ (n : AnyNode). Some n) (sym m.ends);
+      fits = record { there = there; fits = subst (λ (o : Option AnyNode). FitsThere ctx o log.calls) (sym m.opens) (makes_fits ctx m.before log.calls m.made.0) };
+      left = ap (λ (o : Option AnyNode). option_map (λ n. replay ctx n log.calls) o) m.opens ∙ ap (λ (n : AnyNode). Some n) (sym m.made.1);
     }
 
 -- nodes by their numbers

@@ -13,6 +13,9 @@ pub mod Telling
 pub mod Making
 pub mod Reasoning
 pub mod Writing
+pub mod Commas
+pub mod Taking
+pub mod Passing
 pub mod LoneMaking
 mod LastReason
 mod Pricing

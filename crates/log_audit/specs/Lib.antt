@@ -2,6 +2,8 @@ pub mod Kinds
 pub mod Sentences
 pub mod SentencesSeen
 pub mod Adding
+pub mod Commas
+pub mod Outgoing
 pub mod Claims
 pub mod Payments
 pub mod Rulings

@@ -4,8 +4,7 @@ use Rattle.std.specs.BTreeMap.{get}
 use Rattle.std.specs.Ordering.{nat_cmp}
 use Rattle.bin_routes.specs.Table.{routes_of}
 use Rattle.claim_model.specs.Bytes.{bytes_with}
-use Rattle.claim_model.specs.Context.{Context}
-use Rattle.claim_model.specs.Logs.{Logged, NodeLog, replay}
+use Rattle.claim_model.specs.Logs.{NodeLog}
 use Rattle.claim_model.specs.Node.{Node, Pharmacy, Switch, Payer}
 use Rattle.claim_model.specs.Nodes.{AnyNode, OfPharmacy, OfSwitch, OfPayer}
 use Rattle.claim_model.specs.Numbered.{numbered}
@@ -14,13 +13,7 @@ use Rattle.world_setup.specs.declared.settings.WorldSettings.{WorldSettings}
 use Rattle.world_core.specs.NodeLists.{NodeLists}
 use Rattle.node_log.specs.Replayed.{replayed}
 use Rattle.run_merge.specs.Merged.{AllFit, FitsAlone}
-use Rattle.node_log.specs.Fits.{Fits}
 use Rattle.log_audit.specs.declared.standing.ByNumber.{ByNumber}
-
--- a node makes these calls, and is then this one
-pub record LeavesNode (ctx : Context) (before : AnyNode) (calls : List Logged) (after : AnyNode) : Type 0 where
-  pub fits : Fits ctx before calls
-  pub ends : after ≡ replay ctx before calls
 
 -- a log fits its node, which is this one after it
 pub record IsLeftBy (s : WorldSettings) (log : NodeLog) (node : AnyNode) : Type 0 where

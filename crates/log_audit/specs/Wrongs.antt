@@ -6,7 +6,7 @@ use Rattle.claim_model.specs.Settings.{WorldSettings, opening}
 use Rattle.claim_model.specs.Node.{Node, Sent, Outcome, Done, Refused}
 use Rattle.claim_model.specs.Nodes.{AnyNode, node_step, node_at, same_node}
 use Rattle.claim_model.specs.Logs.{Logged, NodeLog}
-use Rattle.world_setup.specs.Names.{refusal_name}
+use Rattle.claim_model.specs.Refusal.{refusal_name}
 use Rattle.log_audit.specs.Sentences.{Piece, Words, Number, Named, sentence}
 
 -- what is wrong with a call: the node refuses it by this name; it sends so many packets, and the log has so many; the packet of this

@@ -1,8 +1,8 @@
 //! One log by itself: whether its node makes it, and what the node has then. Nothing is judged of other nodes.
 
 ghost use Rattle.std.specs.Prelude.{◌≡◌, None, codes, IfOk};
+ghost use Rattle.bin_routes.specs.Table.{routes_of};
 ghost use Rattle.claim_model.specs.Bytes.{bytes_with};
-ghost use Rattle.claim_model.specs.Settings.{settings_fault};
 ghost use Rattle.world_setup.specs.Seen.{settings_seen, node_seen};
 ghost use Rattle.node_log.specs.LogSeen.{log_seen};
 ghost use Rattle.log_audit.specs.Lacks.{node_line};
@@ -14,11 +14,10 @@ ghost use Rattle.log_audit.specs.AloneSeen.{came_seen, lone_seen};
 
 use crate::sentences::{Piece, put_pieces};
 use crate::wrongs::{FirstWrong, make_calls, put_wrong_line};
-use bin_routes::Routes;
 use node_log::{NodeLog, is_there};
 use node_state::NodeState;
 use std::alloc::{AllocError, Global};
-use world_setup::{Node, WorldSettings};
+use world_setup::{CheckedSettings, Node};
 
 /// What a log comes to by itself.
 #[derive(Drop)]
@@ -61,19 +60,17 @@ impl<'a> Lone<'a> {
 /// What a log comes to by itself.
 pub(crate) fn lone_node(
     alloc: Global,
-    settings: &WorldSettings,
-    routes: &Routes,
+    settings: &CheckedSettings,
     log: &NodeLog,
 ) -> Result<Came, AllocError>
-    requires { settings_fault (settings_seen settings.now) ≡ None }
     ensures { IfOk result (λ came. came_seen came
-        ≡ lone_node (bytes_with routes.now) (settings_seen settings.now) (log_seen log.now)) }
+        ≡ lone_node (bytes_with (routes_of settings.now.routes.items)) (settings_seen settings.now) (log_seen log.now)) }
 {
-    if !is_there(settings, log.node()) {
+    if !is_there(settings.settings(), log.node()) {
         return Ok(Came::NotMade(stranger_line(alloc, log.node())?));
     }
     let mut node = NodeState::opening(alloc, settings, log.node())?;
-    match make_calls(alloc, routes, &mut node, log.records())? {
+    match make_calls(alloc, settings.routes(), &mut node, log.records())? {
         None => Ok(Came::Made(node)),
         Some(first) => Ok(Came::NotMade(wrong_line(alloc, log.node(), first)?)),
     }

@@ -1,9 +1,8 @@
 //! Whether logs are those of one legal run.
 
-ghost use Rattle.std.specs.Prelude.{◌≡◌, length, map, None, Some, IfOk};
-ghost use Rattle.bin_routes.specs.Fault.{first_fault};
+ghost use Rattle.std.specs.Prelude.{◌≡◌, map, Some, IfOk};
 ghost use Rattle.bin_routes.specs.Table.{routes_of};
-ghost use Rattle.claim_model.specs.Settings.{opening, settings_fault};
+ghost use Rattle.claim_model.specs.Settings.{opening};
 ghost use Rattle.world_setup.specs.Seen.{event_seen, settings_seen};
 ghost use Rattle.node_log.specs.LogSeen.{logs_seen};
 ghost use Rattle.run_merge.specs.MergedRuns.{IsRunOf};
@@ -12,12 +11,11 @@ ghost use Rattle.log_audit.specs.Standing.{AreStanding};
 ghost use Rattle.log_audit.specs.StandingSeen.{nodes_seen};
 
 use crate::standing::{Nodes, nodes_left};
-use bin_routes::Routes;
 use node_log::NodeLog;
 use run_merge::{MergeFault, MergedRun, merge, merge_fitting};
 use std::alloc::{AllocError, Global};
 use world_core::{KnownParts, World};
-use world_setup::{Event, WorldFault, WorldSettings};
+use world_setup::{CheckedSettings, Event};
 
 /// What logs are judged to be.
 #[derive(Drop)]
@@ -32,7 +30,7 @@ pub enum Verdict {
 /// are a legal interleaving of them, packets compared byte for byte.
 pub fn judge(
     alloc: Global,
-    settings: &WorldSettings,
+    settings: &CheckedSettings,
     logs: &[NodeLog],
 ) -> Result<Verdict, AllocError>
     ensures { IfOk result (λ verdict. IsJudged settings.now (logs_seen logs.now) verdict) }
@@ -73,7 +71,7 @@ impl LegalRun {
 /// As [`judge`], and no world is kept.
 pub(crate) fn run_alone(
     alloc: Global,
-    settings: &WorldSettings,
+    settings: &CheckedSettings,
     logs: &[NodeLog],
 ) -> Result<Found, AllocError>
     ensures { IfOk result (λ found. IsFound settings.now (logs_seen logs.now) found) }
@@ -91,31 +89,12 @@ pub(crate) fn run_alone(
 /// logs are not one for each node, which makes it, they are judged alone.
 pub(crate) fn run_and_world(
     alloc: Global,
-    settings: &WorldSettings,
+    settings: &CheckedSettings,
     logs: &[NodeLog],
 ) -> Result<Found, AllocError>
     ensures { IfOk result (λ found. IsFound settings.now (logs_seen logs.now) found) }
 {
-    match settings.checked_routes(alloc) {
-        Ok(routes) => found_by(alloc, settings, &routes, logs),
-        Err(WorldFault::OutOfMemory) => Err(AllocError),
-        Err(_) => Ok(Found::NoRun),
-    }
-}
-
-/// The same under settings that a world takes, by their routes.
-fn found_by(
-    alloc: Global,
-    settings: &WorldSettings,
-    routes: &Routes,
-    logs: &[NodeLog],
-) -> Result<Found, AllocError>
-    requires world { settings_fault (settings_seen settings.now) ≡ None }
-    requires rows { first_fault (length settings.now.payers.items) settings.now.routes.items ≡ None }
-    requires routes_are { routes.now ≡ routes_of settings.now.routes.items }
-    ensures { IfOk result (λ found. IsFound settings.now (logs_seen logs.now) found) }
-{
-    match nodes_left(alloc, settings, routes, logs)? {
+    match nodes_left(alloc, settings, logs)? {
         Some(nodes) => found_standing(alloc, settings, nodes, logs),
         None => run_alone(alloc, settings, logs),
     }
@@ -124,12 +103,10 @@ fn found_by(
 /// What is found of logs that their nodes made: only the order of the calls is looked for.
 fn found_standing(
     alloc: Global,
-    settings: &WorldSettings,
+    settings: &CheckedSettings,
     nodes: Nodes,
     logs: &[NodeLog],
 ) -> Result<Found, AllocError>
-    requires world { settings_fault (settings_seen settings.now) ≡ None }
-    requires rows { first_fault (length settings.now.payers.items) settings.now.routes.items ≡ None }
     requires standing { AreStanding settings.now (logs_seen logs.now) (nodes_seen nodes) }
     ensures { IfOk result (λ found. IsFound settings.now (logs_seen logs.now) found) }
 {
@@ -143,13 +120,11 @@ fn found_standing(
 /// A run of these logs, at whose end these nodes stand.
 fn standing_run(
     alloc: Global,
-    settings: &WorldSettings,
+    settings: &CheckedSettings,
     nodes: Nodes,
     logs: &[NodeLog],
     run: MergedRun,
 ) -> Result<LegalRun, AllocError>
-    requires world { settings_fault (settings_seen settings.now) ≡ None }
-    requires rows { first_fault (length settings.now.payers.items) settings.now.routes.items ≡ None }
     requires standing { AreStanding settings.now (logs_seen logs.now) (nodes_seen nodes) }
     requires run { IsRunOf settings.now (logs_seen logs.now) run }
     ensures { IfOk result (λ legal. legal
@@ -174,16 +149,10 @@ fn standing_run(
     })
 }
 
-/// The opening world of settings that a world takes: nothing but memory can be wanting.
-fn opening_world(alloc: Global, settings: &WorldSettings) -> Result<World, AllocError>
-    requires world { settings_fault (settings_seen settings.now) ≡ None }
-    requires rows { first_fault (length settings.now.payers.items) settings.now.routes.items ≡ None }
+/// The opening world of the settings.
+fn opening_world(alloc: Global, settings: &CheckedSettings) -> Result<World, AllocError>
     ensures { IfOk result (λ w. w
         ≡ record { routes = routes_of settings.now.routes.items; world = opening (settings_seen settings.now) }) }
 {
-    match World::new(alloc, settings.copy()?) {
-        Ok(world) => Ok(world),
-        Err(WorldFault::OutOfMemory) => Err(AllocError),
-        Err(_) => unreachable!(),
-    }
+    World::opening(alloc, settings.copy(alloc)?)
 }

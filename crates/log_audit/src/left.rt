@@ -8,21 +8,23 @@ ghost use Rattle.table_text.specs.Adding.{Adds};
 ghost use Rattle.log_audit.specs.Judged.{IsLeft};
 ghost use Rattle.log_audit.specs.Tabled.{run_csv, tells_senders};
 ghost use Rattle.log_audit.specs.Telling.{run_ledger, run_members};
+ghost use Rattle.log_audit.specs.Outgoing.{Puts};
 
 use crate::fault::AuditFault;
 use crate::judging::LegalRun;
 use crate::ledger::put_ledger;
+use crate::outgoing::{Outgoing, TextSink};
 use crate::tables::senders::run_noting;
 use crate::tables::table::{Table, put_csv, put_json};
 use std::alloc::Global;
 use world_core::World;
-use world_setup::{Event, WorldFault, WorldSettings};
+use world_setup::{CheckedSettings, Event};
 
 /// Appends the counts of what a run left.
 pub(crate) fn put_left_counts(
     alloc: Global,
     text: &mut Vec<u8>,
-    settings: WorldSettings,
+    settings: CheckedSettings,
     run: LegalRun,
 ) -> Result<(), AuditFault>
     requires { IsLeft settings run }
@@ -39,7 +41,7 @@ pub(crate) fn put_left_counts(
 fn put_made_counts(
     alloc: Global,
     text: &mut Vec<u8>,
-    settings: WorldSettings,
+    settings: CheckedSettings,
     events: &[Event],
 ) -> Result<(), AuditFault>
     ensures { OnOk result (Adds text.old text.new (run_ledger settings (map event_seen events.now))) }
@@ -52,15 +54,15 @@ fn put_made_counts(
 }
 
 /// Appends a table of what a run left, as CSV.
-pub(crate) fn put_left_table(
+pub(crate) fn put_left_table<K: TextSink + Drop>(
     alloc: Global,
-    text: &mut Vec<u8>,
-    settings: WorldSettings,
+    text: &mut Outgoing<K>,
+    settings: CheckedSettings,
     run: LegalRun,
     table: Table,
 ) -> Result<(), AuditFault>
     requires { IsLeft settings run }
-    ensures { OnOk result (Adds text.old text.new (run_csv settings (map event_seen run.events.items) table)) }
+    ensures { OnOk result (Puts text.old text.new (run_csv settings (map event_seen run.events.items) table)) }
 {
     if tells_senders(table) {
         let events = run.into_events();
@@ -87,14 +89,14 @@ pub(crate) fn tells_senders(table: Table) -> bool
 }
 
 /// Appends a table of what a run of these events left, as CSV; they are made for that.
-fn put_made_table(
+fn put_made_table<K: TextSink + Drop>(
     alloc: Global,
-    text: &mut Vec<u8>,
-    settings: WorldSettings,
+    text: &mut Outgoing<K>,
+    settings: CheckedSettings,
     events: &[Event],
     table: Table,
 ) -> Result<(), AuditFault>
-    ensures { OnOk result (Adds text.old text.new (run_csv settings (map event_seen events.now) table)) }
+    ensures { OnOk result (Puts text.old text.new (run_csv settings (map event_seen events.now) table)) }
 {
     let mut world = opened(alloc, settings)?;
     let senders = run_noting(alloc, &mut world, events)?;
@@ -104,13 +106,13 @@ fn put_made_table(
 
 /// Appends all tables of what a run of these events left, as members of an object of JSON, each behind a comma. The events are
 /// made for that, since it says of each packet which of them sent it.
-pub(crate) fn put_left_tables(
+pub(crate) fn put_left_tables<K: TextSink + Drop>(
     alloc: Global,
-    text: &mut Vec<u8>,
-    settings: WorldSettings,
+    text: &mut Outgoing<K>,
+    settings: CheckedSettings,
     events: &[Event],
 ) -> Result<(), AuditFault>
-    ensures { OnOk result (Adds text.old text.new (run_members settings (map event_seen events.now))) }
+    ensures { OnOk result (Puts text.old text.new (run_members settings (map event_seen events.now))) }
 {
     let mut world = opened(alloc, settings)?;
     let senders = run_noting(alloc, &mut world, events)?;
@@ -119,13 +121,12 @@ pub(crate) fn put_left_tables(
 }
 
 /// The opening world of these settings.
-fn opened(alloc: Global, settings: WorldSettings) -> Result<World, AuditFault>
+fn opened(alloc: Global, settings: CheckedSettings) -> Result<World, AuditFault>
     ensures { IfOk result (λ w. w
         ≡ record { routes = routes_of settings.routes.items; world = opening (settings_seen settings) }) }
 {
-    match World::new(alloc, settings) {
+    match World::opening(alloc, settings) {
         Ok(world) => Ok(world),
-        Err(WorldFault::OutOfMemory) => Err(AuditFault::OutOfMemory),
-        Err(fault) => Err(AuditFault::World(fault)),
+        Err(_) => Err(AuditFault::OutOfMemory),
     }
 }

@@ -1,90 +1,97 @@
 //! The object of logs one by one.
 
-ghost use Rattle.std.specs.Prelude.{◌≡◌, ◌++◌, length, IfOk, OnOk};
+ghost use Rattle.std.specs.Prelude.{◌++◌, OnOk};
 ghost use Rattle.std.specs.List.{flat_map};
-ghost use Rattle.bin_routes.specs.Table.{RouteMaps};
-ghost use Rattle.claim_model.specs.Bytes.{bytes_with};
 ghost use Rattle.node_log.specs.LogSeen.{logs_seen};
 ghost use Rattle.table_text.specs.Adding.{Adds};
 ghost use Rattle.table_text.specs.Rows.{list_text, rows_text};
 ghost use Rattle.table_text.specs.declared.layout.Style.TheVariants as style;
-ghost use Rattle.log_audit.specs.Adding.{Tells};
 ghost use Rattle.log_audit.specs.AloneSeen.{lone_seen, lones_seen};
 ghost use Rattle.log_audit.specs.Lones.{lone_rows};
 ghost use Rattle.log_audit.specs.LoneTelling.{lone_member, lone_members, lone_object, lone_reasons, made_members, unmade_members, verdict_members};
 ghost use Rattle.log_audit.specs.Sentences.{told_lines};
 ghost use Rattle.log_audit.specs.Telling.{logs_member};
 ghost use Rattle.log_audit.specs.declared.sentences.Manner.TheVariants.{Member};
+ghost use Rattle.log_audit.specs.Outgoing.{Puts, TellsText};
 
 use crate::alone::{Came, Lone};
 use crate::lone_tables::{LoneTable, put_table};
 use crate::object::put_logs;
+use crate::outgoing::{Outgoing, TextSink};
 use crate::reading::Audited;
 use crate::sentences::{Manner, put_told};
 use std::alloc::{AllocError, Global};
 use table_text::{Style, put_list};
 
-/// The object of logs one by one: all tables where each node makes its log, else why one does not.
-pub(crate) fn object_of(
+/// Puts the object of logs one by one: all tables where each node makes its log, else why one does not.
+pub(crate) fn put_object<K: TextSink + Drop>(
     alloc: Global,
+    out: &mut Outgoing<K>,
     audited: &Audited,
     lones: &[Lone<'_>],
     made: bool,
-) -> Result<Vec<u8>, AllocError>
-    ensures { (routes : RouteMaps) → IfOk result (λ text. text.items
-        ≡ logs_member (logs_seen audited.now.logs.items) audited.now.torn.items
-        ++ lone_object (bytes_with routes) made (lones_seen lones.now)) }
+) -> Result<(), AllocError>
+    ensures { TellsText out.old out.new
+        (λ ctx. logs_member (logs_seen audited.now.logs.items) audited.now.torn.items
+        ++ lone_object ctx made (lones_seen lones.now)) result }
 {
-    let mut out = Vec::new(alloc);
-    put_logs(&mut out, audited.logs.as_slice(), audited.torn.as_slice())?;
-    put_verdict(alloc, &mut out, lones, made)?;
-    Ok(out)
+    let mut logs = out.piece();
+    put_logs(&mut logs, audited.logs.as_slice(), audited.torn.as_slice())?;
+    out.put(logs.as_slice())?;
+    put_verdict(alloc, out, lones, made)
 }
 
 /// Appends what stands behind the list of logs.
 #[tactic(auto, unfolding(crate::specs::LoneTelling::lone_object))]
-fn put_verdict(
+fn put_verdict<K: TextSink + Drop>(
     alloc: Global,
-    out: &mut Vec<u8>,
+    out: &mut Outgoing<K>,
     lones: &[Lone<'_>],
     made: bool,
 ) -> Result<(), AllocError>
-    ensures { Tells out.old out.new (λ ctx. lone_object ctx made (lones_seen lones.now)) result }
+    ensures { TellsText out.old out.new (λ ctx. lone_object ctx made (lones_seen lones.now)) result }
 {
-    out.extend_from_slice(b",\n\"alone\":true,\n\"made\":")?;
+    out.put(b",\n\"alone\":true,\n\"made\":")?;
     put_found(alloc, out, lones, made)?;
-    out.extend_from_slice(b"\n}\n")?;
-    Ok(())
+    out.put(b"\n}\n")
 }
 
 /// Appends all tables, or why there are none.
-fn put_found(
+fn put_found<K: TextSink + Drop>(
     alloc: Global,
-    out: &mut Vec<u8>,
+    out: &mut Outgoing<K>,
     lones: &[Lone<'_>],
     made: bool,
 ) -> Result<(), AllocError>
-    ensures { Tells out.old out.new (λ ctx. verdict_members ctx made (lones_seen lones.now)) result }
+    ensures { TellsText out.old out.new (λ ctx. verdict_members ctx made (lones_seen lones.now)) result }
 {
     if made {
         put_made(alloc, out, lones)
     } else {
-        put_unmade(alloc, out, lones)
+        put_unmade(out, lones)
     }
 }
 
 /// Appends that each node makes its log, and all tables.
 #[tactic(auto, unfolding(crate::specs::LoneTelling::made_members))]
-fn put_made(alloc: Global, out: &mut Vec<u8>, lones: &[Lone<'_>]) -> Result<(), AllocError>
-    ensures { Tells out.old out.new (λ ctx. made_members ctx (lones_seen lones.now)) result }
+fn put_made<K: TextSink + Drop>(
+    alloc: Global,
+    out: &mut Outgoing<K>,
+    lones: &[Lone<'_>],
+) -> Result<(), AllocError>
+    ensures { TellsText out.old out.new (λ ctx. made_members ctx (lones_seen lones.now)) result }
 {
-    out.extend_from_slice(b"true")?;
+    out.put(b"true")?;
     put_members(alloc, out, lones)
 }
 
 /// Appends all tables as members, each behind a comma.
-fn put_members(alloc: Global, out: &mut Vec<u8>, lones: &[Lone<'_>]) -> Result<(), AllocError>
-    ensures { Tells out.old out.new (λ ctx. lone_members ctx (lones_seen lones.now)) result }
+fn put_members<K: TextSink + Drop>(
+    alloc: Global,
+    out: &mut Outgoing<K>,
+    lones: &[Lone<'_>],
+) -> Result<(), AllocError>
+    ensures { TellsText out.old out.new (λ ctx. lone_members ctx (lones_seen lones.now)) result }
 {
     put_member(alloc, out, lones, LoneTable::Payments)?;
     put_member(alloc, out, lones, LoneTable::Entries)?;
@@ -94,44 +101,49 @@ fn put_members(alloc: Global, out: &mut Vec<u8>, lones: &[Lone<'_>]) -> Result<(
 }
 
 /// Appends a table as a member of an object, behind a comma.
-fn put_member(
+fn put_member<K: TextSink + Drop>(
     alloc: Global,
-    out: &mut Vec<u8>,
+    out: &mut Outgoing<K>,
     lones: &[Lone<'_>],
     table: LoneTable,
 ) -> Result<(), AllocError>
-    ensures { Tells out.old out.new (λ ctx. lone_member ctx (lones_seen lones.now) table) result }
+    ensures { TellsText out.old out.new (λ ctx. lone_member ctx (lones_seen lones.now) table) result }
 {
-    out.extend_from_slice(b",\n\"")?;
-    out.extend_from_slice(table.name())?;
-    out.extend_from_slice(b"\":")?;
+    out.put(b",\n\"")?;
+    out.put(table.name())?;
+    out.put(b"\":")?;
     put_rows_list(alloc, out, lones, table)
 }
 
 /// Appends the rows of a table as a list.
-fn put_rows_list(
+fn put_rows_list<K: TextSink + Drop>(
     alloc: Global,
-    out: &mut Vec<u8>,
+    out: &mut Outgoing<K>,
     lones: &[Lone<'_>],
     table: LoneTable,
 ) -> Result<(), AllocError>
-    ensures { Tells out.old out.new
+    ensures { TellsText out.old out.new
         (λ ctx. list_text (rows_text style.Json (lone_rows ctx (lones_seen lones.now) table))) result }
 {
-    let mut rows = Vec::new(alloc);
-    put_table(alloc, &mut rows, Style::Json, lones, table)?;
-    put_list(out, rows.as_slice())
+    out.put(b"[")?;
+    put_table(alloc, out, Style::Json, lones, table)?;
+    out.end_list()
 }
 
 /// Appends that a node does not make its log, and the lines that say why, as a list of texts.
 #[tactic(auto, unfolding(crate::specs::LoneTelling::unmade_members))]
-fn put_unmade(alloc: Global, out: &mut Vec<u8>, lones: &[Lone<'_>]) -> Result<(), AllocError>
-    ensures { OnOk result (Adds out.old out.new (unmade_members (lones_seen lones.now))) }
+fn put_unmade<K: TextSink + Drop>(
+    out: &mut Outgoing<K>,
+    lones: &[Lone<'_>],
+) -> Result<(), AllocError>
+    ensures { OnOk result (Puts out.old out.new (unmade_members (lones_seen lones.now))) }
 {
-    let mut why = Vec::new(alloc);
+    let mut why = out.piece();
     put_reasons(&mut why, lones)?;
-    out.extend_from_slice(b"false,\n\"reasons\":")?;
-    put_list(out, why.as_slice())
+    let mut list = out.piece();
+    list.extend_from_slice(b"false,\n\"reasons\":")?;
+    put_list(&mut list, why.as_slice())?;
+    out.put(list.as_slice())
 }
 
 /// Appends the lines that say why nodes do not make their logs.

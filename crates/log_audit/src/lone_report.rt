@@ -1,39 +1,30 @@
 //! What is told of logs one by one, with nothing judged of other nodes.
 
-ghost use Rattle.std.specs.Prelude.{◌≡◌, [], cond, None, IfOk};
+ghost use Rattle.std.specs.Prelude.{◌≡◌, [], cond, IfOk, OnOk};
 ghost use Rattle.std.specs.List.{list_all};
-ghost use Rattle.bin_routes.specs.Table.{RouteMaps, routes_of};
+ghost use Rattle.bin_routes.specs.Table.{routes_of};
 ghost use Rattle.claim_model.specs.Bytes.{bytes_with};
-ghost use Rattle.claim_model.specs.Settings.{settings_fault};
 ghost use Rattle.world_setup.specs.Seen.{settings_seen};
 ghost use Rattle.node_log.specs.LogSeen.{logs_seen};
 ghost use Rattle.log_audit.specs.Alone.{all_made};
 ghost use Rattle.log_audit.specs.Lones.{lones_from, makes};
 ghost use Rattle.log_audit.specs.Prices.{log_prices};
 ghost use Rattle.log_audit.specs.AloneSeen.{lone_seen, lones_seen};
-ghost use Rattle.log_audit.specs.LoneTelling.{lone_csv, lones_of, lones_text, alone_text};
+ghost use Rattle.log_audit.specs.LoneTelling.{lone_csv, lone_lines, lones_of, lones_text, alone_text};
+ghost use Rattle.log_audit.specs.Outgoing.{Puts, TellsText};
 
 use crate::alone::{Lone, lone_node};
 use crate::fault::AuditFault;
 use crate::lone_lines::lines_of;
-use crate::lone_object::object_of;
-use crate::lone_tables::{LoneTable, csv_of};
+use crate::lone_object::put_object;
+use crate::lone_tables::{LoneTable, put_csv};
 use crate::object::torn_at;
+use crate::outgoing::{Outgoing, TextSink};
 use crate::prices::log_prices;
 use crate::reading::Audited;
-use bin_routes::Routes;
 use node_log::NodeLog;
 use std::alloc::{AllocError, Global};
-use world_setup::{WorldFault, WorldSettings};
-
-/// What is told of logs one by one, and whether each node makes its own.
-#[derive(Drop)]
-pub struct LoneReport {
-    /// The lines.
-    pub text: Vec<u8>,
-    /// Whether each node makes its log.
-    pub made: bool,
-}
+use world_setup::CheckedSettings;
 
 /// How logs are told of one by one.
 #[derive(Clone, Copy, PartialEq, Eq)]
@@ -48,26 +39,28 @@ pub enum LoneForm {
     Prices,
 }
 
-/// Judges each log by itself, and tells what its node has after it.
+/// Judges each log by itself, and puts what its node has after it; whether each node makes its own log. The rows of tables go
+/// out as they are made.
 ///
 /// # Errors
 /// `OutOfMemory`.
-pub fn report_alone(
+pub fn put_alone<K: TextSink + Drop>(
     alloc: Global,
     audited: &Audited,
     form: LoneForm,
-) -> Result<LoneReport, AuditFault>
+    out: &mut Outgoing<K>,
+) -> Result<bool, AuditFault>
     // Whether each node makes its log: it accepts each call from its opening, and sends with it each byte that the log has.
-    ensures made { IfOk result (λ report. report.made
+    ensures made { IfOk result (λ made. made
         ≡ all_made (bytes_with (routes_of audited.now.settings.routes.items)) (settings_seen audited.now.settings)
         (logs_seen audited.now.logs.items)) }
-    // What is written is told of these logs, each by itself, and of what their nodes have then.
-    ensures text { IfOk result (λ report. report.text.items ≡ alone_text audited.now form) }
+    // What is put is told of these logs, each by itself, and of what their nodes have then.
+    ensures text { OnOk result (Puts out.old out.new (alone_text audited.now form)) }
 {
     let lones = lones_of(alloc, audited)?;
     let made = all_made(lones.as_slice());
-    match lones_text(alloc, audited, lones.as_slice(), made, form) {
-        Ok(text) => Ok(LoneReport { text, made }),
+    match put_lones_text(alloc, audited, lones.as_slice(), made, form, out) {
+        Ok(()) => Ok(made),
         Err(_) => Err(AuditFault::OutOfMemory),
     }
 }
@@ -76,37 +69,30 @@ pub fn report_alone(
 fn lones_of(alloc: Global, audited: &Audited) -> Result<Vec<Lone<'_>>, AuditFault>
     ensures { IfOk result (λ lones. lones_seen lones.items ≡ lones_of audited.now) }
 {
-    match audited.settings.checked_routes(alloc) {
-        Ok(routes) => match lones_by(
-            alloc,
-            &audited.settings,
-            &routes,
-            audited.logs.as_slice(),
-            audited.torn.as_slice(),
-        ) {
-            Ok(lones) => Ok(lones),
-            Err(_) => Err(AuditFault::OutOfMemory),
-        },
-        Err(WorldFault::OutOfMemory) => Err(AuditFault::OutOfMemory),
-        Err(fault) => Err(AuditFault::World(fault)),
+    match lones_by(
+        alloc,
+        &audited.settings,
+        audited.logs.as_slice(),
+        audited.torn.as_slice(),
+    ) {
+        Ok(lones) => Ok(lones),
+        Err(_) => Err(AuditFault::OutOfMemory),
     }
 }
 
 /// What each of these logs comes to by itself.
 fn lones_by<'a>(
     alloc: Global,
-    settings: &WorldSettings,
-    routes: &Routes,
+    settings: &CheckedSettings,
     logs: &'a [NodeLog],
     torn: &[usize],
 ) -> Result<Vec<Lone<'a>>, AllocError>
-    requires { settings_fault (settings_seen settings.now) ≡ None }
-    ensures { IfOk result (λ lones. lones_seen lones.items
-        ≡ lones_from (bytes_with routes.now) (settings_seen settings.now) torn.now 0 (logs_seen logs.now)) }
+    ensures { IfOk result (λ lones. lones_seen lones.items ≡ lones_from (bytes_with (routes_of settings.now.routes.items))
+        (settings_seen settings.now) torn.now 0 (logs_seen logs.now)) }
 {
     let mut lones = Vec::new(alloc);
     for (place, log) in logs.iter().enumerate() {
-        let came = lone_node(alloc, settings, routes, log)?;
+        let came = lone_node(alloc, settings, log)?;
         lones.push(Lone {
             log,
             torn: torn_at(torn, place),
@@ -123,50 +109,76 @@ fn all_made(lones: &[Lone<'_>]) -> bool
     lones.iter().all(|lone| lone.is_made())
 }
 
-/// What is told of logs that come to this.
-fn lones_text(
+/// Puts what is told of logs that come to this.
+fn put_lones_text<K: TextSink + Drop>(
     alloc: Global,
     audited: &Audited,
     lones: &[Lone<'_>],
     made: bool,
     form: LoneForm,
-) -> Result<Vec<u8>, AllocError>
-    ensures { (routes : RouteMaps) → IfOk result (λ text.
-        text.items ≡ lones_text (bytes_with routes) audited.now made (lones_seen lones.now) form) }
+    out: &mut Outgoing<K>,
+) -> Result<(), AllocError>
+    ensures { TellsText out.old out.new
+        (λ ctx. lones_text ctx audited.now made (lones_seen lones.now) form) result }
 {
     match form {
-        LoneForm::Lines => lines_of(alloc, audited.settings.pharmacies.len(), lones),
-        LoneForm::Json => object_of(alloc, audited, lones, made),
-        LoneForm::Csv(table) => table_of(alloc, lones, made, table),
-        LoneForm::Prices => prices_of(alloc, audited, made),
+        LoneForm::Lines => put_lines_of(
+            alloc,
+            audited.settings.settings().pharmacies.len(),
+            lones,
+            out,
+        ),
+        LoneForm::Json => put_object(alloc, out, audited, lones, made),
+        LoneForm::Csv(table) => put_table_of(alloc, lones, made, table, out),
+        LoneForm::Prices => put_prices_of(alloc, audited, made, out),
     }
 }
 
-/// A table of what the nodes have, where each makes its log.
-fn table_of(
+/// Puts the lines of logs that come to this.
+fn put_lines_of<K: TextSink + Drop>(
+    alloc: Global,
+    pharmacies: usize,
+    lones: &[Lone<'_>],
+    out: &mut Outgoing<K>,
+) -> Result<(), AllocError>
+    ensures { TellsText out.old out.new (λ ctx. lone_lines ctx pharmacies (lones_seen lones.now)) result }
+{
+    let text = lines_of(alloc, pharmacies, lones)?;
+    out.put_text(text.as_slice())
+}
+
+/// Puts a table of what the nodes have, where each makes its log.
+fn put_table_of<K: TextSink + Drop>(
     alloc: Global,
     lones: &[Lone<'_>],
     made: bool,
     table: LoneTable,
-) -> Result<Vec<u8>, AllocError>
-    ensures { (routes : RouteMaps) → IfOk result (λ text.
-        text.items ≡ cond made (lone_csv (bytes_with routes) (lones_seen lones.now) table) []) }
+    out: &mut Outgoing<K>,
+) -> Result<(), AllocError>
+    ensures { TellsText out.old out.new
+        (λ ctx. cond made (lone_csv ctx (lones_seen lones.now) table) []) result }
 {
     if made {
-        csv_of(alloc, lones, table)
+        put_csv(alloc, out, lones, table)
     } else {
-        Ok(Vec::new(alloc))
+        Ok(())
     }
 }
 
-/// The price changes of payers, where each node makes its log.
-fn prices_of(alloc: Global, audited: &Audited, made: bool) -> Result<Vec<u8>, AllocError>
-    ensures { IfOk result (λ text. text.items
-        ≡ cond made (log_prices audited.now.settings (logs_seen audited.now.logs.items)) []) }
+/// Puts the price changes of payers, where each node makes its log.
+fn put_prices_of<K: TextSink + Drop>(
+    alloc: Global,
+    audited: &Audited,
+    made: bool,
+    out: &mut Outgoing<K>,
+) -> Result<(), AllocError>
+    ensures { OnOk result (Puts out.old out.new
+        (cond made (log_prices audited.now.settings (logs_seen audited.now.logs.items)) [])) }
 {
     if made {
-        log_prices(alloc, &audited.settings, audited.logs.as_slice())
+        let text = log_prices(alloc, audited.settings.settings(), audited.logs.as_slice())?;
+        out.put_text(text.as_slice())
     } else {
-        Ok(Vec::new(alloc))
+        Ok(())
     }
 }

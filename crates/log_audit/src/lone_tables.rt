@@ -12,7 +12,6 @@ ghost use Rattle.node_log.specs.LogSeen.{log_seen};
 ghost use Rattle.world_setup.specs.Seen.{node_seen};
 ghost use Rattle.table_text.specs.Adding.{Adds, AddsRow, AddsRows};
 ghost use Rattle.table_text.specs.Rows.{head_text};
-ghost use Rattle.log_audit.specs.Adding.{TellsRows};
 ghost use Rattle.log_audit.specs.AloneSeen.{lone_seen, lones_seen};
 ghost use Rattle.log_audit.specs.Kinds.{number_of};
 ghost use Rattle.log_audit.specs.Ledger.{is_open};
@@ -21,10 +20,12 @@ ghost use Rattle.log_audit.specs.LoneTelling.{lone_names, lone_csv, lone_name};
 ghost use Rattle.log_audit.specs.Payments.{book_payments};
 ghost use Rattle.log_audit.specs.Rulings.{book_rulings};
 ghost use Rattle.log_audit.specs.Tables.{Joins, names_auth, journal_counted, journal_rows};
+ghost use Rattle.log_audit.specs.Outgoing.{Puts, PutsRows, TellsText, TellsPut};
 
 use crate::ages::Ages;
 use crate::alone::{Came, Lone};
 use crate::ledger::is_open;
+use crate::outgoing::{Outgoing, TextSink};
 use crate::tables::columns::{
     put_counted_names, put_entry_names, put_open_names, put_payment_names, put_row_names,
 };
@@ -72,20 +73,20 @@ impl LoneTable {
     }
 }
 
-/// A table as CSV.
+/// Puts a table as CSV.
 #[tactic(auto, unfolding(crate::specs::LoneTelling::lone_csv))]
-pub(crate) fn csv_of(
+pub(crate) fn put_csv<K: TextSink + Drop>(
     alloc: Global,
+    out: &mut Outgoing<K>,
     lones: &[Lone<'_>],
     table: LoneTable,
-) -> Result<Vec<u8>, AllocError>
-    ensures { (routes : RouteMaps) → IfOk result (λ text.
-        text.items ≡ lone_csv (bytes_with routes) (lones_seen lones.now) table) }
+) -> Result<(), AllocError>
+    ensures { TellsText out.old out.new (λ ctx. lone_csv ctx (lones_seen lones.now) table) result }
 {
-    let mut out = Vec::new(alloc);
-    put_names(&mut out, table)?;
-    put_table(alloc, &mut out, Style::Csv, lones, table)?;
-    Ok(out)
+    let mut names = out.piece();
+    put_names(&mut names, table)?;
+    out.put(names.as_slice())?;
+    put_table(alloc, out, Style::Csv, lones, table)
 }
 
 /// Appends the names of a table's columns.
@@ -102,14 +103,14 @@ fn put_names(out: &mut Vec<u8>, table: LoneTable) -> Result<(), AllocError>
 }
 
 /// Appends the rows of a table.
-pub(crate) fn put_table(
+pub(crate) fn put_table<K: TextSink + Drop>(
     alloc: Global,
-    out: &mut Vec<u8>,
+    out: &mut Outgoing<K>,
     style: Style,
     lones: &[Lone<'_>],
     table: LoneTable,
 ) -> Result<(), AllocError>
-    ensures { TellsRows style out.old out.new (λ ctx. lone_rows ctx (lones_seen lones.now) table) result }
+    ensures { TellsPut style out.old out.new (λ ctx. lone_rows ctx (lones_seen lones.now) table) result }
 {
     let counted = counted_by(alloc, lones)?;
     put_lones(alloc, out, style, lones, &counted, table)
@@ -150,15 +151,15 @@ fn take_node(alloc: Global, auths: &mut BTreeSet<Auth>, node: &NodeState) -> Res
 }
 
 /// Appends the rows of a table that the nodes of these logs have; those with these authorizations are counted.
-fn put_lones(
+fn put_lones<K: TextSink + Drop>(
     alloc: Global,
-    out: &mut Vec<u8>,
+    out: &mut Outgoing<K>,
     style: Style,
     lones: &[Lone<'_>],
     counted: &BTreeSet<Auth>,
     table: LoneTable,
 ) -> Result<(), AllocError>
-    ensures { TellsRows style out.old out.new
+    ensures { TellsPut style out.old out.new
         (λ ctx. flat_map (rows_of ctx (has_auth counted.now.keys) table) (lones_seen lones.now)) result }
 {
     for lone in lones {
@@ -168,15 +169,15 @@ fn put_lones(
 }
 
 /// Appends the rows of a table that the node of a log has.
-fn put_lone(
+fn put_lone<K: TextSink + Drop>(
     alloc: Global,
-    out: &mut Vec<u8>,
+    out: &mut Outgoing<K>,
     style: Style,
     lone: &Lone<'_>,
     counted: &BTreeSet<Auth>,
     table: LoneTable,
 ) -> Result<(), AllocError>
-    ensures { TellsRows style out.old out.new
+    ensures { TellsPut style out.old out.new
         (λ ctx. rows_of ctx (has_auth counted.now.keys) table (lone_seen lone.now)) result }
 {
     match &lone.came {
@@ -186,16 +187,16 @@ fn put_lone(
 }
 
 /// Appends the rows of a table that a node has after its log.
-fn put_node(
+fn put_node<K: TextSink + Drop>(
     alloc: Global,
-    out: &mut Vec<u8>,
+    out: &mut Outgoing<K>,
     style: Style,
     log: &NodeLog,
     node: &NodeState,
     counted: &BTreeSet<Auth>,
     table: LoneTable,
 ) -> Result<(), AllocError>
-    ensures { TellsRows style out.old out.new
+    ensures { TellsPut style out.old out.new
         (λ ctx. node_rows ctx (has_auth counted.now.keys) table (log_seen log.now) node.now) result }
 {
     match table {
@@ -208,14 +209,14 @@ fn put_node(
 }
 
 /// Appends the payments of a payer.
-fn put_payments(
+fn put_payments<K: TextSink + Drop>(
     alloc: Global,
-    out: &mut Vec<u8>,
+    out: &mut Outgoing<K>,
     style: Style,
     node: &NodeState,
     counted: &BTreeSet<Auth>,
 ) -> Result<(), AllocError>
-    ensures { TellsRows style out.old out.new
+    ensures { TellsPut style out.old out.new
         (λ ctx. told_of (book_payments ctx (has_auth counted.now.keys)) (book_of node.now)) result }
 {
     match node.book(alloc)? {
@@ -225,13 +226,13 @@ fn put_payments(
 }
 
 /// Appends the transactions of a payer.
-fn put_rows(
+fn put_rows<K: TextSink + Drop>(
     alloc: Global,
-    out: &mut Vec<u8>,
+    out: &mut Outgoing<K>,
     style: Style,
     node: &NodeState,
 ) -> Result<(), AllocError>
-    ensures { OnOk result (AddsRows style out.old out.new (told_of book_rulings (book_of node.now))) }
+    ensures { OnOk result (PutsRows style out.old out.new (told_of book_rulings (book_of node.now))) }
 {
     match node.book(alloc)? {
         Some(reading) => put_book_rulings(out, style, reading.book()),
@@ -240,13 +241,13 @@ fn put_rows(
 }
 
 /// Appends the entries of a pharmacy.
-fn put_entries(
+fn put_entries<K: TextSink + Drop>(
     alloc: Global,
-    out: &mut Vec<u8>,
+    out: &mut Outgoing<K>,
     style: Style,
     node: &NodeState,
 ) -> Result<(), AllocError>
-    ensures { TellsRows style out.old out.new (λ ctx. told_of (journal_rows ctx) (journal_of node.now)) result }
+    ensures { TellsPut style out.old out.new (λ ctx. told_of (journal_rows ctx) (journal_of node.now)) result }
 {
     match node.journal(alloc)? {
         Some(journal) => put_journal(out, style, &journal),
@@ -255,13 +256,13 @@ fn put_entries(
 }
 
 /// Appends the payments that a pharmacy counts.
-fn put_counted(
+fn put_counted<K: TextSink + Drop>(
     alloc: Global,
-    out: &mut Vec<u8>,
+    out: &mut Outgoing<K>,
     style: Style,
     node: &NodeState,
 ) -> Result<(), AllocError>
-    ensures { TellsRows style out.old out.new (λ ctx. told_of (journal_counted ctx) (journal_of node.now)) result }
+    ensures { TellsPut style out.old out.new (λ ctx. told_of (journal_counted ctx) (journal_of node.now)) result }
 {
     match node.journal(alloc)? {
         Some(journal) => put_journal_counted(out, style, &journal),
@@ -270,14 +271,14 @@ fn put_counted(
 }
 
 /// Appends the entries without an answer of a pharmacy.
-fn put_open_of(
+fn put_open_of<K: TextSink + Drop>(
     alloc: Global,
-    out: &mut Vec<u8>,
+    out: &mut Outgoing<K>,
     style: Style,
     log: &NodeLog,
     node: &NodeState,
 ) -> Result<(), AllocError>
-    ensures { OnOk result (AddsRows style out.old out.new
+    ensures { OnOk result (PutsRows style out.old out.new
         (told_of (journal_open (number_of (node_seen log.now.node)) log.now.calls.items) (journal_of node.now))) }
 {
     match node.journal(alloc)? {
@@ -287,14 +288,14 @@ fn put_open_of(
 }
 
 /// Appends a row for each entry of a journal without an answer.
-fn put_open(
+fn put_open<K: TextSink + Drop>(
     alloc: Global,
-    out: &mut Vec<u8>,
+    out: &mut Outgoing<K>,
     style: Style,
     log: &NodeLog,
     journal: &JournalReading<'_>,
 ) -> Result<(), AllocError>
-    ensures { OnOk result (AddsRows style out.old out.new
+    ensures { OnOk result (PutsRows style out.old out.new
         (journal_open (number_of (node_seen log.now.node)) log.now.calls.items journal.now)) }
 {
     let entries = journal.list()?;
@@ -302,20 +303,23 @@ fn put_open(
 }
 
 /// Appends a row for each of these entries without an answer.
-fn put_open_entries(
+fn put_open_entries<K: TextSink + Drop>(
     alloc: Global,
-    out: &mut Vec<u8>,
+    out: &mut Outgoing<K>,
     style: Style,
     log: &NodeLog,
     entries: &[EntryView],
 ) -> Result<(), AllocError>
-    ensures { OnOk result (AddsRows style out.old out.new
+    ensures { OnOk result (PutsRows style out.old out.new
         (flat_map (open_rows (number_of (node_seen log.now.node)) log.now.calls.items) entries.now)) }
 {
     let ages = Ages::of(alloc, log.records())?;
     let number = number_of(log.node());
+    let mut row = out.piece();
     for entry in entries {
-        put_if_open(out, style, number, entry, ages.age(entry.number()))?;
+        row.clear();
+        put_if_open(&mut row, style, number, entry, ages.age(entry.number()))?;
+        out.put(row.as_slice())?;
     }
     Ok(())
 }

@@ -1,7 +1,6 @@
 //! Logs that are not one for each node.
 
-ghost use Rattle.std.specs.Prelude.{◌≡◌, None, IfOk, OnOk};
-ghost use Rattle.claim_model.specs.Settings.{settings_fault};
+ghost use Rattle.std.specs.Prelude.{◌≡◌, IfOk, OnOk};
 ghost use Rattle.world_setup.specs.Seen.{node_seen, settings_seen};
 ghost use Rattle.node_log.specs.LogSeen.{log_seen, logs_seen};
 ghost use Rattle.log_audit.specs.Adding.{AddsLine, AddsLines};
@@ -11,16 +10,15 @@ ghost use Rattle.log_audit.specs.Lacks.{count_of, lack_of, lack_word, line_of_la
 use crate::sentences::{Manner, Piece, put_pieces, put_told};
 use node_log::{NodeLog, is_there};
 use std::alloc::{AllocError, Global};
-use world_setup::{Node, WorldSettings};
+use world_setup::{CheckedSettings, Node};
 
 /// The lines on each node without a log, each with two, and each log of a node that is not there.
 pub(crate) fn missing_lines(
     alloc: Global,
     manner: Manner,
-    settings: &WorldSettings,
+    settings: &CheckedSettings,
     logs: &[NodeLog],
 ) -> Result<Vec<u8>, AllocError>
-    requires { settings_fault (settings_seen settings.now) ≡ None }
     ensures { IfOk result (λ text. text.items
         ≡ told_lines manner (missing_lines (settings_seen settings.now) (logs_seen logs.now))) }
 {
@@ -34,16 +32,16 @@ pub(crate) fn missing_lines(
 fn put_missing(
     out: &mut Vec<u8>,
     manner: Manner,
-    settings: &WorldSettings,
+    settings: &CheckedSettings,
     logs: &[NodeLog],
 ) -> Result<(), AllocError>
-    requires { settings_fault (settings_seen settings.now) ≡ None }
     ensures { OnOk result (AddsLines manner out.old out.new
         (missing_lines (settings_seen settings.now) (logs_seen logs.now))) }
 {
-    let pharmacies = settings.pharmacies.len() as u16;
-    let switches = settings.switches.len() as u16;
-    let payers = settings.payers.len() as u16;
+    let given = settings.settings();
+    let pharmacies = given.pharmacies.len() as u16;
+    let switches = given.switches.len() as u16;
+    let payers = given.payers.len() as u16;
     put_lacks(out, manner, logs, NodeKind::Pharmacy, pharmacies)?;
     put_lacks(out, manner, logs, NodeKind::Switch, switches)?;
     put_lacks(out, manner, logs, NodeKind::Payer, payers)?;
@@ -109,7 +107,7 @@ fn put_lack(
 fn put_strangers(
     out: &mut Vec<u8>,
     manner: Manner,
-    settings: &WorldSettings,
+    settings: &CheckedSettings,
     logs: &[NodeLog],
 ) -> Result<(), AllocError>
     ensures { OnOk result (AddsLines manner out.old out.new
@@ -125,13 +123,13 @@ fn put_strangers(
 fn put_stranger(
     out: &mut Vec<u8>,
     manner: Manner,
-    settings: &WorldSettings,
+    settings: &CheckedSettings,
     log: &NodeLog,
 ) -> Result<(), AllocError>
     ensures { OnOk result (AddsLines manner out.old out.new
         (stranger_lines (settings_seen settings.now) (log_seen log.now))) }
 {
-    if is_there(settings, log.node()) {
+    if is_there(settings.settings(), log.node()) {
         Ok(())
     } else {
         put_line(out, manner, log.node(), b" is no node of these settings")

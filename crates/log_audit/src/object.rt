@@ -1,15 +1,17 @@
 //! What is told of logs, as an object of JSON.
 
-ghost use Rattle.std.specs.Prelude.{◌≡◌, ◌++◌, codes, length, map, slice_index, OnOk, IfOk};
+ghost use Rattle.std.specs.Prelude.{◌≡◌, ◌++◌, codes, map, slice_index, OnOk, IfOk};
 ghost use Rattle.world_setup.specs.Seen.{event_seen};
 ghost use Rattle.node_log.specs.LogSeen.{log_seen, logs_seen};
 ghost use Rattle.table_text.specs.Adding.{Adds, AddsRow, AddsRows};
 ghost use Rattle.table_text.specs.Rows.{list_text};
-ghost use Rattle.log_audit.specs.Telling.{log_row, log_rows, logs_member, count_member, run_members, run_object};
+ghost use Rattle.log_audit.specs.Telling.{log_row, log_rows, logs_member, count_member, run_object};
 ghost use Rattle.table_text.specs.declared.layout.Style.TheVariants.{Json};
+ghost use Rattle.log_audit.specs.Outgoing.{Puts};
 
 use crate::fault::AuditFault;
 use crate::left::put_left_tables;
+use crate::outgoing::{Outgoing, TextSink};
 use crate::reading::Audited;
 use crate::report::settings_alone;
 use crate::sentences::{Piece, put_pieces};
@@ -19,21 +21,35 @@ use std::alloc::{AllocError, Global};
 use table_text::{Field, Style, put_list, put_row};
 use world_setup::Event;
 
-/// The object of logs of a legal run of these events.
+/// Puts the object of logs of a legal run of these events.
 #[tactic(auto, unfolding(crate::specs::Telling::run_object))]
-pub(crate) fn run_object(
+pub(crate) fn put_run_object<K: TextSink + Drop>(
     alloc: Global,
+    out: &mut Outgoing<K>,
     audited: Audited,
     events: &[Event],
-) -> Result<Vec<u8>, AuditFault>
-    ensures { IfOk result (λ text. text.items ≡ run_object audited (map event_seen events.now)) }
+) -> Result<(), AuditFault>
+    ensures { OnOk result (Puts out.old out.new (run_object audited (map event_seen events.now))) }
 {
-    let mut text = Vec::new(alloc);
+    put_front(out, &audited, events.len() as u64)?;
+    put_left_tables(alloc, out, settings_alone(audited), events)?;
+    out.put(b"\n}\n")?;
+    Ok(())
+}
+
+/// Puts the beginning of an object of logs of a legal run: the list of logs, and of how many events it is.
+fn put_front<K: TextSink + Drop>(
+    out: &mut Outgoing<K>,
+    audited: &Audited,
+    count: u64,
+) -> Result<(), AllocError>
+    ensures { OnOk result (Puts out.old out.new
+        (logs_member (logs_seen audited.now.logs.items) audited.now.torn.items ++ count_member count)) }
+{
+    let mut text = out.piece();
     put_logs(&mut text, audited.logs.as_slice(), audited.torn.as_slice())?;
-    put_count(&mut text, events.len() as u64)?;
-    put_left_tables(alloc, &mut text, settings_alone(audited), events)?;
-    text.extend_from_slice(b"\n}\n")?;
-    Ok(text)
+    put_count(&mut text, count)?;
+    out.put(text.as_slice())
 }
 
 /// Appends that there is a legal run, and of how many events.

@@ -16,13 +16,13 @@ use node_log::NodeLog;
 use settings_digest::Digests;
 use std::alloc::{AllocError, Global};
 use world_settings::{SettingsFault, read_living_settings};
-use world_setup::{WorldFault, WorldSettings};
+use world_setup::{CheckedSettings, WorldFault, WorldSettings};
 
 /// The settings of nodes, their logs, and how many bytes of a torn end each log has.
 #[derive(Drop)]
 pub struct Audited {
     pub(crate) text: Vec<u8>,
-    pub(crate) settings: WorldSettings,
+    pub(crate) settings: CheckedSettings,
     pub(crate) logs: Vec<NodeLog>,
     pub(crate) torn: Vec<usize>,
 }
@@ -46,9 +46,8 @@ pub fn read_audited(alloc: Global, text: Vec<u8>, logs: Vec<Vec<u8>>) -> Result<
     // A schedule begins with the very text.
     ensures text { IfOk result (λ audited. audited.text.items ≡ text.items) }
 {
-    let settings = settings_of(alloc, text.as_slice())?;
-    check_world(alloc, &settings)?;
-    let digests = Digests::of(alloc, &settings, text.as_slice())?;
+    let settings = checked(alloc, settings_of(alloc, text.as_slice())?)?;
+    let digests = Digests::of(alloc, settings.settings(), text.as_slice())?;
     let ReadLogs { logs, torn } = read_logs(alloc, &digests, logs)?;
     Ok(Audited {
         text,
@@ -139,13 +138,14 @@ fn settings_of(alloc: Global, text: &[u8]) -> Result<WorldSettings, AuditFault>
     }
 }
 
-/// Whether a world takes these settings.
-fn check_world(alloc: Global, settings: &WorldSettings) -> Result<(), AuditFault>
-    ensures taken { OnOk result (world_fault settings.now ≡ None) }
-    ensures refused { IfErr result (λ why. TakesNone settings.now why) }
+/// Settings, where a world takes them.
+fn checked(alloc: Global, settings: WorldSettings) -> Result<CheckedSettings, AuditFault>
+    ensures kept { IfOk result (λ checked. checked ≡ settings) }
+    ensures taken { OnOk result (world_fault settings ≡ None) }
+    ensures refused { IfErr result (λ why. TakesNone settings why) }
 {
-    match settings.checked_routes(alloc) {
-        Ok(_) => Ok(()),
+    match CheckedSettings::new(alloc, settings) {
+        Ok(checked) => Ok(checked),
         Err(WorldFault::OutOfMemory) => Err(AuditFault::OutOfMemory),
         Err(fault) => Err(AuditFault::World(fault)),
     }

@@ -1,6 +1,6 @@
 //! What is told of logs.
 
-ghost use Rattle.std.specs.Prelude.{◌≡◌, ◌++◌, true, false, codes, map, IfOk, OnOk};
+ghost use Rattle.std.specs.Prelude.{◌≡◌, ◌++◌, true, false, codes, map, IfOk, IsOkAnd, OnOk};
 ghost use Rattle.world_setup.specs.Seen.{event_seen};
 ghost use Rattle.node_log.specs.LogSeen.{log_seen, logs_seen};
 ghost use Rattle.table_text.specs.Adding.{Adds};
@@ -8,11 +8,13 @@ ghost use Rattle.log_audit.specs.Judged.{IsFound, IsLeft, IsTold};
 ghost use Rattle.log_audit.specs.Prices.{run_prices};
 ghost use Rattle.log_audit.specs.Tabled.{run_csv};
 ghost use Rattle.log_audit.specs.Telling.{log_line, log_lines, legal_line, run_lines, run_object, IsSchedule, IsTextOf, IsNoRunLines, IsNoRunObject, IsUntold, IsWritten};
+ghost use Rattle.log_audit.specs.Outgoing.{Puts, PutsSome};
 
 use crate::fault::AuditFault;
 use crate::judging::{Found, LegalRun, run_alone, run_and_world};
 use crate::left::{put_left_counts, put_left_table, tells_senders};
-use crate::object::{no_run_object, run_object, torn_at};
+use crate::object::{no_run_object, put_run_object, torn_at};
+use crate::outgoing::{Outgoing, TextSink};
 use crate::prices::run_prices;
 use crate::reading::Audited;
 use crate::reasons::reasons;
@@ -21,7 +23,7 @@ use crate::sentences::{Manner, Piece, put_pieces};
 use crate::tables::table::Table;
 use node_log::NodeLog;
 use std::alloc::{AllocError, Global};
-use world_setup::WorldSettings;
+use world_setup::CheckedSettings;
 
 /// What is told of logs, and whether they are those of a legal run.
 #[derive(Drop)]
@@ -57,9 +59,37 @@ pub fn report_on(alloc: Global, audited: Audited, form: Form) -> Result<Report, 
     // What is written is told of such a run and of the world that it leaves, or says why there is none.
     ensures text { IfOk result (λ report. IsWritten audited form report.legal report.text.items) }
 {
+    let mut out = Outgoing::new(alloc, Vec::new(alloc));
+    let legal = put_report(alloc, audited, form, &mut out)?;
+    let text = out.finish()?;
+    Ok(Report { text, legal })
+}
+
+/// Judges the logs and puts what is told of them, in the form that is asked for; whether they are those of a legal run. The
+/// rows of tables go out as they are made.
+///
+/// # Errors
+/// Those of `report_on`.
+pub fn put_report<K: TextSink + Drop>(
+    alloc: Global,
+    audited: Audited,
+    form: Form,
+    out: &mut Outgoing<K>,
+) -> Result<bool, AuditFault>
+    // It is said that there is a run exactly where some events are a legal interleaving of the logs.
+    ensures told { IfOk result (λ legal. IsTold audited.settings (logs_seen audited.logs.items) legal) }
+    // What is put is told of such a run and of the world that it leaves, or says why there is none.
+    ensures text { IfOk result (λ legal. PutsSome (IsWritten audited form legal) out.old out.new) }
+{
     match found_for(alloc, &audited, form)? {
-        Found::Run(found) => legal(alloc, audited, found, form),
-        Found::NoRun => tangled(alloc, &audited, form),
+        Found::Run(found) => {
+            put_run(alloc, audited, found, form, out)?;
+            Ok(true)
+        }
+        Found::NoRun => {
+            put_no_run(alloc, &audited, form, out)?;
+            Ok(false)
+        }
     }
 }
 
@@ -86,46 +116,48 @@ fn wants_world(form: Form) -> bool {
     }
 }
 
-/// What is told of logs of a legal run.
-fn legal(alloc: Global, audited: Audited, run: LegalRun, form: Form) -> Result<Report, AuditFault>
-    requires { IsLeft audited.settings run }
-    ensures legal { IfOk result (λ report. report.legal ≡ true) }
-    ensures text { IfOk result (λ report. IsTextOf audited (map event_seen run.events.items) form report.text.items) }
-{
-    match legal_text(alloc, audited, run, form) {
-        Ok(text) => Ok(Report { text, legal: true }),
-        Err(fault) => Err(fault),
-    }
-}
-
-/// The text that is told of this run.
-fn legal_text(
+/// Puts the text that is told of this run.
+fn put_run<K: TextSink + Drop>(
     alloc: Global,
     audited: Audited,
     run: LegalRun,
     form: Form,
-) -> Result<Vec<u8>, AuditFault>
+    out: &mut Outgoing<K>,
+) -> Result<(), AuditFault>
     requires { IsLeft audited.settings run }
-    ensures { IfOk result (λ text. IsTextOf audited (map event_seen run.events.items) form text.items) }
+    ensures { OnOk result (PutsSome (IsTextOf audited (map event_seen run.events.items) form) out.old out.new) }
 {
     match form {
-        Form::Lines => run_lines(alloc, audited, run),
-        Form::Json => object_of(alloc, audited, run),
-        Form::Csv(table) => table_of(alloc, audited, run, table),
-        Form::Prices => prices_of(alloc, audited, run),
-        Form::Schedule => schedule_of(alloc, audited, run),
+        Form::Lines => put_made(out, run_lines(alloc, audited, run)),
+        Form::Json => put_object_of(alloc, audited, run, out),
+        Form::Csv(table) => put_table_of(alloc, audited, run, table, out),
+        Form::Prices => put_made(out, prices_of(alloc, audited, run)),
+        Form::Schedule => put_made(out, schedule_of(alloc, audited, run)),
     }
 }
 
-/// What is told of logs of no legal run.
-fn tangled(alloc: Global, audited: &Audited, form: Form) -> Result<Report, AuditFault>
-    ensures legal { IfOk result (λ report. report.legal ≡ false) }
-    ensures text { IfOk result (λ report. IsUntold audited.now form report.text.items) }
+/// Puts a text that was made whole.
+fn put_made<K: TextSink + Drop>(
+    out: &mut Outgoing<K>,
+    made: Result<Vec<u8>, AuditFault>,
+) -> Result<(), AuditFault>
+    ensures { OnOk result (IsOkAnd made (λ text. Puts out.old out.new text.items)) }
 {
-    match no_run_text(alloc, audited, form) {
-        Ok(text) => Ok(Report { text, legal: false }),
-        Err(fault) => Err(fault),
-    }
+    let text = made?;
+    out.put_text(text.as_slice())?;
+    Ok(())
+}
+
+/// Puts the text that says that there is no legal run, and why.
+fn put_no_run<K: TextSink + Drop>(
+    alloc: Global,
+    audited: &Audited,
+    form: Form,
+    out: &mut Outgoing<K>,
+) -> Result<(), AuditFault>
+    ensures { OnOk result (PutsSome (IsUntold audited.now form) out.old out.new) }
+{
+    put_made(out, no_run_text(alloc, audited, form))
 }
 
 /// The text that says that there is no legal run, and why.
@@ -141,27 +173,32 @@ fn no_run_text(alloc: Global, audited: &Audited, form: Form) -> Result<Vec<u8>, 
     }
 }
 
-/// The object of logs of a legal run.
-fn object_of(alloc: Global, audited: Audited, run: LegalRun) -> Result<Vec<u8>, AuditFault>
-    ensures { IfOk result (λ text. text.items ≡ run_object audited (map event_seen run.events.items)) }
+/// Puts the object of logs of a legal run.
+fn put_object_of<K: TextSink + Drop>(
+    alloc: Global,
+    audited: Audited,
+    run: LegalRun,
+    out: &mut Outgoing<K>,
+) -> Result<(), AuditFault>
+    ensures { OnOk result (Puts out.old out.new (run_object audited (map event_seen run.events.items))) }
 {
     let events = run.into_events();
-    run_object(alloc, audited, events.as_slice())
+    put_run_object(alloc, out, audited, events.as_slice())
 }
 
-/// A table of what a run left.
-fn table_of(
+/// Puts a table of what a run left.
+fn put_table_of<K: TextSink + Drop>(
     alloc: Global,
     audited: Audited,
     run: LegalRun,
     table: Table,
-) -> Result<Vec<u8>, AuditFault>
+    out: &mut Outgoing<K>,
+) -> Result<(), AuditFault>
     requires { IsLeft audited.settings run }
-    ensures { IfOk result (λ text. text.items ≡ run_csv audited.settings (map event_seen run.events.items) table) }
+    ensures { OnOk result (Puts out.old out.new
+        (run_csv audited.settings (map event_seen run.events.items) table)) }
 {
-    let mut text = Vec::new(alloc);
-    put_left_table(alloc, &mut text, settings_alone(audited), run, table)?;
-    Ok(text)
+    put_left_table(alloc, out, settings_alone(audited), run, table)
 }
 
 /// The price changes of a run.
@@ -169,7 +206,7 @@ fn prices_of(alloc: Global, audited: Audited, run: LegalRun) -> Result<Vec<u8>, 
     ensures { IfOk result (λ text. text.items ≡ run_prices audited.settings (map event_seen run.events.items)) }
 {
     let events = run.into_events();
-    Ok(run_prices(alloc, &audited.settings, events.as_slice())?)
+    Ok(run_prices(alloc, audited.settings.settings(), events.as_slice())?)
 }
 
 /// The input of a replay of a run.
@@ -186,15 +223,25 @@ fn run_lines(alloc: Global, audited: Audited, run: LegalRun) -> Result<Vec<u8>, 
     requires { IsLeft audited.settings run }
     ensures { IfOk result (λ text. text.items ≡ run_lines audited (map event_seen run.events.items)) }
 {
-    let mut text = Vec::new(alloc);
-    put_logs(&mut text, audited.logs.as_slice(), audited.torn.as_slice())?;
-    put_legal(&mut text, run.events.len() as u64)?;
+    let count = run.events.as_slice().len() as u64;
+    let mut text = legal_lines(alloc, &audited, count)?;
     put_left_counts(alloc, &mut text, settings_alone(audited), run)?;
     Ok(text)
 }
 
+/// The lines of logs, and that they are those of one legal run of so many events.
+fn legal_lines(alloc: Global, audited: &Audited, count: u64) -> Result<Vec<u8>, AllocError>
+    ensures { IfOk result (λ text. text.items
+        ≡ log_lines (logs_seen audited.now.logs.items) audited.now.torn.items ++ legal_line count) }
+{
+    let mut text = Vec::new(alloc);
+    put_logs(&mut text, audited.logs.as_slice(), audited.torn.as_slice())?;
+    put_legal(&mut text, count)?;
+    Ok(text)
+}
+
 /// The settings, once the logs were told of. These are let go: a run is made from its events.
-pub(crate) fn settings_alone(audited: Audited) -> WorldSettings
+pub(crate) fn settings_alone(audited: Audited) -> CheckedSettings
     ensures { result ≡ audited.settings }
 {
     let Audited {

@@ -1,24 +1,20 @@
 //! All nodes of settings as their logs leave them, each call made once.
 
-ghost use Rattle.std.specs.Prelude.{◌≡◌, List, None, IfOk, IfSome, IsTrue};
+ghost use Rattle.std.specs.Prelude.{◌≡◌, List, IfOk, IfSome, IsTrue};
 ghost use Rattle.std.specs.BTreeMap.{get};
 ghost use Rattle.std.specs.Ordering.{nat_cmp};
-ghost use Rattle.bin_routes.specs.Table.{routes_of};
-ghost use Rattle.claim_model.specs.Bytes.{bytes_with};
 ghost use Rattle.claim_model.specs.Logs as model;
-ghost use Rattle.claim_model.specs.Settings.{settings_fault};
-ghost use Rattle.world_setup.specs.Seen.{node_seen, settings_seen};
+ghost use Rattle.world_setup.specs.Seen.{node_seen};
 ghost use Rattle.world_setup.specs.declared.settings.WorldSettings.{WorldSettings as Settings};
 ghost use Rattle.node_log.specs.LogSeen.{log_seen, logs_seen};
-ghost use Rattle.log_audit.specs.Standing.{AreByNumber, AreNumbered, AreStanding, Enters, IsInOrder, IsLeftBy, LeavesNode, StandsBy};
+ghost use Rattle.log_audit.specs.Standing.{AreByNumber, AreNumbered, AreStanding, Enters, IsInOrder, IsLeftBy, StandsBy};
 ghost use Rattle.log_audit.specs.StandingSeen.{nodes_seen};
 
-use bin_routes::Routes;
-use node_log::{NodeLog, Record, is_there, makes};
+use node_log::{NodeLog, is_there, make_log};
 use node_state::{NodeState, PayerNode, PharmacyNode, StateKind, SwitchNode};
 use std::alloc::{AllocError, Global};
 use std::collections::BTreeMap;
-use world_setup::{Node, WorldSettings};
+use world_setup::{CheckedSettings, Node};
 
 /// All nodes as they stand, each kind in the order of its numbers, from 1.
 #[derive(Drop)]
@@ -32,17 +28,14 @@ pub(crate) struct Nodes {
 /// the logs alone say what they are.
 pub(crate) fn nodes_left(
     alloc: Global,
-    settings: &WorldSettings,
-    routes: &Routes,
+    settings: &CheckedSettings,
     logs: &[NodeLog],
 ) -> Result<Option<Nodes>, AllocError>
-    requires world { settings_fault (settings_seen settings.now) ≡ None }
-    requires routes_are { routes.now ≡ routes_of settings.now.routes.items }
     ensures { IfOk result (λ o. IfSome o (λ nodes. AreStanding settings.now (logs_seen logs.now) (nodes_seen nodes))) }
 {
     let mut found = ByNumber::new(alloc);
     for log in logs {
-        let Some(node) = node_left(alloc, settings, routes, log)? else {
+        let Some(node) = node_left(alloc, settings, log)? else {
             return Ok(None);
         };
         if !found.enter(log.node(), node)? {
@@ -56,40 +49,18 @@ pub(crate) fn nodes_left(
 /// log has.
 fn node_left(
     alloc: Global,
-    settings: &WorldSettings,
-    routes: &Routes,
+    settings: &CheckedSettings,
     log: &NodeLog,
 ) -> Result<Option<NodeState>, AllocError>
-    requires world { settings_fault (settings_seen settings.now) ≡ None }
-    requires routes_are { routes.now ≡ routes_of settings.now.routes.items }
     ensures { IfOk result (λ o. IfSome o (λ node. IsLeftBy settings.now (log_seen log.now) node)) }
 {
-    if !is_there(settings, log.node()) {
+    if !is_there(settings.settings(), log.node()) {
         return Ok(None);
     }
-    let mut node = NodeState::opening(alloc, settings, log.node())?;
-    if makes_all(alloc, routes, &mut node, log.records())? {
-        Ok(Some(node))
-    } else {
-        Ok(None)
+    match make_log(alloc, settings, log)? {
+        Ok(node) => Ok(Some(node)),
+        Err(_) => Ok(None),
     }
-}
-
-/// Makes the calls of records on a node, and tells whether it made all of them as their records have them.
-fn makes_all(
-    alloc: Global,
-    routes: &Routes,
-    node: &mut NodeState,
-    records: &[Record],
-) -> Result<bool, AllocError>
-    ensures { IfOk result (λ yes. IsTrue yes → LeavesNode (bytes_with routes.now) node.old records.now node.new) }
-{
-    for record in records {
-        if !makes(alloc, routes, node, record)? {
-            return Ok(false);
-        }
-    }
-    Ok(true)
 }
 
 /// Nodes by their numbers.
@@ -134,7 +105,11 @@ impl ByNumber {
     }
 
     /// The nodes in order, where all of the settings are there.
-    fn in_order(self, alloc: Global, settings: &WorldSettings) -> Result<Option<Nodes>, AllocError>
+    fn in_order(
+        self,
+        alloc: Global,
+        settings: &CheckedSettings,
+    ) -> Result<Option<Nodes>, AllocError>
         ensures { IfOk result (λ o. IfSome o (λ nodes. IsInOrder settings.now self (nodes_seen nodes))) }
     {
         let ByNumber {
@@ -142,6 +117,7 @@ impl ByNumber {
             switches,
             payers,
         } = self;
+        let settings = settings.settings();
         let Some(pharmacies) = in_order(alloc, pharmacies, settings.pharmacies.len())? else {
             return Ok(None);
         };

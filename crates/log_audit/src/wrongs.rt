@@ -2,8 +2,8 @@
 
 ghost use Rattle.std.specs.Prelude.{◌≡◌, map, None, IfOk, OnOk};
 ghost use Rattle.std.specs.Option.{option_map};
+ghost use Rattle.bin_routes.specs.Table.{routes_of};
 ghost use Rattle.claim_model.specs.Bytes.{bytes_with};
-ghost use Rattle.claim_model.specs.Settings.{settings_fault};
 ghost use Rattle.world_setup.specs.Seen.{node_seen, sent_seen, settings_seen};
 ghost use Rattle.node_log.specs.LogSeen.{log_seen, logs_seen};
 ghost use Rattle.table_text.specs.Adding.{Adds};
@@ -17,7 +17,7 @@ use bin_routes::Routes;
 use node_log::{NodeLog, Record, is_same_node, is_there};
 use node_state::NodeState;
 use std::alloc::{AllocError, Global};
-use world_setup::{Node, Sent, StepFault, WorldSettings};
+use world_setup::{CheckedSettings, Fault, Node, Sent};
 
 /// What is wrong with a call of a log.
 #[derive(Clone, Copy)]
@@ -43,16 +43,14 @@ pub(crate) struct FirstWrong {
 pub(crate) fn wrong_lines(
     alloc: Global,
     manner: Manner,
-    settings: &WorldSettings,
-    routes: &Routes,
+    settings: &CheckedSettings,
     logs: &[NodeLog],
 ) -> Result<Vec<u8>, AllocError>
-    requires { settings_fault (settings_seen settings.now) ≡ None }
     ensures { IfOk result (λ text. text.items ≡ told_lines manner
-        (wrong_lines (bytes_with routes.now) (settings_seen settings.now) (logs_seen logs.now))) }
+        (wrong_lines (bytes_with (routes_of settings.now.routes.items)) (settings_seen settings.now) (logs_seen logs.now))) }
 {
     let mut out = Vec::new(alloc);
-    put_wrongs(&mut out, manner, settings, routes, logs)?;
+    put_wrongs(&mut out, manner, settings, logs)?;
     Ok(out)
 }
 
@@ -60,16 +58,14 @@ pub(crate) fn wrong_lines(
 fn put_wrongs(
     out: &mut Vec<u8>,
     manner: Manner,
-    settings: &WorldSettings,
-    routes: &Routes,
+    settings: &CheckedSettings,
     logs: &[NodeLog],
 ) -> Result<(), AllocError>
-    requires { settings_fault (settings_seen settings.now) ≡ None }
     ensures { OnOk result (AddsLines manner out.old out.new
-        (wrong_lines (bytes_with routes.now) (settings_seen settings.now) (logs_seen logs.now))) }
+        (wrong_lines (bytes_with (routes_of settings.now.routes.items)) (settings_seen settings.now) (logs_seen logs.now))) }
 {
     for log in logs {
-        put_log_wrongs(out, manner, settings, routes, log)?;
+        put_log_wrongs(out, manner, settings, log)?;
     }
     Ok(())
 }
@@ -78,15 +74,13 @@ fn put_wrongs(
 fn put_log_wrongs(
     out: &mut Vec<u8>,
     manner: Manner,
-    settings: &WorldSettings,
-    routes: &Routes,
+    settings: &CheckedSettings,
     log: &NodeLog,
 ) -> Result<(), AllocError>
-    requires { settings_fault (settings_seen settings.now) ≡ None }
     ensures { OnOk result (AddsLines manner out.old out.new
-        (log_wrongs (bytes_with routes.now) (settings_seen settings.now) (log_seen log.now))) }
+        (log_wrongs (bytes_with (routes_of settings.now.routes.items)) (settings_seen settings.now) (log_seen log.now))) }
 {
-    let found = first_wrong(*out.allocator(), settings, routes, log)?;
+    let found = first_wrong(*out.allocator(), settings, log)?;
     put_found(out, manner, log.node(), found)
 }
 
@@ -198,19 +192,17 @@ fn put_bytes_wrong(line: &mut Vec<u8>, packet: u64, to: Node, place: u64) -> Res
 /// The first call of a log that its node does not make as the log has it. A log of a node that is not there has none.
 fn first_wrong(
     alloc: Global,
-    settings: &WorldSettings,
-    routes: &Routes,
+    settings: &CheckedSettings,
     log: &NodeLog,
 ) -> Result<Option<FirstWrong>, AllocError>
-    requires { settings_fault (settings_seen settings.now) ≡ None }
     ensures { IfOk result (λ found. option_map first_seen found
-        ≡ first_wrong (bytes_with routes.now) (settings_seen settings.now) (log_seen log.now)) }
+        ≡ first_wrong (bytes_with (routes_of settings.now.routes.items)) (settings_seen settings.now) (log_seen log.now)) }
 {
-    if !is_there(settings, log.node()) {
+    if !is_there(settings.settings(), log.node()) {
         return Ok(None);
     }
     let mut node = NodeState::opening(alloc, settings, log.node())?;
-    make_calls(alloc, routes, &mut node, log.records())
+    make_calls(alloc, settings.routes(), &mut node, log.records())
 }
 
 /// Makes the calls of records on a node, up to the first that it does not make as its record has it.
@@ -244,7 +236,7 @@ fn make_call(
 {
     match node.step(alloc, routes, one.call()) {
         Ok(sent) => Ok(wrong_in(sent.as_slice(), one.sent())),
-        Err(StepFault::OutOfMemory) => Err(AllocError),
+        Err(Fault::OutOfMemory) => Err(AllocError),
         Err(fault) => Ok(Some(Wrong::Refused(fault.name().as_bytes()))),
     }
 }

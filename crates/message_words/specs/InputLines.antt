@@ -1,5 +1,5 @@
 -- The lines of an input.
-use Rattle.std.specs.Prelude.{◌≡◌, ◌<◌, ℕ, ◌+◌, not, ◌==◌, Bool, List, [], length, take, drop, nat_lt, Option, Some, if◌then◌else◌}
+use Rattle.std.specs.Prelude.{◌≡◌, ◌<◌, ℕ, ◌+◌, not, ◌==◌, Bool, List, [], length, take, drop, nat_lt, Option, Some, Result, MatchResult, IsTrue, if◌then◌else◌}
 use Rattle.std.specs.List.{prefix_len}
 use Rattle.std.specs.Io.KnownBytes.{prepend_known}
 use Rattle.message_words.specs.Spelled.{ends_with, without_last}
@@ -52,3 +52,12 @@ abbrev pub LongFor : InputFault → ℕ → Type 0
 LongFor OutOfMemory size = Unit {0}
 LongFor Read size = Unit {0}
 LongFor TooLong size = longest < size
+
+-- a read is told to have failed only where a call failed; no call failed that is not told
+abbrev pub FailsFor : InputFault → Bool → Bool → Type 0
+FailsFor OutOfMemory before after = after ≡ before
+FailsFor Read before after = IsTrue after
+FailsFor TooLong before after = after ≡ before
+
+abbrev pub AccountsFor : {A : Type 0} → Result A InputFault → Bool → Bool → Type 0
+AccountsFor result before after = MatchResult result (λ _. after ≡ before) (λ e. FailsFor e before after)

@@ -47,7 +47,7 @@ pub use findings::{Finding, Uncarried, findings_of};
 pub use found::Found;
 pub use laws::{cause_laws, part_laws, record_laws};
 pub use layout::Form;
-pub use line_source::{InputFault, LONGEST_LINE, LineSource};
+pub use line_source::{ByteSource, InputFault, LONGEST_LINE, LineSource, ReadFailed, ReaderBytes};
 pub use marks::Mark;
 pub use names::{FieldName, Named};
 pub use page::{Page, Style};

@@ -1,9 +1,9 @@
 //! The lines of an input, one at a time.
 
-ghost use Rattle.std.specs.Prelude.{◌≡◌, ◌<◌, ◌≤◌, ◌+◌, ◌++◌, ℕ, [], length, take, drop, false, IfErr, IfOk, OnErr, OnOk, IfSome, if◌then◌else◌};
-ghost use Rattle.std.specs.Io.KnownBytes.{Consumes, IsAtEnd, Keeps, prepend_known};
+ghost use Rattle.std.specs.Prelude.{◌≡◌, ◌<◌, ◌≤◌, ◌+◌, ◌++◌, ℕ, [], length, take, drop, true, false, IfErr, IfOk, IsTrue, OnErr, OnOk, IfSome, if◌then◌else◌};
+ghost use Rattle.std.specs.Io.KnownBytes.{Consumes, IsAtEnd, Keeps, ReadConsumes, prepend_known};
 ghost use Rattle.message_words.specs.Spelled.{ends_with};
-ghost use Rattle.message_words.specs.InputLines.{AreAll, IsNextLine, LongFor, has_newline, left_in, line_length, longest, unread, without_return};
+ghost use Rattle.message_words.specs.InputLines.{AccountsFor, AreAll, IsNextLine, LongFor, has_newline, left_in, line_length, longest, unread, without_return};
 
 use std::alloc::{AllocError, Global};
 use std::io::Read;
@@ -25,9 +25,67 @@ pub enum InputFault {
     TooLong,
 }
 
+/// A call of a source failed.
+#[derive(Clone, Copy, PartialEq, Eq)]
+pub struct ReadFailed;
+
+/// A reader that also tells proofs whether a call of it failed.
+pub trait ByteSource {
+    ghost use Rattle.std.specs.Prelude.{ℕ, Bool, List, Option};
+
+    /// The bytes still to come, where the source tells them.
+    ghost remaining: { Self → Option (List ℕ) };
+
+    /// Whether a call failed.
+    ghost has_failed: { Self → Bool };
+
+    /// Puts the next bytes into the front of the buffer, and says how many; none only at the end, or for an empty buffer.
+    fn read(&mut self, buffer: &mut [u8]) -> Result<usize, ReadFailed>
+        ensures within { IfOk result (λ count. count ≤ length buffer.new) }
+        ensures bytes { ReadConsumes (remaining self.old) (remaining self.new) result buffer.new }
+        ensures works { OnOk result (has_failed self.new ≡ has_failed self.old) }
+        ensures fails { OnErr result (IsTrue (has_failed self.new)) };
+}
+
+/// A standard reader as a source. An interrupted call is a failed one.
+#[derive(Drop)]
+pub struct ReaderBytes<R: Read + Drop> {
+    reader: R,
+    failed: bool,
+}
+
+impl<R: Read + Drop> ReaderBytes<R> {
+    /// The reader, not yet called.
+    pub fn new(reader: R) -> ReaderBytes<R>
+        ensures reader { result.reader ≡ reader }
+        ensures works { result.failed ≡ false }
+    {
+        ReaderBytes {
+            reader,
+            failed: false,
+        }
+    }
+}
+
+impl<R: Read + Drop> ByteSource for ReaderBytes<R> {
+    ghost remaining = { λ s. R.remaining s.reader };
+
+    ghost has_failed = { λ s. s.failed };
+
+    fn read(&mut self, buffer: &mut [u8]) -> Result<usize, ReadFailed> {
+        match self.reader.read(buffer) {
+            Ok(count) => Ok(count),
+            Err(_) => {
+                self.failed = true;
+                Err(ReadFailed)
+            }
+        }
+    }
+}
+
 /// An input that gives its lines one after another, and keeps no more than one.
 #[derive(Drop)]
-pub struct LineSource<R: Read + Drop> {
+pub struct LineSource<R: ByteSource + Drop> {
     reader: R,
     unread: Unread,
     line: Vec<u8>,
@@ -71,13 +129,15 @@ impl Unread {
     }
 
     /// Reads others in their place, and says whether there were any.
-    fn refill<R: Read>(&mut self, reader: &mut R) -> Result<bool, InputFault>
+    fn refill<R: ByteSource>(&mut self, reader: &mut R) -> Result<bool, InputFault>
         ensures read { OnOk result (Consumes (R.remaining reader.old) (R.remaining reader.new) (unread self.new)) }
         ensures end { IfOk result (λ some. some ≡ false → IsAtEnd (R.remaining reader.new)) }
         ensures none { IfOk result (λ some. some ≡ false → unread self.new ≡ []) }
         ensures fault { IfErr result (λ e. (n : ℕ) → LongFor e n) }
         ensures kept { OnErr result (Keeps (R.remaining reader.old) (R.remaining reader.new)) }
         ensures still { OnErr result (unread self.new ≡ []) }
+        ensures some { IfOk result (λ some. some ≡ true → 0 < length (unread self.new)) }
+        ensures account { AccountsFor result (R.has_failed reader.old) (R.has_failed reader.new) }
     {
         self.from = 0;
         self.to = 0;
@@ -103,9 +163,10 @@ impl Unread {
     }
 }
 
-impl<R: Read + Drop> LineSource<R> {
+impl<R: ByteSource + Drop> LineSource<R> {
     /// An input of which nothing was read.
     pub fn new(alloc: Global, reader: R) -> LineSource<R>
+        ensures reader { result.reader ≡ reader }
         ensures left { left_in (R.remaining result.reader) result.unread ≡ prepend_known [] (R.remaining reader) }
         ensures line { result.line.items ≡ [] }
     {
@@ -143,9 +204,11 @@ impl<R: Read + Drop> LineSource<R> {
         // At a fault no byte is lost: what was read of the line stands there, and the others are left.
         ensures kept { OnErr result (Consumes (left_in (R.remaining self.old.reader) self.old.unread)
             (left_in (R.remaining self.new.reader) self.new.unread) self.new.line.items) }
+        // It is told that a read failed only where one did.
+        ensures account { AccountsFor result (R.has_failed self.old.reader) (R.has_failed self.new.reader) }
     {
         self.line.clear();
-        for _ in 0..u64::MAX {
+        loop {
             let some = self.fill()?;
             if !some {
                 return Ok(!self.line.as_slice().is_empty());
@@ -156,7 +219,6 @@ impl<R: Read + Drop> LineSource<R> {
                 return Ok(true);
             }
         }
-        Err(InputFault::Read)
     }
 
     /// Reads all that is left as one line.
@@ -172,16 +234,17 @@ impl<R: Read + Drop> LineSource<R> {
         // At a fault no byte is lost: what was read stands there, and the others are left.
         ensures kept { OnErr result (Consumes (left_in (R.remaining self.old.reader) self.old.unread)
             (left_in (R.remaining self.new.reader) self.new.unread) self.new.line.items) }
+        // It is told that a read failed only where one did.
+        ensures account { AccountsFor result (R.has_failed self.old.reader) (R.has_failed self.new.reader) }
     {
         self.line.clear();
-        for _ in 0..u64::MAX {
+        loop {
             let some = self.fill()?;
             if !some {
                 return Ok(());
             }
             self.take_all()?;
         }
-        Err(InputFault::Read)
     }
 
     /// Reads more where nothing is left of what was read, and says whether something is left then.
@@ -192,6 +255,8 @@ impl<R: Read + Drop> LineSource<R> {
         ensures end { IfOk result (λ some. some ≡ false
             → IsAtEnd (left_in (R.remaining self.new.reader) self.new.unread)) }
         ensures fault { IfErr result (λ e. (n : ℕ) → LongFor e n) }
+        ensures some { IfOk result (λ some. some ≡ true → 0 < length (unread self.new.unread)) }
+        ensures account { AccountsFor result (R.has_failed self.old.reader) (R.has_failed self.new.reader) }
     {
         if !self.unread.as_slice().is_empty() {
             return Ok(true);
@@ -210,6 +275,7 @@ impl<R: Read + Drop> LineSource<R> {
         ensures fits { OnOk result (length self.new.line.items ≤ longest) }
         ensures fault { IfErr result (λ e.
             LongFor e (length self.old.line.items + line_length (unread self.old.unread))) }
+        ensures account { AccountsFor result (R.has_failed self.old.reader) (R.has_failed self.new.reader) }
         ensures kept { OnErr result (self.new.line.items ≡ self.old.line.items) }
         ensures still { OnErr result (unread self.new.unread ≡ unread self.old.unread) }
     {
@@ -231,6 +297,7 @@ impl<R: Read + Drop> LineSource<R> {
         ensures fits { OnOk result (length self.new.line.items ≤ longest) }
         ensures fault { IfErr result (λ e.
             LongFor e (length self.old.line.items + length (unread self.old.unread))) }
+        ensures account { AccountsFor result (R.has_failed self.old.reader) (R.has_failed self.new.reader) }
         ensures kept { OnErr result (self.new.line.items ≡ self.old.line.items) }
         ensures still { OnErr result (unread self.new.unread ≡ unread self.old.unread) }
     {
@@ -246,6 +313,7 @@ impl<R: Read + Drop> LineSource<R> {
         ensures left { OnOk result (unread self.new.unread ≡ drop count (unread self.old.unread)) }
         ensures fits { OnOk result (length self.new.line.items ≤ longest) }
         ensures fault { IfErr result (λ e. LongFor e (length self.old.line.items + count)) }
+        ensures account { AccountsFor result (R.has_failed self.old.reader) (R.has_failed self.new.reader) }
         ensures kept { OnErr result (self.new.line.items ≡ self.old.line.items) }
         ensures still { OnErr result (unread self.new.unread ≡ unread self.old.unread) }
     {

@@ -1,3 +1,4 @@
+pub mod Options
 pub mod Lists
 pub mod Sents
 pub mod Opens

@@ -9,7 +9,7 @@ use crate::same::is_same_sent;
 use bin_routes::Routes;
 use node_state::NodeState;
 use std::alloc::{AllocError, Global};
-use world_setup::StepFault;
+use world_setup::Fault;
 
 /// Whether a node accepts these calls, one after another, and sends with each what its record has.
 pub fn fits(
@@ -42,7 +42,7 @@ pub fn makes(
 {
     match node.step(alloc, routes, one.call()) {
         Ok(sent) => Ok(is_same_sent(sent.as_slice(), one.sent())),
-        Err(StepFault::OutOfMemory) => Err(AllocError),
+        Err(Fault::OutOfMemory) => Err(AllocError),
         Err(_) => Ok(false),
     }
 }

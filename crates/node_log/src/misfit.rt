@@ -1,8 +1,9 @@
 //! The first call of a log that its node does not make as the log has it.
 
 ghost use Rattle.std.specs.Prelude.{◌≡◌, None, IfOk, MatchOption};
+ghost use Rattle.bin_routes.specs.Table.{routes_of};
 ghost use Rattle.claim_model.specs.Bytes.{bytes_with};
-ghost use Rattle.claim_model.specs.Settings.{opening, settings_fault};
+ghost use Rattle.claim_model.specs.Settings.{opening};
 ghost use Rattle.claim_model.specs.Nodes.{node_at};
 ghost use Rattle.claim_model.specs.Logs.{replay};
 ghost use Rattle.world_setup.specs.Seen.{node_seen, settings_seen};
@@ -15,7 +16,7 @@ use crate::there::is_there;
 use bin_routes::Routes;
 use node_state::NodeState;
 use std::alloc::{AllocError, Global};
-use world_setup::{Sent, StepFault, WorldSettings};
+use world_setup::{CheckedSettings, Fault, Sent};
 
 /// What is wrong with the call of a record.
 #[derive(Clone, Copy, Debug, PartialEq, Eq)]
@@ -45,19 +46,17 @@ pub struct FirstMisfit {
 /// Memory was refused.
 pub fn first_misfit(
     alloc: Global,
-    settings: &WorldSettings,
-    routes: &Routes,
+    settings: &CheckedSettings,
     log: &NodeLog,
 ) -> Result<Option<FirstMisfit>, AllocError>
-    requires { settings_fault (settings_seen settings.now) ≡ None }
-    ensures { IfOk result (λ found. IsFirstOf (bytes_with routes.now)
+    ensures { IfOk result (λ found. IsFirstOf (bytes_with (routes_of settings.now.routes.items))
         (node_at (opening (settings_seen settings.now)) (node_seen log.now.node)) log.now.calls.items found) }
 {
-    if !is_there(settings, log.node()) {
+    if !is_there(settings.settings(), log.node()) {
         return Ok(None);
     }
     let mut node = NodeState::opening(alloc, settings, log.node())?;
-    misfit_among(alloc, routes, &mut node, log.records())
+    misfit_among(alloc, settings.routes(), &mut node, log.records())
 }
 
 /// The first of these calls that a node does not make as its record has it; where there is none, all were made.
@@ -90,7 +89,7 @@ fn misfit_of(
 {
     match node.step(alloc, routes, one.call()) {
         Ok(sent) => Ok(misfit_in(sent.as_slice(), one.sent())),
-        Err(StepFault::OutOfMemory) => Err(AllocError),
+        Err(Fault::OutOfMemory) => Err(AllocError),
         Err(fault) => Ok(Some(Misfit::Refused(fault.name()))),
     }
 }

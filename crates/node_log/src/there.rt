@@ -1,6 +1,8 @@
 //! Whether there is a node.
 
-ghost use Rattle.std.specs.Prelude.{◌≡◌};
+ghost use Rattle.std.specs.Prelude.{◌≡◌, IsSome, IsTrue};
+ghost use Rattle.claim_model.specs.Nodes.{node_at};
+ghost use Rattle.claim_model.specs.Settings.{opening};
 ghost use Rattle.world_setup.specs.Seen.{node_seen, settings_seen};
 ghost use Rattle.node_log.specs.There.{is_numbered, is_there};
 
@@ -8,7 +10,8 @@ use world_setup::{Node, WorldSettings};
 
 /// Whether a world of these settings opens with a node of this name.
 pub fn is_there(settings: &WorldSettings, node: Node) -> bool
-    ensures { result ≡ is_there (settings_seen settings.now) (node_seen node) }
+    ensures value { result ≡ is_there (settings_seen settings.now) (node_seen node) }
+    ensures opens { IsTrue result → IsSome (node_at (opening (settings_seen settings.now)) (node_seen node)) }
 {
     match node {
         Node::Pharmacy(number) => is_numbered(settings.pharmacies.len(), number),

@@ -8,7 +8,6 @@ mod Receipts
 mod Objecting
 mod Replays
 mod Numbers
-mod Options
 mod Agreeing
 mod Sameness
 mod Stands

@@ -1,22 +1,15 @@
 -- What nodes on threads are opened with, and how they read bytes.
-use Rattle.std.specs.Prelude.{◌≡◌, List, length, Option, None}
-use Rattle.bin_routes.specs.Fault.{first_fault}
-use Rattle.bin_routes.specs.Table.{RouteMaps, routes_of}
+use Rattle.std.specs.Prelude.{List, Option}
+use Rattle.bin_routes.specs.Table.{routes_of}
 use Rattle.claim_model.specs.Context.{Context}
 use Rattle.claim_model.specs.Bytes.{bytes_with}
-use Rattle.claim_model.specs.Settings.{settings_fault, opening}
+use Rattle.claim_model.specs.Settings.{opening}
 use Rattle.claim_model.specs.Node.{Node}
 use Rattle.claim_model.specs.World.{Event, run}
 use Rattle.world_setup.specs.Seen.{settings_seen}
 use Rattle.world_setup.specs.declared.settings.WorldSettings.{WorldSettings}
 use Rattle.claim_model.specs.Nodes.{AnyNode, node_at}
 use Rattle.world_core.specs.Parts.{WorldParts}
-
--- a world takes these settings, and this is the table of their routes
-pub record IsTaken (s : WorldSettings) (routes : RouteMaps) : Type 0 where
-  pub nodes : settings_fault (settings_seen s) ≡ None
-  pub rows : first_fault (length s.payers.items) s.routes.items ≡ None
-  pub table : routes ≡ routes_of s.routes.items
 
 -- how nodes of these settings read bytes: by the table of their routes
 abbrev pub context_of : WorldSettings → Context

@@ -10,7 +10,7 @@ ghost use Rattle.node_state.specs.Nodes.{entries_of, held_of};
 ghost use Rattle.node_log.specs.LogSeen.{log_seen};
 ghost use Rattle.run_merge.specs.Merged.{FitsAlone};
 ghost use Rattle.world_setup.specs.Seen.{node_seen, call_seen, sent_seen, settings_seen};
-ghost use Rattle.world_setup.specs.declared.fault.StepFault.TheVariants.{OutOfMemory};
+ghost use Rattle.claim_model.specs.declared.refusal.Fault.TheVariants.{OutOfMemory};
 ghost use Rattle.node_logged.specs.Setting.{context_of, opened};
 ghost use Rattle.node_logged.specs.Alike.{AreAlike};
 ghost use Rattle.node_logged.specs.Holding.{IsKept, after_call, after_restart, last_record, last_sent};
@@ -18,7 +18,6 @@ ghost use Rattle.node_logged.specs.Tills.{with_receipt};
 ghost use Rattle.node_logged.specs.TillSeen.{till_seen};
 
 use crate::alike::is_alike;
-use crate::shared::Shared;
 use crate::till::Till;
 use envelope::TxnId;
 use node_log::{NodeLog, Record};
@@ -27,14 +26,14 @@ use octets::Octets;
 use std::alloc::{AllocError, Global};
 use std::marker::Model;
 use std::sync::Arc;
-use world_setup::{Call, Node, Sent, StepFault, WorldSettings};
+use world_setup::{Call, CheckedSettings, Fault, Node, Refusal, Sent};
 
 /// A node, the log of its accepted calls, and what it shares with all other nodes (own). At every moment the node is the
 /// replay of the log beside it, from the opening node of the settings, and by itself it accepts each call of the log and
 /// sends with it what stands beside the call.
 #[derive(Drop)]
 pub struct Held {
-    shared: Arc<Shared>,
+    shared: Arc<CheckedSettings>,
     state: NodeState,
     log: NodeLog,
 }
@@ -53,13 +52,13 @@ impl Model for Held {
 
 impl Held {
     /// The node of this name as it opens, with an empty log. The node is one of the settings.
-    pub fn new(alloc: Global, shared: &Arc<Shared>, node: Node) -> Result<Held, AllocError>
+    pub fn new(alloc: Global, shared: &Arc<CheckedSettings>, node: Node) -> Result<Held, AllocError>
         requires { IsSome (opened (arc_value shared.now) (node_seen node)) }
         ensures settings { IfOk result (λ held. held.settings ≡ arc_value shared.now) }
         ensures state { IfOk result (λ held. opened (arc_value shared.now) (node_seen node) ≡ Some held.state) }
         ensures log { IfOk result (λ held. held.log ≡ record { node = node_seen node; calls = [] }) }
     {
-        let state = NodeState::opening(alloc, shared.settings(), node)?;
+        let state = NodeState::opening(alloc, shared, node)?;
         Ok(Held {
             shared: Arc::try_clone(shared)?,
             state,
@@ -72,7 +71,7 @@ impl Held {
     /// # Errors
     /// `NoSuchNode` for a call that is made for another kind of node; then `Down` or `AlreadyUp`; then the refusal of
     /// the node. Node and log are then as they were, and so they are where memory is refused.
-    pub fn call(&mut self, alloc: Global, call: Call) -> Result<(), StepFault>
+    pub fn call(&mut self, alloc: Global, call: Call) -> Result<(), Fault>
         ensures ok { OnOk result (after_call self.old (call_seen call) ≡ Some self.new) }
         ensures fault { Refuses (node_step (context_of self.old.settings) self.old.state (call_seen call)) result }
         ensures err { OnErr result (self.new ≡ self.old) }
@@ -106,14 +105,14 @@ impl Held {
     /// # Errors
     /// Memory was refused, and nothing else: no node refuses a stop while it is up, or a start while it is down. The node
     /// is then as it was, or it was stopped.
-    pub fn restart(&mut self, alloc: Global) -> Result<(), StepFault>
+    pub fn restart(&mut self, alloc: Global) -> Result<(), Fault>
         ensures ok { OnOk result (after_restart self.old ≡ Some self.new) }
         ensures fault { IfErr result (λ fault. fault ≡ OutOfMemory) }
         ensures err { OnErr result ((self.new ≡ self.old) ⊎ (after_call self.old Stop ≡ Some self.new)) }
     {
         match self.call(alloc, Call::Stop) {
             Ok(()) => self.call(alloc, Call::Start),
-            Err(StepFault::Down) => self.call(alloc, Call::Start),
+            Err(Fault::Refused(Refusal::Down)) => self.call(alloc, Call::Start),
             Err(fault) => Err(fault),
         }
     }
@@ -124,12 +123,7 @@ impl Held {
     /// # Errors
     /// Those of `call`. Node, log and till are then as they were.
     #[tactic(auto, using(crate::proofs::Numbers::grown))]
-    pub fn submit(
-        &mut self,
-        alloc: Global,
-        till: &mut Till,
-        request: &[u8],
-    ) -> Result<u64, StepFault>
+    pub fn submit(&mut self, alloc: Global, till: &mut Till, request: &[u8]) -> Result<u64, Fault>
         requires { self.old.log.node ≡ Pharmacy till.old.pharmacy }
         ensures step { OnOk result (after_call self.old (Submit request.now) ≡ Some self.new) }
         ensures number { IfOk result (λ number. number ≡ entries_of self.new.state) }
@@ -184,10 +178,10 @@ impl Held {
     }
 
     /// Whether it is known to be under these settings: its own are the same.
-    pub(crate) fn is_under(&self, settings: &WorldSettings) -> bool
+    pub(crate) fn is_under(&self, settings: &CheckedSettings) -> bool
         ensures { IsTrue result → AreAlike self.now.settings settings.now }
     {
-        is_alike(self.shared.settings(), settings)
+        is_alike(self.shared.settings(), settings.settings())
     }
 
     /// The node as it stands, and its log.

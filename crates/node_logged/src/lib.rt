@@ -8,11 +8,9 @@ mod alike;
 mod held;
 mod judging;
 mod laws;
-mod shared;
 mod till;
 
 pub use held::Held;
 pub use judging::{FinishFault, Finished, judge, judge_nodes};
 pub use laws::{ledgers_are_the_worlds, receipts_are_the_entries_each_once};
-pub use shared::Shared;
 pub use till::{Receipt, Till};

@@ -11,7 +11,7 @@ use Rattle.claim_model.specs.World.{Packet, packet_from}
 use Rattle.claim_model.specs.Logs.{Logged, posted_by}
 use Rattle.claim_model.proofs.Lists.{all_append, all_weaker, numbered_append}
 use Rattle.crash_safety.specs.Runs.{IsAmong}
-use Rattle.world_setup.specs.Names.{refusal_name}
+use Rattle.claim_model.specs.Refusal.{refusal_name}
 use Rattle.world_setup.specs.Seen.{call_seen}
 use Rattle.node_logged.specs.Setting.{context_of}
 use Rattle.node_service.specs.Asking.{Asked, Calls, Tells as Asks, asked_of}

@@ -2,7 +2,8 @@
 use Rattle.std.specs.Prelude.{◌≡◌, ◌⊎◌, ⊤, ℕ, not, ◌&&◌, cond, flat_map, false, map, List, [], ◌∷◌, ◌++◌, take, replicate, codes, Some, None, Ok, Err}
 use Rattle.std.specs.List.{AllByRecursion}
 use Rattle.claim_model.specs.Context.{Context}
-use Rattle.claim_model.specs.Refusal.{Refusal}
+use Rattle.claim_model.specs.declared.refusal.Refusal.{Refusal}
+use Rattle.claim_model.specs.Refusal.{refusal_name}
 use Rattle.claim_model.specs.Node.{Node, Call, Sent}
 use Rattle.claim_model.specs.Nodes.{AnyNode, same_node, asked}
 use Rattle.claim_model.specs.World.{Event, Packet, packet_from}
@@ -11,7 +12,6 @@ use Rattle.claim_model.specs.Logs.{Logged, NodeLog, posted_by}
 use Rattle.crash_safety.specs.Network.{Process, Network, Move, after, calls, one_synced, crashed, restarted, replayed}
 use Rattle.crash_safety.specs.Network as model
 use Rattle.crash_safety.specs.Runs.{IsAmong}
-use Rattle.world_setup.specs.Names.{refusal_name}
 use Rattle.world_setup.specs.Seen.{settings_seen}
 use Rattle.world_setup.specs.declared.settings.WorldSettings.{WorldSettings as Settings}
 use Rattle.node_logged.specs.Setting.{context_of}

@@ -13,7 +13,7 @@ use Rattle.claim_model.specs.Logs.{Logged, NodeLog, node_after, replay}
 use Rattle.claim_model.proofs.Lists.{all_append}
 use Rattle.claim_model.proofs.Options.{map_some, same_some}
 use Rattle.crash_safety.proofs.Replaying.{replay_more, makes_more}
-use Rattle.world_setup.specs.Names.{refusal_name}
+use Rattle.claim_model.specs.Refusal.{refusal_name}
 use Rattle.world_setup.specs.Seen.{call_seen}
 use Rattle.world_settings.specs.Document.{Document, document_seen}
 use Rattle.node_log.specs.Replayed.{replayed}

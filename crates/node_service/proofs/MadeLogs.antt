@@ -1,8 +1,6 @@
 -- A node that made its log as it was read is opened as one whose log was read first.
 use Rattle.std.proofs.Common.{◌≡◌, ℕ, List, [], ◌∷◌, ◌++◌, length, take, Option, Some, None, option_map, Result, Ok, Err, inl, refl, sym, ap, ◌∙◌, subst, append-nil}
 use Rattle.std.specs.Prelude.{IsSome}
-use Rattle.bin_routes.specs.Table.{RouteMaps, routes_of}
-use Rattle.claim_model.specs.Bytes.{bytes_with}
 use Rattle.claim_model.specs.Node.{Node}
 use Rattle.claim_model.specs.Nodes.{AnyNode}
 use Rattle.claim_model.specs.Logs.{Makes, replay}
@@ -76,14 +74,3 @@ is_opened text settings node bytes made stay s spells is served = record {
   state = rw (served.own, served.state) is.state;
   silent = served.silent;
 }
-
--- the same, where settings, routes and digest are known by what they equal
-pub is_read_by : (settings given : WorldSettings) (routes : RouteMaps) (digest named : List ℕ) (node : Node) (bytes : List ℕ) (made : Option MadeLog)
-    → given ≡ settings → routes ≡ routes_of settings.routes.items → named ≡ digest → IsSome (opened settings node)
-    → ((before : AnyNode) → opened given node ≡ Some before → IsMadeIf (bytes_with routes) before named node bytes made) → ((read : Reading) → log_in named bytes ≡ Ok read → IsLogOf named bytes read)
-    → IsRead settings digest node bytes made
-is_read_by settings given routes digest named node bytes made same rows is some are_made found =
-    is_read settings digest node bytes made some
-    (λ before opens. subst (λ d. IsMadeIf (context_of settings) before d node bytes made) is
-    (subst (λ r. IsMadeIf (bytes_with r) before named node bytes made) rows (are_made before (ap (λ s. opened s node) same ∙ opens))))
-    (λ read reads. subst (λ d. IsLogOf d bytes read) is (found read (ap (λ d. log_in d bytes) is ∙ reads)))

@@ -4,7 +4,7 @@ use Rattle.claim_model.specs.Context.{Context}
 use Rattle.claim_model.specs.Node.{Node, Pharmacy, Switch, Payer, Sent, Call, Submit, Tick, Take, Stop, Start, Reprice, Outcome, Done, Refused}
 use Rattle.claim_model.specs.Nodes.{AnyNode, node_step}
 use Rattle.node_state.specs.Nodes.{entries_of, request_of, held_of}
-use Rattle.world_setup.specs.Names.{refusal_name}
+use Rattle.claim_model.specs.Refusal.{refusal_name}
 use Rattle.world_setup.specs.Seen.{call_seen}
 use Rattle.world_setup.specs.declared.settings.WorldSettings.{WorldSettings}
 use Rattle.node_logged.specs.Setting.{context_of}

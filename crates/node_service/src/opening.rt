@@ -20,14 +20,13 @@ use kept_logs::{
     LogFault, LogVersion, MadeLog, ReadLog, SettingsDigest, make_as_read, place_of, read_log,
     write_log,
 };
-use node_log::{NodeLog, make_log};
-use node_logged::Shared;
+use node_log::{NodeLog, is_there, make_log};
 use node_state::NodeState;
 use payer_book::HashKeys;
 use settings_digest::Digests;
 use std::alloc::{AllocError, Global};
 use world_settings::{SettingsFault, read_living_settings};
-use world_setup::{Node, WorldSettings};
+use world_setup::{CheckedSettings, Node, WorldSettings};
 
 /// A log that was read or begun: what it has, how many bytes of the file stay, and what is to be appended.
 #[derive(Drop)]
@@ -58,7 +57,7 @@ impl Service {
         ensures refused { IfErr result (λ why. IsRefused text.now (node_seen node) bytes.now why) }
     {
         let shared = shared_of(alloc, keys, text)?;
-        if !shared.has(node) {
+        if !is_there(shared.settings(), node) {
             return Err(ServiceFault::NoSuchNode);
         }
         let digest = digest_of(alloc, text, &shared, bytes)?;
@@ -75,7 +74,7 @@ impl Service {
 fn digest_of(
     alloc: Global,
     text: &[u8],
-    shared: &Shared,
+    shared: &CheckedSettings,
     bytes: &[u8],
 ) -> Result<SettingsDigest, AllocError>
     requires { living_in text.now ≡ Some (document_seen shared.now) }
@@ -89,27 +88,20 @@ fn digest_of(
 fn made(
     alloc: Global,
     digest: &SettingsDigest,
-    shared: &Shared,
+    shared: &CheckedSettings,
     node: Node,
     bytes: &[u8],
 ) -> Result<Option<MadeLog>, AllocError>
     requires { IsSome (opened shared.now (node_seen node)) }
     ensures { IfOk result (λ made. IsRead shared.now digest.now (node_seen node) bytes.now made) }
 {
-    make_as_read(
-        alloc,
-        digest,
-        shared.settings(),
-        shared.routes(),
-        node,
-        bytes,
-    )
+    make_as_read(alloc, digest, shared, node, bytes)
 }
 
 /// A node that has made its log, of this version, is served.
 fn served(
     alloc: Global,
-    shared: Shared,
+    shared: CheckedSettings,
     node: Node,
     version: LogVersion,
     made: MadeLog,
@@ -129,12 +121,12 @@ fn served(
 }
 
 /// The settings that a text spells, with these keys, where a world takes them.
-fn shared_of(alloc: Global, keys: &HashKeys, text: &[u8]) -> Result<Shared, ServiceFault>
+fn shared_of(alloc: Global, keys: &HashKeys, text: &[u8]) -> Result<CheckedSettings, ServiceFault>
     ensures spelled { IfOk result (λ shared. Spells text.now shared) }
     ensures refused { IfErr result (λ why. NoSettings text.now why) }
 {
     let settings = settings_of(alloc, keys, text)?;
-    match Shared::new(alloc, settings) {
+    match CheckedSettings::new(alloc, settings) {
         Ok(shared) => Ok(shared),
         Err(fault) => Err(ServiceFault::from(fault)),
     }
@@ -214,7 +206,7 @@ fn new(alloc: Global, digest: &SettingsDigest, node: Node) -> Result<Begun, Serv
 fn serve_from(
     alloc: Global,
     digest: &SettingsDigest,
-    shared: Shared,
+    shared: CheckedSettings,
     begun: Begun,
 ) -> Result<(Service, usize), ServiceFault>
     requires { IsSome (opened shared (log_seen begun.log).node) }
@@ -240,14 +232,14 @@ fn serve_from(
 fn state_of(
     alloc: Global,
     digest: &SettingsDigest,
-    shared: &Shared,
+    shared: &CheckedSettings,
     log: &NodeLog,
 ) -> Result<NodeState, ServiceFault>
     requires { IsSome (opened shared.now (log_seen log.now).node) }
     ensures made { IfOk result (λ state. IsMadeBy shared.now (log_seen log.now) state) }
     ensures refused { IfErr result (λ why. IsNotMade digest.now shared.now (log_seen log.now) why) }
 {
-    match make_log(alloc, shared.settings(), log)? {
+    match make_log(alloc, shared, log)? {
         Ok(state) => Ok(state),
         Err(first) => {
             let place = place_of(alloc, digest, log, first.place)?;

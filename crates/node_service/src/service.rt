@@ -18,16 +18,15 @@ use crate::most::most_of;
 use crate::telling::{put_made, put_told};
 use kept_logs::{LogVersion, record_bytes};
 use node_log::Record;
-use node_logged::Shared;
 use node_state::NodeState;
 use std::alloc::{AllocError, Global};
 use std::marker::Model;
-use world_setup::{Call, Node, StepFault};
+use world_setup::{Call, CheckedSettings, Fault, Node};
 
 /// A node that is served, with what is to be appended to its log and, behind that, to be written.
 #[derive(Drop)]
 pub struct Service {
-    pub(crate) shared: Shared,
+    pub(crate) shared: CheckedSettings,
     pub(crate) name: Node,
     pub(crate) version: LogVersion,
     pub(crate) state: NodeState,
@@ -98,7 +97,7 @@ impl Service {
     {
         match self.state.step(alloc, self.shared.routes(), &call) {
             Ok(sent) => self.record(alloc, &Record::new(call, sent)),
-            Err(StepFault::OutOfMemory) => Err(AllocError),
+            Err(Fault::OutOfMemory) => Err(AllocError),
             Err(fault) => put_refused(&mut self.out, fault.name().as_bytes()),
         }
     }

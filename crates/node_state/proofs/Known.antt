@@ -6,7 +6,7 @@ use Rattle.bin_routes.specs.Table.{RouteMaps}
 use Rattle.claim_model.specs.Words.{Envelope}
 use Rattle.claim_model.specs.Bytes.{bytes_with}
 use Rattle.claim_model.specs.Readable.{is_request}
-use Rattle.claim_model.specs.Refusal.{Unreadable}
+use Rattle.claim_model.specs.declared.refusal.Refusal.TheVariants.{Unreadable}
 use Rattle.claim_model.specs.Journal.{Journal, heard}
 use Rattle.claim_model.specs.Table.{Table, requested, responded}
 use Rattle.claim_model.specs.Node.{Refused, after_hearing, after_request, after_response}

@@ -3,7 +3,6 @@ pub mod Powered
 pub mod Sends
 pub mod Outcomes
 pub mod Taking
-pub mod Refusing
 pub mod Reading
 pub mod Nodes
 pub mod Any

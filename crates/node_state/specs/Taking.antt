@@ -5,7 +5,7 @@ use Rattle.envelope.specs.Envelope.{Opened}
 use Rattle.bin_routes.specs.Table.{RouteMaps}
 use Rattle.claim_model.specs.Words.{EnvelopeFault}
 use Rattle.claim_model.specs.Bytes.{bytes_with, envelope_in}
-use Rattle.claim_model.specs.Refusal.{NoEnvelope, Unreadable}
+use Rattle.claim_model.specs.declared.refusal.Refusal.TheVariants.{NoEnvelope, Unreadable}
 use Rattle.claim_model.specs.Rows.{Book}
 use Rattle.claim_model.specs.Book.{answered}
 use Rattle.claim_model.specs.Journal.{Journal, JournalAtRest, heard}

@@ -4,7 +4,6 @@
 
 mod book_bytes;
 mod book_reading;
-mod faults;
 mod held;
 mod journal_bytes;
 mod journal_reading;

@@ -4,7 +4,7 @@ ghost use Rattle.std.specs.Prelude.{◌≡◌, ◌<◌, ◌≤◌, true, None, S
 ghost use Rattle.std.specs.List.{list_all};
 ghost use Rattle.claim_model.specs.Limits.{most_payers};
 ghost use Rattle.claim_model.specs.Numbered.{numbered};
-ghost use Rattle.claim_model.specs.Settings.{settings_fault, opening, pharmacies_from, switches_of, payers_from};
+ghost use Rattle.claim_model.specs.Settings.{opening, pharmacies_from, switches_of, payers_from};
 ghost use Rattle.world_setup.specs.Seen.{node_seen, settings_seen, payer_seen};
 ghost use Rattle.node_state.specs.Nodes.{node_at, has_node};
 
@@ -16,20 +16,19 @@ use bin_routes::PayerNo;
 use pharmacy_journal::PharmacySettings;
 use std::alloc::{AllocError, Global};
 use switch_node::SwitchSettings;
-use world_setup::{Node, PayerSettings, WorldSettings};
+use world_setup::{CheckedSettings, Node, PayerSettings};
 
 impl NodeState {
-    /// The node of that name as a world of these settings opens with it, up and empty. A world takes the settings, and
-    /// has the node.
+    /// The node of that name as a world of these settings opens with it, up and empty. The world has the node.
     pub fn opening(
         alloc: Global,
-        settings: &WorldSettings,
+        settings: &CheckedSettings,
         node: Node,
     ) -> Result<NodeState, AllocError>
-        requires taken { settings_fault (settings_seen settings.now) ≡ None }
-        requires there { IsSome (node_at (opening (settings_seen settings.now)) (node_seen node)) }
+        requires { IsSome (node_at (opening (settings_seen settings.now)) (node_seen node)) }
         ensures { IfOk result (λ o. node_at (opening (settings_seen settings.now)) (node_seen node) ≡ Some o) }
     {
+        let settings = settings.settings();
         match node {
             Node::Pharmacy(number) => {
                 let pharmacy = pharmacy_of(alloc, settings.pharmacies.as_slice(), number)?;

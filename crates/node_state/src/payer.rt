@@ -13,7 +13,6 @@ ghost use Rattle.node_state.specs.Taking.{payer_handles, payer_answers, payer_re
 
 use crate::book_bytes::BookBytes;
 use crate::book_reading::BookReading;
-use crate::faults::{book_fault, plan_fault};
 use crate::opening::is_request;
 use crate::powered::{Kind, Powered, State};
 use bin_routes::{PayerNo, Routes};
@@ -21,7 +20,7 @@ use envelope::Envelope;
 use octets::Octets;
 use payer_book::{Book, BookSettings, HashKeys, Plan};
 use std::alloc::{AllocError, Global};
-use world_setup::{Call, Node, NodeFault, Sent, StepFault};
+use world_setup::{Call, Fault, Node, Refusal, Sent};
 
 /// A payer, up or at rest. At rest it is the bytes of its book's record, beside its number and settings.
 pub type PayerNode = Powered<Book>;
@@ -43,11 +42,11 @@ impl Kind for Book {
         from: Node,
         envelope: &Envelope<'_>,
         _packet: &Octets,
-    ) -> Result<Vec<Sent>, StepFault> {
+    ) -> Result<Vec<Sent>, Fault> {
         if is_request(envelope) {
             answer(alloc, self, routes, from, envelope)
         } else {
-            Err(StepFault::Node(NodeFault::Unreadable))
+            Err(Fault::Refused(Refusal::Unreadable))
         }
     }
 
@@ -59,7 +58,7 @@ impl Kind for Book {
         from: Node,
         envelope: &Envelope<'_>,
         packet: &Octets,
-    ) -> Result<Vec<Sent>, StepFault> {
+    ) -> Result<Vec<Sent>, Fault> {
         self.take(alloc, routes, from, envelope, packet)
     }
 
@@ -69,10 +68,10 @@ impl Kind for Book {
         alloc: Global,
         _routes: &Routes,
         call: Call<&Octets>,
-    ) -> Result<Vec<Sent>, StepFault> {
+    ) -> Result<Vec<Sent>, Fault> {
         match call {
             Call::Plan { product, price } => change_plan(alloc, self, product.as_slice(), price),
-            Call::Submit(_) | Call::Tick => Err(StepFault::NoSuchNode),
+            Call::Submit(_) | Call::Tick => Err(Fault::Refused(Refusal::NoSuchNode)),
             Call::Take { .. } | Call::Stop | Call::Start => unreachable!(),
         }
     }
@@ -85,10 +84,10 @@ impl Kind for Book {
         rest.start(alloc)
     }
 
-    fn down(call: Call<&Octets>) -> StepFault {
+    fn down(call: Call<&Octets>) -> Fault {
         match call {
-            Call::Plan { .. } => StepFault::Down,
-            _ => StepFault::NoSuchNode,
+            Call::Plan { .. } => Fault::Refused(Refusal::Down),
+            _ => Fault::Refused(Refusal::NoSuchNode),
         }
     }
 
@@ -108,20 +107,16 @@ fn answer(
     routes: &Routes,
     from: Node,
     envelope: &Envelope<'_>,
-) -> Result<Vec<Sent>, StepFault>
+) -> Result<Vec<Sent>, Fault>
     ensures ok { Makes (payer_answers routes.now book.old (node_seen from) envelope.now) (Up book.new) result }
     ensures fault { Refuses (payer_answers routes.now book.old (node_seen from) envelope.now) result }
     ensures few { IfOk result (λ sent. length sent.items ≤ 1) }
     ensures err { OnErr result (book.new ≡ book.old) }
 {
     let mut sent = Vec::with_capacity(alloc, 1)?;
-    match book.answer_packet(routes, envelope.id(), envelope.payload()) {
-        Ok(bytes) => {
-            sent.push_reserved(Sent { to: from, bytes });
-            Ok(sent)
-        }
-        Err(fault) => Err(book_fault(fault)),
-    }
+    let bytes = book.answer_packet(routes, envelope.id(), envelope.payload())?;
+    sent.push_reserved(Sent { to: from, bytes });
+    Ok(sent)
 }
 
 /// Sets the price of a product, in ten-thousandths of a dollar a unit, or with `None` takes the product off the plan. Nothing
@@ -131,17 +126,15 @@ fn change_plan(
     book: &mut Book,
     product: &[u8],
     price: Option<u32>,
-) -> Result<Vec<Sent>, StepFault>
+) -> Result<Vec<Sent>, Fault>
     ensures ok { (routes : RouteMaps)
         → PayerMakes routes (Up book.old) (Reprice product.now price) (Up book.new) result }
     ensures fault { (routes : RouteMaps) → PayerRefuses routes (Up book.old) (Reprice product.now price) result }
     ensures few { IfOk result (λ sent. length sent.items ≤ 1) }
     ensures err { OnErr result (book.new ≡ book.old) }
 {
-    match book.change_plan(product, price) {
-        Ok(()) => Ok(Vec::new(alloc)),
-        Err(fault) => Err(plan_fault(fault)),
-    }
+    book.change_plan(product, price)?;
+    Ok(Vec::new(alloc))
 }
 
 impl PayerNode {

@@ -5,13 +5,12 @@ ghost use Rattle.std.specs.Option.{option_copied};
 ghost use Rattle.claim_model.specs.Bytes.{bytes_with};
 ghost use Rattle.claim_model.specs.Node.{Up, Submit, Tick, pharmacy_step};
 ghost use Rattle.claim_model.specs.Held.{journal_in};
-ghost use Rattle.world_setup.specs.Refused.{refusal_of};
+ghost use Rattle.claim_model.specs.Refusal.{refusal_of};
 ghost use Rattle.node_state.specs.Outcomes.{PharmacyMakes, PharmacyRefuses};
 ghost use Rattle.node_state.specs.Records.{journal_record};
 ghost use Rattle.node_state.specs.Sends.{most_due, most_sent};
 ghost use Rattle.node_state.specs.Taking.{hears, pharmacy_reads};
 
-use crate::faults::{hear_fault, submit_fault};
 use crate::journal_bytes::JournalBytes;
 use crate::journal_reading::JournalReading;
 use crate::powered::{Kind, Powered, State};
@@ -21,7 +20,7 @@ use envelope::Envelope;
 use octets::Octets;
 use pharmacy_journal::{JournalAtRest, Pharmacy, PharmacySettings};
 use std::alloc::{AllocError, Global};
-use world_setup::{Call, Node, Sent, StepFault};
+use world_setup::{Call, Fault, Node, Refusal, Sent};
 
 /// A pharmacy, up or at rest. At rest it is the bytes of its journal's record, beside its number and settings.
 pub type PharmacyNode = Powered<Pharmacy>;
@@ -43,11 +42,9 @@ impl Kind for Pharmacy {
         _from: Node,
         envelope: &Envelope<'_>,
         packet: &Octets,
-    ) -> Result<Vec<Sent>, StepFault> {
-        match self.hear_packet(envelope, packet) {
-            Ok(()) => Ok(Vec::new(alloc)),
-            Err(fault) => Err(hear_fault(fault)),
-        }
+    ) -> Result<Vec<Sent>, Fault> {
+        self.hear_packet(envelope, packet)?;
+        Ok(Vec::new(alloc))
     }
 
     /// The same, where the answer is readable and fits its request.
@@ -58,11 +55,9 @@ impl Kind for Pharmacy {
         _from: Node,
         envelope: &Envelope<'_>,
         packet: &Octets,
-    ) -> Result<Vec<Sent>, StepFault> {
-        match self.hear_known(envelope, packet) {
-            Ok(()) => Ok(Vec::new(alloc)),
-            Err(fault) => Err(hear_fault(fault)),
-        }
+    ) -> Result<Vec<Sent>, Fault> {
+        self.hear_known(envelope, packet)?;
+        Ok(Vec::new(alloc))
     }
 
     /// Submits a text, or ticks.
@@ -71,11 +66,11 @@ impl Kind for Pharmacy {
         alloc: Global,
         _routes: &Routes,
         call: Call<&Octets>,
-    ) -> Result<Vec<Sent>, StepFault> {
+    ) -> Result<Vec<Sent>, Fault> {
         match call {
             Call::Submit(text) => submit(alloc, self, text.as_slice()),
             Call::Tick => tick(self),
-            Call::Plan { .. } => Err(StepFault::NoSuchNode),
+            Call::Plan { .. } => Err(Fault::Refused(Refusal::NoSuchNode)),
             Call::Take { .. } | Call::Stop | Call::Start => unreachable!(),
         }
     }
@@ -88,10 +83,10 @@ impl Kind for Pharmacy {
         rest.start(alloc)
     }
 
-    fn down(call: Call<&Octets>) -> StepFault {
+    fn down(call: Call<&Octets>) -> Fault {
         match call {
-            Call::Plan { .. } => StepFault::NoSuchNode,
-            _ => StepFault::Down,
+            Call::Plan { .. } => Fault::Refused(Refusal::NoSuchNode),
+            _ => Fault::Refused(Refusal::Down),
         }
     }
 
@@ -106,24 +101,20 @@ impl Kind for Pharmacy {
 
 /// Submits a text: enters it under the next number, and sends its packet to the first switch. The room for what is sent is
 /// had first.
-fn submit(alloc: Global, pharmacy: &mut Pharmacy, text: &[u8]) -> Result<Vec<Sent>, StepFault>
+fn submit(alloc: Global, pharmacy: &mut Pharmacy, text: &[u8]) -> Result<Vec<Sent>, Fault>
     ensures ok { PharmacyMakes (Up pharmacy.old) (Submit text.now) (Up pharmacy.new) result }
     ensures fault { PharmacyRefuses (Up pharmacy.old) (Submit text.now) result }
     ensures few { IfOk result (λ sent. length sent.items ≤ 1) }
     ensures err { OnErr result (pharmacy.new ≡ pharmacy.old) }
 {
     let mut sent = Vec::with_capacity(alloc, 1)?;
-    match pharmacy.submit(text) {
-        Ok(submitted) => {
-            sent.push_reserved(to_switch(submitted.1));
-            Ok(sent)
-        }
-        Err(fault) => Err(submit_fault(fault)),
-    }
+    let submitted = pharmacy.submit(text)?;
+    sent.push_reserved(to_switch(submitted.1));
+    Ok(sent)
 }
 
 /// One tick: sends each open entry again that is due, in order of numbers. Its packets become at once what a node sends.
-fn tick(pharmacy: &mut Pharmacy) -> Result<Vec<Sent>, StepFault>
+fn tick(pharmacy: &mut Pharmacy) -> Result<Vec<Sent>, Fault>
     ensures ok { PharmacyMakes (Up pharmacy.old) Tick (Up pharmacy.new) result }
     ensures fault { IfErr result (λ fault. refusal_of fault ≡ None) }
     ensures few { IfOk result (λ sent. length sent.items ≤ length pharmacy.old.entries) }

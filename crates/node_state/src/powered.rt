@@ -6,21 +6,21 @@ ghost use Rattle.bin_routes.specs.Table.{RouteMaps};
 ghost use Rattle.claim_model.specs.Words.{EnvelopeFault as ModelFault};
 ghost use Rattle.claim_model.specs.Bytes.{bytes_with, envelope_in};
 ghost use Rattle.claim_model.specs.Node.{Node as ModelNode, Call as ModelCall, Outcome, Done, Refused, Power, Up, AtRest, Take, Stop, Start};
-ghost use Rattle.claim_model.specs.Refusal.{Down, AlreadyUp, Unreadable};
+ghost use Rattle.claim_model.specs.declared.refusal.Refusal.TheVariants.{Down, AlreadyUp, Unreadable};
+ghost use Rattle.claim_model.specs.Refusal.{refusal_of};
 ghost use Rattle.world_setup.specs.Seen.{node_seen, lent_seen};
-ghost use Rattle.world_setup.specs.Refused.{refusal_of, RefusedAs};
+ghost use Rattle.claim_model.specs.Refused.{RefusedAs};
 ghost use Rattle.node_state.specs.Outcomes.{Makes, Refuses};
 ghost use Rattle.node_state.specs.Sends.{asks, is_up};
 ghost use Rattle.node_state.specs.Taking.{taken, IsReadable};
 
-use crate::faults::envelope_fault;
 use crate::opening::read_envelope;
 use bin_routes::Routes;
 use envelope::Envelope;
 use octets::Octets;
 use std::alloc::{AllocError, Global};
 use std::marker::Model;
-use world_setup::{Call, Node, Sent, StepFault};
+use world_setup::{Call, Fault, Node, Refusal, Sent};
 
 /// A kind of node that is up: what it does, and what is kept of it at rest.
 pub trait Kind: Drop + Sized {
@@ -44,7 +44,7 @@ pub trait Kind: Drop + Sized {
         from: Node,
         envelope: &Envelope<'_>,
         packet: &Octets,
-    ) -> Result<Vec<Sent>, StepFault>
+    ) -> Result<Vec<Sent>, Fault>
         requires { packet.now ≡ envelope_text envelope.now.kind envelope.now.id envelope.now.payload }
         ensures ok { Makes (takes routes.now self.old (node_seen from) envelope.now) (Up self.new) result }
         ensures fault { Refuses (takes routes.now self.old (node_seen from) envelope.now) result }
@@ -60,7 +60,7 @@ pub trait Kind: Drop + Sized {
         from: Node,
         envelope: &Envelope<'_>,
         packet: &Octets,
-    ) -> Result<Vec<Sent>, StepFault>
+    ) -> Result<Vec<Sent>, Fault>
         requires packet { packet.now ≡ envelope_text envelope.now.kind envelope.now.id envelope.now.payload }
         requires readable { takes routes.now self.old (node_seen from) envelope.now ≢ Refused Unreadable }
         ensures ok { Makes (takes routes.now self.old (node_seen from) envelope.now) (Up self.new) result }
@@ -75,7 +75,7 @@ pub trait Kind: Drop + Sized {
         alloc: Global,
         routes: &Routes,
         call: Call<&Octets>,
-    ) -> Result<Vec<Sent>, StepFault>
+    ) -> Result<Vec<Sent>, Fault>
         requires { asks (lent_seen call) ≡ true }
         ensures ok { Makes (step routes.now (Up self.old) (lent_seen call.entry)) (Up self.new) result }
         ensures fault { Refuses (step routes.now (Up self.old) (lent_seen call.entry)) result }
@@ -93,7 +93,7 @@ pub trait Kind: Drop + Sized {
             → IfOk result (λ node. step routes (AtRest rest.now) Start ≡ Done (Up node) []) };
 
     /// Why one at rest does not make a call that is no packet and does not start it.
-    fn down(call: Call<&Octets>) -> StepFault
+    fn down(call: Call<&Octets>) -> Fault
         requires { asks (lent_seen call) ≡ true }
         ensures { (routes : RouteMaps) (rest : Self.Rest)
             → RefusedAs (refusal_of result) (step routes (AtRest rest) (lent_seen call.entry)) };
@@ -167,7 +167,7 @@ impl<K: Kind> Powered<K> {
         alloc: Global,
         routes: &Routes,
         call: Call<&Octets>,
-    ) -> Result<Vec<Sent>, StepFault>
+    ) -> Result<Vec<Sent>, Fault>
         ensures ok { Makes (K.step routes.now self.old (lent_seen call.entry)) self.new result }
         ensures fault { Refuses (K.step routes.now self.old (lent_seen call.entry)) result }
         ensures few { IfOk result (λ sent. length sent.items ≤ K.most self.old (lent_seen call.entry)) }
@@ -194,7 +194,7 @@ impl<K: Kind> Powered<K> {
         alloc: Global,
         routes: &Routes,
         call: Call<&Octets>,
-    ) -> Result<Vec<Sent>, StepFault>
+    ) -> Result<Vec<Sent>, Fault>
         requires { IsReadable (lent_seen call) (K.step routes.now self.old (lent_seen call)) }
         ensures ok { Makes (K.step routes.now self.old (lent_seen call.entry)) self.new result }
         ensures fault { Refuses (K.step routes.now self.old (lent_seen call.entry)) result }
@@ -214,7 +214,7 @@ impl<K: Kind> Powered<K> {
         routes: &Routes,
         from: Node,
         packet: &Octets,
-    ) -> Result<Vec<Sent>, StepFault>
+    ) -> Result<Vec<Sent>, Fault>
         ensures ok { Makes (K.step routes.now self.old (Take (node_seen from) packet.now)) self.new result }
         ensures fault { Refuses (K.step routes.now self.old (Take (node_seen from) packet.now)) result }
         ensures few { IfOk result (λ sent. length sent.items ≤ K.most self.old (Take (node_seen from) packet.now)) }
@@ -223,9 +223,9 @@ impl<K: Kind> Powered<K> {
         match &mut self.state {
             State::Up(node) => match read_envelope(packet) {
                 Ok(envelope) => node.take(alloc, routes, from, &envelope, packet),
-                Err(fault) => Err(envelope_fault(fault)),
+                Err(fault) => Err(Fault::Refused(Refusal::NoEnvelope(fault))),
             },
-            State::AtRest(_) => Err(StepFault::Down),
+            State::AtRest(_) => Err(Fault::Refused(Refusal::Down)),
         }
     }
 
@@ -236,7 +236,7 @@ impl<K: Kind> Powered<K> {
         routes: &Routes,
         from: Node,
         packet: &Octets,
-    ) -> Result<Vec<Sent>, StepFault>
+    ) -> Result<Vec<Sent>, Fault>
         requires { K.step routes.now self.old (Take (node_seen from) packet.now) ≢ Refused Unreadable }
         ensures ok { Makes (K.step routes.now self.old (Take (node_seen from) packet.now)) self.new result }
         ensures fault { Refuses (K.step routes.now self.old (Take (node_seen from) packet.now)) result }
@@ -246,9 +246,9 @@ impl<K: Kind> Powered<K> {
         match &mut self.state {
             State::Up(node) => match read_envelope(packet) {
                 Ok(envelope) => node.take_known(alloc, routes, from, &envelope, packet),
-                Err(refused) => Err(envelope_fault(refused)),
+                Err(refused) => Err(Fault::Refused(Refusal::NoEnvelope(refused))),
             },
-            State::AtRest(_) => Err(StepFault::Down),
+            State::AtRest(_) => Err(Fault::Refused(Refusal::Down)),
         }
     }
 
@@ -256,7 +256,7 @@ impl<K: Kind> Powered<K> {
     ///
     /// # Errors
     /// `Down`. The node is then as it was.
-    fn stop(&mut self, alloc: Global) -> Result<Vec<Sent>, StepFault>
+    fn stop(&mut self, alloc: Global) -> Result<Vec<Sent>, Fault>
         ensures ok { (routes : RouteMaps) → Makes (K.step routes self.old Stop) self.new result }
         ensures fault { (routes : RouteMaps) → Refuses (K.step routes self.old Stop) result }
         ensures few { IfOk result (λ sent. length sent.items ≤ 0) }
@@ -264,7 +264,7 @@ impl<K: Kind> Powered<K> {
     {
         let rest = match &self.state {
             State::Up(node) => node.save(alloc)?,
-            State::AtRest(_) => return Err(StepFault::Down),
+            State::AtRest(_) => return Err(Fault::Refused(Refusal::Down)),
         };
         self.state = State::AtRest(rest);
         Ok(Vec::new(alloc))
@@ -274,14 +274,14 @@ impl<K: Kind> Powered<K> {
     ///
     /// # Errors
     /// `AlreadyUp`. The node is then as it was.
-    fn start(&mut self, alloc: Global) -> Result<Vec<Sent>, StepFault>
+    fn start(&mut self, alloc: Global) -> Result<Vec<Sent>, Fault>
         ensures ok { (routes : RouteMaps) → Makes (K.step routes self.old Start) self.new result }
         ensures fault { (routes : RouteMaps) → Refuses (K.step routes self.old Start) result }
         ensures few { IfOk result (λ sent. length sent.items ≤ 0) }
         ensures err { OnErr result (self.new ≡ self.old) }
     {
         let node = match &self.state {
-            State::Up(_) => return Err(StepFault::AlreadyUp),
+            State::Up(_) => return Err(Fault::Refused(Refusal::AlreadyUp)),
             State::AtRest(rest) => K::wake(alloc, rest)?,
         };
         self.state = State::Up(node);

@@ -20,7 +20,7 @@ use octets::Octets;
 use pharmacy_journal::JournalAtRest;
 use std::alloc::{AllocError, Global};
 use std::marker::Model;
-use world_setup::{Call, Sent, StepFault};
+use world_setup::{Call, Fault, Sent};
 
 /// The kinds of nodes.
 #[derive(Drop)]
@@ -89,12 +89,7 @@ impl NodeState {
     /// # Errors
     /// `NoSuchNode` for a call that is made for another kind of node; then `Down` or `AlreadyUp`; then the refusal of
     /// the node. The node is then as it was.
-    pub fn step(
-        &mut self,
-        alloc: Global,
-        routes: &Routes,
-        call: &Call,
-    ) -> Result<Vec<Sent>, StepFault>
+    pub fn step(&mut self, alloc: Global, routes: &Routes, call: &Call) -> Result<Vec<Sent>, Fault>
         ensures ok { Makes (node_step (bytes_with routes.now) self.old (call_seen call.now)) self.new result }
         ensures fault { Refuses (node_step (bytes_with routes.now) self.old (call_seen call.now)) result }
         ensures err { OnErr result (self.new ≡ self.old) }

@@ -13,7 +13,6 @@ ghost use Rattle.node_state.specs.Sends.{in_flight_at};
 ghost use Rattle.node_state.specs.Taking.{switch_handles, switch_requests, switch_responds, switch_reads};
 ghost use Rattle.node_state.specs.Nodes.{slots_in};
 
-use crate::faults::{request_fault, response_fault};
 use crate::opening::is_request;
 use crate::powered::{Kind, Powered, State};
 use crate::sending::{to_payer_or_back, to_pharmacy};
@@ -22,7 +21,7 @@ use envelope::{Envelope, TxnId};
 use octets::Octets;
 use std::alloc::{AllocError, Global};
 use switch_node::{InFlight, Switch, SwitchSettings};
-use world_setup::{Call, Node, Sent, StepFault};
+use world_setup::{Call, Fault, Node, Refusal, Sent};
 
 /// A switch, up or at rest. At rest it has its settings alone: a stop loses the table.
 pub type SwitchNode = Powered<Switch>;
@@ -44,7 +43,7 @@ impl Kind for Switch {
         _from: Node,
         envelope: &Envelope<'_>,
         packet: &Octets,
-    ) -> Result<Vec<Sent>, StepFault> {
+    ) -> Result<Vec<Sent>, Fault> {
         if is_request(envelope) {
             request(alloc, self, routes, envelope, packet)
         } else {
@@ -60,7 +59,7 @@ impl Kind for Switch {
         _from: Node,
         envelope: &Envelope<'_>,
         packet: &Octets,
-    ) -> Result<Vec<Sent>, StepFault> {
+    ) -> Result<Vec<Sent>, Fault> {
         if is_request(envelope) {
             known_request(alloc, self, routes, envelope, packet)
         } else {
@@ -74,9 +73,11 @@ impl Kind for Switch {
         _alloc: Global,
         _routes: &Routes,
         call: Call<&Octets>,
-    ) -> Result<Vec<Sent>, StepFault> {
+    ) -> Result<Vec<Sent>, Fault> {
         match call {
-            Call::Submit(_) | Call::Tick | Call::Plan { .. } => Err(StepFault::NoSuchNode),
+            Call::Submit(_) | Call::Tick | Call::Plan { .. } => Err(Fault::Refused(
+                Refusal::NoSuchNode,
+            )),
             Call::Take { .. } | Call::Stop | Call::Start => unreachable!(),
         }
     }
@@ -91,9 +92,9 @@ impl Kind for Switch {
         Ok(Switch::new(alloc, *rest))
     }
 
-    fn down(call: Call<&Octets>) -> StepFault {
+    fn down(call: Call<&Octets>) -> Fault {
         match call {
-            Call::Submit(_) | Call::Tick | Call::Plan { .. } => StepFault::NoSuchNode,
+            Call::Submit(_) | Call::Tick | Call::Plan { .. } => Fault::Refused(Refusal::NoSuchNode),
             Call::Take { .. } | Call::Stop | Call::Start => unreachable!(),
         }
     }
@@ -114,7 +115,7 @@ fn request(
     routes: &Routes,
     envelope: &Envelope<'_>,
     packet: &Octets,
-) -> Result<Vec<Sent>, StepFault>
+) -> Result<Vec<Sent>, Fault>
     requires { packet.now ≡ envelope_text envelope.now.kind envelope.now.id envelope.now.payload }
     ensures ok { Makes (switch_requests routes.now switch.old envelope.now) (Up switch.new) result }
     ensures fault { Refuses (switch_requests routes.now switch.old envelope.now) result }
@@ -122,13 +123,9 @@ fn request(
     ensures err { OnErr result (switch.new ≡ switch.old) }
 {
     let mut sent = Vec::with_capacity(alloc, 1)?;
-    match switch.request_packet(routes, envelope, packet) {
-        Ok(routed) => {
-            sent.push_reserved(to_payer_or_back(envelope.id(), routed));
-            Ok(sent)
-        }
-        Err(fault) => Err(request_fault(fault)),
-    }
+    let routed = switch.request_packet(routes, envelope, packet)?;
+    sent.push_reserved(to_payer_or_back(envelope.id(), routed));
+    Ok(sent)
 }
 
 /// Takes a request that is readable.
@@ -138,7 +135,7 @@ fn known_request(
     routes: &Routes,
     envelope: &Envelope<'_>,
     packet: &Octets,
-) -> Result<Vec<Sent>, StepFault>
+) -> Result<Vec<Sent>, Fault>
     requires packet { packet.now ≡ envelope_text envelope.now.kind envelope.now.id envelope.now.payload }
     requires readable { IsReadableRequest routes.now switch.old envelope.now }
     ensures ok { Makes (switch_requests routes.now switch.old envelope.now) (Up switch.new) result }
@@ -147,13 +144,9 @@ fn known_request(
     ensures err { OnErr result (switch.new ≡ switch.old) }
 {
     let mut sent = Vec::with_capacity(alloc, 1)?;
-    match switch.request_known(routes, envelope, packet) {
-        Ok(routed) => {
-            sent.push_reserved(to_payer_or_back(envelope.id(), routed));
-            Ok(sent)
-        }
-        Err(fault) => Err(request_fault(fault)),
-    }
+    let routed = switch.request_known(routes, envelope, packet)?;
+    sent.push_reserved(to_payer_or_back(envelope.id(), routed));
+    Ok(sent)
 }
 
 /// Takes a response: it goes to its pharmacy. The room for what is sent is had first.
@@ -162,7 +155,7 @@ fn response(
     switch: &mut Switch,
     envelope: &Envelope<'_>,
     packet: &Octets,
-) -> Result<Vec<Sent>, StepFault>
+) -> Result<Vec<Sent>, Fault>
     requires { packet.now ≡ envelope_text envelope.now.kind envelope.now.id envelope.now.payload }
     ensures ok { (routes : RouteMaps) → Makes (switch_responds routes switch.old envelope.now) (Up switch.new) result }
     ensures fault { (routes : RouteMaps) → Refuses (switch_responds routes switch.old envelope.now) result }
@@ -170,13 +163,9 @@ fn response(
     ensures err { OnErr result (switch.new ≡ switch.old) }
 {
     let mut sent = Vec::with_capacity(alloc, 1)?;
-    match switch.response_packet(envelope, packet) {
-        Ok(bytes) => {
-            sent.push_reserved(to_pharmacy(envelope.id(), bytes));
-            Ok(sent)
-        }
-        Err(fault) => Err(response_fault(fault)),
-    }
+    let bytes = switch.response_packet(envelope, packet)?;
+    sent.push_reserved(to_pharmacy(envelope.id(), bytes));
+    Ok(sent)
 }
 
 /// Takes a response that is readable.
@@ -185,7 +174,7 @@ fn known_response(
     switch: &mut Switch,
     envelope: &Envelope<'_>,
     packet: &Octets,
-) -> Result<Vec<Sent>, StepFault>
+) -> Result<Vec<Sent>, Fault>
     requires packet { packet.now ≡ envelope_text envelope.now.kind envelope.now.id envelope.now.payload }
     requires readable { IsReadableResponse switch.old envelope.now }
     ensures ok { (routes : RouteMaps) → Makes (switch_responds routes switch.old envelope.now) (Up switch.new) result }
@@ -194,13 +183,9 @@ fn known_response(
     ensures err { OnErr result (switch.new ≡ switch.old) }
 {
     let mut sent = Vec::with_capacity(alloc, 1)?;
-    match switch.response_known(envelope, packet) {
-        Ok(bytes) => {
-            sent.push_reserved(to_pharmacy(envelope.id(), bytes));
-            Ok(sent)
-        }
-        Err(fault) => Err(response_fault(fault)),
-    }
+    let bytes = switch.response_known(envelope, packet)?;
+    sent.push_reserved(to_pharmacy(envelope.id(), bytes));
+    Ok(sent)
 }
 
 impl SwitchNode {

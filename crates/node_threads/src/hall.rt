@@ -6,17 +6,17 @@ ghost use Rattle.node_log.specs.There.{is_there, is_numbered};
 ghost use Rattle.world_setup.specs.Seen.{node_seen, settings_seen};
 
 use crate::station::Station;
-use node_logged::{Held, Shared};
+use node_logged::Held;
 use std::alloc::{AllocError, Global};
 use std::marker::Model;
 use std::sync::{Arc, Wait};
-use world_setup::{LinkFault, Node, Packet};
+use world_setup::{CheckedSettings, LinkFault, Node, Packet};
 
 /// All nodes of a running system, each kind in the order of its numbers.
 #[derive(Drop)]
 pub(crate) struct Hall {
     alloc: Global,
-    shared: Arc<Shared>,
+    shared: Arc<CheckedSettings>,
     pharmacies: Vec<Station>,
     switches: Vec<Station>,
     payers: Vec<Station>,
@@ -41,7 +41,7 @@ impl Hall {
     pub(crate) fn opening<R: Wait>(
         rt: &R,
         alloc: Global,
-        shared: Arc<Shared>,
+        shared: Arc<CheckedSettings>,
     ) -> Result<Hall, AllocError>
         ensures { IfOk result (λ hall. hall ≡ arc_value shared) }
     {
@@ -63,7 +63,7 @@ impl Hall {
     }
 
     /// What all nodes share.
-    pub(crate) fn shared(&self) -> &Shared
+    pub(crate) fn shared(&self) -> &CheckedSettings
         ensures { result.now ≡ self.now }
     {
         &self.shared
@@ -140,7 +140,7 @@ impl Hall {
     }
 
     /// All nodes with their logs, pharmacies first and payers last, each kind in the order of its numbers, and what they shared.
-    pub(crate) fn into_nodes(self) -> Result<(Arc<Shared>, Vec<Held>), AllocError>
+    pub(crate) fn into_nodes(self) -> Result<(Arc<CheckedSettings>, Vec<Held>), AllocError>
         ensures { IfOk result (λ r. arc_value r.0 ≡ self) }
     {
         let Hall {
@@ -188,7 +188,7 @@ fn add_nodes(nodes: &mut Vec<Held>, stations: Vec<Station>) -> Result<(), AllocE
 fn pharmacies<R: Wait>(
     rt: &R,
     alloc: Global,
-    shared: &Arc<Shared>,
+    shared: &Arc<CheckedSettings>,
 ) -> Result<Vec<Station>, AllocError>
     ensures { IfOk result (λ stations. vec_len stations ≡ vec_len (arc_value shared.now).pharmacies) }
 {
@@ -206,7 +206,7 @@ fn pharmacies<R: Wait>(
 fn switches<R: Wait>(
     rt: &R,
     alloc: Global,
-    shared: &Arc<Shared>,
+    shared: &Arc<CheckedSettings>,
 ) -> Result<Vec<Station>, AllocError>
     ensures { IfOk result (λ stations. vec_len stations ≡ vec_len (arc_value shared.now).switches) }
 {
@@ -221,7 +221,11 @@ fn switches<R: Wait>(
 
 /// The payers of the settings.
 #[tactic(auto, using(crate::proofs::Opening::payer_opens))]
-fn payers<R: Wait>(rt: &R, alloc: Global, shared: &Arc<Shared>) -> Result<Vec<Station>, AllocError>
+fn payers<R: Wait>(
+    rt: &R,
+    alloc: Global,
+    shared: &Arc<CheckedSettings>,
+) -> Result<Vec<Station>, AllocError>
     ensures { IfOk result (λ stations. vec_len stations ≡ vec_len (arc_value shared.now).payers) }
 {
     let mut stations = Vec::new(alloc);

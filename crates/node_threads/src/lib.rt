@@ -19,7 +19,7 @@ mod workers;
 
 pub use inbox::{EnterFault, Inbox, Mail, Pass, Places, PutFault, Traffic};
 pub use node_logged::{
-    FinishFault, Finished, Held, Receipt, Shared, Till, judge, judge_nodes,
+    FinishFault, Finished, Held, Receipt, Till, judge, judge_nodes,
     receipts_are_the_entries_each_once,
 };
 pub use post::Post;

@@ -5,10 +5,10 @@ ghost use Rattle.std.specs.Arc.{arc_value};
 ghost use Rattle.world_setup.specs.Seen.{node_seen};
 ghost use Rattle.node_logged.specs.Setting.{opened};
 
-use node_logged::{Held, Shared};
+use node_logged::Held;
 use std::alloc::{AllocError, Global};
 use std::sync::{Arc, Mutex, MutexGuard, Wait};
-use world_setup::{Call, Node, StepFault};
+use world_setup::{Call, CheckedSettings, Fault, Node};
 
 /// A node and its log behind a lock of their own (own). Whenever the lock is free, the node is the replay of the log
 /// beside it.
@@ -19,7 +19,7 @@ pub struct Post {
 
 impl Post {
     /// The node of this name as it opens, with an empty log, behind its lock. The node is one of the settings.
-    pub fn new(alloc: Global, shared: &Arc<Shared>, node: Node) -> Result<Post, AllocError>
+    pub fn new(alloc: Global, shared: &Arc<CheckedSettings>, node: Node) -> Result<Post, AllocError>
         requires { IsSome (opened (arc_value shared.now) (node_seen node)) }
     {
         let held = Held::new(alloc, shared, node)?;
@@ -32,7 +32,7 @@ impl Post {
     ///
     /// # Errors
     /// Those of `Held::call`.
-    pub fn call<R: Wait>(&self, rt: &R, alloc: Global, call: Call) -> Result<(), StepFault> {
+    pub fn call<R: Wait>(&self, rt: &R, alloc: Global, call: Call) -> Result<(), Fault> {
         self.held.lock(rt).call(alloc, call)
     }
 

@@ -11,10 +11,10 @@ use crate::inbox::{Inbox, Pass};
 use crate::links::Links;
 use crate::packets::packets;
 use crate::post::Post;
-use node_logged::{Held, Shared, Till};
+use node_logged::{Held, Till};
 use std::alloc::{AllocError, Global};
 use std::sync::{Arc, Mutex, Wait};
-use world_setup::{Action, Call, Node, Packet, StepFault};
+use world_setup::{Action, Call, CheckedSettings, Fault, Node, Packet, Refusal};
 
 /// How many packets an inbox takes (own).
 const INBOX_CAP: usize = 1024;
@@ -35,7 +35,7 @@ impl Station {
     pub(crate) fn opening<R: Wait>(
         rt: &R,
         alloc: Global,
-        shared: &Arc<Shared>,
+        shared: &Arc<CheckedSettings>,
         node: Node,
     ) -> Result<Station, AllocError>
         requires { IsSome (opened (arc_value shared.now) (node_seen node)) }
@@ -73,7 +73,7 @@ impl Station {
         rt: &R,
         alloc: Global,
         call: Call,
-    ) -> Result<Vec<Packet>, StepFault> {
+    ) -> Result<Vec<Packet>, Fault> {
         let mut held = self.post.lock(rt);
         held.call(alloc, call)?;
         Ok(packets(alloc, &held))
@@ -87,13 +87,13 @@ impl Station {
         alloc: Global,
         till: &mut Till,
         request: &[u8],
-    ) -> Result<(u64, Vec<Packet>), StepFault>
+    ) -> Result<(u64, Vec<Packet>), Fault>
         ensures receipt { IfOk result (λ r. till_seen till.new ≡ with_receipt r.0 request.now (till_seen till.old)) }
         ensures same { OnErr result (till_seen till.new ≡ till_seen till.old) }
     {
         let mut held = self.post.lock(rt);
         if !held.is_of(Node::Pharmacy(till.pharmacy())) {
-            return Err(StepFault::NoSuchNode);
+            return Err(Fault::Refused(Refusal::NoSuchNode));
         }
         let number = held.submit(alloc, till, request)?;
         Ok((number, packets(alloc, &held)))

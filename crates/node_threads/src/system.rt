@@ -5,14 +5,13 @@ ghost use Rattle.claim_model.specs.Node.{Pharmacy, Payer};
 ghost use Rattle.node_log.specs.There.{is_there};
 ghost use Rattle.world_setup.specs.Seen.{node_seen, settings_seen};
 ghost use Rattle.world_setup.specs.Taken.{world_fault};
-ghost use Rattle.world_setup.specs.declared.fault.StepFault.TheVariants.{NoSuchNode};
 ghost use Rattle.world_setup.specs.declared.world_fault.WorldFault.TheVariants.{OutOfMemory};
 ghost use Rattle.node_logged.specs.Tills.{has_receipt, with_receipt};
 ghost use Rattle.node_logged.specs.TillSeen.{till_seen};
 ghost use Rattle.node_logged.specs.Causes.{IsCause};
 ghost use Rattle.node_logged.specs.LedgerSeen.{tills_seen};
 ghost use Rattle.node_logged.specs.Verdicts.{IsRun, logs_in};
-ghost use Rattle.node_threads.specs.Halls.{RefusesAbsent};
+ghost use Rattle.node_threads.specs.Halls.{RefusesAbsent, absent};
 ghost use Rattle.node_threads.specs.Telling.{told, ToldAgain, after_telling};
 ghost use Rattle.node_threads.specs.declared.starting.StartFault.TheVariants.{World, NoThread};
 ghost use Rattle.node_threads.specs.declared.status.StatusFault.TheVariants.{NotThisTill};
@@ -24,13 +23,13 @@ use crate::station::Station;
 use crate::status::{Status, StatusFault, tell};
 use crate::workers::{Gate, Workers};
 use envelope::TxnId;
-use node_logged::{FinishFault, Finished, Shared, Till};
+use node_logged::{FinishFault, Finished, Till};
 use octets::Octets;
 use std::alloc::{AllocError, Global};
 use std::marker::Model;
 use std::sync::{Arc, Wait};
 use std::thread::Threads;
-use world_setup::{Call, LinkFault, Node, StepFault, WorldSettings};
+use world_setup::{Call, CheckedSettings, Fault, LinkFault, Node, Refusal, WorldSettings};
 
 /// A running system. Threads share it by reference; who started it has its workers, and ends it by `finish`.
 #[derive(Drop)]
@@ -69,7 +68,7 @@ impl System {
             ⊎ ((fault ≡ World OutOfMemory) ⊎ (option_map World (world_fault settings) ≡ Some fault))) }
         ensures no_thread { IfErr result (λ fault. fault ≡ NoThread → world_fault settings ≡ None) }
     {
-        let shared = Arc::new(alloc, Shared::new(alloc, settings)?)?;
+        let shared = Arc::new(alloc, CheckedSettings::new(alloc, settings)?)?;
         let hall = Arc::new(alloc, Hall::opening(rt, alloc, shared)?)?;
         hall.add_faults(rt, faults)?;
         let mut workers = Workers::new(alloc);
@@ -87,14 +86,14 @@ impl System {
     ///
     /// # Errors
     /// `NoSuchNode` where the pharmacy is not there, and nothing else.
-    pub fn till(&self, pharmacy: u16) -> Result<Till, StepFault>
-        ensures missing { (result ≡ Err NoSuchNode) ↔ (is_there (settings_seen self.now) (Pharmacy pharmacy) ≡ false) }
-        ensures refused { IfErr result (λ fault. fault ≡ NoSuchNode) }
+    pub fn till(&self, pharmacy: u16) -> Result<Till, Fault>
+        ensures missing { (result ≡ Err absent) ↔ (is_there (settings_seen self.now) (Pharmacy pharmacy) ≡ false) }
+        ensures refused { IfErr result (λ fault. fault ≡ absent) }
         ensures empty { IfOk result (λ t. till_seen t ≡ record { pharmacy = pharmacy; receipts = []; heard = [] }) }
     {
         match self.hall.station(Node::Pharmacy(pharmacy)) {
             Some(_) => Ok(Till::new(self.hall.alloc(), pharmacy)),
-            None => Err(StepFault::NoSuchNode),
+            None => Err(Fault::Refused(Refusal::NoSuchNode)),
         }
     }
 
@@ -104,7 +103,7 @@ impl System {
     /// # Errors
     /// `NoSuchNode` for a till of a pharmacy that is not there; `Down`; then the refusal of the pharmacy. The till is
     /// then as it was.
-    pub fn submit<R: Wait>(&self, rt: &R, till: &mut Till, request: &[u8]) -> Result<u64, StepFault>
+    pub fn submit<R: Wait>(&self, rt: &R, till: &mut Till, request: &[u8]) -> Result<u64, Fault>
         ensures missing { RefusesAbsent self.now (Pharmacy till.old.pharmacy) result }
         ensures receipt { IfOk result (λ n. till_seen till.new ≡ with_receipt n request.now (till_seen till.old)) }
         ensures same { OnErr result (till_seen till.new ≡ till_seen till.old) }
@@ -119,7 +118,7 @@ impl System {
     ///
     /// # Errors
     /// `NoSuchNode`; `Down`.
-    pub fn tick<R: Wait>(&self, rt: &R, pharmacy: u16) -> Result<(), StepFault>
+    pub fn tick<R: Wait>(&self, rt: &R, pharmacy: u16) -> Result<(), Fault>
         ensures { RefusesAbsent self.now (Pharmacy pharmacy) result }
     {
         self.call(rt, Node::Pharmacy(pharmacy), Call::Tick)
@@ -130,9 +129,9 @@ impl System {
     ///
     /// # Errors
     /// `NoSuchNode`; memory was refused.
-    pub fn restart<R: Wait>(&self, rt: &R, node: Node) -> Result<(), StepFault>
-        ensures missing { (result ≡ Err NoSuchNode) ↔ (is_there (settings_seen self.now) (node_seen node) ≡ false) }
-        ensures refused { IfErr result (λ fault. (fault ≡ NoSuchNode) ⊎ (fault ≡ StepFault.OutOfMemory)) }
+    pub fn restart<R: Wait>(&self, rt: &R, node: Node) -> Result<(), Fault>
+        ensures missing { (result ≡ Err absent) ↔ (is_there (settings_seen self.now) (node_seen node) ≡ false) }
+        ensures refused { IfErr result (λ fault. (fault ≡ absent) ⊎ (fault ≡ Fault.OutOfMemory)) }
     {
         let station = self.there(node)?;
         station.post().lock(rt).restart(self.hall.alloc())
@@ -148,7 +147,7 @@ impl System {
         payer: u16,
         product: &[u8],
         price: Option<u32>,
-    ) -> Result<(), StepFault>
+    ) -> Result<(), Fault>
         ensures { RefusesAbsent self.now (Payer payer) result }
     {
         let node = Node::Payer(payer);
@@ -206,18 +205,18 @@ impl System {
     }
 
     /// The station of a node.
-    fn there(&self, node: Node) -> Result<&Station, StepFault>
+    fn there(&self, node: Node) -> Result<&Station, Fault>
         ensures there { is_ok result ≡ is_there (settings_seen self.now) (node_seen node) }
-        ensures fault { IfErr result (λ fault. fault ≡ NoSuchNode) }
+        ensures fault { IfErr result (λ fault. fault ≡ absent) }
     {
         match self.hall.station(node) {
             Some(station) => Ok(station),
-            None => Err(StepFault::NoSuchNode),
+            None => Err(Fault::Refused(Refusal::NoSuchNode)),
         }
     }
 
     /// Makes a call on a node, and sends on what the node sends.
-    fn call<R: Wait>(&self, rt: &R, node: Node, call: Call) -> Result<(), StepFault>
+    fn call<R: Wait>(&self, rt: &R, node: Node, call: Call) -> Result<(), Fault>
         ensures { RefusesAbsent self.now (node_seen node) result }
     {
         let station = self.there(node)?;

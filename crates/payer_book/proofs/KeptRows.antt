@@ -8,8 +8,9 @@ use Rattle.claim_profile.specs.Answer.{answer_text}
 use Rattle.claim_model.specs.Words.{TxnId, RequestHeader, AcceptedStatus, Ruling, Answer}
 use Rattle.claim_model.specs.Rows.{Row, Book}
 use Rattle.claim_model.specs.Book.{row_of, serial_fits}
-use Rattle.payer_book.specs.declared.fault.BookFault.{BookFault}
-use Rattle.payer_book.specs.declared.fault.BookFault.TheVariants as fault
+use Rattle.claim_model.specs.declared.refusal.Fault.{Fault}
+use Rattle.claim_model.specs.declared.refusal.Refusal.TheVariants.{SerialsUsedUp}
+use Rattle.claim_model.specs.declared.refusal.Fault.TheVariants as fault
 use Rattle.payer_book.specs.declared.fault.RowFault.TheVariants as row
 use Rattle.payer_book.specs.Faults.{row_fault}
 use Rattle.payer_book.specs.Books.{reading}
@@ -75,7 +76,7 @@ affirmed false e = sym e
 
 -- a row that could not be ruled
 pub unruled_none : (b : Book) (id : TxnId) (request answer : List ℕ) (h : RequestHeader) → readable_header request ≡ Some h → (said : Answer) → reading.read_answer answer ≡ Some said → (rulings : List Ruling) → rulings ≡ said.rulings
-    → (f : BookFault) → (f ≡ fault.OutOfMemory) ⊎ ((f ≡ fault.SerialsUsedUp) × (list_all serial_fits (kept_rulings b id request rulings) ≡ false)) → (row_fault f ≡ row.OutOfMemory → ⊥) → with_kept b id request answer ≡ None
+    → (f : Fault) → (f ≡ fault.OutOfMemory) ⊎ ((f ≡ fault.Refused SerialsUsedUp) × (list_all serial_fits (kept_rulings b id request rulings) ≡ false)) → (row_fault f ≡ row.OutOfMemory → ⊥) → with_kept b id request answer ≡ None
 unruled_none b id request answer h reads said says rulings same f (inl memory) other = absurd (other (ap row_fault memory))
 unruled_none b id request answer h reads said says rulings same f (inr unfit) other =
     kept_unfit b id request answer h reads said says (subst (λ (rs : List Ruling). list_all serial_fits (kept_rulings b id request rs) ≡ false) same unfit.1)

@@ -8,7 +8,7 @@ use Rattle.claim_profile.specs.Readable.{readable_header}
 use Rattle.claim_model.specs.Words.{TxnId, RequestHeader, Ruling}
 use Rattle.claim_model.specs.Bytes.{bytes_with}
 use Rattle.claim_model.specs.Readable.{payer_for, is_payer, answer_text}
-use Rattle.claim_model.specs.Refusal.{Refusal}
+use Rattle.claim_model.specs.declared.refusal.Refusal.{Refusal}
 use Rattle.claim_model.specs.Rows.{Row, Book}
 use Rattle.claim_model.specs.Book.{serial_fits, row_of, new_row, entered_row, answered_by, answered_readable, answered}
 use Rattle.claim_model.proofs.BytesLaws.{readable_alike}

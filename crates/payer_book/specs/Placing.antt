@@ -4,10 +4,10 @@ use Rattle.bin_routes.specs.Table.{RouteMaps}
 use Rattle.claim_model.specs.Words.{TxnId}
 use Rattle.claim_model.specs.Context.{Context}
 use Rattle.claim_model.specs.Bytes.{bytes_with}
+use Rattle.claim_model.specs.declared.refusal.Fault.{Fault}
 use Rattle.claim_model.specs.Rows.{Row, Book}
 use Rattle.claim_model.specs.Book.{answered}
 use Rattle.payer_book.specs.declared.book.placing.Placed.{Placed}
-use Rattle.payer_book.specs.declared.fault.BookFault.{BookFault}
 use Rattle.payer_book.specs.Added.{kept_answer}
 
 -- the request of an id is answered with the answer of the row at that place, which leaves the book like this
@@ -16,5 +16,5 @@ pub record IsAnsweredAt (ctx : Context) (b : Book) (id : TxnId) (request : List 
   pub ruled : (row : Row) → slice_get after.rows place ≡ Some row → answered ctx b id request ≡ Ok (record { book = after; bytes = kept_answer row; kept = kept })
 
 -- the request is answered with the row at the place that is told
-abbrev pub AnswersAt : RouteMaps → Book → TxnId → List ℕ → Book → Result Placed BookFault → Type 0
+abbrev pub AnswersAt : RouteMaps → Book → TxnId → List ℕ → Book → Result Placed Fault → Type 0
 AnswersAt routes old id request new result = IfOk result (λ at. IsAnsweredAt (bytes_with routes) old id request new at.place at.kept)

@@ -2,9 +2,9 @@
 
 pub(crate) mod adding;
 pub(crate) mod answering;
+pub(crate) mod changing;
 pub(crate) mod deciding;
 pub(crate) mod entering;
-pub(crate) mod entry;
 pub(crate) mod held_rulings;
 pub(crate) mod payment;
 pub(crate) mod payments;

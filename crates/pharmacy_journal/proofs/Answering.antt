@@ -6,9 +6,11 @@ use Rattle.bin_routes.specs.Table.{RouteMaps}
 use Rattle.claim_model.specs.Words.{Envelope}
 use Rattle.claim_model.specs.Bytes.{bytes_with}
 use Rattle.claim_model.specs.Readable.{is_request}
-use Rattle.claim_model.specs.Refusal.{Refusal, Unreadable}
+use Rattle.claim_model.specs.declared.refusal.Refusal.{Refusal}
+use Rattle.claim_model.specs.declared.refusal.Refusal.TheVariants.{Unreadable}
+use Rattle.claim_model.specs.Refusal.{IsRefused}
 use Rattle.claim_model.specs.Journal.{PharmacySettings, Journal, Entry, State, Waits, Has, Sending, heard, settle_by, submitted, submit_fault}
-use Rattle.pharmacy_journal.specs.Refusing.{IsRefused, IsCause}
+use Rattle.pharmacy_journal.specs.Refusing.{IsCause}
 use Rattle.pharmacy_journal.specs.Reading.{header_of, settles_with}
 use Rattle.pharmacy_journal.specs.Transactions.{Submission}
 use Rattle.pharmacy_journal.specs.Timetable.{Rounds}

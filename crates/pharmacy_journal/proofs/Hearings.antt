@@ -12,9 +12,10 @@ use Rattle.claim_model.specs.Words.{Envelope}
 use Rattle.claim_model.specs.Bytes.{bytes_with}
 use Rattle.claim_model.specs.Readable.{is_request}
 use Rattle.claim_model.specs.Numbered.{numbered, renumbered}
-use Rattle.claim_model.specs.Refusal.{Refusal, NotMine, NoSuchNumber, Unreadable}
+use Rattle.claim_model.specs.declared.refusal.Refusal.{Refusal}
+use Rattle.claim_model.specs.declared.refusal.Refusal.TheVariants.{NotMine, NoSuchNumber, Unreadable}
 use Rattle.claim_model.specs.Journal.{Journal, Entry, State, Has, heard, settle_with, settle_by}
-use Rattle.pharmacy_journal.specs.Refusing.{IsRefused}
+use Rattle.claim_model.specs.Refusal.{IsRefused}
 use Rattle.pharmacy_journal.specs.Reading.{settles_with}
 use Rattle.pharmacy_journal.specs.Entries.{is_waiting}
 use Rattle.pharmacy_journal.specs.Hearing.{envelope_seen, answers, IsAnsweredBy, state_after, state_by}

@@ -11,7 +11,8 @@ use Rattle.claim_profile.specs.declared.answer_reading.AnswerFault.{AnswerFault}
 use Rattle.claim_profile.proofs.Headers.{found}
 use Rattle.claim_model.specs.Readable.{fits, has_version, has_code, longest}
 use Rattle.std.proofs.Common.{cond, not}
-use Rattle.claim_model.specs.Refusal.{Refusal, Unreadable, Version, CodeNotCarried, NotOwnProvider, TooLong, JournalFull}
+use Rattle.claim_model.specs.declared.refusal.Refusal.{Refusal}
+use Rattle.claim_model.specs.declared.refusal.Refusal.TheVariants.{Unreadable, Version, CodeNotCarried, NotOwnProvider, TooLong, JournalFull}
 use Rattle.claim_model.specs.Journal.{Journal, submit_fault, is_own}
 use Rattle.pharmacy_journal.specs.Reading.{header_of, settles_with, is_own_request}
 

@@ -4,7 +4,8 @@ use Rattle.envelope.specs.Envelope.{Opened, envelope_text}
 use Rattle.claim_model.specs.Words.{Envelope}
 use Rattle.claim_model.specs.Readable.{is_request}
 use Rattle.claim_model.specs.Journal.{State, settle_by}
-use Rattle.claim_model.specs.Refusal.{Refusal, Unreadable}
+use Rattle.claim_model.specs.declared.refusal.Refusal.{Refusal}
+use Rattle.claim_model.specs.declared.refusal.Refusal.TheVariants.{Unreadable}
 use Rattle.pharmacy_journal.specs.Reading.{settles_with}
 use Rattle.pharmacy_journal.specs.Entries.{entry_of, kept_of}
 use Rattle.pharmacy_journal.specs.declared.slot.Slot.{Slot}

@@ -22,8 +22,9 @@ mod timetable;
 mod transaction;
 
 pub use at_rest::JournalAtRest;
+pub use claim_model::{Fault, Refusal};
 pub use counting::CountedPayment;
-pub use fault::{HearFault, RowFault, SettingFault, SettleFault, SubmitFault};
+pub use fault::{RowFault, SettingFault, SettleFault};
 pub use kept::KeptEntry;
 pub use listing::EntryView;
 pub use pharmacy::Pharmacy;

@@ -1,20 +1,20 @@
 //! Submitting a request.
 
-ghost use Rattle.std.specs.Prelude.{◌≡◌, ◌<◌, length, true, None, Some, Ok, IfOk, IfErr, OnOk, OnErr, IsSome, option_and_then};
+ghost use Rattle.std.specs.Prelude.{◌≡◌, ◌<◌, length, true, None, Some, Ok, IfOk, IfErr, OnOk, OnErr, IsSome};
 ghost use Rattle.claim_profile.specs.Readable.{readable_header};
 ghost use Rattle.claim_model.specs.Readable.{has_code};
 ghost use Rattle.claim_model.specs.Journal.{Journal, submit_fault};
 ghost use Rattle.pharmacy_journal.specs.Reading.{header_of, is_own_request};
 ghost use Rattle.pharmacy_journal.specs.Entries.{next_id};
-ghost use Rattle.pharmacy_journal.specs.Refusing.{refusal_to_submit, IsFirstFault};
+ghost use Rattle.pharmacy_journal.specs.Refusing.{IsFirstFault};
 ghost use Rattle.pharmacy_journal.specs.Sendings.{packet_of};
 ghost use Rattle.pharmacy_journal.specs.Steps.{with_waiting, Submits, RefusesToSubmit};
 
-use crate::fault::SubmitFault;
 use crate::pharmacy::Pharmacy;
 use crate::sent::Sent;
 use crate::slot::Slot;
 use crate::transaction::OpenTxn;
+use claim_model::{Fault, Refusal};
 use claim_profile::{LONGEST_REQUEST, TransactionCode};
 use d0_header::RequestHeader;
 use d0_segments::check_request;
@@ -25,8 +25,9 @@ impl Pharmacy {
     /// Enters a request under the next number, and gives that number and its packet for the first switch.
     ///
     /// # Errors
-    /// The first cause, in the order of [`SubmitFault`]; the journal is then as it was.
-    pub fn submit(&mut self, text: &[u8]) -> Result<(u64, Sent), SubmitFault>
+    /// The first that stands: `Unreadable` (the text is not framed as a request), `Version`, `CodeNotCarried`,
+    /// `NotOwnProvider`, `TooLong`, `JournalFull`. The journal is then as it was.
+    pub fn submit(&mut self, text: &[u8]) -> Result<(u64, Sent), Fault>
         ensures ok { Submits self.old text.now self.new result }
         ensures err { OnErr result (self.new ≡ self.old) }
         ensures fault { RefusesToSubmit self.old text.now result }
@@ -40,37 +41,37 @@ impl Pharmacy {
     }
 
     /// Whether a text may be submitted.
-    fn admit(&self, text: &[u8]) -> Result<(), SubmitFault>
+    fn admit(&self, text: &[u8]) -> Result<(), Fault>
         ensures ok { OnOk result (submit_fault self.now text.now (header_of text.now) ≡ None) }
         ensures fault { IfErr result (λ e. IsFirstFault self.now text.now e) }
     {
         let header = read_header(text)?;
         match self.fault_of(&header, text) {
             None => Ok(()),
-            Some(fault) => Err(fault),
+            Some(why) => Err(Fault::Refused(why)),
         }
     }
 
     /// Why a framed request is not submitted.
-    fn fault_of(&self, header: &RequestHeader, text: &[u8]) -> Option<SubmitFault>
-        ensures { option_and_then refusal_to_submit result ≡ submit_fault self.now text.now (Some header.now) }
+    fn fault_of(&self, header: &RequestHeader, text: &[u8]) -> Option<Refusal>
+        ensures { result ≡ submit_fault self.now text.now (Some header.now) }
     {
         if header.version() != *b"D0" {
-            return Some(SubmitFault::Version);
+            return Some(Refusal::Version);
         }
         if !is_kind_carried(header) {
-            return Some(SubmitFault::CodeNotCarried);
+            return Some(Refusal::CodeNotCarried);
         }
         if header.qualifier() != self.settings.qualifier()
             || header.provider() != self.settings.provider()
         {
-            return Some(SubmitFault::NotOwnProvider);
+            return Some(Refusal::NotOwnProvider);
         }
         if text.len() > LONGEST_REQUEST {
-            return Some(SubmitFault::TooLong);
+            return Some(Refusal::TooLong);
         }
         if self.entries() >= self.settings.cap() as usize {
-            return Some(SubmitFault::JournalFull);
+            return Some(Refusal::JournalFull);
         }
         None
     }
@@ -112,13 +113,13 @@ impl Pharmacy {
 }
 
 /// The header of a text that is framed as a request.
-fn read_header(text: &[u8]) -> Result<RequestHeader, SubmitFault>
+fn read_header(text: &[u8]) -> Result<RequestHeader, Fault>
     ensures ok { IfOk result (λ header. header_of text.now ≡ Some header) }
     ensures fault { IfErr result (λ e. (j : Journal) → IsFirstFault j text.now e) }
 {
     match check_request(text) {
         Ok(framed) => Ok(*framed.header()),
-        Err(_) => Err(SubmitFault::Unreadable),
+        Err(_) => Err(Fault::Refused(Refusal::Unreadable)),
     }
 }
 

@@ -4,6 +4,7 @@ use case_files::Told;
 use envelope::{Envelope, Kind, TxnId};
 use std::alloc::AllocError;
 use std::fmt::Debug;
+use world_setup::Fault;
 
 /// Tells a part by its name and its bytes.
 pub(crate) fn part(told: &mut Told, name: &str, bytes: &[u8]) {
@@ -15,6 +16,12 @@ pub(crate) fn part(told: &mut Told, name: &str, bytes: &[u8]) {
 pub(crate) fn refused<F: Debug + Drop>(told: &mut Told, fault: F) {
     told.word("refused");
     told.named(fault);
+}
+
+/// Tells why a node refused a call, by the name that programs print.
+pub(crate) fn tell_refused(told: &mut Told, fault: Fault) {
+    told.word("refused");
+    told.word(fault.name());
 }
 
 /// Tells whether a call was done, and why not.

@@ -1,7 +1,6 @@
 //! Merging logs into the events of one run.
 
 ghost use Rattle.std.specs.Prelude.{◌≡◌, ◌+◌, ◌<◌, ◌≤◌, length, map, true, None, Some, IfOk, IfErr};
-ghost use Rattle.bin_routes.specs.Fault.{first_fault};
 ghost use Rattle.bin_routes.specs.Table.{routes_of};
 ghost use Rattle.claim_model.specs.Bytes.{bytes_with};
 ghost use Rattle.claim_model.specs.Limits.{most_pharmacies, most_switches, most_payers};
@@ -15,12 +14,11 @@ ghost use Rattle.run_merge.specs.Merged.{IsMerged, MergeOf, WhereTangled, EachHa
 ghost use Rattle.run_merge.specs.declared.history.MergeFault.TheVariants.{OutOfMemory};
 
 use crate::order::in_order;
-use bin_routes::Routes;
 use node_log::{NodeLog, fits, is_same_node, is_there};
 use node_state::NodeState;
 use std::alloc::{AllocError, Global};
 use thiserror::Error;
-use world_setup::{Event, Node, WorldFault, WorldSettings};
+use world_setup::{CheckedSettings, Event, Node, WorldSettings};
 
 /// Why logs are not merged.
 #[derive(Clone, Copy, Debug, PartialEq, Eq, Error)]
@@ -45,11 +43,10 @@ impl From<AllocError> for MergeFault {
 /// nothing is waited for.
 ///
 /// # Errors
-/// `Tangled` only where no events do so; settings that make no world, and logs that are not one for each node, have
-/// none.
+/// `Tangled` only where no events do so; logs that are not one for each node have none.
 pub fn merge(
     alloc: Global,
-    settings: &WorldSettings,
+    settings: &CheckedSettings,
     logs: &[NodeLog],
 ) -> Result<Vec<Event>, MergeFault>
     ensures ok { IfOk result (λ events. IsMerged settings.now (logs_seen logs.now) (map event_seen events.items)) }
@@ -64,37 +61,19 @@ pub fn merge(
 /// The events of such a run, if there is one.
 fn merged(
     alloc: Global,
-    settings: &WorldSettings,
+    settings: &CheckedSettings,
     logs: &[NodeLog],
 ) -> Result<Option<Vec<Event>>, AllocError>
     ensures { IfOk result (λ o. MergeOf settings.now (logs_seen logs.now) o) }
 {
-    match settings.checked_routes(alloc) {
-        Ok(routes) => merged_by(alloc, settings, &routes, logs),
-        Err(WorldFault::OutOfMemory) => Err(AllocError),
-        Err(_) => Ok(None),
-    }
-}
-
-/// The events of such a run in a world that there is, by its routes.
-fn merged_by(
-    alloc: Global,
-    settings: &WorldSettings,
-    routes: &Routes,
-    logs: &[NodeLog],
-) -> Result<Option<Vec<Event>>, AllocError>
-    requires world { settings_fault (settings_seen settings.now) ≡ None }
-    requires rows { first_fault (length settings.now.payers.items) settings.now.routes.items ≡ None }
-    requires routes_are { routes.now ≡ routes_of settings.now.routes.items }
-    ensures { IfOk result (λ o. MergeOf settings.now (logs_seen logs.now) o) }
-{
+    let _taken = settings.settings();
     if !each_has_log(settings, logs) {
         return Ok(None);
     }
     if !are_distinct(logs) {
         return Ok(None);
     }
-    if !all_fit(alloc, settings, routes, logs)? {
+    if !all_fit(alloc, settings, logs)? {
         return Ok(None);
     }
     match in_order(alloc, logs)? {
@@ -104,7 +83,14 @@ fn merged_by(
 }
 
 /// Whether each node of the settings has a log.
-pub(crate) fn each_has_log(settings: &WorldSettings, logs: &[NodeLog]) -> bool
+pub(crate) fn each_has_log(settings: &CheckedSettings, logs: &[NodeLog]) -> bool
+    ensures { Tells result (EachHasLog (settings_seen settings.now) (logs_seen logs.now)) }
+{
+    have_logs(settings.settings(), logs)
+}
+
+/// Whether each node of settings without a fault has a log.
+fn have_logs(settings: &WorldSettings, logs: &[NodeLog]) -> bool
     requires { settings_fault (settings_seen settings.now) ≡ None }
     ensures { Tells result (EachHasLog (settings_seen settings.now) (logs_seen logs.now)) }
 {
@@ -160,18 +146,12 @@ fn has_log(node: Node, logs: &[NodeLog]) -> bool
 }
 
 /// Whether each log by itself fits its node.
-fn all_fit(
-    alloc: Global,
-    settings: &WorldSettings,
-    routes: &Routes,
-    logs: &[NodeLog],
-) -> Result<bool, AllocError>
-    requires { settings_fault (settings_seen settings.now) ≡ None }
-    ensures { IfOk result (λ yes.
-        Tells yes (AllFit (bytes_with routes.now) (settings_seen settings.now) (logs_seen logs.now))) }
+fn all_fit(alloc: Global, settings: &CheckedSettings, logs: &[NodeLog]) -> Result<bool, AllocError>
+    ensures { IfOk result (λ yes. Tells yes (AllFit (bytes_with (routes_of settings.now.routes.items))
+        (settings_seen settings.now) (logs_seen logs.now))) }
 {
     for log in logs {
-        if !fits_alone(alloc, settings, routes, log)? {
+        if !fits_alone(alloc, settings, log)? {
             return Ok(false);
         }
     }
@@ -179,19 +159,13 @@ fn all_fit(
 }
 
 /// Whether a log is of a node that is there, and fits it.
-fn fits_alone(
-    alloc: Global,
-    settings: &WorldSettings,
-    routes: &Routes,
-    log: &NodeLog,
-) -> Result<bool, AllocError>
-    requires { settings_fault (settings_seen settings.now) ≡ None }
-    ensures { IfOk result (λ yes.
-        Tells yes (FitsAlone (bytes_with routes.now) (settings_seen settings.now) (log_seen log.now))) }
+fn fits_alone(alloc: Global, settings: &CheckedSettings, log: &NodeLog) -> Result<bool, AllocError>
+    ensures { IfOk result (λ yes. Tells yes (FitsAlone (bytes_with (routes_of settings.now.routes.items))
+        (settings_seen settings.now) (log_seen log.now))) }
 {
-    if !is_there(settings, log.node()) {
+    if !is_there(settings.settings(), log.node()) {
         return Ok(false);
     }
     let mut node = NodeState::opening(alloc, settings, log.node())?;
-    fits(alloc, routes, &mut node, log.records())
+    fits(alloc, settings.routes(), &mut node, log.records())
 }

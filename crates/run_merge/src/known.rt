@@ -1,10 +1,8 @@
 //! Merging logs that are known to fit their nodes.
 
-ghost use Rattle.std.specs.Prelude.{◌≡◌, length, map, None, IfOk, IfErr};
-ghost use Rattle.bin_routes.specs.Fault.{first_fault};
+ghost use Rattle.std.specs.Prelude.{◌≡◌, map, IfOk, IfErr};
 ghost use Rattle.bin_routes.specs.Table.{routes_of};
 ghost use Rattle.claim_model.specs.Bytes.{bytes_with};
-ghost use Rattle.claim_model.specs.Settings.{settings_fault};
 ghost use Rattle.world_setup.specs.Seen.{event_seen, packet_seen, settings_seen};
 ghost use Rattle.node_log.specs.LogSeen.{logs_seen};
 ghost use Rattle.run_merge.specs.Merged.{AllFit, IsMerged, WhereTangled, packets_after};
@@ -14,7 +12,7 @@ use crate::history::{MergeFault, are_distinct, each_has_log};
 use crate::order::in_order;
 use node_log::NodeLog;
 use std::alloc::{AllocError, Global};
-use world_setup::{Event, Packet, WorldSettings};
+use world_setup::{CheckedSettings, Event, Packet};
 
 /// A run that has the logs that were merged.
 #[derive(Drop)]
@@ -26,18 +24,16 @@ pub struct MergedRun {
 }
 
 /// As [`merge`](crate::merge), of logs each of which is known to fit its node: no call is made again, and only the order of
-/// the calls is looked for. The settings are those that a world takes.
+/// the calls is looked for.
 ///
 /// # Errors
 /// `Tangled` only where no events are a legal interleaving of the logs; logs that are not one for each node have none.
 pub fn merge_fitting(
     alloc: Global,
-    settings: &WorldSettings,
+    settings: &CheckedSettings,
     logs: &[NodeLog],
 ) -> Result<MergedRun, MergeFault>
-    requires world { settings_fault (settings_seen settings.now) ≡ None }
-    requires rows { first_fault (length settings.now.payers.items) settings.now.routes.items ≡ None }
-    requires fit { AllFit (bytes_with (routes_of settings.now.routes.items)) (settings_seen settings.now)
+    requires { AllFit (bytes_with (routes_of settings.now.routes.items)) (settings_seen settings.now)
         (logs_seen logs.now) }
     ensures ok { IfOk result (λ run. IsMerged settings.now (logs_seen logs.now) (map event_seen run.events.items)) }
     ensures packets { IfOk result (λ run. map packet_seen run.packets.items
@@ -53,15 +49,14 @@ pub fn merge_fitting(
 /// Such a run, if there is one.
 fn merged_run(
     alloc: Global,
-    settings: &WorldSettings,
+    settings: &CheckedSettings,
     logs: &[NodeLog],
 ) -> Result<Option<MergedRun>, AllocError>
-    requires world { settings_fault (settings_seen settings.now) ≡ None }
-    requires rows { first_fault (length settings.now.payers.items) settings.now.routes.items ≡ None }
-    requires fit { AllFit (bytes_with (routes_of settings.now.routes.items)) (settings_seen settings.now)
+    requires { AllFit (bytes_with (routes_of settings.now.routes.items)) (settings_seen settings.now)
         (logs_seen logs.now) }
     ensures { IfOk result (λ found. RunOf settings.now (logs_seen logs.now) found) }
 {
+    let _taken = settings.settings();
     if !each_has_log(settings, logs) {
         return Ok(None);
     }

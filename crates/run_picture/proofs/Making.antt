@@ -3,14 +3,14 @@ use Rattle.std.proofs.Common.{◌≡◌, ℕ, ◌+◌, ◌<◌, ◌≤◌, List,
 use Rattle.std.proofs.lemmas.List.{at_drop_more, drop_all, drop-map, map-append}
 use Rattle.input_text.proofs.Joining.{lists_join}
 use Rattle.claim_model.specs.Context.{Context}
-use Rattle.claim_model.specs.Refusal.{Refusal}
+use Rattle.claim_model.specs.declared.refusal.Refusal.{Refusal}
+use Rattle.claim_model.specs.Refusal.{refusal_name}
 use Rattle.claim_model.specs.Node.{Outcome, Done, Refused}
 use Rattle.claim_model.specs.World as model
 use Rattle.claim_model.specs.World.{World, step, world_after}
 use Rattle.world_setup.specs.declared.call.Packet.{Packet}
 use Rattle.world_setup.specs.declared.event.Event.{Event}
 use Rattle.world_setup.specs.Seen.{event_seen, packet_seen}
-use Rattle.world_setup.specs.Names.{refusal_name}
 use Rattle.world_core.specs.Stepping.{next_of}
 use Rattle.run_picture.specs.declared.mark.Mark as code
 use Rattle.run_picture.specs.Marks.{Mark, Sent, Turned, made_mark, sent_marks, event_marks, marks_from}

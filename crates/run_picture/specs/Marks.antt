@@ -3,7 +3,7 @@ use Rattle.std.specs.Prelude.{ℕ, ◌+◌, List, [], ◌∷◌, ◌++◌, drop,
 use Rattle.claim_model.specs.Context.{Context}
 use Rattle.claim_model.specs.Node.{Node, Outcome, Done, Refused}
 use Rattle.claim_model.specs.World.{World, Packet, Event, Submission, Ticking, Delivery, Stopping, Starting, PlanChange, step, world_after}
-use Rattle.world_setup.specs.Names.{refusal_name}
+use Rattle.claim_model.specs.Refusal.{refusal_name}
 
 -- a mark of a picture, with the number of its event; a refusal by its name
 pub data Mark : Type 0 where

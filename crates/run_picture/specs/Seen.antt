@@ -1,7 +1,6 @@
 -- A mark as the definitions have it: nodes of the model, and refusals by their names.
 use Rattle.world_setup.specs.Seen.{node_seen}
-use Rattle.world_setup.specs.Refused.{refusal_of}
-use Rattle.world_setup.specs.Names.{name_by}
+use Rattle.claim_model.specs.Refusal.{refusal_of, name_by}
 use Rattle.run_picture.specs.declared.mark.Mark.{Mark}
 use Rattle.run_picture.specs.declared.mark.Mark.TheVariants as mark
 use Rattle.run_picture.specs.Marks as told

@@ -6,10 +6,10 @@ use crate::plan::Plan;
 use crate::rows::event_of;
 use input_text::put_decimal;
 use std::alloc::{AllocError, Global};
-use world_setup::{Event, StepFault};
+use world_setup::{Event, Fault};
 
 /// The event whose row a mark begins, and why it was refused.
-pub(crate) fn begun_by(mark: &Mark) -> Option<(u64, Option<StepFault>)> {
+pub(crate) fn begun_by(mark: &Mark) -> Option<(u64, Option<Fault>)> {
     match *mark {
         Mark::Submitted { event, .. } => Some((event, None)),
         Mark::Ticked { event, .. } => Some((event, None)),
@@ -27,7 +27,7 @@ pub(crate) fn begun_by(mark: &Mark) -> Option<(u64, Option<StepFault>)> {
 pub(crate) fn caption_of(
     plan: &Plan<'_>,
     event: u64,
-    refused: Option<StepFault>,
+    refused: Option<Fault>,
 ) -> Result<Vec<u8>, AllocError> {
     let mut caption = Vec::new(plan.alloc);
     put_decimal(&mut caption, event)?;
@@ -45,7 +45,7 @@ pub(crate) fn caption_of(
 }
 
 /// What stands at the node that refused an event.
-pub(crate) fn refusal_of(alloc: Global, fault: StepFault) -> Result<Vec<u8>, AllocError> {
+pub(crate) fn refusal_of(alloc: Global, fault: Fault) -> Result<Vec<u8>, AllocError> {
     let mut words = Vec::new(alloc);
     words.extend_from_slice(b"refused: ")?;
     words.extend_from_slice(fault.name().as_bytes())?;

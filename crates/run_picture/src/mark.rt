@@ -1,6 +1,6 @@
 //! One mark of a picture.
 
-use world_setup::{Node, StepFault};
+use world_setup::{Fault, Node};
 
 /// A mark of a picture. Events are told by their number in the schedule, packets by theirs, both from 1.
 #[derive(Clone, Copy, Debug, PartialEq, Eq)]
@@ -45,6 +45,6 @@ pub enum Mark {
     /// The event was refused.
     Refused {
         event: u64,
-        fault: StepFault,
+        fault: Fault,
     },
 }

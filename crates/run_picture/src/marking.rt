@@ -3,8 +3,7 @@
 ghost use Rattle.std.specs.Prelude.{◌≡◌, ◌∷◌, [], map, IfOk, IfSome, IsSome, OnOk};
 ghost use Rattle.claim_model.specs.World.{world_after, run};
 ghost use Rattle.world_setup.specs.Seen.{event_seen, packet_seen};
-ghost use Rattle.world_setup.specs.Refused.{refusal_of};
-ghost use Rattle.world_setup.specs.Names.{refusal_name};
+ghost use Rattle.claim_model.specs.Refusal.{refusal_of, refusal_name};
 ghost use Rattle.world_core.specs.Parts.{context_of};
 ghost use Rattle.world_core.specs.Stepping.{outcome_in};
 ghost use Rattle.run_picture.specs.Marking.{AddsMarks, marks_in};
@@ -14,7 +13,7 @@ ghost use Rattle.run_picture.specs.Seen.{mark_seen};
 use crate::mark::Mark;
 use std::alloc::{AllocError, Global};
 use world_core::World;
-use world_setup::{Event, Packet, StepFault};
+use world_setup::{Event, Fault, Packet};
 
 /// Makes these events, refused ones included, and gives the marks of the run.
 ///
@@ -121,13 +120,13 @@ fn mark_sent(
 }
 
 /// Adds the mark of an event that was refused.
-fn mark_refused(marks: &mut Vec<Mark>, number: u64, fault: StepFault) -> Result<(), AllocError>
+fn mark_refused(marks: &mut Vec<Mark>, number: u64, fault: Fault) -> Result<(), AllocError>
     ensures marks { OnOk result (IfSome (refusal_of fault)
         (λ why. AddsMarks marks.old marks.new (Turned number (refusal_name why) ∷ []))) }
     ensures known { OnOk result (IsSome (refusal_of fault)) }
 {
     match fault {
-        StepFault::OutOfMemory => return Err(AllocError),
+        Fault::OutOfMemory => return Err(AllocError),
         _ => marks.push(Mark::Refused {
             event: number,
             fault,

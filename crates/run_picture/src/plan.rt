@@ -8,7 +8,7 @@ use crate::lanes::{Lanes, Side};
 use crate::rows::{Rows, event_of, refused_packet};
 use std::alloc::{AllocError, Global};
 use world_core::World;
-use world_setup::{Event, Node, StepFault};
+use world_setup::{Event, Fault, Node};
 
 /// The events of a run, its marks, and where they stand on the page.
 #[derive(Drop)]
@@ -84,7 +84,7 @@ impl<'a> Plan<'a> {
 
     /// The node at which an event was refused, and the side of its lifeline that is free of the arrow. None where there
     /// is no such node or no such packet.
-    pub(crate) fn refusal_at(&self, event: u64, fault: StepFault) -> Option<(Node, Side)> {
+    pub(crate) fn refusal_at(&self, event: u64, fault: Fault) -> Option<(Node, Side)> {
         if let Some(packet) = refused_packet(self.events, event, fault) {
             let departure = self.rows.departure(packet)?;
             let side = self.lanes.side(departure.from, departure.to);

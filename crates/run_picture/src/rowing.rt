@@ -11,7 +11,7 @@ use crate::rows::{Row, refused_packet};
 use input_text::put_decimal;
 use std::alloc::AllocError;
 use svg_text::{Anchor, Drawing, Face, Fill, Point, Size, Stroke};
-use world_setup::{Node, StepFault};
+use world_setup::{Fault, Node};
 
 /// From the line of an arrow to the words on it.
 const BASE: u64 = 5;
@@ -111,7 +111,7 @@ fn draw_refusal(
     drawing: &mut Drawing,
     plan: &Plan<'_>,
     event: u64,
-    fault: StepFault,
+    fault: Fault,
 ) -> Result<(), AllocError> {
     if !plan.is_drawn(event) || refused_packet(plan.events, event, fault).is_some() {
         return Ok(());
@@ -187,7 +187,7 @@ fn write_refusal(
     drawing: &mut Drawing,
     plan: &Plan<'_>,
     event: u64,
-    fault: StepFault,
+    fault: Fault,
 ) -> Result<(), AllocError> {
     if !plan.is_drawn(event) {
         return Ok(());

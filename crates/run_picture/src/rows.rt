@@ -4,7 +4,7 @@ use crate::Mark;
 use crate::extent::Hidden;
 use crate::measures::{BAND, FIRST_ROW, LINE, MARGIN, ROW_REST, ROW_TOP, SLIM_REST, on};
 use std::alloc::{AllocError, Global};
-use world_setup::{Event, Node, StepFault};
+use world_setup::{Event, Fault, Node, Refusal};
 
 /// The row of an event.
 #[derive(Clone, Copy)]
@@ -198,9 +198,9 @@ pub(crate) fn event_of(events: &[Event], number: u64) -> Option<&Event> {
 }
 
 /// The packet that an event was to deliver, where its addressee refused it.
-pub(crate) fn refused_packet(events: &[Event], number: u64, fault: StepFault) -> Option<u64> {
+pub(crate) fn refused_packet(events: &[Event], number: u64, fault: Fault) -> Option<u64> {
     match (event_of(events, number), fault) {
-        (_, StepFault::NoSuchPacket) => None,
+        (_, Fault::Refused(Refusal::NoSuchPacket)) => None,
         (Some(Event::Deliver { packet }), _) => Some(*packet),
         _ => None,
     }

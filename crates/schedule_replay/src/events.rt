@@ -3,8 +3,7 @@
 ghost use Rattle.std.specs.Prelude.{◌≡◌, IfErr, IfSome, IsSome, OnOk};
 ghost use Rattle.std.specs.Str.Lines.{lines};
 ghost use Rattle.claim_model.specs.World.{world_after};
-ghost use Rattle.world_setup.specs.Names.{refusal_name};
-ghost use Rattle.world_setup.specs.Refused.{refusal_of};
+ghost use Rattle.claim_model.specs.Refusal.{refusal_name, refusal_of};
 ghost use Rattle.world_core.specs.Stepping.{outcome_in};
 ghost use Rattle.world_report.specs.Adding.{AddsLine};
 ghost use Rattle.world_report.specs.Heads.{refused_line};
@@ -17,7 +16,7 @@ use schedule::{ScheduleFault, event_of};
 use std::alloc::{AllocError, Global};
 use world_core::World;
 use world_report::{put_done, put_refused};
-use world_setup::{Event, StepFault};
+use world_setup::{Event, Fault};
 
 /// Makes the events of the lines of a schedule, refused ones included, each as its line is read, and appends a line for each.
 ///
@@ -66,13 +65,13 @@ fn put_made(
 }
 
 /// Appends the line of a refused event.
-fn put_fault(out: &mut Vec<u8>, number: u64, fault: StepFault) -> Result<(), AllocError>
+fn put_fault(out: &mut Vec<u8>, number: u64, fault: Fault) -> Result<(), AllocError>
     ensures line { OnOk result (IfSome (refusal_of fault)
         (λ why. AddsLine out.old out.new (refused_line number (refusal_name why)))) }
     ensures known { OnOk result (IsSome (refusal_of fault)) }
 {
     match fault {
-        StepFault::OutOfMemory => Err(AllocError),
-        _ => put_refused(out, number, fault.name().as_bytes()),
+        Fault::OutOfMemory => Err(AllocError),
+        Fault::Refused(why) => put_refused(out, number, why.name().as_bytes()),
     }
 }

@@ -4,7 +4,7 @@ use Rattle.std.specs.List.{AllByRecursion}
 use Rattle.std.proofs.lemmas.List.{map-set}
 use Rattle.std.proofs.lemmas.Option.{slice_get-map}
 use Rattle.claim_model.proofs.Options.{same_some}
-use Rattle.world_setup.specs.declared.fault.StepFault.{StepFault}
+use Rattle.claim_model.specs.declared.refusal.Fault.{Fault}
 use Rattle.world_report.specs.Words.{Line, line_text, lines_text}
 use Rattle.node_logged.specs.Tills as tills
 use Rattle.node_logged.specs.Tills.{with_receipt}
@@ -42,7 +42,7 @@ till_changes pharmacy Change ts place old new at of changed = (
 )
 
 -- a submission, by its outcome
-pub submission_told : (pharmacy : ℕ) (request a b : List ℕ) (ts : List Till) (place : ℕ) (old new : Till) (outcome : Result ℕ StepFault) → slice_get ts place ≡ Some old
+pub submission_told : (pharmacy : ℕ) (request a b : List ℕ) (ts : List Till) (place : ℕ) (old new : Till) (outcome : Result ℕ Fault) → slice_get ts place ≡ Some old
     → IfSome (slice_get ts place) (λ t. t.pharmacy ≡ pharmacy)
     → IfOk outcome (λ number. till_seen new ≡ with_receipt number request (till_seen old)) → OnErr outcome (till_seen new ≡ till_seen old)
     → (line : Line) × (b ≡ a ++ line_text line) × MatchResult outcome (λ number. line ≡ number_line number) (λ _. IsRefusal line)

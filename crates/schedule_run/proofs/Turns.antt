@@ -3,7 +3,7 @@ use Rattle.std.proofs.Common.{◌≡◌, ℕ, suc, ◌+◌, ◌-◌, ◌<◌, �
 use Rattle.std.proofs.lemmas.List.{take_more}
 use Rattle.std.specs.Io.KnownBytes.{Appends}
 use Rattle.std.specs.Prelude.{Option}
-use Rattle.world_setup.specs.declared.fault.StepFault.{StepFault}
+use Rattle.claim_model.specs.declared.refusal.Fault.{Fault}
 use Rattle.schedule.specs.declared.commands.Command.{Command}
 use Rattle.world_report.specs.Words.{Line, line_text, lines_text}
 use Rattle.world_report.proofs.JoinedWords.{lines_join, lines_text-append, lines_text-nil, lines_text-one}
@@ -12,7 +12,7 @@ use Rattle.node_logged.specs.Tills.{Till}
 use Rattle.schedule_run.specs.Told.{AreTold, IsCalled, IsRefusal, IsTold, done_line}
 
 -- a call that gives nothing
-pub call_told : {U : Type 0} (a b : List ℕ) (ts : List Till) (outcome : Result U StepFault) → (line : Line) × (b ≡ a ++ line_text line) × MatchResult outcome (λ _. line ≡ done_line) (λ _. IsRefusal line)
+pub call_told : {U : Type 0} (a b : List ℕ) (ts : List Till) (outcome : Result U Fault) → (line : Line) × (b ≡ a ++ line_text line) × MatchResult outcome (λ _. line ≡ done_line) (λ _. IsRefusal line)
     → (lines : List Line) × (b ≡ a ++ lines_text lines) × IsCalled ts lines ts
 call_told a b ts (Ok done) told = (told.0 ∷ [], told.1 ∙ ap (λ (t : List ℕ). a ++ t) (sym (lines_text-one told.0)), ((told.0, refl, inl told.2), refl))
 call_told a b ts (Err fault) told = (told.0 ∷ [], told.1 ∙ ap (λ (t : List ℕ). a ++ t) (sym (lines_text-one told.0)), ((told.0, refl, inr told.2), refl))

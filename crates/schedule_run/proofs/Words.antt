@@ -5,8 +5,8 @@ use Rattle.std.specs.Prelude.{codes, IfSome, IsSome, Option, Some, None, Result,
 use Rattle.claim_profile.specs.Ruling.{AnswerParts, FailsAs}
 use Rattle.claim_profile.specs.declared.answer_reading.AnswerFault.{AnswerFault}
 use Rattle.claim_profile.specs.declared.answer_reading.AnswerFault.TheVariants as fault
-use Rattle.claim_model.specs.Refusal.{Refusal}
-use Rattle.world_setup.specs.Names.{refusal_name}
+use Rattle.claim_model.specs.declared.refusal.Refusal.{Refusal}
+use Rattle.claim_model.specs.Refusal.{refusal_name}
 use Rattle.world_report.specs.Words.{Line, behind_spaces, line_text, lines_text}
 use Rattle.input_text.proofs.Joining.{lists_join}
 use Rattle.world_report.proofs.JoinedWords.{lines_text-one}

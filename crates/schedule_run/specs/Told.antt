@@ -2,10 +2,10 @@
 use Rattle.std.specs.Prelude.{◌≡◌, ◌⊎◌, ℕ, Bool, true, false, List, [], ◌∷◌, ◌++◌, length, map, replicate, set, slice_get, take, Some, None, IfSome, MatchResult, Result, Ok, Err, codes, decimal}
 use Rattle.std.specs.Global.{Vec}
 use Rattle.std.specs.List.{AllByRecursion}
-use Rattle.claim_model.specs.Refusal.{Refusal}
+use Rattle.claim_model.specs.declared.refusal.Refusal.{Refusal}
+use Rattle.claim_model.specs.declared.refusal.Fault.{Fault}
+use Rattle.claim_model.specs.Refusal.{refusal_name}
 use Rattle.claim_model.specs.Words.{Ruling}
-use Rattle.world_setup.specs.declared.fault.StepFault.{StepFault}
-use Rattle.world_setup.specs.Names.{refusal_name}
 use Rattle.schedule.specs.declared.commands.Command.{Command}
 use Rattle.schedule.specs.declared.commands.Command.TheVariants.{Submit, Tick, Plan, Restart, Await}
 use Rattle.schedule.specs.Runs.{RunParts}
@@ -62,7 +62,7 @@ abbrev pub IsOutcome : Line → Type 0
 IsOutcome line = (line ≡ done_line) ⊎ IsRefusal line
 
 -- the line of a call: of what it made, or of its refusal
-abbrev pub IsLineOf : {A : Type 0} → (A → Line) → Result A StepFault → Line → Type 0
+abbrev pub IsLineOf : {A : Type 0} → (A → Line) → Result A Fault → Line → Type 0
 IsLineOf told outcome line = MatchResult outcome (λ made. line ≡ told made) (λ _. IsRefusal line)
 
 -- lines come behind a text, of which this holds

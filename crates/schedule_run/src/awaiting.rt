@@ -10,7 +10,7 @@ use std::alloc::AllocError;
 use std::sync::Wait;
 use std::thread;
 use std::time::{Clock, Duration};
-use world_setup::StepFault;
+use world_setup::Fault;
 
 /// How many turns are waited at most (own): a look at the request and a yield each.
 const TURNS: u32 = 10_000;
@@ -77,7 +77,7 @@ fn look<T: Wait>(
 /// One tick of a pharmacy; a refusal of it is nothing to the one who waits.
 fn tick<T: Wait>(rt: &T, system: &System, pharmacy: u16) -> Result<(), AllocError> {
     match system.tick(rt, pharmacy) {
-        Err(StepFault::OutOfMemory) => Err(AllocError),
+        Err(Fault::OutOfMemory) => Err(AllocError),
         _ => Ok(()),
     }
 }

@@ -15,7 +15,7 @@ use schedule::Command;
 use std::alloc::{AllocError, Global};
 use std::sync::Wait;
 use std::time::Clock;
-use world_setup::StepFault;
+use world_setup::{Fault, Refusal};
 
 /// Makes the commands in order, each line written before the next command is made.
 ///
@@ -91,7 +91,7 @@ fn submit<T: Wait>(
 {
     match place_of(tills, pharmacy) {
         Some(place) => put_submitted(told, system.submit(rt, &mut tills[place], request)),
-        None => put_outcome(told, Err(StepFault::NoSuchNode)),
+        None => put_outcome(told, Err(Fault::Refused(Refusal::NoSuchNode))),
     }
 }
 
@@ -110,7 +110,7 @@ fn await_answer<T: Wait + Clock>(
 {
     match place_of(tills, pharmacy) {
         Some(place) => await_at(told, rt, alloc, system, &mut tills[place], pharmacy, number),
-        None => put_outcome(told, Err(StepFault::NoSuchNode)),
+        None => put_outcome(told, Err(Fault::Refused(Refusal::NoSuchNode))),
     }
 }
 

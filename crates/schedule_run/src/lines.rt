@@ -2,8 +2,7 @@
 
 ghost use Rattle.std.specs.Prelude.{◌≡◌, ◌∷◌, [], ◌++◌, true, codes, decimal, IfSome, IsSome, OnOk};
 ghost use Rattle.claim_profile.specs.Ruling.{answer_of};
-ghost use Rattle.world_setup.specs.Refused.{refusal_of};
-ghost use Rattle.world_setup.specs.Names.{refusal_name};
+ghost use Rattle.claim_model.specs.Refusal.{refusal_of, refusal_name};
 ghost use Rattle.world_report.specs.Words.{Line};
 ghost use Rattle.world_report.specs.Adding.{AddsLine, AddsLines, AddsWords};
 ghost use Rattle.world_report.specs.Places.{place_mark};
@@ -13,13 +12,10 @@ use claim_profile::{AnswerFault, Ruling, read_answer};
 use schedule::put_node;
 use std::alloc::{AllocError, Global};
 use world_report::{end_line, put_mark, put_number, put_ruling, put_word};
-use world_setup::{Node, StepFault};
+use world_setup::{Fault, Node};
 
 /// Appends the line of a command that was made, or of its refusal.
-pub(crate) fn put_outcome(
-    out: &mut Vec<u8>,
-    outcome: Result<(), StepFault>,
-) -> Result<(), AllocError>
+pub(crate) fn put_outcome(out: &mut Vec<u8>, outcome: Result<(), Fault>) -> Result<(), AllocError>
     ensures { OnOk result ((line : Line) × AddsLine out.old out.new line × IsLineOf (λ _. done_line) outcome line) }
 {
     match outcome {
@@ -31,7 +27,7 @@ pub(crate) fn put_outcome(
 /// Appends the line of a submission: the number of its entry, or its refusal.
 pub(crate) fn put_submitted(
     out: &mut Vec<u8>,
-    outcome: Result<u64, StepFault>,
+    outcome: Result<u64, Fault>,
 ) -> Result<(), AllocError>
     ensures { OnOk result ((line : Line) × AddsLine out.old out.new line × IsLineOf number_line outcome line) }
 {
@@ -59,14 +55,14 @@ fn put_entered(out: &mut Vec<u8>, number: u64) -> Result<(), AllocError>
 }
 
 /// Appends the line of what a node refused.
-fn put_fault(out: &mut Vec<u8>, fault: StepFault) -> Result<(), AllocError>
+fn put_fault(out: &mut Vec<u8>, fault: Fault) -> Result<(), AllocError>
     ensures line { OnOk result (IfSome (refusal_of fault)
         (λ why. AddsLine out.old out.new (refusal_line (refusal_name why)))) }
     ensures known { OnOk result (IsSome (refusal_of fault)) }
 {
     match fault {
-        StepFault::OutOfMemory => Err(AllocError),
-        _ => put_refused(out, fault.name().as_bytes()),
+        Fault::OutOfMemory => Err(AllocError),
+        Fault::Refused(why) => put_refused(out, why.name().as_bytes()),
     }
 }
 

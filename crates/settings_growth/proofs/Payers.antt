@@ -6,7 +6,7 @@ use Rattle.std.proofs.lemmas.Bool.Decides.{nat_tests}
 use Rattle.claim_model.specs.Words.{TxnId, RequestHeader, Envelope, EnvelopeFault, Plan, PlanFault, Order, Code, Ruling}
 use Rattle.claim_model.specs.Context.{Context}
 use Rattle.claim_model.specs.Readable.{readable, payer_for, is_payer, answer_text, is_request}
-use Rattle.claim_model.specs.Refusal.{Refusal}
+use Rattle.claim_model.specs.declared.refusal.Refusal.{Refusal}
 use Rattle.claim_model.specs.Ruled.{Ruled, ruled}
 use Rattle.claim_model.specs.Rows.{Row, Book, ruled_rows}
 use Rattle.claim_model.specs.Judgement.{ruling, rulings_from}

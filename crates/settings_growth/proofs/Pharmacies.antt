@@ -5,7 +5,7 @@ use Rattle.std.proofs.lemmas.Bool.Decides.{nat_tests}
 use Rattle.claim_model.specs.Words.{RequestHeader, Envelope, EnvelopeFault}
 use Rattle.claim_model.specs.Context.{Context}
 use Rattle.claim_model.specs.Readable.{has_version, has_code, longest, settles, is_request}
-use Rattle.claim_model.specs.Refusal.{Refusal}
+use Rattle.claim_model.specs.declared.refusal.Refusal.{Refusal}
 use Rattle.claim_model.specs.Numbered.{numbered}
 use Rattle.claim_model.specs.Journal.{Entry, Journal, JournalAtRest, State, Sending, first_fault, is_own, submit_fault, submitted_unless, submitted, ticked, due_by, due_from, due, settle_by, settle_with, heard_at, heard, stopped, started}
 use Rattle.claim_model.specs.Node.{Power, Up, AtRest, Sent, Call, Submit, Tick, Take, Stop, Start, Reprice, Outcome, Done, to_switch, after_submit, after_hearing, pharmacy_takes, pharmacy_up, pharmacy_at_rest, pharmacy_step}

@@ -5,7 +5,7 @@ use Rattle.std.specs.List.{AllByRecursion}
 use Rattle.claim_model.specs.Words.{TxnId, RequestHeader, Envelope, EnvelopeFault, Answer}
 use Rattle.claim_model.specs.Context.{Context}
 use Rattle.claim_model.specs.Readable.{readable, payer_for, same_id, is_request}
-use Rattle.claim_model.specs.Refusal.{Refusal}
+use Rattle.claim_model.specs.declared.refusal.Refusal.{Refusal}
 use Rattle.claim_model.specs.Table.{Table, Slot, slot_of, Requested, requested_again, entered_where, requested_by, requested_readable, requested, filled, Responded, responded_with, responded_by, responded_readable, responded}
 use Rattle.claim_model.specs.Node.{Node, Pharmacy, Switch, Payer, Power, Up, AtRest, Sent, Call, Submit, Tick, Take, Stop, Start, Reprice, Outcome, Done, Refused, after_request, after_response, switch_takes, switch_step}
 use Rattle.claim_model.specs.Settings.{WorldSettings, switches_of, opening}

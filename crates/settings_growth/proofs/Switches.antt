@@ -3,7 +3,7 @@ use Rattle.std.proofs.Common.{◌≡◌, ℕ, Bool, true, false, cond, List, Opt
 use Rattle.claim_model.specs.Words.{RequestHeader, Envelope, EnvelopeFault}
 use Rattle.claim_model.specs.Context.{Context}
 use Rattle.claim_model.specs.Readable.{readable, payer_for, is_request}
-use Rattle.claim_model.specs.Refusal.{Refusal}
+use Rattle.claim_model.specs.declared.refusal.Refusal.{Refusal}
 use Rattle.claim_model.specs.Table.{Table, Slot, slot_of, routed_by, requested_again, entered_where, requested_by, requested_readable, requested, responded}
 use Rattle.claim_model.specs.Node.{Power, Up, AtRest, Call, Submit, Tick, Take, Stop, Start, Reprice, after_request, after_response, switch_takes, switch_step}
 use Rattle.settings_growth.specs.Growth.{RejectionStays}

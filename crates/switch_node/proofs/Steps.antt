@@ -2,13 +2,15 @@
 use Rattle.std.proofs.Common.{◌≡◌, Bool, true, false, cond, List, ℕ, Option, None, Some, Result, Ok, Err, IfOk, refl, sym, ap, subst, ◌∙◌, bytes_eq}
 use Rattle.std.specs.Prelude.{◌≢◌, IsSome}
 use Rattle.bin_routes.specs.Table.{RouteMaps}
+use Rattle.d0_header.specs.Request.{request_of}
 use Rattle.claim_profile.specs.Readable.{readable_header}
+use Rattle.claim_profile.proofs.Headers.{readable_is}
 use Rattle.claim_profile.specs.Ruling.{AnswerParts, answer_of}
 use Rattle.claim_profile.specs.declared.answer_reading.AnswerFault.{AnswerFault}
 use Rattle.claim_model.specs.Words.{RequestHeader, Envelope}
 use Rattle.claim_model.specs.Context.{Context}
 use Rattle.claim_model.specs.Readable.{readable, is_request}
-use Rattle.claim_model.specs.Refusal.{Unreadable, NumberReused}
+use Rattle.claim_model.specs.declared.refusal.Refusal.TheVariants.{Unreadable, NumberReused}
 use Rattle.claim_model.specs.Table.{Slot, Table, slot_of, answer_back, requested, requested_readable, requested_by, requested_again, responded, responded_readable, responded_by}
 use Rattle.claim_model.specs.Bytes.{bytes_with, answer_in}
 use Rattle.claim_model.proofs.BytesLaws.{readable_alike}
@@ -42,6 +44,11 @@ module _ (routes : RouteMaps) (t : Table) (e : Envelope) where
   -- a request that is not refused as unreadable
   pub request-known : requested (bytes_with routes) t e ≢ Err Unreadable → (is_request e ≡ true) × IsSome (readable_header e.payload)
   request-known h = known-request (is_request e) refl h
+
+module _ (routes : RouteMaps) (t : Table) (e : Envelope) where
+  -- what becomes of a readable request hangs on the header at its front
+  pub request-header : (is_request e ≡ true) × IsSome (readable_header e.payload) → requested (bytes_with routes) t e ≡ requested_by (bytes_with routes) t e (request_of e.payload) (slot_of e.id t.entries)
+  request-header has = requested-read routes t e (Some (request_of e.payload)) has.0 (readable_is e.payload has.1)
 
 -- a known request that has its answer
 pub requested-answered : (ctx : Context) (t : Table) (e : Envelope) (h : RequestHeader) (s : Slot) (answer : List ℕ) → bytes_eq s.request e.payload ≡ true → s.answer ≡ Some answer → requested_by ctx t e h (Some s) ≡ Ok (record { table = t; routed = answer_back ctx e.id answer })

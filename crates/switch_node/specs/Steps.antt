@@ -4,30 +4,30 @@ use Rattle.envelope.specs.Envelope.{Opened}
 use Rattle.bin_routes.specs.Table.{RouteMaps}
 use Rattle.claim_model.specs.Words.{RequestHeader}
 use Rattle.claim_profile.specs.Readable.{readable_header}
-use Rattle.claim_model.specs.Refusal.{Refusal, Unreadable}
+use Rattle.claim_model.specs.declared.refusal.Refusal.{Refusal}
+use Rattle.claim_model.specs.declared.refusal.Fault.{Fault}
+use Rattle.claim_model.specs.declared.refusal.Refusal.TheVariants.{Unreadable}
+use Rattle.claim_model.specs.Refusal.{refusal_of, IsRefused}
 use Rattle.claim_model.specs.Readable.{is_request}
 use Rattle.claim_model.specs.Bytes.{bytes_with}
 use Rattle.claim_model.specs.Table.{Table, Slot, Responded, slot_of, filled, requested, requested_by, responded, responded_by}
-use Rattle.switch_node.specs.declared.fault.RequestFault.{RequestFault}
-use Rattle.switch_node.specs.declared.fault.ResponseFault.{ResponseFault}
 use Rattle.switch_node.specs.declared.routing.Routed.{Routed}
-use Rattle.switch_node.specs.Faults.{RefusesAs, request_refusal, response_refusal}
 use Rattle.switch_node.specs.Sent.{content, routed_as}
 
 -- a request goes where the rule sends it, and leaves the table that the rule leaves
-abbrev pub SendsRequest : RouteMaps → Table → Opened → Table → Result Routed RequestFault → Type 0
+abbrev pub SendsRequest : RouteMaps → Table → Opened → Table → Result Routed Fault → Type 0
 SendsRequest routes old envelope new result = IfOk result (λ routed. requested (bytes_with routes) old (content envelope) ≡ Ok (record { table = new; routed = routed_as routed }))
 
 -- it is refused for the cause for which the rule refuses it; want of memory says nothing of it
-abbrev pub RefusesRequest : {A : Type 0} → RouteMaps → Table → Opened → Result A RequestFault → Type 0
-RefusesRequest routes table envelope result = IfErr result (λ fault. RefusesAs (request_refusal fault) (requested (bytes_with routes) table (content envelope)))
+abbrev pub RefusesRequest : {A : Type 0} → RouteMaps → Table → Opened → Result A Fault → Type 0
+RefusesRequest routes table envelope result = IfErr result (λ fault. IsRefused (refusal_of fault) (requested (bytes_with routes) table (content envelope)))
 
 -- a response goes on as the rule says, whatever the routes are, and leaves the table that the rule leaves
-abbrev pub SendsResponse : Table → Opened → Table → Result (List ℕ) ResponseFault → Type 0
+abbrev pub SendsResponse : Table → Opened → Table → Result (List ℕ) Fault → Type 0
 SendsResponse old envelope new result = IfOk result (λ packet. (routes : RouteMaps) → responded (bytes_with routes) old (content envelope) ≡ Ok (record { table = new; bytes = packet }))
 
-abbrev pub RefusesResponse : {A : Type 0} → Table → Opened → Result A ResponseFault → Type 0
-RefusesResponse table envelope result = IfErr result (λ fault. (routes : RouteMaps) → RefusesAs (response_refusal fault) (responded (bytes_with routes) table (content envelope)))
+abbrev pub RefusesResponse : {A : Type 0} → Table → Opened → Result A Fault → Type 0
+RefusesResponse table envelope result = IfErr result (λ fault. (routes : RouteMaps) → IsRefused (refusal_of fault) (responded (bytes_with routes) table (content envelope)))
 
 -- the rule refuses a request for another cause than that it is unreadable, or not at all
 abbrev pub IsReadableRequest : RouteMaps → Table → Opened → Type 0
@@ -47,8 +47,8 @@ HasHeader envelope h = (routes : RouteMaps) (t : Table)
     → requested (bytes_with routes) t (content envelope) ≡ requested_by (bytes_with routes) t (content envelope) h (slot_of envelope.id t.entries)
 
 -- it is none, and refused for this cause whatever the table has
-abbrev pub IsNoRequest : Opened → RequestFault → Type 0
-IsNoRequest envelope fault = (routes : RouteMaps) (t : Table) → RefusesAs (request_refusal fault) (requested (bytes_with routes) t (content envelope))
+abbrev pub IsNoRequest : Opened → Fault → Type 0
+IsNoRequest envelope fault = (routes : RouteMaps) (t : Table) → IsRefused (refusal_of fault) (requested (bytes_with routes) t (content envelope))
 
 -- a request of this header, where the table has this of its id, goes on so and leaves this table
 abbrev pub GoesOn : RouteMaps → Opened → RequestHeader → Option Slot → Table → Table → Routed → Type 0
@@ -63,8 +63,8 @@ responded_at routes t envelope = responded_by (bytes_with routes) t (content env
 abbrev pub HasAnswer : Opened → Type 0
 HasAnswer envelope = (routes : RouteMaps) (t : Table) → responded (bytes_with routes) t (content envelope) ≡ responded_at routes t envelope
 
-abbrev pub IsNoAnswer : Opened → ResponseFault → Type 0
-IsNoAnswer envelope fault = (routes : RouteMaps) (t : Table) → RefusesAs (response_refusal fault) (responded (bytes_with routes) t (content envelope))
+abbrev pub IsNoAnswer : Opened → Fault → Type 0
+IsNoAnswer envelope fault = (routes : RouteMaps) (t : Table) → IsRefused (refusal_of fault) (responded (bytes_with routes) t (content envelope))
 
 -- an answer goes on, and is kept where it is the first
 abbrev pub KeepsFirst : Table → Opened → Bool → Type 0

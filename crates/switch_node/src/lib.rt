@@ -13,8 +13,9 @@ mod switch;
 mod table;
 
 pub use bin_routes::{PayerNo, Routes};
+pub use claim_model::{Fault, Refusal};
 pub use envelope::{Envelope, TxnId};
-pub use fault::{RequestFault, ResponseFault, SettingFault};
+pub use fault::SettingFault;
 pub use routing::Routed;
 pub use settings::SwitchSettings;
 pub use switch::Switch;

@@ -1,33 +1,47 @@
 //! Which envelopes a switch takes.
 
-ghost use Rattle.std.specs.Prelude.{◌≡◌, IfOk, IfErr, OnOk};
-ghost use Rattle.claim_model.specs.Readable.{is_request};
-ghost use Rattle.switch_node.specs.Sent.{content};
+ghost use Rattle.std.specs.Prelude.{◌≡◌, IfErr, OnOk};
+ghost use Rattle.claim_model.specs.Bytes.{bytes_with};
+ghost use Rattle.claim_model.specs.Readable.{is_request, payer_for};
+ghost use Rattle.switch_node.specs.Sent.{content, header_in};
 ghost use Rattle.switch_node.specs.Steps.{HasHeader, IsNoRequest, HasAnswer, IsNoAnswer, HasRequest};
 
-use crate::fault::{RequestFault, ResponseFault};
-use claim_profile::{check_answer, check_readable};
+use bin_routes::{PayerNo, Routes};
+use claim_model::{Fault, Refusal};
+use claim_profile::{bin_of, check_answer, check_readable, pcn_of};
 use d0_header::{RequestHeader, request_text_laws};
 use envelope::{Envelope, Kind};
 
-/// The header of the request in an envelope.
-pub fn header_of(envelope: &Envelope<'_>) -> Result<RequestHeader, RequestFault>
-    ensures read { IfOk result (λ h. HasHeader envelope.now h) }
+/// Tests that an envelope has a request.
+pub fn expect_request(envelope: &Envelope<'_>) -> Result<(), Fault>
+    ensures readable { OnOk result (HasRequest envelope.now) }
+    ensures header { OnOk result (HasHeader envelope.now (header_in envelope.now)) }
     ensures fault { IfErr result (λ fault. IsNoRequest envelope.now fault) }
 {
     if !is_request(envelope) {
-        return Err(RequestFault::Unreadable);
+        return Err(Fault::Refused(Refusal::Unreadable));
     }
     match check_readable(envelope.payload()) {
-        Some(framed) => Ok(*framed.header()),
-        None => Err(RequestFault::Unreadable),
+        Some(_) => Ok(()),
+        None => Err(Fault::Refused(Refusal::Unreadable)),
     }
 }
 
-/// The header of a request that is known to be readable: it is cut from the front, and what follows is not read.
-pub fn known_header(envelope: &Envelope<'_>) -> RequestHeader
+/// The payer of a request, by the routes. Of its header only the BIN number and the processor control number are read,
+/// where they stand.
+#[tactic(auto, unfolding(crate::specs::Sent::header_in))]
+pub fn route_of(routes: &Routes, envelope: &Envelope<'_>) -> Option<PayerNo>
     requires { HasRequest envelope.now }
-    ensures { HasHeader envelope.now result }
+    ensures { result ≡ payer_for (bytes_with routes.now) (header_in envelope.now) }
+{
+    let request = envelope.payload();
+    routes.route(&bin_of(request), &pcn_of(request))
+}
+
+/// The header of a readable request: it is cut from the front, and what follows is not read.
+pub fn header_of(envelope: &Envelope<'_>) -> RequestHeader
+    requires { HasRequest envelope.now }
+    ensures { result ≡ header_in envelope.now }
 {
     request_text_laws();
     match RequestHeader::read(envelope.payload()) {
@@ -37,16 +51,16 @@ pub fn known_header(envelope: &Envelope<'_>) -> RequestHeader
 }
 
 /// Tests that an envelope has an answer.
-pub fn expect_answer(envelope: &Envelope<'_>) -> Result<(), ResponseFault>
+pub fn expect_answer(envelope: &Envelope<'_>) -> Result<(), Fault>
     ensures read { OnOk result (HasAnswer envelope.now) }
     ensures fault { IfErr result (λ fault. IsNoAnswer envelope.now fault) }
 {
     if is_request(envelope) {
-        return Err(ResponseFault::Unreadable);
+        return Err(Fault::Refused(Refusal::Unreadable));
     }
     match check_answer(envelope.payload()) {
         Ok(_) => Ok(()),
-        Err(_) => Err(ResponseFault::Unreadable),
+        Err(_) => Err(Fault::Refused(Refusal::Unreadable)),
     }
 }
 

@@ -3,19 +3,18 @@
 ghost use Rattle.std.specs.Prelude.{◌≡◌, ◌≤◌, length, None, Some, IfOk, IfErr, OnErr};
 ghost use Rattle.envelope.specs.Envelope.{longest_payload};
 ghost use Rattle.bin_routes.specs.Table.{RouteMaps};
-ghost use Rattle.claim_model.specs.Readable.{payer_for};
+ghost use Rattle.claim_model.specs.Refusal.{IsRefused, refusal_of};
 ghost use Rattle.claim_model.specs.Table.{Table as ModelTable, slot_of, answer_back, routed_by, requested_by};
 ghost use Rattle.claim_model.specs.Bytes.{bytes_with};
-ghost use Rattle.switch_node.specs.Faults.{RefusesAs, request_refusal};
-ghost use Rattle.switch_node.specs.Sent.{content, packet_text, routed_as};
-ghost use Rattle.switch_node.specs.Steps.{GoesOn};
+ghost use Rattle.switch_node.specs.Sent.{content, header_in, packet_text, routed_as};
+ghost use Rattle.switch_node.specs.Steps.{GoesOn, HasRequest};
 
-use crate::fault::RequestFault;
 use crate::packets::{packet, payload_in, rejection};
+use crate::reading::{header_of, route_of};
 use crate::slot::Slot;
 use crate::table::Table;
 use bin_routes::{PayerNo, Routes};
-use d0_header::RequestHeader;
+use claim_model::{Fault, Refusal};
 use envelope::{Envelope, Kind, TxnId};
 use octets::Octets;
 use std::alloc::{AllocError, Global};
@@ -35,21 +34,21 @@ pub fn repeated(
     routes: &Routes,
     envelope: &Envelope<'_>,
     packet: &Octets,
-    header: &RequestHeader,
     slot: &Slot,
-) -> Result<Routed, RequestFault>
-    requires { packet.now ≡ packet_text envelope.now }
+) -> Result<Routed, Fault>
+    requires packet { packet.now ≡ packet_text envelope.now }
+    requires readable { HasRequest envelope.now }
     ensures routed { IfOk result (λ routed. (t : ModelTable)
-        → GoesOn routes.now envelope.now header.now (Some slot.now) t t routed) }
-    ensures fault { IfErr result (λ fault. (t : ModelTable) → RefusesAs (request_refusal fault)
-        (requested_by (bytes_with routes.now) t (content envelope.now) header.now (Some slot.now))) }
+        → GoesOn routes.now envelope.now (header_in envelope.now) (Some slot.now) t t routed) }
+    ensures fault { IfErr result (λ fault. (t : ModelTable) → IsRefused (refusal_of fault)
+        (requested_by (bytes_with routes.now) t (content envelope.now) (header_in envelope.now) (Some slot.now))) }
 {
     if !slot.is_of(envelope.payload()) {
-        return Err(RequestFault::NumberReused);
+        return Err(Fault::Refused(Refusal::NumberReused));
     }
     match slot.answer() {
         Some(answer) => Ok(back(alloc, envelope.id(), answer)?),
-        None => Ok(sent(alloc, envelope, packet, header, route_of(routes, header))?),
+        None => Ok(sent(alloc, envelope, packet, route_of(routes, envelope))?),
     }
 }
 
@@ -59,16 +58,17 @@ pub fn first(
     routes: &Routes,
     envelope: &Envelope<'_>,
     packet: &Octets,
-    header: &RequestHeader,
 ) -> Result<Routed, AllocError>
     requires packet { packet.now ≡ packet_text envelope.now }
+    requires readable { HasRequest envelope.now }
     requires new { slot_of envelope.now.id table.old.entries ≡ None }
-    ensures routed { IfOk result (λ routed. GoesOn routes.now envelope.now header.now None table.old table.new routed) }
+    ensures routed { IfOk result (λ routed.
+        GoesOn routes.now envelope.now (header_in envelope.now) None table.old table.new routed) }
     ensures unchanged { OnErr result (table.new ≡ table.old) }
 {
     let alloc = table.allocator();
-    let route = route_of(routes, header);
-    let routed = sent(alloc, envelope, packet, header, route)?;
+    let route = route_of(routes, envelope);
+    let routed = sent(alloc, envelope, packet, route)?;
     if route.is_some() {
         let request = payload_in(envelope, packet)?;
         table.enter(envelope.id(), Slot::waiting(request))?;
@@ -76,29 +76,22 @@ pub fn first(
     Ok(routed)
 }
 
-/// The payer of a request.
-fn route_of(routes: &Routes, header: &RequestHeader) -> Option<PayerNo>
-    ensures { result ≡ payer_for (bytes_with routes.now) header.now }
-{
-    routes.route(&header.bin(), &header.pcn())
-}
-
 /// To the payer of the route, or back with the rejection.
 fn sent(
     alloc: Global,
     envelope: &Envelope<'_>,
     packet: &Octets,
-    header: &RequestHeader,
     route: Option<PayerNo>,
 ) -> Result<Routed, AllocError>
-    requires { packet.now ≡ packet_text envelope.now }
+    requires packet { packet.now ≡ packet_text envelope.now }
+    requires readable { HasRequest envelope.now }
     ensures { IfOk result (λ routed. (routes : RouteMaps)
-        → routed_as routed ≡ routed_by (bytes_with routes) (content envelope.now) header.now route) }
+        → routed_as routed ≡ routed_by (bytes_with routes) (content envelope.now) (header_in envelope.now) route) }
 {
     match route {
         Some(payer) => Ok(Routed::Forward(payer, packet.copy()?)),
         None => {
-            let answer = rejection(alloc, header)?;
+            let answer = rejection(alloc, &header_of(envelope))?;
             back(alloc, envelope.id(), &answer)
         }
     }

@@ -8,20 +8,20 @@ ghost use Rattle.bin_routes.specs.Table.{RouteMaps};
 ghost use Rattle.claim_model.specs.Node.{Up};
 ghost use Rattle.claim_model.specs.Held.{held_in_table};
 ghost use Rattle.claim_model.specs.Readable.{same_id};
+ghost use Rattle.claim_model.specs.Refusal.{IsRefused, refusal_of};
 ghost use Rattle.switch_node.specs.Ring.{in_flight};
-ghost use Rattle.switch_node.specs.Faults.{RefusesAs, response_refusal, first_or_equal};
-ghost use Rattle.switch_node.specs.Sent.{packet_text};
-ghost use Rattle.switch_node.specs.Steps.{SendsRequest, RefusesRequest, SendsResponse, RefusesResponse, IsReadableRequest, IsReadableResponse, HasHeader, HasAnswer, responded_at, KeepsFirst};
+ghost use Rattle.switch_node.specs.Faults.{first_or_equal};
+ghost use Rattle.switch_node.specs.Sent.{header_in, packet_text};
+ghost use Rattle.switch_node.specs.Steps.{SendsRequest, RefusesRequest, SendsResponse, RefusesResponse, IsReadableRequest, IsReadableResponse, HasRequest, HasHeader, HasAnswer, responded_at, KeepsFirst};
 
-use crate::fault::{RequestFault, ResponseFault};
 use crate::packets::{packet, payload_in};
-use crate::reading::{expect_answer, header_of, known_header};
+use crate::reading::{expect_answer, expect_request};
 use crate::routing::{Routed, first, repeated};
 use crate::settings::SwitchSettings;
 use crate::slot::Slot;
 use crate::table::{InFlight, Table};
 use bin_routes::Routes;
-use d0_header::RequestHeader;
+use claim_model::{Fault, Refusal};
 use envelope::{Envelope, TxnId};
 use octets::Octets;
 use std::alloc::{AllocError, Global};
@@ -58,11 +58,7 @@ impl Switch {
     /// # Errors
     /// The first that stands: `Unreadable`, then `NumberReused`. `OutOfMemory` may stand in place of any answer.
     /// The table is then as it was.
-    pub fn request(
-        &mut self,
-        routes: &Routes,
-        envelope: &Envelope<'_>,
-    ) -> Result<Routed, RequestFault>
+    pub fn request(&mut self, routes: &Routes, envelope: &Envelope<'_>) -> Result<Routed, Fault>
         // The whole table after it, and what is sent, are the model's.
         ensures routed { SendsRequest routes.now self.old envelope.now self.new result }
         ensures fault { RefusesRequest routes.now self.old envelope.now result }
@@ -79,52 +75,51 @@ impl Switch {
         routes: &Routes,
         envelope: &Envelope<'_>,
         packet: &Octets,
-    ) -> Result<Routed, RequestFault>
+    ) -> Result<Routed, Fault>
         requires { packet.now ≡ packet_text envelope.now }
         ensures routed { SendsRequest routes.now self.old envelope.now self.new result }
         ensures fault { RefusesRequest routes.now self.old envelope.now result }
         ensures unchanged { OnErr result (self.new ≡ self.old) }
     {
-        let header = header_of(envelope)?;
-        self.go_on(routes, envelope, packet, &header)
+        expect_request(envelope)?;
+        self.go_on(routes, envelope, packet)
     }
 
     /// As [`request_packet`](Switch::request_packet), of a packet whose request is readable, as of each packet that a node
-    /// sent: only its header is read.
+    /// sent: it is not read again.
     pub fn request_known(
         &mut self,
         routes: &Routes,
         envelope: &Envelope<'_>,
         packet: &Octets,
-    ) -> Result<Routed, RequestFault>
+    ) -> Result<Routed, Fault>
         requires packet { packet.now ≡ packet_text envelope.now }
         requires readable { IsReadableRequest routes.now self.old envelope.now }
         ensures routed { SendsRequest routes.now self.old envelope.now self.new result }
         ensures fault { RefusesRequest routes.now self.old envelope.now result }
         ensures unchanged { OnErr result (self.new ≡ self.old) }
     {
-        let header = known_header(envelope);
-        self.go_on(routes, envelope, packet, &header)
+        self.go_on(routes, envelope, packet)
     }
 
-    /// Takes a request of this header.
+    /// Takes a readable request.
     fn go_on(
         &mut self,
         routes: &Routes,
         envelope: &Envelope<'_>,
         packet: &Octets,
-        header: &RequestHeader,
-    ) -> Result<Routed, RequestFault>
+    ) -> Result<Routed, Fault>
         requires packet { packet.now ≡ packet_text envelope.now }
-        requires header { HasHeader envelope.now header.now }
+        requires readable { HasRequest envelope.now }
+        requires header { HasHeader envelope.now (header_in envelope.now) }
         ensures routed { SendsRequest routes.now self.old envelope.now self.new result }
         ensures fault { RefusesRequest routes.now self.old envelope.now result }
         ensures unchanged { OnErr result (self.new ≡ self.old) }
     {
         let alloc = self.table.allocator();
         match self.table.get(envelope.id()) {
-            Some(slot) => repeated(alloc, routes, envelope, packet, header, slot),
-            None => Ok(first(&mut self.table, routes, envelope, packet, header)?),
+            Some(slot) => repeated(alloc, routes, envelope, packet, slot),
+            None => Ok(first(&mut self.table, routes, envelope, packet)?),
         }
     }
 
@@ -134,7 +129,7 @@ impl Switch {
     /// # Errors
     /// The first that stands: `Unreadable`, `NotWaiting`, `Differs`. `OutOfMemory` may stand in place of any answer.
     /// The table is then as it was.
-    pub fn response(&mut self, envelope: &Envelope<'_>) -> Result<Octets, ResponseFault>
+    pub fn response(&mut self, envelope: &Envelope<'_>) -> Result<Octets, Fault>
         // The whole table after it, and what is sent, are the model's, whatever the routes are.
         ensures sent { SendsResponse self.old envelope.now self.new result }
         ensures fault { RefusesResponse self.old envelope.now result }
@@ -150,7 +145,7 @@ impl Switch {
         &mut self,
         envelope: &Envelope<'_>,
         packet: &Octets,
-    ) -> Result<Octets, ResponseFault>
+    ) -> Result<Octets, Fault>
         requires { packet.now ≡ packet_text envelope.now }
         ensures sent { SendsResponse self.old envelope.now self.new result }
         ensures fault { RefusesResponse self.old envelope.now result }
@@ -166,7 +161,7 @@ impl Switch {
         &mut self,
         envelope: &Envelope<'_>,
         packet: &Octets,
-    ) -> Result<Octets, ResponseFault>
+    ) -> Result<Octets, Fault>
         requires packet { packet.now ≡ packet_text envelope.now }
         requires readable { IsReadableResponse self.old envelope.now }
         ensures sent { SendsResponse self.old envelope.now self.new result }
@@ -177,7 +172,7 @@ impl Switch {
     }
 
     /// Takes an answer.
-    fn go_back(&mut self, envelope: &Envelope<'_>, packet: &Octets) -> Result<Octets, ResponseFault>
+    fn go_back(&mut self, envelope: &Envelope<'_>, packet: &Octets) -> Result<Octets, Fault>
         requires packet { packet.now ≡ packet_text envelope.now }
         requires answer { HasAnswer envelope.now }
         ensures sent { SendsResponse self.old envelope.now self.new result }
@@ -241,24 +236,24 @@ impl Switch {
 }
 
 /// Whether a response is the first to its request, and not an equal one again.
-fn waits(table: &Table, envelope: &Envelope<'_>) -> Result<bool, ResponseFault>
+fn waits(table: &Table, envelope: &Envelope<'_>) -> Result<bool, Fault>
     ensures kept { IfOk result (λ is_first. KeepsFirst table.now envelope.now is_first) }
     ensures fault { IfErr result (λ fault. (routes : RouteMaps)
-        → RefusesAs (response_refusal fault) (responded_at routes table.now envelope.now)) }
+        → IsRefused (refusal_of fault) (responded_at routes table.now envelope.now)) }
 {
     match table.get(envelope.id()) {
-        None => Err(ResponseFault::NotWaiting),
+        None => Err(Fault::Refused(Refusal::NotWaiting)),
         Some(slot) => is_first(slot, envelope.payload()),
     }
 }
 
 /// Whether an answer is the first to the request of a slot, and not the equal one again.
-fn is_first(slot: &Slot, answer: &[u8]) -> Result<bool, ResponseFault>
+fn is_first(slot: &Slot, answer: &[u8]) -> Result<bool, Fault>
     ensures { result ≡ first_or_equal slot.now.answer answer.now }
 {
     match slot.answer() {
         None => Ok(true),
         Some(held) if held == answer => Ok(false),
-        Some(_) => Err(ResponseFault::Differs),
+        Some(_) => Err(Fault::Refused(Refusal::Differs)),
     }
 }

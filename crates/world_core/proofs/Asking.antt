@@ -1,14 +1,15 @@
 -- A call on one node, as an event of the world.
 use Rattle.std.proofs.Common.{◌≡◌, ℕ, List, Option, Some, None, ap, ◌∙◌}
 use Rattle.claim_model.specs.Context.{Context}
-use Rattle.claim_model.specs.Refusal.{Refusal, NoSuchNode}
+use Rattle.claim_model.specs.declared.refusal.Refusal.{Refusal}
+use Rattle.claim_model.specs.declared.refusal.Refusal.TheVariants.{NoSuchNode}
 use Rattle.claim_model.specs.Numbered.{numbered, renumbered}
 use Rattle.claim_model.specs.Rows.{Book}
 use Rattle.claim_model.specs.Journal.{Journal, JournalAtRest}
 use Rattle.claim_model.specs.Table.{Table}
 use Rattle.claim_model.specs.Node.{Pharmacy, Switch, Payer, Power, Sent, Call, Outcome, Done, Refused, pharmacy_step, switch_step, payer_step}
 use Rattle.claim_model.specs.World.{World, posted, pharmacy_stepped, on_pharmacy, switch_stepped, on_switch, payer_stepped, on_payer, on_node}
-use Rattle.world_setup.specs.Refused.{RefusedAs}
+use Rattle.claim_model.specs.Refused.{RefusedAs}
 use Rattle.world_core.specs.Calling.{list_after, called_at, called}
 
 pharmacy_stepped_done : (w : World) (n : ℕ) (o : Outcome (Power Journal JournalAtRest)) (next : List (Power Journal JournalAtRest)) (sent : List Sent) → list_after w.pharmacies n o ≡ Done next sent

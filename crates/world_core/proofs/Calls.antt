@@ -1,9 +1,10 @@
 -- A call on one node of a list, by the node's place.
 use Rattle.std.proofs.Common.{◌≡◌, ℕ, zero, suc, ◌<◌, ◌≤◌, ◌⊎◌, inl, inr, List, [], ◌∷◌, length, Option, Some, None, slice_get, slice_set, get_or, refl, sym, ap, ◌∙◌, subst, arith}
-use Rattle.claim_model.specs.Refusal.{Refusal, NoSuchNode, Unreadable}
+use Rattle.claim_model.specs.declared.refusal.Refusal.{Refusal}
+use Rattle.claim_model.specs.declared.refusal.Refusal.TheVariants.{NoSuchNode, Unreadable}
 use Rattle.claim_model.specs.Numbered.{numbered}
 use Rattle.claim_model.specs.Node.{Sent, Call, Submit, Tick, Take, Stop, Start, Reprice, Outcome, Done, Refused}
-use Rattle.world_setup.specs.Refused.{RefusedAs}
+use Rattle.claim_model.specs.Refused.{RefusedAs}
 use Rattle.node_state.specs.Taking.{IsReadable}
 use Rattle.world_core.specs.Calling.{list_after, called_at, called}
 use Rattle.world_core.specs.Room.{most_of}

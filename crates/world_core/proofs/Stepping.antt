@@ -3,7 +3,7 @@ use Rattle.std.proofs.Common.{◌≡◌, ℕ, List, Option, Some, None, refl, sy
 use Rattle.std.specs.Prelude.{◌≢◌}
 use Rattle.bin_routes.specs.Table.{RouteMaps}
 use Rattle.claim_model.specs.Context.{Context}
-use Rattle.claim_model.specs.Refusal.{NoSuchPacket, Unreadable}
+use Rattle.claim_model.specs.declared.refusal.Refusal.TheVariants.{NoSuchPacket, Unreadable}
 use Rattle.claim_model.specs.Node.{Node, Pharmacy, Switch, Payer, Call, Submit, Tick, Take, Stop, Start, Reprice, Refused}
 use Rattle.claim_model.specs.World.{World, Packet, Event, Submission, Ticking, Delivery, Stopping, Starting, PlanChange, on_node, step}
 use Rattle.claim_model.specs.Nodes.{Asked, asked, asked_step}

@@ -3,12 +3,12 @@ use Rattle.std.specs.Prelude.{◌≡◌, ℕ, List, map, Option, Some, None, Res
 use Rattle.std.specs.Global.{Vec}
 use Rattle.bin_routes.specs.Table.{RouteMaps}
 use Rattle.claim_model.specs.Bytes.{bytes_with}
-use Rattle.claim_model.specs.Refusal.{NoSuchNode}
+use Rattle.claim_model.specs.declared.refusal.Fault.{Fault}
+use Rattle.claim_model.specs.declared.refusal.Refusal.TheVariants.{NoSuchNode}
 use Rattle.claim_model.specs.Numbered.{numbered, renumbered}
 use Rattle.claim_model.specs.Node.{Node, Pharmacy, Switch, Payer, Call, Outcome, Done, Refused, pharmacy_step, switch_step, payer_step}
 use Rattle.claim_model.specs.World.{Packet, on_node, posted}
 use Rattle.world_setup.specs.declared.call.Sent.{Sent}
-use Rattle.world_setup.specs.declared.fault.StepFault.{StepFault}
 use Rattle.world_setup.specs.Seen.{sent_seen}
 use Rattle.node_state.specs.Outcomes.{Refuses}
 use Rattle.node_state.specs.Taking.{IsReadable}
@@ -33,11 +33,11 @@ IsReadableAt routes nodes (Switch n) call = IsReadable call (called (λ node. sw
 IsReadableAt routes nodes (Payer n) call = IsReadable call (called (λ node. payer_step (bytes_with routes) node call) nodes.payers n)
 
 -- a call on a node that is made leaves the world that the model's call leaves, whatever packets it has, and sends what that sends
-abbrev pub NodeMakes : RouteMaps → NodeLists → Node → Call → NodeLists → Result (Vec Sent) StepFault → Type 0
+abbrev pub NodeMakes : RouteMaps → NodeLists → Node → Call → NodeLists → Result (Vec Sent) Fault → Type 0
 NodeMakes routes old node call new result =
     (packets : List Packet) → IfOk result (λ sent. on_node (bytes_with routes) (world_of old packets) node call ≡
     Done (world_of new (posted packets node (map sent_seen sent.items))) (map sent_seen sent.items))
 
 -- it is refused for the cause for which the model's call is refused; want of memory says nothing of it
-abbrev pub NodeRefuses : RouteMaps → NodeLists → Node → Call → Result (Vec Sent) StepFault → Type 0
+abbrev pub NodeRefuses : RouteMaps → NodeLists → Node → Call → Result (Vec Sent) Fault → Type 0
 NodeRefuses routes lists node call result = (packets : List Packet) → Refuses (on_node (bytes_with routes) (world_of lists packets) node call) result

@@ -13,7 +13,7 @@ use node_state::{PayerNode, PharmacyNode, SwitchNode};
 use octets::Octets;
 use std::alloc::Global;
 use std::marker::Model;
-use world_setup::{Call, Event, Node, Sent, StepFault};
+use world_setup::{Call, Event, Fault, Node, Sent};
 
 /// All nodes, each kind numbered from 1.
 #[derive(Drop)]
@@ -64,7 +64,7 @@ impl Nodes {
         routes: &Routes,
         node: Node,
         call: Call<&Octets>,
-    ) -> Result<Vec<Sent>, StepFault>
+    ) -> Result<Vec<Sent>, Fault>
         requires { IsReadableAt routes.now self.old (node_seen node) (lent_seen call) }
         ensures ok { NodeMakes routes.now self.old (node_seen node) (lent_seen call.entry) self.new result }
         ensures fault { NodeRefuses routes.now self.old (node_seen node) (lent_seen call.entry) result }

@@ -13,7 +13,7 @@ use bin_routes::Routes;
 use node_state::{Kind, PharmacyNode, Powered};
 use octets::Octets;
 use std::alloc::Global;
-use world_setup::{Call, Sent, StepFault};
+use world_setup::{Call, Fault, Refusal, Sent};
 
 /// The place, from 0, of the node of a number, where there are so many nodes.
 fn place_of(number: u16, count: usize) -> Option<usize>
@@ -43,7 +43,7 @@ pub(crate) fn ask_node<K: Kind>(
     routes: &Routes,
     number: u16,
     call: Call<&Octets>,
-) -> Result<Vec<Sent>, StepFault>
+) -> Result<Vec<Sent>, Fault>
     requires { IsReadable (lent_seen call)
         (called (λ node. K.step routes.now node (lent_seen call)) nodes.old.items number) }
     ensures ok { Makes (called
@@ -56,7 +56,7 @@ pub(crate) fn ask_node<K: Kind>(
 {
     match place_of(number, nodes.len()) {
         Some(place) => nodes[place].step_known(alloc, routes, call),
-        None => Err(StepFault::NoSuchNode),
+        None => Err(Fault::Refused(Refusal::NoSuchNode)),
     }
 }
 

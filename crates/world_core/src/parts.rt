@@ -14,7 +14,7 @@ use crate::post::post;
 use bin_routes::Routes;
 use std::alloc::Global;
 use std::marker::Model;
-use world_setup::{Event, Packet, StepFault};
+use world_setup::{Event, Fault, Packet, Refusal};
 
 /// All nodes, and every packet that was sent, numbered from 1.
 #[derive(Drop)]
@@ -67,7 +67,7 @@ impl Parts {
 
     /// Makes an event: the node that it asks makes its call, and what that sends is posted. The room for it is had before.
     /// Deliveries meet few refusals, so a packet is not read again to see that it is readable.
-    pub(crate) fn step(&mut self, routes: &Routes, event: &Event) -> Result<(), StepFault>
+    pub(crate) fn step(&mut self, routes: &Routes, event: &Event) -> Result<(), Fault>
         requires { DeliveriesMeet (bytes_with routes.now) self.old }
         ensures ok { OnOk result (next_of (step (bytes_with routes.now) self.old (event_seen event.now))
             ≡ Some self.new) }
@@ -78,7 +78,7 @@ impl Parts {
         self.packets.reserve(room)?;
         let alloc = *self.packets.allocator();
         let Some((node, call)) = asked_by(self.packets.as_slice(), event) else {
-            return Err(StepFault::NoSuchPacket);
+            return Err(Fault::Refused(Refusal::NoSuchPacket));
         };
         let sent = self.nodes.call(alloc, routes, node, call)?;
         post(&mut self.packets, node, sent);

@@ -18,7 +18,7 @@ use claim_model::{bytes_keep_laws, deliveries_meet_few_refusals, routes_lead_to_
 use std::alloc::{AllocError, Global};
 use std::marker::Model;
 use std::ops::Range;
-use world_setup::{Event, StepFault, WorldFault, WorldSettings};
+use world_setup::{CheckedSettings, Event, Fault, WorldFault, WorldSettings};
 
 /// All nodes of some settings, and every packet that was ever sent. Every world was reached by events from the
 /// opening of settings that a world takes.
@@ -56,7 +56,18 @@ impl World {
         ensures taken { OnOk result (world_fault settings ≡ None) }
         ensures fault { IfErr result (λ fault. (fault ≡ OutOfMemory) ⊎ (world_fault settings ≡ Some fault)) }
     {
-        let routes = settings.checked_routes(alloc)?;
+        let checked = CheckedSettings::new(alloc, settings)?;
+        Ok(World::opening(alloc, checked)?)
+    }
+
+    /// The opening world of settings that a world takes.
+    pub fn opening(alloc: Global, settings: CheckedSettings) -> Result<World, AllocError>
+        ensures { IfOk result (λ w. w ≡ record {
+          routes = routes_of settings.routes.items;
+          world = opening (settings_seen settings);
+        }) }
+    {
+        let (settings, routes) = settings.into_parts();
         let parts = Parts::opening(alloc, settings)?;
         bytes_keep_laws();
         routes_lead_to_payers();
@@ -69,7 +80,7 @@ impl World {
     /// # Errors
     /// `NoSuchNode` or `NoSuchPacket`; then `Down` or `AlreadyUp`; then the node's own. `OutOfMemory` may stand in place
     /// of any answer. The world is then as it was.
-    pub fn step(&mut self, event: &Event) -> Result<Range<u64>, StepFault>
+    pub fn step(&mut self, event: &Event) -> Result<Range<u64>, Fault>
         ensures ok { OnOk result (next_of (step (context_of self.old) self.old.world (event_seen event.now))
             ≡ Some self.new.world) }
         ensures sent { IfOk result (λ range. range ≡ record {
@@ -114,6 +125,6 @@ impl World {
         ensures wanted { OnTrue result (self.new ≡ self.old) }
         ensures routes { self.new.routes ≡ self.old.routes }
     {
-        matches!(self.step(event), Err(StepFault::OutOfMemory))
+        matches!(self.step(event), Err(Fault::OutOfMemory))
     }
 }

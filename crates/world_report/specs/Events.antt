@@ -2,7 +2,7 @@
 use Rattle.std.specs.Prelude.{ℕ, ◌+◌, ◌-◌, length}
 use Rattle.claim_model.specs.Node.{Outcome, Done, Refused}
 use Rattle.claim_model.specs.World.{World}
-use Rattle.world_setup.specs.Names.{refusal_name}
+use Rattle.claim_model.specs.Refusal.{refusal_name}
 use Rattle.world_report.specs.Words.{Line}
 use Rattle.world_report.specs.Heads.{done_line, refused_line, numbers_from}
 

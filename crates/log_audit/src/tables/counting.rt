@@ -1,11 +1,12 @@
 //! The payments that a pharmacy counts.
 
-ghost use Rattle.std.specs.Prelude.{◌≡◌, OnOk};
-ghost use Rattle.table_text.specs.Adding.{AddsRow, AddsRows};
-ghost use Rattle.log_audit.specs.Adding.{TellsRows};
+ghost use Rattle.std.specs.Prelude.{OnOk};
+ghost use Rattle.table_text.specs.Adding.{AddsRow};
 ghost use Rattle.log_audit.specs.CountedRows.{counted_row, counted_rows, counted_seen, counted_shown_row};
 ghost use Rattle.log_audit.specs.Tables.{journal_counted};
+ghost use Rattle.log_audit.specs.Outgoing.{PutsRows, TellsPut};
 
+use crate::outgoing::{Outgoing, TextSink};
 use node_state::JournalReading;
 use pharmacy_journal::CountedPayment;
 use std::alloc::AllocError;
@@ -24,28 +25,31 @@ pub(crate) struct CountedTexts<'a> {
 }
 
 /// Appends a row for each payment that a pharmacy counts, in the order in which its entries named them first.
-pub(crate) fn put_journal_counted(
-    out: &mut Vec<u8>,
+pub(crate) fn put_journal_counted<K: TextSink + Drop>(
+    out: &mut Outgoing<K>,
     style: Style,
     journal: &JournalReading<'_>,
 ) -> Result<(), AllocError>
-    ensures { TellsRows style out.old out.new (λ ctx. journal_counted ctx journal.now) result }
+    ensures { TellsPut style out.old out.new (λ ctx. journal_counted ctx journal.now) result }
 {
     let paid = journal.paid()?;
     put_counted(out, style, journal.number(), paid.as_slice())
 }
 
 /// Appends a row for each of these payments.
-fn put_counted(
-    out: &mut Vec<u8>,
+fn put_counted<K: TextSink + Drop>(
+    out: &mut Outgoing<K>,
     style: Style,
     pharmacy: u16,
     paid: &[CountedPayment],
 ) -> Result<(), AllocError>
-    ensures { OnOk result (AddsRows style out.old out.new (counted_rows pharmacy paid.now)) }
+    ensures { OnOk result (PutsRows style out.old out.new (counted_rows pharmacy paid.now)) }
 {
+    let mut row = out.piece();
     for payment in paid {
-        put_payment(out, style, pharmacy, payment)?;
+        row.clear();
+        put_payment(&mut row, style, pharmacy, payment)?;
+        out.put(row.as_slice())?;
     }
     Ok(())
 }

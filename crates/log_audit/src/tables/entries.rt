@@ -2,10 +2,11 @@
 
 ghost use Rattle.std.specs.Prelude.{◌≡◌, ◌≤◌, length, OnOk};
 ghost use Rattle.log_audit.specs.Tables.{journal_rows};
-ghost use Rattle.table_text.specs.Adding.{AddsRow, AddsRows};
-ghost use Rattle.log_audit.specs.Adding.{TellsRows};
+ghost use Rattle.table_text.specs.Adding.{AddsRow};
 ghost use Rattle.log_audit.specs.Entries.{names, count_named, cents_of, state_word, shown_seen, shown_row, entry_row, entry_rows};
+ghost use Rattle.log_audit.specs.Outgoing.{PutsRows, TellsPut};
 
+use crate::outgoing::{Outgoing, TextSink};
 use crate::tables::kinds::kind_word;
 use claim_profile::{Auth, Ruling};
 use node_state::JournalReading;
@@ -26,12 +27,12 @@ pub(crate) struct EntryShown {
 }
 
 /// Appends a row for each entry of a journal, in order of numbers.
-pub(crate) fn put_journal(
-    out: &mut Vec<u8>,
+pub(crate) fn put_journal<K: TextSink + Drop>(
+    out: &mut Outgoing<K>,
     style: Style,
     journal: &JournalReading<'_>,
 ) -> Result<(), AllocError>
-    ensures { TellsRows style out.old out.new (λ ctx. journal_rows ctx journal.now) result }
+    ensures { TellsPut style out.old out.new (λ ctx. journal_rows ctx journal.now) result }
 {
     let (entries, paid) = journal.told()?;
     put_entries(
@@ -45,19 +46,22 @@ pub(crate) fn put_journal(
 
 /// Appends a row for each of these entries. The payments that the pharmacy counts come in the order in which entries named
 /// them first, so each entry takes from the front those that it names.
-fn put_entries(
-    out: &mut Vec<u8>,
+fn put_entries<K: TextSink + Drop>(
+    out: &mut Outgoing<K>,
     style: Style,
     pharmacy: u16,
     entries: &[EntryView],
     paid: &[CountedPayment],
 ) -> Result<(), AllocError>
-    ensures { OnOk result (AddsRows style out.old out.new (entry_rows pharmacy entries.now paid.now)) }
+    ensures { OnOk result (PutsRows style out.old out.new (entry_rows pharmacy entries.now paid.now)) }
 {
+    let mut row = out.piece();
     let mut left = paid;
     for entry in entries {
         let (own, others) = left.split_at(count_named(entry.rulings(), left));
-        put_entry(out, style, pharmacy, entry, own)?;
+        row.clear();
+        put_entry(&mut row, style, pharmacy, entry, own)?;
+        out.put(row.as_slice())?;
         left = others;
     }
     Ok(())

@@ -7,7 +7,9 @@ ghost use Rattle.world_setup.specs.Seen.{packet_seen};
 ghost use Rattle.table_text.specs.Adding.{AddsRow};
 ghost use Rattle.log_audit.specs.Adding.{TellsRow, TellsRows};
 ghost use Rattle.log_audit.specs.Packets.{packet_rows, sent_row, packet_row, loaded_row, carried_seen, load_of, kind_word};
+ghost use Rattle.log_audit.specs.Outgoing.{TellsPut};
 
+use crate::outgoing::{Outgoing, TextSink};
 use crate::tables::kinds::node_field;
 use claim_model::envelopes_know_no_place;
 use envelope::{Envelope, EnvelopeFault, Kind};
@@ -16,23 +18,26 @@ use table_text::{Field, Style, put_row};
 use world_setup::Packet;
 
 /// Appends a row for each packet, with the event that sent it.
-pub(crate) fn put_packets(
-    out: &mut Vec<u8>,
+pub(crate) fn put_packets<K: TextSink + Drop>(
+    out: &mut Outgoing<K>,
     style: Style,
     packets: &[Packet],
     senders: &[u64],
 ) -> Result<(), AllocError>
-    ensures { TellsRows style out.old out.new
+    ensures { TellsPut style out.old out.new
         (λ ctx. packet_rows ctx (map packet_seen packets.now) senders.now) result }
 {
+    let mut row = out.piece();
     for (place, packet) in packets.iter().enumerate() {
+        row.clear();
         put_sent(
-            out,
+            &mut row,
             style,
             place as u64 + 1,
             sender_at(senders, place),
             packet,
         )?;
+        out.put(row.as_slice())?;
     }
     Ok(())
 }

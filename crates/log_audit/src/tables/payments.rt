@@ -5,7 +5,9 @@ ghost use Rattle.pharmacy_journal.specs.Counting.{has_auth};
 ghost use Rattle.table_text.specs.Adding.{AddsRow, AddsRows};
 ghost use Rattle.log_audit.specs.Adding.{TellsRows};
 ghost use Rattle.log_audit.specs.Payments.{state_word, reversing, shown_seen, texts_seen, fill_shown, cents_of, shown_row, payment_row, found_payment, ruling_payment, row_payments, book_payments};
+ghost use Rattle.log_audit.specs.Outgoing.{TellsPut};
 
+use crate::outgoing::{Outgoing, TextSink};
 use crate::tables::claims;
 use crate::tables::claims::{ClaimTexts, claim_of};
 use crate::tables::kinds::date_of;
@@ -66,16 +68,19 @@ pub(crate) struct Cents {
 }
 
 /// Appends a row for each payment of a book, in the order in which they were made.
-pub(crate) fn put_book_payments(
-    out: &mut Vec<u8>,
+pub(crate) fn put_book_payments<K: TextSink + Drop>(
+    out: &mut Outgoing<K>,
     style: Style,
     book: &Book,
     counted: &BTreeSet<Auth>,
 ) -> Result<(), AllocError>
-    ensures { TellsRows style out.old out.new (λ ctx. book_payments ctx (has_auth counted.now.keys) book.now) result }
+    ensures { TellsPut style out.old out.new (λ ctx. book_payments ctx (has_auth counted.now.keys) book.now) result }
 {
+    let mut rows = out.piece();
     for row in book.rows() {
-        put_row_payments(out, style, book, counted, row)?;
+        rows.clear();
+        put_row_payments(&mut rows, style, book, counted, row)?;
+        out.put(rows.as_slice())?;
     }
     Ok(())
 }

@@ -5,7 +5,9 @@ ghost use Rattle.std.specs.List.{flat_map};
 ghost use Rattle.claim_profile.specs.Reject.{code_text};
 ghost use Rattle.table_text.specs.Adding.{AddsRow, AddsRows};
 ghost use Rattle.log_audit.specs.Rulings.{codes_text, at_seen, answered_row, ruling_row, row_rulings, book_rulings, ruled_at};
+ghost use Rattle.log_audit.specs.Outgoing.{PutsRows};
 
+use crate::outgoing::{Outgoing, TextSink};
 use crate::tables::kinds::{date_of, kind_of};
 use claim_profile::{Code, Ruling};
 use envelope::TxnId;
@@ -32,15 +34,18 @@ struct Told {
 }
 
 /// Appends a row for each transaction of each row of a book, oldest first.
-pub(crate) fn put_book_rulings(
-    out: &mut Vec<u8>,
+pub(crate) fn put_book_rulings<K: TextSink + Drop>(
+    out: &mut Outgoing<K>,
     style: Style,
     book: &Book,
 ) -> Result<(), AllocError>
-    ensures { OnOk result (AddsRows style out.old out.new (book_rulings book.now)) }
+    ensures { OnOk result (PutsRows style out.old out.new (book_rulings book.now)) }
 {
+    let mut rows = out.piece();
     for row in book.rows() {
-        put_row_rulings(out, style, book, row)?;
+        rows.clear();
+        put_row_rulings(&mut rows, style, book, row)?;
+        out.put(rows.as_slice())?;
     }
     Ok(())
 }

@@ -11,7 +11,7 @@ ghost use Rattle.log_audit.specs.Senders.{sent_by, senders_from};
 use std::alloc::{AllocError, Global};
 use std::ops::Range;
 use world_core::World;
-use world_setup::{Event, StepFault};
+use world_setup::{Event, Fault};
 
 /// Makes these events in order, refused ones included, and gives for each packet that they send the number of its event,
 /// from 1.
@@ -46,7 +46,7 @@ fn make(
 {
     match world.step(event) {
         Ok(sent) => note(senders, number, sent),
-        Err(StepFault::OutOfMemory) => Err(AllocError),
+        Err(Fault::OutOfMemory) => Err(AllocError),
         Err(_) => Ok(()),
     }
 }

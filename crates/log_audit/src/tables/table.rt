@@ -3,12 +3,13 @@
 ghost use Rattle.std.specs.Prelude.{◌≡◌, OnOk};
 ghost use Rattle.std.specs.List.{flat_map};
 ghost use Rattle.world_core.specs.Parts.{context_of};
-ghost use Rattle.table_text.specs.Adding.{Adds, AddsRows};
-ghost use Rattle.log_audit.specs.Adding.{TellsRows};
+ghost use Rattle.table_text.specs.Adding.{Adds};
 ghost use Rattle.table_text.specs.Rows.{head_text};
 ghost use Rattle.pharmacy_journal.specs.Counting.{has_auth};
 ghost use Rattle.log_audit.specs.Tables.{node_payments, node_entries, node_counted_rows, node_rulings, world_payments, table_rows, table_names, table_csv, table_json, table_name, table_member, table_members};
+ghost use Rattle.log_audit.specs.Outgoing.{Puts, PutsRows, TellsPut};
 
+use crate::outgoing::{Outgoing, TextSink};
 use crate::tables::columns::{
     put_counted_names, put_entry_names, put_packet_names, put_payment_names, put_row_names,
 };
@@ -22,7 +23,7 @@ use claim_profile::Auth;
 use node_state::{PayerNode, PharmacyNode};
 use std::alloc::{AllocError, Global};
 use std::collections::BTreeSet;
-use table_text::{Style, put_list};
+use table_text::Style;
 use world_core::World;
 
 /// Which table.
@@ -57,27 +58,29 @@ impl Table {
 
 /// Appends a table of what a run left as CSV: a line of the names of its columns, and a line for each row. `senders` has
 /// for each packet the event that sent it.
-pub(crate) fn put_csv(
+pub(crate) fn put_csv<K: TextSink + Drop>(
     alloc: Global,
-    out: &mut Vec<u8>,
+    out: &mut Outgoing<K>,
     world: &World,
     senders: &[u64],
     table: Table,
 ) -> Result<(), AllocError>
-    ensures { OnOk result (Adds out.old out.new (table_csv (context_of world.now) world.now.world senders.now table)) }
+    ensures { OnOk result (Puts out.old out.new (table_csv (context_of world.now) world.now.world senders.now table)) }
 {
-    put_names(out, table)?;
+    let mut names = out.piece();
+    put_names(&mut names, table)?;
+    out.put(names.as_slice())?;
     put_table(alloc, out, Style::Csv, world, senders, table)
 }
 
 /// Appends all tables of what a run left as members of an object of JSON, each behind a comma.
-pub(crate) fn put_json(
+pub(crate) fn put_json<K: TextSink + Drop>(
     alloc: Global,
-    out: &mut Vec<u8>,
+    out: &mut Outgoing<K>,
     world: &World,
     senders: &[u64],
 ) -> Result<(), AllocError>
-    ensures { OnOk result (Adds out.old out.new (table_members (context_of world.now) world.now.world senders.now)) }
+    ensures { OnOk result (Puts out.old out.new (table_members (context_of world.now) world.now.world senders.now)) }
 {
     put_member(alloc, out, world, senders, Table::Payments)?;
     put_member(alloc, out, world, senders, Table::Entries)?;
@@ -87,35 +90,35 @@ pub(crate) fn put_json(
 }
 
 /// Appends a table as a member of an object of JSON, behind a comma.
-fn put_member(
+fn put_member<K: TextSink + Drop>(
     alloc: Global,
-    out: &mut Vec<u8>,
+    out: &mut Outgoing<K>,
     world: &World,
     senders: &[u64],
     table: Table,
 ) -> Result<(), AllocError>
-    ensures { OnOk result (Adds out.old out.new
+    ensures { OnOk result (Puts out.old out.new
         (table_member (context_of world.now) world.now.world senders.now table)) }
 {
-    out.extend_from_slice(b",\n\"")?;
-    out.extend_from_slice(table.name())?;
-    out.extend_from_slice(b"\":")?;
+    out.put(b",\n\"")?;
+    out.put(table.name())?;
+    out.put(b"\":")?;
     put_rows_list(alloc, out, world, senders, table)
 }
 
 /// Appends the rows of a table as a list of JSON.
-fn put_rows_list(
+fn put_rows_list<K: TextSink + Drop>(
     alloc: Global,
-    out: &mut Vec<u8>,
+    out: &mut Outgoing<K>,
     world: &World,
     senders: &[u64],
     table: Table,
 ) -> Result<(), AllocError>
-    ensures { OnOk result (Adds out.old out.new (table_json (context_of world.now) world.now.world senders.now table)) }
+    ensures { OnOk result (Puts out.old out.new (table_json (context_of world.now) world.now.world senders.now table)) }
 {
-    let mut rows = Vec::new(alloc);
-    put_table(alloc, &mut rows, Style::Json, world, senders, table)?;
-    put_list(out, rows.as_slice())
+    out.put(b"[")?;
+    put_table(alloc, out, Style::Json, world, senders, table)?;
+    out.end_list()
 }
 
 /// Appends the names of a table's columns.
@@ -132,15 +135,15 @@ fn put_names(out: &mut Vec<u8>, table: Table) -> Result<(), AllocError>
 }
 
 /// Appends the rows of a table.
-fn put_table(
+fn put_table<K: TextSink + Drop>(
     alloc: Global,
-    out: &mut Vec<u8>,
+    out: &mut Outgoing<K>,
     style: Style,
     world: &World,
     senders: &[u64],
     table: Table,
 ) -> Result<(), AllocError>
-    ensures { OnOk result (AddsRows style out.old out.new
+    ensures { OnOk result (PutsRows style out.old out.new
         (table_rows (context_of world.now) world.now.world senders.now table)) }
 {
     match table {
@@ -153,27 +156,27 @@ fn put_table(
 }
 
 /// Appends the payments of all books.
-fn put_payments(
+fn put_payments<K: TextSink + Drop>(
     alloc: Global,
-    out: &mut Vec<u8>,
+    out: &mut Outgoing<K>,
     style: Style,
     world: &World,
 ) -> Result<(), AllocError>
-    ensures { OnOk result (AddsRows style out.old out.new (world_payments (context_of world.now) world.now.world)) }
+    ensures { OnOk result (PutsRows style out.old out.new (world_payments (context_of world.now) world.now.world)) }
 {
     let counted = counted_auths(alloc, world.pharmacies())?;
     put_paid(alloc, out, style, world.payers(), &counted)
 }
 
 /// Appends the payments of these books, of which those with these authorizations are counted.
-fn put_paid(
+fn put_paid<K: TextSink + Drop>(
     alloc: Global,
-    out: &mut Vec<u8>,
+    out: &mut Outgoing<K>,
     style: Style,
     nodes: &[PayerNode],
     counted: &BTreeSet<Auth>,
 ) -> Result<(), AllocError>
-    ensures { TellsRows style out.old out.new
+    ensures { TellsPut style out.old out.new
         (λ ctx. flat_map (node_payments ctx (has_auth counted.now.keys)) nodes.now) result }
 {
     for node in nodes {
@@ -184,13 +187,13 @@ fn put_paid(
 }
 
 /// Appends the entries of these journals.
-fn put_entries(
+fn put_entries<K: TextSink + Drop>(
     alloc: Global,
-    out: &mut Vec<u8>,
+    out: &mut Outgoing<K>,
     style: Style,
     nodes: &[PharmacyNode],
 ) -> Result<(), AllocError>
-    ensures { TellsRows style out.old out.new (λ ctx. flat_map (node_entries ctx) nodes.now) result }
+    ensures { TellsPut style out.old out.new (λ ctx. flat_map (node_entries ctx) nodes.now) result }
 {
     for node in nodes {
         let journal = node.journal(alloc)?;
@@ -200,13 +203,13 @@ fn put_entries(
 }
 
 /// Appends the payments that these pharmacies count.
-fn put_counted(
+fn put_counted<K: TextSink + Drop>(
     alloc: Global,
-    out: &mut Vec<u8>,
+    out: &mut Outgoing<K>,
     style: Style,
     nodes: &[PharmacyNode],
 ) -> Result<(), AllocError>
-    ensures { TellsRows style out.old out.new (λ ctx. flat_map (node_counted_rows ctx) nodes.now) result }
+    ensures { TellsPut style out.old out.new (λ ctx. flat_map (node_counted_rows ctx) nodes.now) result }
 {
     for node in nodes {
         let journal = node.journal(alloc)?;
@@ -216,13 +219,13 @@ fn put_counted(
 }
 
 /// Appends the rows of these books.
-fn put_rows(
+fn put_rows<K: TextSink + Drop>(
     alloc: Global,
-    out: &mut Vec<u8>,
+    out: &mut Outgoing<K>,
     style: Style,
     nodes: &[PayerNode],
 ) -> Result<(), AllocError>
-    ensures { OnOk result (AddsRows style out.old out.new (flat_map node_rulings nodes.now)) }
+    ensures { OnOk result (PutsRows style out.old out.new (flat_map node_rulings nodes.now)) }
 {
     for node in nodes {
         let reading = node.book(alloc)?;

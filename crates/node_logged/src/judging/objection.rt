@@ -1,10 +1,7 @@
 //! What speaks against the tills.
 
-ghost use Rattle.std.specs.Prelude.{◌≡◌, List, length, None, IfOk};
-ghost use Rattle.bin_routes.specs.Fault.{first_fault};
+ghost use Rattle.std.specs.Prelude.{◌≡◌, List, IfOk};
 ghost use Rattle.claim_model.specs.Logs.{NodeLog as LogSeen};
-ghost use Rattle.claim_model.specs.Settings.{settings_fault};
-ghost use Rattle.world_setup.specs.Seen.{settings_seen};
 ghost use Rattle.node_log.specs.LogSeen.{logs_seen};
 ghost use Rattle.node_logged.specs.LedgerSeen.{tills_seen};
 ghost use Rattle.node_logged.specs.Replayed.{AreOfWorld, ledgers_of};
@@ -21,7 +18,7 @@ use crate::till::Till;
 use node_log::NodeLog;
 use std::alloc::{AllocError, Global};
 use world_core::World;
-use world_setup::WorldSettings;
+use world_setup::CheckedSettings;
 
 /// What speaks against the tills.
 #[derive(Clone, Copy, PartialEq, Eq)]
@@ -37,12 +34,10 @@ pub(crate) enum Objection {
 /// What speaks against the tills and nothing before it, if anything does.
 pub(crate) fn objection_to(
     alloc: Global,
-    settings: &WorldSettings,
+    settings: &CheckedSettings,
     logs: &[NodeLog],
     tills: &[Till],
 ) -> Result<Option<Objection>, AllocError>
-    requires world { settings_fault (settings_seen settings.now) ≡ None }
-    requires rows { first_fault (length settings.now.payers.items) settings.now.routes.items ≡ None }
     ensures { IfOk result (λ o. ObjectionTo (tills_seen tills.now) (ledgers_of settings.now (logs_seen logs.now)) o) }
 {
     let ledgers = ledgers(alloc, settings, logs)?;
@@ -53,11 +48,10 @@ pub(crate) fn objection_to(
 /// logs, where the journals after their calls are those of the world.
 pub(crate) fn objection_in(
     alloc: Global,
-    settings: &WorldSettings,
+    settings: &CheckedSettings,
     world: &World,
     tills: &[Till],
 ) -> Result<Option<Objection>, AllocError>
-    requires { settings_fault (settings_seen settings.now) ≡ None }
     ensures { (logs : List LogSeen) → AreOfWorld (ledgers_of settings.now logs) world.now.world
         → IfOk result (λ o. ObjectionTo (tills_seen tills.now) (ledgers_of settings.now logs) o) }
 {

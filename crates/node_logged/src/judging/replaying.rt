@@ -1,8 +1,7 @@
 //! The ledgers of all pharmacies, after the calls of their logs.
 
-ghost use Rattle.std.specs.Prelude.{◌≡◌, ◌+◌, ◌<◌, [], length, None, Some, IsSome, IfOk, IfSome, MatchOption};
-ghost use Rattle.bin_routes.specs.Fault.{first_fault};
-ghost use Rattle.claim_model.specs.Settings.{settings_fault, opening};
+ghost use Rattle.std.specs.Prelude.{◌≡◌, ◌+◌, ◌<◌, [], length, Some, IsSome, IfOk, IfSome, MatchOption};
+ghost use Rattle.claim_model.specs.Settings.{opening};
 ghost use Rattle.claim_model.specs.Nodes.{node_at};
 ghost use Rattle.world_setup.specs.Seen.{node_seen, settings_seen};
 ghost use Rattle.run_merge.specs.Naming.{calls_of};
@@ -14,20 +13,18 @@ use crate::judging::ledger::Ledger;
 use node_log::{NodeLog, replay_log};
 use node_state::NodeState;
 use std::alloc::{AllocError, Global};
-use world_setup::{Node, WorldSettings};
+use world_setup::{CheckedSettings, Node};
 
 /// The ledgers of all pharmacies of the settings, each after the calls of its log. Each log is replayed once.
 pub(crate) fn ledgers(
     alloc: Global,
-    settings: &WorldSettings,
+    settings: &CheckedSettings,
     logs: &[NodeLog],
 ) -> Result<Vec<Ledger<'static>>, AllocError>
-    requires world { settings_fault (settings_seen settings.now) ≡ None }
-    requires rows { first_fault (length settings.now.payers.items) settings.now.routes.items ≡ None }
     ensures { IfOk result (λ ledgers. ledgers.items ≡ ledgers_of settings.now (logs_seen logs.now)) }
 {
     let mut ledgers = Vec::new(alloc);
-    for place in 0..settings.pharmacies.len() {
+    for place in 0..settings.settings().pharmacies.len() {
         ledgers.push(ledger_of(alloc, settings, logs, place)?)?;
     }
     Ok(ledgers)
@@ -36,15 +33,14 @@ pub(crate) fn ledgers(
 /// The ledger of the pharmacy at a place among all, after the calls of its log.
 fn ledger_of(
     alloc: Global,
-    settings: &WorldSettings,
+    settings: &CheckedSettings,
     logs: &[NodeLog],
     place: usize,
 ) -> Result<Ledger<'static>, AllocError>
-    requires world { settings_fault (settings_seen settings.now) ≡ None }
-    requires rows { first_fault (length settings.now.payers.items) settings.now.routes.items ≡ None }
-    requires there { place < length settings.now.pharmacies.items }
+    requires { place < length settings.now.pharmacies.items }
     ensures { IfOk result (λ ledger. ledger_at settings.now (logs_seen logs.now) (place + 1) ≡ Some ledger) }
 {
+    let _taken = settings.settings();
     let number = place as u16 + 1;
     let node = node_after(alloc, settings, logs, Node::Pharmacy(number))?;
     match node.into_journal(alloc)? {
@@ -56,13 +52,11 @@ fn ledger_of(
 /// The node of the settings after the calls of its log. Without a log it was not called.
 fn node_after(
     alloc: Global,
-    settings: &WorldSettings,
+    settings: &CheckedSettings,
     logs: &[NodeLog],
     node: Node,
 ) -> Result<NodeState, AllocError>
-    requires world { settings_fault (settings_seen settings.now) ≡ None }
-    requires rows { first_fault (length settings.now.payers.items) settings.now.routes.items ≡ None }
-    requires there { IsSome (node_at (opening (settings_seen settings.now)) (node_seen node)) }
+    requires { IsSome (node_at (opening (settings_seen settings.now)) (node_seen node)) }
     ensures { IfOk result (λ after.
         replayed settings.now (node_seen node) (calls_of (logs_seen logs.now) (node_seen node)) ≡ Some after) }
 {

@@ -10,7 +10,7 @@ use crate::held::Held;
 use node_log::NodeLog;
 use node_state::{NodeState, PayerNode, PharmacyNode, StateKind, SwitchNode};
 use std::alloc::{AllocError, Global};
-use world_setup::{Node, WorldSettings};
+use world_setup::{CheckedSettings, Node};
 
 /// Nodes as they stand, each kind in the order of its numbers, from 1.
 #[derive(Drop)]
@@ -32,7 +32,7 @@ pub(crate) struct Standing {
 /// These nodes and their logs, taken apart. The nodes count where each is of these settings and is the next of its kind.
 pub(crate) fn taken_apart(
     alloc: Global,
-    settings: &WorldSettings,
+    settings: &CheckedSettings,
     all: Vec<Held>,
 ) -> Result<Standing, AllocError>
     ensures logs { IfOk result (λ s. logs_seen s.logs.items ≡ map (λ h. h.log) all.items) }
@@ -51,7 +51,7 @@ pub(crate) fn taken_apart(
 
 impl Standing {
     /// Adds a node and its log.
-    fn add(&mut self, settings: &WorldSettings, held: Held) -> Result<(), AllocError>
+    fn add(&mut self, settings: &CheckedSettings, held: Held) -> Result<(), AllocError>
         ensures logs { OnOk result (logs_seen self.new.logs.items ≡ logs_seen self.old.logs.items ++ held.log ∷ []) }
         ensures nodes { OnOk result (StandsWhole settings.now self.old → StandsWhole settings.now self.new) }
     {
@@ -64,7 +64,7 @@ impl Standing {
     }
 
     /// Whether the nodes are those of the logs, and all of these settings.
-    pub(crate) fn is_all(&self, settings: &WorldSettings) -> bool
+    pub(crate) fn is_all(&self, settings: &CheckedSettings) -> bool
         ensures { IsTrue result → IsTrue self.now.is_whole × AreAll settings.now (nodes_seen self.now.nodes) }
     {
         self.is_whole && self.nodes.are_all(settings)
@@ -113,9 +113,10 @@ impl Nodes {
     }
 
     /// Whether there are as many of each kind as in these settings.
-    fn are_all(&self, settings: &WorldSettings) -> bool
+    fn are_all(&self, settings: &CheckedSettings) -> bool
         ensures { IsTrue result → AreAll settings.now (nodes_seen self.now) }
     {
+        let settings = settings.settings();
         self.pharmacies.len() == settings.pharmacies.len()
             && self.switches.len() == settings.switches.len()
             && self.payers.len() == settings.payers.len()

@@ -1,9 +1,7 @@
 //! The verdict on logs and tills.
 
-ghost use Rattle.std.specs.Prelude.{◌≡◌, List, length, map, None, IfOk, IfErr, OnOk};
-ghost use Rattle.bin_routes.specs.Fault.{first_fault};
-ghost use Rattle.claim_model.specs.Settings.{settings_fault};
-ghost use Rattle.world_setup.specs.Seen.{event_seen, settings_seen};
+ghost use Rattle.std.specs.Prelude.{◌≡◌, List, map, IfOk, IfErr, OnOk};
+ghost use Rattle.world_setup.specs.Seen.{event_seen};
 ghost use Rattle.node_log.specs.LogSeen.{logs_seen};
 ghost use Rattle.run_merge.specs.Merged.{IsMerged, NoMerge};
 ghost use Rattle.run_merge.specs.MergedRuns.{IsRunOf};
@@ -27,7 +25,7 @@ use node_log::NodeLog;
 use run_merge::{MergeFault, MergedRun, merge, merge_fitting};
 use std::alloc::{AllocError, Global};
 use world_core::{KnownParts, World};
-use world_setup::{Event, WorldFault, WorldSettings};
+use world_setup::{CheckedSettings, Event};
 
 /// What a system did that has ended.
 #[derive(Drop)]
@@ -40,8 +38,8 @@ pub struct Finished {
     pub logs: Vec<NodeLog>,
 }
 
-/// The run of a system that has ended, by the logs of its nodes and the tills of its callers. The settings are those that a
-/// world takes. Tills of pharmacies that are not there are not looked at. No lock is taken and nothing is waited for.
+/// The run of a system that has ended, by the logs of its nodes and the tills of its callers. Tills of pharmacies that are not
+/// there are not looked at. No lock is taken and nothing is waited for.
 ///
 /// # Errors
 /// `TillMissing`, with the least pharmacy whose tills have another count of receipts than its journal has entries after the
@@ -50,12 +48,10 @@ pub struct Finished {
 /// place of any answer.
 pub fn judge(
     alloc: Global,
-    settings: &WorldSettings,
+    settings: &CheckedSettings,
     logs: Vec<NodeLog>,
     tills: &[Till],
 ) -> Result<Finished, FinishFault>
-    requires world { settings_fault (settings_seen settings.now) ≡ None }
-    requires rows { first_fault (length settings.now.payers.items) settings.now.routes.items ≡ None }
     // The logs are those that were handed in, and the events are a legal interleaving of them.
     ensures logs { IfOk result (λ f. f.logs.items ≡ logs.items) }
     ensures events { IfOk result (λ f. IsMerged settings.now (logs_seen logs.items) (map event_seen f.events.items)) }
@@ -90,12 +86,10 @@ pub fn judge(
 /// Those of `judge`, of the logs that the refusal carries.
 pub fn judge_nodes(
     alloc: Global,
-    settings: &WorldSettings,
+    settings: &CheckedSettings,
     nodes: Vec<Held>,
     tills: &[Till],
 ) -> Result<Finished, FinishFault>
-    requires world { settings_fault (settings_seen settings.now) ≡ None }
-    requires rows { first_fault (length settings.now.payers.items) settings.now.routes.items ≡ None }
     // The logs are those of the nodes.
     ensures logs { IfOk result (λ f. logs_seen f.logs.items ≡ map (λ h. h.log) nodes.items) }
     ensures run { IfOk result (λ f. IsRun settings.now (tills_seen tills.now) f f.logs.items) }
@@ -118,13 +112,11 @@ pub fn judge_nodes(
 /// The verdict on all nodes of the settings, which stand by their logs.
 fn judge_standing(
     alloc: Global,
-    settings: &WorldSettings,
+    settings: &CheckedSettings,
     nodes: Nodes,
     logs: Vec<NodeLog>,
     tills: &[Till],
 ) -> Result<Finished, FinishFault>
-    requires world { settings_fault (settings_seen settings.now) ≡ None }
-    requires rows { first_fault (length settings.now.payers.items) settings.now.routes.items ≡ None }
     requires standing { AreStanding settings.now (nodes_seen nodes) (logs_seen logs.items) }
     requires all { AreAll settings.now (nodes_seen nodes) }
     ensures logs { IfOk result (λ f. f.logs.items ≡ logs.items) }
@@ -144,13 +136,11 @@ fn judge_standing(
 /// A run of these logs, whose nodes stand at its end.
 fn standing_run(
     alloc: Global,
-    settings: &WorldSettings,
+    settings: &CheckedSettings,
     nodes: Nodes,
     logs: Vec<NodeLog>,
     run: MergedRun,
 ) -> Result<Finished, AllocError>
-    requires world { settings_fault (settings_seen settings.now) ≡ None }
-    requires rows { first_fault (length settings.now.payers.items) settings.now.routes.items ≡ None }
     requires standing { AreStanding settings.now (nodes_seen nodes) (logs_seen logs.items) }
     requires all { AreAll settings.now (nodes_seen nodes) }
     requires run { IsRunOf settings.now (logs_seen logs.items) run }
@@ -183,11 +173,10 @@ fn standing_run(
 /// The run, where nothing speaks against the tills in its world.
 fn judge_run(
     alloc: Global,
-    settings: &WorldSettings,
+    settings: &CheckedSettings,
     run: Finished,
     tills: &[Till],
 ) -> Result<Finished, FinishFault>
-    requires world { settings_fault (settings_seen settings.now) ≡ None }
     requires events { IsMerged settings.now (logs_seen run.logs.items) (map event_seen run.events.items) }
     requires runs { run.world ≡ world_after_run settings.now (map event_seen run.events.items) }
     ensures same { IfOk result (λ f. f ≡ run) }
@@ -210,12 +199,10 @@ fn judge_run(
 /// The refusal of logs that have no legal interleaving: what speaks against the tills stands before that.
 fn refused(
     alloc: Global,
-    settings: &WorldSettings,
+    settings: &CheckedSettings,
     logs: Vec<NodeLog>,
     tills: &[Till],
 ) -> FinishFault
-    requires world { settings_fault (settings_seen settings.now) ≡ None }
-    requires rows { first_fault (length settings.now.payers.items) settings.now.routes.items ≡ None }
     requires tangled { NoMerge settings.now (logs_seen logs.items) }
     ensures { IsCause settings.now logs.items (tills_seen tills.now) result }
 {
@@ -251,11 +238,9 @@ fn refusal(objection: Objection, logs: Vec<NodeLog>) -> FinishFault
 /// The world after these events, from the opening world of the settings.
 fn world_after(
     alloc: Global,
-    settings: &WorldSettings,
+    settings: &CheckedSettings,
     events: &[Event],
 ) -> Result<World, AllocError>
-    requires world { settings_fault (settings_seen settings.now) ≡ None }
-    requires rows { first_fault (length settings.now.payers.items) settings.now.routes.items ≡ None }
     ensures { IfOk result (λ w. w ≡ world_after_run settings.now (map event_seen events.now)) }
 {
     let mut world = opening_world(alloc, settings)?;
@@ -265,15 +250,9 @@ fn world_after(
     }
 }
 
-/// The opening world of the settings. A world takes them, so nothing but memory can be wanting.
-fn opening_world(alloc: Global, settings: &WorldSettings) -> Result<World, AllocError>
-    requires world { settings_fault (settings_seen settings.now) ≡ None }
-    requires rows { first_fault (length settings.now.payers.items) settings.now.routes.items ≡ None }
+/// The opening world of the settings.
+fn opening_world(alloc: Global, settings: &CheckedSettings) -> Result<World, AllocError>
     ensures { IfOk result (λ w. w ≡ opening_world settings.now) }
 {
-    match World::new(alloc, settings.copy()?) {
-        Ok(world) => Ok(world),
-        Err(WorldFault::OutOfMemory) => Err(AllocError),
-        Err(_) => unreachable!(),
-    }
+    World::opening(alloc, settings.copy(alloc)?)
 }

@@ -5,9 +5,9 @@ ghost use Rattle.claim_model.specs.Book.{row_of};
 ghost use Rattle.payer_book.specs.Answers.{Answers, Refuses};
 
 use crate::book::{Book, Reply};
-use crate::fault::BookFault;
 use crate::ruling::drafting::Draft;
 use bin_routes::Routes;
+use claim_model::Fault;
 use envelope::TxnId;
 use std::alloc::Global;
 
@@ -20,7 +20,7 @@ impl Book {
     /// # Errors
     /// In this order: `Unreadable`, `NotOurs`, `NumberReused`, `BookFull`, `SerialsUsedUp`. `OutOfMemory` may
     /// stand in place of any answer. The book is as it was after each of them.
-    pub fn answer(&mut self, routes: &Routes, id: TxnId, request: &[u8]) -> Result<Reply, BookFault>
+    pub fn answer(&mut self, routes: &Routes, id: TxnId, request: &[u8]) -> Result<Reply, Fault>
         ensures ok { Answers routes.now self.old id request.now self.new result }
         ensures fault { Refuses routes.now self.old id request.now result }
         ensures err { OnErr result (self.new ≡ self.old) }
@@ -44,7 +44,7 @@ impl Book {
         routes: &Routes,
         id: TxnId,
         request: &[u8],
-    ) -> Result<Reply, BookFault>
+    ) -> Result<Reply, Fault>
         requires { row_of id self.old.rows ≡ None }
         ensures ok { Answers routes.now self.old id request.now self.new result }
         ensures fault { Refuses routes.now self.old id request.now result }

@@ -9,10 +9,10 @@ ghost use Rattle.payer_book.specs.Answers.{Refuses};
 
 use crate::book::Book;
 use crate::book::row::Row;
-use crate::fault::BookFault;
 use crate::ruling::drafting::Draft;
 use crate::ruling::pricing::Prices;
 use bin_routes::{PayerNo, Routes};
+use claim_model::{Fault, Refusal};
 use claim_profile::check_readable;
 use d0_header::RequestHeader;
 use envelope::TxnId;
@@ -20,13 +20,13 @@ use std::alloc::Global;
 
 impl Book {
     /// The place of the row that has the request and the id already; None where no row has the id. Where the request is
-    /// a new one under an old id, the first fault that stands is in the order of [`BookFault`].
+    /// a new one under an old id, the first that stands of `Unreadable`, `NotOurs` and `NumberReused`.
     pub(crate) fn known(
         &self,
         routes: &Routes,
         id: TxnId,
         request: &[u8],
-    ) -> Result<Option<usize>, BookFault>
+    ) -> Result<Option<usize>, Fault>
         ensures known { IfOk result (λ place. IsKnown (bytes_with routes.now) self.now id request.now place) }
         ensures fault { Refuses routes.now self.now id request.now result }
     {
@@ -44,7 +44,7 @@ impl Book {
         id: TxnId,
         row: &Row,
         request: &[u8],
-    ) -> Result<(), BookFault>
+    ) -> Result<(), Fault>
         requires { row_of id self.now.rows ≡ Some row.now }
         ensures decided { OnOk result (IsAgain (bytes_with routes.now) self.now id request.now row.now) }
         ensures fault { Refuses routes.now self.now id request.now result }
@@ -54,24 +54,24 @@ impl Book {
         }
         let framed = match check_readable(request) {
             Some(framed) => framed,
-            None => return Err(BookFault::Unreadable),
+            None => return Err(Fault::Refused(Refusal::Unreadable)),
         };
         if !leads_to(routes, framed.header(), self.payer()) {
-            return Err(BookFault::NotOurs);
+            return Err(Fault::Refused(Refusal::NotOurs));
         }
-        Err(BookFault::NumberReused)
+        Err(Fault::Refused(Refusal::NumberReused))
     }
 
     /// Whether a row's own request gets its answer. It is readable, as the request of every row, so only its route is
     /// asked.
-    fn decide_again(&self, routes: &Routes, id: TxnId, row: &Row) -> Result<(), BookFault>
+    fn decide_again(&self, routes: &Routes, id: TxnId, row: &Row) -> Result<(), Fault>
         requires { row_of id self.now.rows ≡ Some row.now }
         ensures decided { OnOk result (IsAgain (bytes_with routes.now) self.now id row.now.request row.now) }
         ensures fault { Refuses routes.now self.now id row.now.request result }
     {
         let (bin, pcn) = row.bin_and_pcn();
         if !is_routed(routes, &bin, &pcn, self.payer()) {
-            return Err(BookFault::NotOurs);
+            return Err(Fault::Refused(Refusal::NotOurs));
         }
         Ok(())
     }
@@ -84,7 +84,7 @@ impl Book {
         routes: &Routes,
         id: TxnId,
         request: &[u8],
-    ) -> Result<Row, BookFault>
+    ) -> Result<Row, Fault>
         requires { row_of id self.now.rows ≡ None }
         ensures decided { IfOk result
             (λ row. IsNew (bytes_with routes.now) self.now id request.now row draft.new.changes.items) }
@@ -92,13 +92,13 @@ impl Book {
     {
         let framed = match check_readable(request) {
             Some(framed) => framed,
-            None => return Err(BookFault::Unreadable),
+            None => return Err(Fault::Refused(Refusal::Unreadable)),
         };
         if !leads_to(routes, framed.header(), self.payer) {
-            return Err(BookFault::NotOurs);
+            return Err(Fault::Refused(Refusal::NotOurs));
         }
         if self.rows.len() >= self.settings.cap() as usize {
-            return Err(BookFault::BookFull);
+            return Err(Fault::Refused(Refusal::BookFull));
         }
         let prices = Prices::Plan(&self.plan);
         self.prepare(alloc, draft, id, &framed, request, prices)

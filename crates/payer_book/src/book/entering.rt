@@ -1,38 +1,97 @@
-//! Entering what a request changes among the payments.
+//! Entering a new request: its row, and what the row changes among the payments.
 
-ghost use Rattle.std.specs.Prelude.{◌≡◌, ◌+◌, ◌≤◌, length};
-ghost use Rattle.payer_book.specs.Changes.{payments_with, payments_after, IsPossible, ArePossible};
+ghost use Rattle.std.specs.Prelude.{◌≡◌, ◌<◌, length, OnOk, OnErr, IfOk, Some, None};
+ghost use Rattle.std.specs.List.{list_all};
+ghost use Rattle.d0_segments.specs.Framing.{request_kind, transmission_of};
+ghost use Rattle.d0_segments.specs.FramedParts.{framed_parts};
+ghost use Rattle.claim_profile.specs.Readable.{readable_header};
+ghost use Rattle.claim_model.specs.Book.{serial_fits, row_of};
+ghost use Rattle.payer_book.specs.Faults.{LacksSerial};
+ghost use Rattle.payer_book.specs.Drafts.{pricing};
+ghost use Rattle.payer_book.specs.Added.{with_row};
+ghost use Rattle.payer_book.specs.Made.{ArePrices};
+ghost use Rattle.payer_book.specs.Entries.{IsEntry, rulings_by, row_by};
 
-use crate::book::payments::Payments;
+use crate::book::Book;
+use crate::book::row::Row;
 use crate::ruling::changes::Change;
+use crate::ruling::drafting::{Draft, rule_all};
+use crate::ruling::pricing::Prices;
+use claim_model::{Fault, bytes_keep_laws, orders_of_requests};
+use claim_profile::{HeaderStatus, put_answer};
+use d0_header::RequestHeader;
+use d0_segments::Framed;
 use envelope::TxnId;
+use overpunch::number_in_range;
+use std::alloc::{AllocError, Global};
+use std::mem::replace;
 
-impl Payments {
-    /// Makes the changes of the request of that id, in order. There is room for them, and each can be made.
-    pub(crate) fn enter(&mut self, id: TxnId, changes: &[Change])
-        requires room { length changes.now ≤ self.old.room }
-        requires possible { ArePossible self.old.payer self.old.first id self.old.payments changes.now }
-        ensures same { (self.new.payer ≡ self.old.payer) × (self.new.first ≡ self.old.first) }
-        ensures payments { self.new.payments ≡ payments_after id self.old.payments changes.now }
+impl Book {
+    /// The row that a request gets at these prices, with all that takes memory but its places in the book; the draft
+    /// then has what the row changes.
+    pub(crate) fn prepare(
+        &self,
+        alloc: Global,
+        draft: &mut Draft,
+        id: TxnId,
+        framed: &Framed<'_, RequestHeader>,
+        request: &[u8],
+        prices: Prices<'_>,
+    ) -> Result<Row, Fault>
+        requires parts { transmission_of request_kind request.now ≡ Some (framed_parts framed.now) }
+        requires readable { readable_header request.now ≡ Some framed.now.header }
+        requires prices { ArePrices (pricing prices) }
+        ensures made { IfOk result (λ row. IsEntry self.now row draft.new.changes.items
+            × (row ≡ row_by (pricing prices.entry) self.now id request.now)) }
+        ensures fault { LacksSerial
+            (list_all serial_fits (rulings_by (pricing prices.entry) self.now id request.now)) result }
     {
-        if let Some((first, later)) = changes.split_first() {
-            self.enter_one(id, first);
-            self.enter(id, later);
-        }
+        orders_of_requests();
+        bytes_keep_laws();
+        rule_all(draft, &self.payments, prices, framed)?;
+        let rulings = draft.rulings.as_slice();
+        let text = &mut draft.answer;
+        text.clear();
+        put_answer(text, framed.header(), HeaderStatus::Accepted, rulings)?;
+        Ok(Row::copy_of(alloc, id, request, rulings, text.as_slice())?)
     }
 
-    /// Makes a change of the request of that id.
-    fn enter_one(&mut self, id: TxnId, change: &Change)
-        requires room { 1 ≤ self.old.room }
-        requires possible { IsPossible self.old.payer self.old.first self.old.payments change.now }
-        ensures same { (self.new.payer ≡ self.old.payer) × (self.new.first ≡ self.old.first) }
-        ensures payments { self.new.payments ≡ payments_with id self.old.payments change.now }
-        ensures room { self.old.room ≤ self.new.room + 1 }
+    /// Takes memory for so many more rows and payments at once. Answers that make them then move nothing of what the book
+    /// has. Where memory is refused the book may have room for some.
+    pub fn reserve(&mut self, rows: usize, payments: usize) -> Result<(), AllocError>
+        ensures { self.new ≡ self.old }
     {
-        match change {
-            Change::Pays(payment) => self.push(payment.copy()),
-            Change::Reverses(auth) => self.reverse(*auth, id),
-            Change::Keeps => {}
-        }
+        self.payments.reserve(payments)?;
+        self.rows.reserve(rows)
+    }
+
+    /// Adds the row and makes its changes.
+    pub(crate) fn enter(&mut self, row: Row, changes: &[Change]) -> Result<(), AllocError>
+        requires possible { IsEntry self.old row changes.now }
+        requires room { length self.old.rows < self.old.settings.cap }
+        requires fresh { row_of row.id self.old.rows ≡ None }
+        ensures book { OnOk result (self.new ≡ with_row self.old row) }
+        ensures err { OnErr result (self.new ≡ self.old) }
+    {
+        number_in_range();
+        let id = row.id();
+        self.payments.reserve(changes.len())?;
+        self.rows.push(row)?;
+        self.payments.enter(id, changes);
+        Ok(())
+    }
+
+    /// The lists of the last request, to be filled by this one.
+    pub(crate) fn lend_draft(&mut self, alloc: Global) -> Draft
+        ensures { self.new ≡ self.old }
+    {
+        replace(&mut self.draft, Draft::new(alloc))
+    }
+
+    /// Keeps the lists for the next request.
+    pub(crate) fn keep_draft(&mut self, draft: Draft)
+        ensures { self.new ≡ self.old }
+    {
+        self.draft = draft;
     }
 }

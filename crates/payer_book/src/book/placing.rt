@@ -6,9 +6,9 @@ ghost use Rattle.payer_book.specs.Placing.{AnswersAt};
 ghost use Rattle.payer_book.specs.Answers.{Refuses};
 
 use crate::book::Book;
-use crate::fault::BookFault;
 use crate::ruling::drafting::Draft;
 use bin_routes::Routes;
+use claim_model::Fault;
 use envelope::TxnId;
 use std::alloc::Global;
 
@@ -27,12 +27,7 @@ impl Book {
     ///
     /// # Errors
     /// Those of `answer`, in its order. The book is as it was after each of them.
-    pub fn answer_at(
-        &mut self,
-        routes: &Routes,
-        id: TxnId,
-        request: &[u8],
-    ) -> Result<Placed, BookFault>
+    pub fn answer_at(&mut self, routes: &Routes, id: TxnId, request: &[u8]) -> Result<Placed, Fault>
         ensures ok { AnswersAt routes.now self.old id request.now self.new result }
         ensures fault { Refuses routes.now self.old id request.now result }
         ensures err { OnErr result (self.new ≡ self.old) }
@@ -55,7 +50,7 @@ impl Book {
         routes: &Routes,
         id: TxnId,
         request: &[u8],
-    ) -> Result<Placed, BookFault>
+    ) -> Result<Placed, Fault>
         requires { row_of id self.old.rows ≡ None }
         ensures ok { AnswersAt routes.now self.old id request.now self.new result }
         ensures fault { Refuses routes.now self.old id request.now result }

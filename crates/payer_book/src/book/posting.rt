@@ -9,9 +9,9 @@ ghost use Rattle.payer_book.specs.Posted.{IsPosted, SendsBack};
 ghost use Rattle.payer_book.specs.Answers.{Refuses};
 
 use crate::book::Book;
-use crate::fault::BookFault;
 use crate::ruling::drafting::Draft;
 use bin_routes::Routes;
+use claim_model::Fault;
 use envelope::{Kind, TxnId, write};
 use octets::Octets;
 use std::alloc::{AllocError, Global};
@@ -28,7 +28,7 @@ impl Book {
         routes: &Routes,
         id: TxnId,
         request: &[u8],
-    ) -> Result<Octets, BookFault>
+    ) -> Result<Octets, Fault>
         ensures ok { IfOk result (λ packet. IsPosted (bytes_with routes.now) self.old id request.now self.new packet) }
         ensures sent { SendsBack routes.now self.old id request.now self.new result }
         ensures fault { Refuses routes.now self.old id request.now result }
@@ -52,7 +52,7 @@ impl Book {
         routes: &Routes,
         id: TxnId,
         request: &[u8],
-    ) -> Result<Octets, BookFault>
+    ) -> Result<Octets, Fault>
         requires { row_of id self.old.rows ≡ None }
         ensures ok { IfOk result (λ packet. IsPosted (bytes_with routes.now) self.old id request.now self.new packet) }
         ensures fault { Refuses routes.now self.old id request.now result }

@@ -9,10 +9,10 @@ ghost use Rattle.payer_book.specs.Faults.{LacksSerial};
 ghost use Rattle.payer_book.specs.Drafts.{pricing, ruling_on, rulings_on, IsDraft, next_ruling, AddsRuling, AddsChange, priced_after, IsRulingThatFits};
 
 use crate::book::payments::Payments;
-use crate::fault::BookFault;
 use crate::ruling::changes::Change;
 use crate::ruling::judging::{Verdict, judge, rejected};
 use crate::ruling::pricing::Prices;
+use claim_model::{Fault, Refusal};
 use claim_profile::{Claim, Code, Order, OrderFault, Ruling, order_at};
 use d0_header::RequestHeader;
 use d0_segments::Framed;
@@ -33,7 +33,7 @@ pub(crate) fn rule_all(
     payments: &Payments,
     prices: Prices<'_>,
     framed: &Framed<'_, RequestHeader>,
-) -> Result<(), BookFault>
+) -> Result<(), Fault>
     ensures made { OnOk result
         (IsDraft payments.now (pricing prices.entry) (orders_in (Some (framed_parts framed.now))) draft.new) }
     ensures fault { LacksSerial (list_all serial_fits
@@ -71,14 +71,14 @@ impl Draft {
         payments: &Payments,
         prices: &Prices<'_>,
         order: &Result<Order, OrderFault>,
-    ) -> Result<(), BookFault>
+    ) -> Result<(), Fault>
         ensures rulings { OnOk result (AddsRuling self.old payments.now prices.now order.now self.new) }
         ensures changes { OnOk result (AddsChange self.old payments.now prices.now order.now self.new) }
         ensures fits { OnOk result (serial_fits (next_ruling self.old payments.now prices.now order.now) ≡ true) }
         ensures fault { LacksSerial (serial_fits (next_ruling self.old payments.now prices.now order.now)) result }
     {
         let Some(ruling) = ruling_on(payments, prices, self.changes.as_slice(), order) else {
-            return Err(BookFault::SerialsUsedUp);
+            return Err(Fault::Refused(Refusal::SerialsUsedUp));
         };
         self.changes.push(Change::of(order, &ruling))?;
         self.rulings.push(ruling)?;

@@ -59,7 +59,7 @@ impl Journals {
         match &mut self.up {
             Some(pharmacy) => match pharmacy.submit(request) {
                 Ok((number, _)) => told.field("number", number),
-                Err(fault) => told.named(fault),
+                Err(fault) => told.word(fault.name()),
             },
             None => told.refuse(),
         }

@@ -2,7 +2,7 @@
 
 use crate::arguments::{id_first, small};
 use crate::nodes::routed;
-use crate::telling::{refused, tell_id, tell_packet};
+use crate::telling::{refused, tell_id, tell_packet, tell_refused};
 use bin_routes::Routes;
 use case_files::{Subject, Told};
 use envelope::{Envelope, Kind, write};
@@ -120,7 +120,7 @@ fn ask(told: &mut Told, switch: &mut Switch, routes: &Routes, packet: &[u8]) {
     match Envelope::read(packet) {
         Ok(envelope) => match switch.request(routes, &envelope) {
             Ok(routed) => tell_routed(told, &routed),
-            Err(fault) => refused(told, fault),
+            Err(fault) => tell_refused(told, fault),
         },
         Err(_) => told.refuse(),
     }
@@ -160,7 +160,7 @@ fn respond(told: &mut Told, switch: &mut Switch, packet: &[u8]) {
                 told.word("sent");
                 tell_packet(told, sent.as_slice());
             }
-            Err(fault) => refused(told, fault),
+            Err(fault) => tell_refused(told, fault),
         },
         Err(_) => told.refuse(),
     }

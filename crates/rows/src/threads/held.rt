@@ -6,11 +6,12 @@ use crate::threads::words::{read_count, read_node};
 use case_files::{CaseFile, Runner, Told};
 use envelope::TxnId;
 use input_text::{Lines, split_word};
-use node_threads::{Held, Post, Shared, Till};
+use node_log::is_there;
+use node_threads::{Held, Post, Till};
 use octets::Octets;
 use std::alloc::{AllocError, Global};
 use std::sync::{Arc, Wait};
-use world_setup::{Call, Event, Node, StepFault, WorldFault, WorldSettings};
+use world_setup::{Call, CheckedSettings, Event, Fault, Node, WorldFault, WorldSettings};
 
 /// Runs rows about one node.
 pub(crate) fn run<T: Wait>(
@@ -50,7 +51,7 @@ fn run_rows<T: Wait>(
 #[derive(Drop)]
 struct Holding<'a> {
     files: &'a [CaseFile],
-    shared: Option<Arc<Shared>>,
+    shared: Option<Arc<CheckedSettings>>,
     held: Option<Held>,
     post: Option<Post>,
     till: Option<Till>,
@@ -125,24 +126,27 @@ impl Holding<'_> {
 }
 
 /// Settings as they are shared, or why they are not.
-fn shared(alloc: Global, settings: WorldSettings) -> Result<Option<Arc<Shared>>, WorldFault> {
-    match Shared::new(alloc, settings) {
+fn shared(
+    alloc: Global,
+    settings: WorldSettings,
+) -> Result<Option<Arc<CheckedSettings>>, WorldFault> {
+    match CheckedSettings::new(alloc, settings) {
         Ok(shared) => Ok(Arc::new(alloc, shared).ok()),
         Err(fault) => Err(fault),
     }
 }
 
 /// A node as it opens, where it is there.
-fn held(alloc: Global, shared: &Arc<Shared>, node: Node) -> Option<Held> {
-    if !shared.has(node) {
+fn held(alloc: Global, shared: &Arc<CheckedSettings>, node: Node) -> Option<Held> {
+    if !is_there(shared.settings(), node) {
         return None;
     }
     Held::new(alloc, shared, node).ok()
 }
 
 /// A node as it opens behind a lock, where it is there.
-fn posted(alloc: Global, shared: &Arc<Shared>, node: Node) -> Option<Post> {
-    if !shared.has(node) {
+fn posted(alloc: Global, shared: &Arc<CheckedSettings>, node: Node) -> Option<Post> {
+    if !is_there(shared.settings(), node) {
         return None;
     }
     Post::new(alloc, shared, node).ok()
@@ -184,7 +188,7 @@ fn tell(
 }
 
 /// Tells how a call ended.
-fn tell_done(told: &mut Told, done: Result<(), StepFault>) {
+fn tell_done(told: &mut Told, done: Result<(), Fault>) {
     match done {
         Ok(()) => told.word("ok"),
         Err(fault) => {

@@ -8,11 +8,11 @@ use crate::threads::tills;
 use crate::threads::words::{place_of, read_count, read_number};
 use case_files::{CaseFile, Subject, Told};
 use envelope::TxnId;
-use node_log::{NodeLog, replay_log};
+use node_log::{NodeLog, is_there, replay_log};
 use node_state::NodeState;
-use node_threads::{FinishFault, Finished, Shared, Till, judge};
+use node_threads::{FinishFault, Finished, Till, judge};
 use std::alloc::Global;
-use world_setup::WorldSettings;
+use world_setup::{CheckedSettings, WorldSettings};
 
 /// Rows about logs and tills.
 #[derive(Drop)]
@@ -113,10 +113,7 @@ impl Judging<'_> {
     fn judge(&self, told: &mut Told, alloc: Global) {
         match &self.recorded {
             Some(recorded) => match recorded.logs(alloc) {
-                Some(logs) => tell_judged(
-                    told,
-                    judge(alloc, recorded.shared.settings(), logs, &self.tills),
-                ),
+                Some(logs) => tell_judged(told, judge(alloc, &recorded.shared, logs, &self.tills)),
                 None => told.refuse(),
             },
             None => told.refuse(),
@@ -139,11 +136,11 @@ impl Judging<'_> {
 }
 
 /// The node of a log after its calls.
-fn replayed(alloc: Global, shared: &Shared, log: &NodeLog) -> Option<NodeState> {
-    if !shared.has(log.node()) {
+fn replayed(alloc: Global, shared: &CheckedSettings, log: &NodeLog) -> Option<NodeState> {
+    if !is_there(shared.settings(), log.node()) {
         return None;
     }
-    replay_log(alloc, shared.settings(), log).ok()
+    replay_log(alloc, shared, log).ok()
 }
 
 /// Tells how many entries a node has, its first request, and the answer that it holds for that of pharmacy 1.
@@ -166,7 +163,7 @@ fn tell_state(told: &mut Told, alloc: Global, state: &NodeState) {
 
 /// All nodes of settings, where a world takes them.
 fn opened_with(alloc: Global, settings: WorldSettings) -> Option<Recorded> {
-    match Shared::new(alloc, settings) {
+    match CheckedSettings::new(alloc, settings) {
         Ok(shared) => opened(alloc, shared),
         Err(_) => None,
     }

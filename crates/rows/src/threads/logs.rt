@@ -1,11 +1,10 @@
 //! Nodes one by one, each with the log of its calls, and the packets that they sent.
 
-use node_log::{NodeLog, Record};
+use node_log::{NodeLog, Record, is_there};
 use node_state::NodeState;
-use node_threads::Shared;
 use octets::Octets;
 use std::alloc::{AllocError, Global};
-use world_setup::{Call, Event, Node, Packet, StepFault};
+use world_setup::{Call, CheckedSettings, Event, Fault, Node, Packet, Refusal};
 
 /// A node with the log of its calls.
 #[derive(Drop)]
@@ -16,7 +15,7 @@ pub(crate) struct Logged {
 
 impl Logged {
     /// Makes a call, and records it with what the node sent.
-    fn call(&mut self, alloc: Global, shared: &Shared, call: Call) -> Result<(), StepFault> {
+    fn call(&mut self, alloc: Global, shared: &CheckedSettings, call: Call) -> Result<(), Fault> {
         self.log.reserve()?;
         let sent = self.state.step(alloc, shared.routes(), &call)?;
         self.log.record(call, sent);
@@ -58,13 +57,13 @@ fn copy_of(call: &Call) -> Result<Call, AllocError> {
 /// Settings, their nodes, and all packets that these sent.
 #[derive(Drop)]
 pub(crate) struct Recorded {
-    pub(crate) shared: Shared,
+    pub(crate) shared: CheckedSettings,
     pub(crate) nodes: Vec<Logged>,
     pub(crate) packets: Vec<Packet>,
 }
 
 /// The nodes of settings as they open; none where memory is refused.
-pub(crate) fn opened(alloc: Global, shared: Shared) -> Option<Recorded> {
+pub(crate) fn opened(alloc: Global, shared: CheckedSettings) -> Option<Recorded> {
     let mut recorded = Recorded {
         shared,
         nodes: Vec::new(alloc),
@@ -107,10 +106,10 @@ impl Recorded {
 
     /// Opens a node, where it is there; false where memory is refused.
     fn open(&mut self, alloc: Global, node: Node) -> bool {
-        if !self.shared.has(node) {
+        if !is_there(self.shared.settings(), node) {
             return true;
         }
-        match NodeState::opening(alloc, self.shared.settings(), node) {
+        match NodeState::opening(alloc, &self.shared, node) {
             Ok(state) => {
                 let log = NodeLog::new(alloc, node);
                 self.nodes.push(Logged { state, log }).is_ok()
@@ -147,7 +146,7 @@ impl Recorded {
     }
 
     /// Makes a call, and keeps the packets that it sends. Says how many they are.
-    pub(crate) fn make(&mut self, alloc: Global, made: Made) -> Result<usize, StepFault> {
+    pub(crate) fn make(&mut self, alloc: Global, made: Made) -> Result<usize, Fault> {
         let Made { node, call } = made;
         match self
             .nodes
@@ -158,7 +157,7 @@ impl Recorded {
                 Ok(()) => keep_sent(&mut self.packets, &logged.log),
                 Err(fault) => Err(fault),
             },
-            None => Err(StepFault::NoSuchNode),
+            None => Err(Fault::Refused(Refusal::NoSuchNode)),
         }
     }
 
@@ -210,12 +209,12 @@ fn taken(packet: &Packet) -> Option<Made> {
 }
 
 /// Keeps the packets of the last call of a log, and says how many they are.
-fn keep_sent(packets: &mut Vec<Packet>, log: &NodeLog) -> Result<usize, StepFault> {
+fn keep_sent(packets: &mut Vec<Packet>, log: &NodeLog) -> Result<usize, Fault> {
     match log.records().last() {
         Some(record) => {
             for sent in record.sent() {
                 if !is_kept(packets, log.node(), sent.to, &sent.bytes) {
-                    return Err(StepFault::OutOfMemory);
+                    return Err(Fault::OutOfMemory);
                 }
             }
             Ok(record.sent().len())

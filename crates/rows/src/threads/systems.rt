@@ -18,7 +18,7 @@ use std::alloc::{AllocError, Global};
 use std::sync::{Arc, Wait};
 use std::thread::Threads;
 use std::time::Clock;
-use world_setup::{LinkFault, StepFault, WorldSettings};
+use world_setup::{Fault, LinkFault, Refusal, WorldSettings};
 
 /// Runs rows about systems.
 pub(crate) fn run<T>(
@@ -279,7 +279,7 @@ impl Live {
 }
 
 /// Makes a command that needs no till.
-fn make<T: Wait>(rt: &T, system: &System, command: &Command) -> Result<(), StepFault> {
+fn make<T: Wait>(rt: &T, system: &System, command: &Command) -> Result<(), Fault> {
     match command {
         Command::Tick { pharmacy } => system.tick(rt, *pharmacy),
         Command::Plan {
@@ -288,13 +288,13 @@ fn make<T: Wait>(rt: &T, system: &System, command: &Command) -> Result<(), StepF
             price,
         } => system.change_plan(rt, *payer, product.as_slice(), *price),
         Command::Restart(node) => system.restart(rt, *node),
-        Command::Submit { .. } => Err(StepFault::NoSuchPacket),
-        Command::Await { .. } => Err(StepFault::NoSuchPacket),
+        Command::Submit { .. } => Err(Fault::Refused(Refusal::NoSuchPacket)),
+        Command::Await { .. } => Err(Fault::Refused(Refusal::NoSuchPacket)),
     }
 }
 
 /// Tells how a call ended.
-fn tell_done(told: &mut Told, done: Result<(), StepFault>) {
+fn tell_done(told: &mut Told, done: Result<(), Fault>) {
     match done {
         Ok(()) => told.word("ok"),
         Err(fault) => told.word(fault.name()),

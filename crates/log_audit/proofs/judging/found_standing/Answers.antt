@@ -2,8 +2,8 @@ use Rattle.node_log.specs.LogSeen.{logs_seen}
 use Rattle.log_audit.proofs.Ends.{legal_is}
 use Rattle.log_audit.proofs.judging.found_standing.Goals as goal
 
-pub merge_fitting-requires-clause-fit : goal.merge_fitting-requires-clause-fit
-merge_fitting-requires-clause-fit c = c.requires.standing.fit
+pub merge_fitting-requires : goal.merge_fitting-requires
+merge_fitting-requires c = c.requires.standing.fit
 
 pub returns-in-Ok : goal.returns-in-Ok
 returns-in-Ok c =

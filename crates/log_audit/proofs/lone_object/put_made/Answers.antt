@@ -8,7 +8,7 @@ use Rattle.log_audit.proofs.lone_object.put_made.Goals as goal
 
 pub returns : goal.returns
 unfolding made_members
-returns c = λ routes.
+returns g c = λ routes.
     on_ok_weaker c.put_members.result
-    (λ last. lists_join c.args.out.now.items c.extend_from_slice.new.self.items c.put_members.new.out.items (codes "true") (lone_members (bytes_with routes) (lones_seen c.args.lones.now)) c.in_ok-extend_from_slice.ensures.items last)
+    (λ last. lists_join c.args.out.now c.put.new.self c.put_members.new.out (codes "true") (lone_members (bytes_with routes) (lones_seen c.args.lones.now)) c.in_ok-put.ensures last)
     (c.put_members.ensures routes)

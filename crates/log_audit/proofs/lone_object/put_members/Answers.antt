@@ -9,11 +9,11 @@ use Rattle.log_audit.proofs.lone_object.put_members.Goals as goal
 
 pub returns : goal.returns
 unfolding lone_members
-returns c = λ routes.
+returns g c = λ routes.
     let told = lone_member (bytes_with routes) (lones_seen c.args.lones.now) in
     on_ok_weaker c.put_member-5.result
-    (λ last. lists_join c.args.out.now.items c.put_member.new.out.items c.put_member-5.new.out.items (told Payments) (told Entries ++ (told Rows ++ (told Open ++ told Counted))) (c.in_ok-put_member.ensures routes)
-    (lists_join c.put_member.new.out.items c.put_member-2.new.out.items c.put_member-5.new.out.items (told Entries) (told Rows ++ (told Open ++ told Counted)) (c.in_ok-put_member-2.ensures routes)
-    (lists_join c.put_member-2.new.out.items c.put_member-3.new.out.items c.put_member-5.new.out.items (told Rows) (told Open ++ told Counted) (c.in_ok-put_member-3.ensures routes)
-    (lists_join c.put_member-3.new.out.items c.put_member-4.new.out.items c.put_member-5.new.out.items (told Open) (told Counted) (c.in_ok-put_member-4.ensures routes) last))))
+    (λ last. lists_join c.args.out.now c.put_member.new.out c.put_member-5.new.out (told Payments) (told Entries ++ (told Rows ++ (told Open ++ told Counted))) (c.in_ok-put_member.ensures routes)
+    (lists_join c.put_member.new.out c.put_member-2.new.out c.put_member-5.new.out (told Entries) (told Rows ++ (told Open ++ told Counted)) (c.in_ok-put_member-2.ensures routes)
+    (lists_join c.put_member-2.new.out c.put_member-3.new.out c.put_member-5.new.out (told Rows) (told Open ++ told Counted) (c.in_ok-put_member-3.ensures routes)
+    (lists_join c.put_member-3.new.out c.put_member-4.new.out c.put_member-5.new.out (told Open) (told Counted) (c.in_ok-put_member-4.ensures routes) last))))
     (c.put_member-5.ensures routes)

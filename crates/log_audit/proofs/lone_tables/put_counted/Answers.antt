@@ -5,4 +5,4 @@ use Rattle.log_audit.proofs.Joining.{nothing_told}
 use Rattle.log_audit.proofs.lone_tables.put_counted.Goals as goal
 
 pub returns-in-None : goal.returns-in-None
-returns-in-None c = λ routes. nothing_told c.args.style (journal_counted (bytes_with routes)) c.args.out.now.items c.in_ok-journal.field-0 (journal_of c.args.node.now) c.in_ok-journal.ensures c.in-None.is
+returns-in-None g c = λ routes. nothing_told c.args.style (journal_counted (bytes_with routes)) c.args.out.now c.in_ok-journal.field-0 (journal_of c.args.node.now) c.in_ok-journal.ensures c.in-None.is

@@ -10,6 +10,6 @@ use Rattle.log_audit.proofs.lone_tables.put_lones.Given as goal
 
 -- the rows so far, and then those of the logs that are left
 abbrev pub invariant-loop-lone : goal.invariant-loop-lone
-invariant-loop-lone l =
-    (routes : RouteMaps) → l.out.items ++ rows_text l.style (flat_map (rows_of (bytes_with routes) (has_auth l.counted.keys) l.table) (lones_seen (drop l.lone-index l.lones)))
-    ≡ l.initial.out.items ++ rows_text l.style (flat_map (rows_of (bytes_with routes) (has_auth l.counted.keys) l.table) (lones_seen l.lones))
+invariant-loop-lone g l =
+    (routes : RouteMaps) → l.out ++ rows_text l.style (flat_map (rows_of (bytes_with routes) (has_auth l.counted.keys) l.table) (lones_seen (drop l.lone-index l.lones)))
+    ≡ l.initial.out ++ rows_text l.style (flat_map (rows_of (bytes_with routes) (has_auth l.counted.keys) l.table) (lones_seen l.lones))

@@ -8,6 +8,6 @@ use Rattle.log_audit.proofs.lone_tables.put_open_entries.Given as goal
 
 -- the rows so far, and then those of the entries that are left
 abbrev pub invariant-loop-entry : goal.invariant-loop-entry
-invariant-loop-entry l =
-    l.out.items ++ rows_text l.style (flat_map (open_rows (number_of (node_seen l.log.node)) l.log.calls.items) (drop l.entry-index l.entries))
-    ≡ l.initial.out.items ++ rows_text l.style (flat_map (open_rows (number_of (node_seen l.log.node)) l.log.calls.items) l.entries)
+invariant-loop-entry g l =
+    l.out ++ rows_text l.style (flat_map (open_rows (number_of (node_seen l.log.node)) l.log.calls.items) (drop l.entry-index l.entries))
+    ≡ l.initial.out ++ rows_text l.style (flat_map (open_rows (number_of (node_seen l.log.node)) l.log.calls.items) l.entries)

@@ -6,4 +6,4 @@ use Rattle.log_audit.proofs.Joining.{nothing_told}
 use Rattle.log_audit.proofs.lone_tables.put_payments.Goals as goal
 
 pub returns-in-None : goal.returns-in-None
-returns-in-None c = λ routes. nothing_told c.args.style (book_payments (bytes_with routes) (has_auth c.args.counted.now.keys)) c.args.out.now.items c.in_ok-reading.field-0 (book_of c.args.node.now) c.in_ok-reading.ensures c.in-None.is
+returns-in-None g c = λ routes. nothing_told c.args.style (book_payments (bytes_with routes) (has_auth c.args.counted.now.keys)) c.args.out.now c.in_ok-reading.field-0 (book_of c.args.node.now) c.in_ok-reading.ensures c.in-None.is

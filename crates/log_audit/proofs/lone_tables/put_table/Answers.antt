@@ -10,11 +10,11 @@ use Rattle.log_audit.specs.Lones.{rows_of, is_counted}
 use Rattle.log_audit.proofs.lone_tables.put_table.Goals as goal
 
 pub returns : goal.returns
-returns c = λ routes.
+returns g c = λ routes.
     let ctx = bytes_with routes in
     let lones = lones_seen c.args.lones.now in
     let told = c.in_ok-counted.ensures routes in
     let same : has_auth c.in_ok-counted.counted.keys ≡ is_counted ctx lones = λ i auth. told auth i in
     on_ok_weaker c.put_lones.result
-    (λ last. last ∙ ap (λ (counted : Auth → Bool). c.args.out.now.items ++ rows_text c.args.style (flat_map (rows_of ctx counted c.args.table) lones)) same)
+    (λ last. last ∙ ap (λ (counted : Auth → Bool). c.args.out.now ++ rows_text c.args.style (flat_map (rows_of ctx counted c.args.table) lones)) same)
     (c.put_lones.ensures routes)

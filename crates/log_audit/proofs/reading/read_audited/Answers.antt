@@ -8,25 +8,25 @@ use Rattle.log_audit.specs.Refused.{AreNoLogs}
 use Rattle.log_audit.proofs.Refusing.{world_refused, logs_refused}
 use Rattle.log_audit.proofs.reading.read_audited.Goals as goal
 
-pub returns-in_err-check_world-clause-refused : goal.returns-in_err-check_world-clause-refused
-returns-in_err-check_world-clause-refused c =
-    let p = err_from_is_err_and c.from_residual-in_err-check_world.result c.from_residual-in_err-check_world.ensures.1 in
-    let s = c.in_ok-settings.settings in
-    rw (p.1, p.2) (world_refused c.args.text.items (bytes_of c.args.logs.items) s c.in_err-check_world.field-0.0
-    (subst (λ (text : List ℕ). living_in text ≡ Some (document_seen s)) c.as_slice.ensures.value c.in_ok-settings.ensures.read) c.in_err-check_world.ensures.refused)
+pub returns-in_err-settings-clause-refused : goal.returns-in_err-settings-clause-refused
+returns-in_err-settings-clause-refused c =
+    let p = err_from_is_err_and c.from_residual-in_err-settings.result c.from_residual-in_err-settings.ensures.1 in
+    let s = c.in_ok-settings_of.field-0 in
+    rw (p.1, p.2) (world_refused c.args.text.items (bytes_of c.args.logs.items) s c.in_err-settings.field-0.0
+    (subst (λ (text : List ℕ). living_in text ≡ Some (document_seen s)) c.as_slice.ensures.value c.in_ok-settings_of.ensures.read) c.in_err-settings.ensures.refused)
 
 pub returns-in_err-logs-clause-refused : goal.returns-in_err-logs-clause-refused
 returns-in_err-logs-clause-refused c =
     let p = err_from_is_err_and c.from_residual-in_err-logs.result c.from_residual-in_err-logs.ensures.1 in
-    let s = c.in_ok-settings.settings in
+    let s = c.in_ok-settings_of.field-0 in
     let why = c.in_err-logs.field-0.0 in
     rw (p.1, p.2) (logs_refused c.args.text.items (bytes_of c.args.logs.items) s why
-    (subst (λ (text : List ℕ). living_in text ≡ Some (document_seen s)) c.as_slice.ensures.value c.in_ok-settings.ensures.read) c.in_ok-check_world.ensures.taken
+    (subst (λ (text : List ℕ). living_in text ≡ Some (document_seen s)) c.as_slice.ensures.value c.in_ok-settings_of.ensures.read) c.in_ok-settings.ensures.taken
     (subst (λ (digest : List ℕ → List ℕ). AreNoLogs digest (bytes_of c.args.logs.items) why) (under_is c.args.text.items c.in_ok-digests.digests (rw c.as_slice-2.ensures.value at c.in_ok-digests.ensures)) c.in_err-logs.ensures.refused))
 
 pub returns-clause-given : goal.returns-clause-given
 returns-clause-given c = record {
-  spelled = subst (λ (text : List ℕ). living_in text ≡ Some (document_seen c.in_ok-settings.settings)) c.as_slice.ensures.value c.in_ok-settings.ensures.read;
+  spelled = rw c.in_ok-settings.ensures.kept (subst (λ (text : List ℕ). living_in text ≡ Some (document_seen c.in_ok-settings_of.field-0)) c.as_slice.ensures.value c.in_ok-settings_of.ensures.read);
   read = subst (λ (digest : List ℕ → List ℕ). AreLogs digest (bytes_of c.args.logs.items) (logs_seen c.in_ok-logs.field-0.logs.items))
       (under_is c.args.text.items c.in_ok-digests.digests (rw c.as_slice-2.ensures.value at c.in_ok-digests.ensures)) c.in_ok-logs.ensures.logs;
 }

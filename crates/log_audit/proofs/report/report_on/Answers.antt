@@ -1,11 +1,8 @@
-use Rattle.std.proofs.Common.{map}
-use Rattle.world_setup.specs.Seen.{event_seen}
-use Rattle.log_audit.proofs.Writing.{written_as}
+use Rattle.std.proofs.Common.{[], refl}
+use Rattle.log_audit.specs.Telling.{IsWritten}
+use Rattle.log_audit.proofs.Writing.{put_whole}
 use Rattle.log_audit.proofs.report.report_on.Goals as goal
 
-pub legal-requires : goal.legal-requires
-legal-requires c = (rw c.in-Run.is at c.in_ok-found.ensures).left
-
-pub returns-in-Run-clause-text : goal.returns-in-Run-clause-text
-returns-in-Run-clause-text c =
-    written_as c.args.audited c.args.form (map event_seen c.in-Run.found.events.items) c.legal.result (rw c.in-Run.is at c.in_ok-found.ensures).merged c.legal.ensures.legal c.legal.ensures.text
+pub returns-clause-text : goal.returns-clause-text
+returns-clause-text c =
+    put_whole (IsWritten c.args.audited c.args.form c.in_ok-legal.legal) c.new-out.result c.put_report.new.out c.in_ok-text.text.items c.new-out.ensures c.in_ok-legal.ensures.text c.in_ok-text.ensures

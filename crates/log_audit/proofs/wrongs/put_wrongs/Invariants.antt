@@ -1,4 +1,5 @@
 use Rattle.std.proofs.Common.{◌≡◌, ◌++◌, drop}
+use Rattle.bin_routes.specs.Table.{routes_of}
 use Rattle.claim_model.specs.Bytes.{bytes_with}
 use Rattle.world_setup.specs.Seen.{settings_seen}
 use Rattle.node_log.specs.LogSeen.{logs_seen}
@@ -9,5 +10,5 @@ use Rattle.log_audit.proofs.wrongs.put_wrongs.Given as goal
 -- the lines so far, and then those on the logs that are left
 abbrev pub invariant-loop-log : goal.invariant-loop-log
 invariant-loop-log l =
-    l.out.items ++ told_lines l.manner (wrong_lines (bytes_with l.routes) (settings_seen l.settings) (logs_seen (drop l.log-index l.logs)))
-    ≡ l.initial.out.items ++ told_lines l.manner (wrong_lines (bytes_with l.routes) (settings_seen l.settings) (logs_seen l.logs))
+    l.out.items ++ told_lines l.manner (wrong_lines (bytes_with (routes_of l.settings.routes.items)) (settings_seen l.settings) (logs_seen (drop l.log-index l.logs)))
+    ≡ l.initial.out.items ++ told_lines l.manner (wrong_lines (bytes_with (routes_of l.settings.routes.items)) (settings_seen l.settings) (logs_seen l.logs))

@@ -3,12 +3,12 @@ use Rattle.claim_model.specs.Bytes.{bytes_with}
 use Rattle.node_log.proofs.Breaking.{made_whole}
 use Rattle.node_log.proofs.making.make_log.Goals as goal
 
-pub returns : goal.returns
-returns c =
+pub returns-in-None : goal.returns-in-None
+returns-in-None c =
     let before = c.in_ok-node.node in
-    let made = made_whole (bytes_with c.in_ok-routes.routes) before c.misfit_among.new.node c.records.result.now c.in_ok-first.field-0 c.in-None.is c.in_ok-first.ensures.first c.in_ok-first.ensures.ends in
+    let made = made_whole (bytes_with c.routes.result.now) before c.misfit_among.new.node c.records.result.now c.in_ok-first.field-0 c.in-None.is c.in_ok-first.ensures.first c.in_ok-first.ensures.ends in
     record {
       before = before;
       opens = rw (← c.node.ensures) c.in_ok-node.ensures;
-      made = rw (← c.in_ok-routes.ensures, ← c.records.ensures) made;
+      made = rw (← c.routes.ensures, ← c.records.ensures) made;
     }

@@ -4,4 +4,4 @@ use Rattle.node_service.proofs.opening.state_of.Goals as goal
 
 pub place_of-requires : goal.place_of-requires
 place_of-requires c =
-    made_not c.args.shared.now (log_seen c.args.log.now).node c.args.log.now.calls.items c.in_ok-state.field-0 c.in-Err.first c.in-Err.is (rw (← c.settings.ensures.kept) c.in_ok-state.ensures)
+    made_not c.args.shared.now (log_seen c.args.log.now).node c.args.log.now.calls.items c.in_ok-state.field-0 c.in-Err.first c.in-Err.is c.in_ok-state.ensures

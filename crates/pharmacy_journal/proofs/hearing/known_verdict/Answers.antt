@@ -1,8 +1,8 @@
 use Rattle.std.proofs.Common.{◌≡◌, ℕ, Bool, List, cond, Ok, Err, sym, subst}
 use Rattle.std.specs.Prelude.{OnOk, IfErr}
 use Rattle.claim_model.specs.Journal.{Has, settle_by}
-use Rattle.claim_model.specs.Refusal.{Unreadable}
-use Rattle.pharmacy_journal.specs.Refusing.{IsRefused, refusal_to_hear}
+use Rattle.claim_model.specs.declared.refusal.Refusal.TheVariants.{Unreadable}
+use Rattle.claim_model.specs.Refusal.{refusal_of, IsRefused}
 use Rattle.pharmacy_journal.specs.Entries.{entry_of}
 use Rattle.pharmacy_journal.proofs.Hearings.{opened_by}
 use Rattle.pharmacy_journal.proofs.hearing.known_verdict.Goals as goal
@@ -21,5 +21,5 @@ pub returns-clause-fault : goal.returns-clause-fault
 returns-clause-fault c = λ phase.
     let payload = c.args.envelope.now.payload in
     let state = (entry_of c.args.slot.now phase).state in
-    subst (λ (b : Bool). IfErr c.beside.result (λ e. IsRefused (refusal_to_hear e) (cond b (settle_by payload state) (Err Unreadable)))) (sym c.requires)
-    (subst (λ (a : List ℕ). IfErr c.beside.result (λ e. IsRefused (refusal_to_hear e) (settle_by a state))) c.payload.ensures.value (c.beside.ensures.fault phase))
+    subst (λ (b : Bool). IfErr c.beside.result (λ e. IsRefused (refusal_of e) (cond b (settle_by payload state) (Err Unreadable)))) (sym c.requires)
+    (subst (λ (a : List ℕ). IfErr c.beside.result (λ e. IsRefused (refusal_of e) (settle_by a state))) c.payload.ensures.value (c.beside.ensures.fault phase))

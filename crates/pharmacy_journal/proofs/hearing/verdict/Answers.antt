@@ -1,8 +1,8 @@
 use Rattle.std.proofs.Common.{◌≡◌, ℕ, List, Ok, sym, subst, ◌∙◌}
 use Rattle.std.specs.Prelude.{OnOk, IfErr}
 use Rattle.std.proofs.lemmas.Bool.{OnTrue_at}
+use Rattle.claim_model.specs.Refusal.{refusal_of, IsRefused}
 use Rattle.claim_model.specs.Journal.{Has}
-use Rattle.pharmacy_journal.specs.Refusing.{IsRefused, refusal_to_hear}
 use Rattle.pharmacy_journal.specs.Entries.{entry_of, kept_of}
 use Rattle.pharmacy_journal.specs.Hearing.{state_by}
 use Rattle.pharmacy_journal.proofs.Hearings.{state_after-answer, state_after-request}
@@ -26,4 +26,4 @@ returns-in-Answer-clause-fault c = λ phase.
     let request = (kept_of c.args.slot.now).request in
     let state = (entry_of c.args.slot.now phase).state in
     rw (state_after-answer request state c.args.envelope.now (sym c.kind.ensures ∙ c.in-Answer.is))
-    (subst (λ (a : List ℕ). IfErr c.verdict_on.result (λ e. IsRefused (refusal_to_hear e) (state_by request state a))) c.payload.ensures.value (c.verdict_on.ensures.fault phase))
+    (subst (λ (a : List ℕ). IfErr c.verdict_on.result (λ e. IsRefused (refusal_of e) (state_by request state a))) c.payload.ensures.value (c.verdict_on.ensures.fault phase))

@@ -3,7 +3,7 @@
 use crate::arguments::{are_same, first_word, numbered};
 use crate::nodes::book::{texts, views};
 use crate::nodes::routed;
-use crate::telling::{refused, tell_envelope};
+use crate::telling::{tell_envelope, tell_refused};
 use bin_routes::Routes;
 use case_files::Told;
 use envelope::TxnId;
@@ -44,7 +44,7 @@ fn request(told: &mut Told, alloc: Global, book: &mut Book, word: &str, argument
 fn answer(told: &mut Told, book: &mut Book, routes: &Routes, id: TxnId, request: &[u8]) {
     match book.answer(routes, id, request) {
         Ok(reply) => tell_reply(told, book, id, &reply),
-        Err(fault) => refused(told, fault),
+        Err(fault) => tell_refused(told, fault),
     }
 }
 
@@ -63,7 +63,7 @@ fn place(told: &mut Told, book: &mut Book, routes: &Routes, id: TxnId, request: 
             told.shown(at.place);
             tell_answer(told, book.row(at.place));
         }
-        Err(fault) => refused(told, fault),
+        Err(fault) => tell_refused(told, fault),
     }
 }
 
@@ -96,7 +96,7 @@ fn tell_held(told: &mut Told, held: Option<&[u8]>, answer: &[u8]) {
 fn packet(told: &mut Told, book: &mut Book, routes: &Routes, id: TxnId, request: &[u8]) {
     match book.answer_packet(routes, id, request) {
         Ok(packet) => tell_envelope(told, packet.as_slice()),
-        Err(fault) => refused(told, fault),
+        Err(fault) => tell_refused(told, fault),
     }
 }
 

@@ -3,7 +3,7 @@
 use crate::threads::refused::day::{Day, has_nodes, lines_of, opened, opened_at_last};
 use std::alloc::Global;
 use world_core::World;
-use world_setup::{Event, StepFault};
+use world_setup::{Event, Fault};
 
 /// A day event by event, in two worlds side by side: what was refused memory gives the same when it is made again.
 pub(crate) fn in_steps(alloc: Global, day: &Day<'_>) -> bool {
@@ -39,14 +39,14 @@ fn are_same_steps(alloc: Global, world: &mut World, twin: &mut World, events: &[
 fn is_same_step(alloc: Global, world: &mut World, twin: &mut World, event: &Event) -> bool {
     let mut same = true;
     let answer = match world.step(event) {
-        Err(StepFault::OutOfMemory) => {
+        Err(Fault::OutOfMemory) => {
             same = are_alike(alloc, world, twin);
             world.step(event)
         }
         answer => answer,
     };
     let other = match twin.step(event) {
-        Err(StepFault::OutOfMemory) => twin.step(event),
+        Err(Fault::OutOfMemory) => twin.step(event),
         other => other,
     };
     same && answer == other

@@ -19,10 +19,10 @@ returns-in_ok-into_run-in-Some c =
     record {
       merged =
           rw c.in_ok-into_run-in-Some.ensures.events
-          (order_merged c.args.settings.now c.args.logs.now (map event_seen order.events.items) order.posted c.requires.world c.requires.rows (rw c.if-not-each_has_log.false at c.each_has_log.ensures) (sym c.are_distinct.ensures ∙ c.if-not-are_distinct.false) c.requires.fit done);
+          (order_merged c.args.settings.now c.args.logs.now (map event_seen order.events.items) order.posted c.settings-taken.ensures.nodes c.settings-taken.ensures.rows (rw c.if-not-each_has_log.false at c.each_has_log.ensures) (sym c.are_distinct.ensures ∙ c.if-not-are_distinct.false) c.requires done);
       packets =
           rw c.in_ok-into_run-in-Some.ensures.events
-          (c.in_ok-into_run-in-Some.ensures.packets ∙ packets_sent (bytes_with (routes_of c.args.settings.now.routes.items)) (settings_seen c.args.settings.now) (logs_seen c.args.logs.now) (map event_seen order.events.items) order.posted c.requires.fit done);
+          (c.in_ok-into_run-in-Some.ensures.packets ∙ packets_sent (bytes_with (routes_of c.args.settings.now.routes.items)) (settings_seen c.args.settings.now) (logs_seen c.args.logs.now) (map event_seen order.events.items) order.posted c.requires done);
     }
 
 pub returns-in-None : goal.returns-in-None

@@ -1,5 +1,5 @@
 use Rattle.std.proofs.lemmas.Result.{on_ok_weaker}
-use Rattle.world_setup.specs.Refused.{refusal_of}
+use Rattle.claim_model.specs.Refusal.{refusal_of}
 use Rattle.schedule_run.proofs.Words.{refusal_told, on_ok_both}
 use Rattle.schedule_run.proofs.lines.put_outcome.Goals as goal
 

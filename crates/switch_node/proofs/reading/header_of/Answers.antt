@@ -1,17 +1,17 @@
-use Rattle.std.proofs.Common.{Some, None, sym, ap, ◌∙◌}
-use Rattle.claim_profile.specs.Readable.{readable_header}
-use Rattle.switch_node.specs.Sent.{content}
-use Rattle.switch_node.proofs.Steps.{requested-other, requested-read}
+use Rattle.std.proofs.Common.{◌≡◌, None, sym, ap, ◌∙◌}
+use Rattle.claim_profile.proofs.Headers.{readable_cut}
+use Rattle.d0_header.specs.Request.{request_of, request_fault}
+use Rattle.switch_node.specs.Sent.{header_in}
 use Rattle.switch_node.proofs.reading.header_of.Goals as goal
 
-pub returns-then-not-is_request-clause-fault : goal.returns-then-not-is_request-clause-fault
-returns-then-not-is_request-clause-fault c = λ routes t. requested-other routes t (content c.args.envelope.now) (sym c.if-not-is_request.ensures)
+pub unreachable-requires : goal.unreachable-requires
+unreachable-requires c =
+    let none : request_fault c.args.envelope.now.payload ≡ None = (readable_cut c.args.envelope.now.payload c.requires.1).0 in
+    let some = c.in-Err.ensures.fault ∙ ap request_fault c.payload.ensures.value ∙ none in
+    absurd cc
 
-pub returns-in-Some-clause-read : goal.returns-in-Some-clause-read
-returns-in-Some-clause-read c = λ routes t.
-    requested-read routes t (content c.args.envelope.now) (Some c.header.result.now) (sym c.if-not-is_request.ensures)
-    (ap readable_header (sym c.payload.ensures.value) ∙ c.in-Some.ensures.readable ∙ ap Some (sym c.header.ensures))
-
-pub returns-in-None-clause-fault : goal.returns-in-None-clause-fault
-returns-in-None-clause-fault c = λ routes t.
-    requested-read routes t (content c.args.envelope.now) None (sym c.if-not-is_request.ensures) (ap readable_header (sym c.payload.ensures.value) ∙ c.in-None.ensures.readable)
+pub returns : goal.returns
+unfolding header_in
+returns c =
+    let found = c.in-Ok.ensures.found in
+    sym (ap request_of (sym c.payload.ensures.value) ∙ ap request_of found.1 ∙ c.request_text_laws.ensures.again c.in-Ok.header _ found.0)

@@ -1,7 +1,7 @@
 use Rattle.std.proofs.Common.{◌≡◌, ◌<◌, length, map, inl, inr, Some, slice_get, arith}
 use Rattle.std.proofs.lemmas.Result.{IfOk-weaker, IfErr-weaker}
 use Rattle.world_setup.specs.Seen.{sent_seen, lent_seen}
-use Rattle.world_setup.specs.Refused.{refusal_of}
+use Rattle.claim_model.specs.Refusal.{refusal_of}
 use Rattle.world_core.proofs.Calls.{node_at, called_done, called_refused, called_nobody, called_readable, most_at}
 use Rattle.world_core.proofs.nodes.ask_node.Goals as goal
 

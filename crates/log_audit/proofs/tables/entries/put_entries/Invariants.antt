@@ -5,6 +5,6 @@ use Rattle.log_audit.proofs.tables.entries.put_entries.Given as goal
 
 -- the rows so far, and then those of the entries and payments that are left
 abbrev pub invariant-loop-entry : goal.invariant-loop-entry
-invariant-loop-entry l =
-    l.out.items ++ rows_text l.style (entry_rows l.pharmacy (drop l.entry-index l.entries) l.left)
-    ≡ l.initial.out.items ++ rows_text l.style (entry_rows l.pharmacy l.entries l.paid)
+invariant-loop-entry g l =
+    l.out ++ rows_text l.style (entry_rows l.pharmacy (drop l.entry-index l.entries) l.left)
+    ≡ l.initial.out ++ rows_text l.style (entry_rows l.pharmacy l.entries l.paid)

@@ -9,6 +9,6 @@ use Rattle.log_audit.proofs.tables.packets.put_packets.Given as goal
 
 -- the rows so far, and then those of the packets that are left
 abbrev pub invariant-loop-place : goal.invariant-loop-place
-invariant-loop-place l =
-    (routes : RouteMaps) → l.out.items ++ rows_text l.style (told_from (packet_told (bytes_with routes) l.senders) (l.place + 1) (map packet_seen (drop l.place l.packets)))
-    ≡ l.initial.out.items ++ rows_text l.style (told_from (packet_told (bytes_with routes) l.senders) 1 (map packet_seen l.packets))
+invariant-loop-place g l =
+    (routes : RouteMaps) → l.out ++ rows_text l.style (told_from (packet_told (bytes_with routes) l.senders) (l.place + 1) (map packet_seen (drop l.place l.packets)))
+    ≡ l.initial.out ++ rows_text l.style (told_from (packet_told (bytes_with routes) l.senders) 1 (map packet_seen l.packets))

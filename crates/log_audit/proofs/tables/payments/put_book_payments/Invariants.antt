@@ -9,6 +9,6 @@ use Rattle.log_audit.proofs.tables.payments.put_book_payments.Given as goal
 
 -- the rows so far, and then those of what is left
 abbrev pub invariant-loop-row : goal.invariant-loop-row
-invariant-loop-row l =
-    (routes : RouteMaps) → l.out.items ++ rows_text l.style (flat_map (row_payments (bytes_with routes) (has_auth l.counted.keys) l.book) (drop l.row-index l.row-items))
-    ≡ l.initial.out.items ++ rows_text l.style (flat_map (row_payments (bytes_with routes) (has_auth l.counted.keys) l.book) l.row-items)
+invariant-loop-row g l =
+    (routes : RouteMaps) → l.out ++ rows_text l.style (flat_map (row_payments (bytes_with routes) (has_auth l.counted.keys) l.book) (drop l.row-index l.row-items))
+    ≡ l.initial.out ++ rows_text l.style (flat_map (row_payments (bytes_with routes) (has_auth l.counted.keys) l.book) l.row-items)

@@ -1,14 +1,15 @@
 use Rattle.std.proofs.Common.{◌∙◌}
 use Rattle.log_audit.specs.Rulings.{row_rulings}
+use Rattle.log_audit.proofs.Passing.{piece_put}
 use Rattle.log_audit.proofs.Joining.{blocks_go_on, blocks_are_done}
 use Rattle.log_audit.proofs.tables.rows.put_book_rulings.Goals as goal
 
 pub loop-row-preserved : goal.loop-row-preserved
-loop-row-preserved c =
-    blocks_go_on c.args.style (row_rulings c.args.book.now) c.loop-row.out.items c.put_row_rulings.new.out.items _ c.rows-row-items.result.now c.loop-row.row-index c.row-item.result c.loop-row-test.true c.row-item.is
-    c.in_ok-put_row_rulings.ensures c.loop-row.invariant
+loop-row-preserved g c =
+    blocks_go_on c.args.style (row_rulings c.args.book.now) c.loop-row.out c.put.new.self _ c.rows-row-items.result.now c.loop-row.row-index c.row-item.result c.loop-row-test.true c.row-item.is
+    (piece_put c.loop-row.out c.put.new.self c.clear.new.self.items c.put_row_rulings.new.out.items c.as_slice.result.now _ c.clear.ensures.items c.in_ok-put_row_rulings.ensures c.as_slice.ensures.value c.in_ok-put.ensures) c.loop-row.invariant
 
 pub returns : goal.returns
-returns c =
-    blocks_are_done c.args.style (row_rulings c.args.book.now) c.loop-row.out.items _ c.rows-row-items.result.now c.loop-row.row-index c.loop-row-test.false c.loop-row.invariant
+returns g c =
+    blocks_are_done c.args.style (row_rulings c.args.book.now) c.loop-row.out _ c.rows-row-items.result.now c.loop-row.row-index c.loop-row-test.false c.loop-row.invariant
     ∙ rw c.rows-row-items.ensures.value

@@ -6,6 +6,6 @@ use Rattle.log_audit.proofs.tables.rows.put_book_rulings.Given as goal
 
 -- the rows so far, and then those of what is left
 abbrev pub invariant-loop-row : goal.invariant-loop-row
-invariant-loop-row l =
-    l.out.items ++ rows_text l.style (flat_map (row_rulings l.book) (drop l.row-index l.row-items))
-    ≡ l.initial.out.items ++ rows_text l.style (flat_map (row_rulings l.book) l.row-items)
+invariant-loop-row g l =
+    l.out ++ rows_text l.style (flat_map (row_rulings l.book) (drop l.row-index l.row-items))
+    ≡ l.initial.out ++ rows_text l.style (flat_map (row_rulings l.book) l.row-items)

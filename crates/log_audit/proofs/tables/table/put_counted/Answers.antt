@@ -4,10 +4,10 @@ use Rattle.log_audit.proofs.Joining.{blocks_go_on, blocks_are_done}
 use Rattle.log_audit.proofs.tables.table.put_counted.Goals as goal
 
 pub loop-node-preserved : goal.loop-node-preserved
-loop-node-preserved c = λ routes.
-    blocks_go_on c.args.style (node_counted_rows (bytes_with routes)) c.loop-node.out.items c.put_journal_counted.new.out.items _ c.args.nodes.now c.loop-node.node-index c.node-item.result c.loop-node-test.true c.node-item.is
+loop-node-preserved g c = λ routes.
+    blocks_go_on c.args.style (node_counted_rows (bytes_with routes)) c.loop-node.out c.put_journal_counted.new.out _ c.args.nodes.now c.loop-node.node-index c.node-item.result c.loop-node-test.true c.node-item.is
     (rw c.in_ok-journal.ensures at c.in_ok-put_journal_counted.ensures routes) (c.loop-node.invariant routes)
 
 pub returns : goal.returns
-returns c = λ routes.
-    blocks_are_done c.args.style (node_counted_rows (bytes_with routes)) c.loop-node.out.items _ c.args.nodes.now c.loop-node.node-index c.loop-node-test.false (c.loop-node.invariant routes)
+returns g c = λ routes.
+    blocks_are_done c.args.style (node_counted_rows (bytes_with routes)) c.loop-node.out _ c.args.nodes.now c.loop-node.node-index c.loop-node-test.false (c.loop-node.invariant routes)

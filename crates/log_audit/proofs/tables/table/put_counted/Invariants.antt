@@ -8,6 +8,6 @@ use Rattle.log_audit.proofs.tables.table.put_counted.Given as goal
 
 -- the rows so far, and then those of the journals that are left
 abbrev pub invariant-loop-node : goal.invariant-loop-node
-invariant-loop-node l =
-    (routes : RouteMaps) → l.out.items ++ rows_text l.style (flat_map (node_counted_rows (bytes_with routes)) (drop l.node-index l.nodes))
-    ≡ l.initial.out.items ++ rows_text l.style (flat_map (node_counted_rows (bytes_with routes)) l.nodes)
+invariant-loop-node g l =
+    (routes : RouteMaps) → l.out ++ rows_text l.style (flat_map (node_counted_rows (bytes_with routes)) (drop l.node-index l.nodes))
+    ≡ l.initial.out ++ rows_text l.style (flat_map (node_counted_rows (bytes_with routes)) l.nodes)

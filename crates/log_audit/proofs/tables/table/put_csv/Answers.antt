@@ -4,12 +4,13 @@ use Rattle.table_text.specs.declared.layout.Style.TheVariants.{Csv}
 use Rattle.world_core.specs.Parts.{context_of}
 use Rattle.log_audit.specs.Tables.{table_names, table_rows, table_csv}
 use Rattle.input_text.proofs.Joining.{lists_join}
+use Rattle.log_audit.proofs.Passing.{piece_put}
 use Rattle.log_audit.proofs.tables.table.put_csv.Goals as goal
 
 pub returns : goal.returns
 unfolding table_csv
-returns c =
+returns g c =
     let w = c.args.world.now in
     on_ok_weaker c.put_table.result
-    (λ last. lists_join c.args.out.now.items c.put_names.new.out.items c.put_table.new.out.items (head_text (table_names c.args.table)) (rows_text Csv (table_rows (context_of w) w.world c.args.senders.now c.args.table)) c.in_ok-put_names.ensures last)
+    (λ last. lists_join c.args.out.now c.put.new.self c.put_table.new.out (head_text (table_names c.args.table)) (rows_text Csv (table_rows (context_of w) w.world c.args.senders.now c.args.table)) (piece_put c.args.out.now c.put.new.self c.piece-names.result.items c.put_names.new.out.items c.as_slice.result.now _ c.piece-names.ensures c.in_ok-put_names.ensures c.as_slice.ensures.value c.in_ok-put.ensures) last)
     c.put_table.ensures

@@ -8,13 +8,13 @@ use Rattle.log_audit.proofs.tables.table.put_json.Goals as goal
 
 pub returns : goal.returns
 unfolding table_members
-returns c =
+returns g c =
     let w = c.args.world.now in
     let text = table_member (context_of w) w.world c.args.senders.now in
-    let end = c.put_member-5.new.out.items in
+    let end = c.put_member-5.new.out in
     on_ok_weaker c.put_member-5.result
-    (λ last. lists_join c.args.out.now.items c.put_member.new.out.items end (text Payments) (text Entries ++ (text Rows ++ (text Packets ++ text CountedTable))) c.in_ok-put_member.ensures
-    (lists_join c.put_member.new.out.items c.put_member-2.new.out.items end (text Entries) (text Rows ++ (text Packets ++ text CountedTable)) c.in_ok-put_member-2.ensures
-    (lists_join c.put_member-2.new.out.items c.put_member-3.new.out.items end (text Rows) (text Packets ++ text CountedTable) c.in_ok-put_member-3.ensures
-    (lists_join c.put_member-3.new.out.items c.put_member-4.new.out.items end (text Packets) (text CountedTable) c.in_ok-put_member-4.ensures last))))
+    (λ last. lists_join c.args.out.now c.put_member.new.out end (text Payments) (text Entries ++ (text Rows ++ (text Packets ++ text CountedTable))) c.in_ok-put_member.ensures
+    (lists_join c.put_member.new.out c.put_member-2.new.out end (text Entries) (text Rows ++ (text Packets ++ text CountedTable)) c.in_ok-put_member-2.ensures
+    (lists_join c.put_member-2.new.out c.put_member-3.new.out end (text Rows) (text Packets ++ text CountedTable) c.in_ok-put_member-3.ensures
+    (lists_join c.put_member-3.new.out c.put_member-4.new.out end (text Packets) (text CountedTable) c.in_ok-put_member-4.ensures last))))
     c.put_member-5.ensures

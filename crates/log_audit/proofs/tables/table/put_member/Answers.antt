@@ -8,12 +8,12 @@ use Rattle.log_audit.proofs.tables.table.put_member.Goals as goal
 
 pub returns : goal.returns
 unfolding table_member
-returns c =
+returns g c =
     let w = c.args.world.now in
     let json = table_json (context_of w) w.world c.args.senders.now c.args.table in
-    let name = rw c.name.ensures at c.in_ok-extend_from_slice-2.ensures.items in
+    let name = rw c.name.ensures at c.in_ok-put-2.ensures in
     on_ok_weaker c.put_rows_list.result
-    (λ last. lists_join c.args.out.now.items c.extend_from_slice.new.self.items c.put_rows_list.new.out.items (codes ",\n\"") (table_name c.args.table ++ (codes "\":" ++ json)) c.in_ok-extend_from_slice.ensures.items
-    (lists_join c.extend_from_slice.new.self.items c.extend_from_slice-2.new.self.items c.put_rows_list.new.out.items (table_name c.args.table) (codes "\":" ++ json) name
-    (lists_join c.extend_from_slice-2.new.self.items c.extend_from_slice-3.new.self.items c.put_rows_list.new.out.items (codes "\":") json c.in_ok-extend_from_slice-3.ensures.items last)))
+    (λ last. lists_join c.args.out.now c.put.new.self c.put_rows_list.new.out (codes ",\n\"") (table_name c.args.table ++ (codes "\":" ++ json)) c.in_ok-put.ensures
+    (lists_join c.put.new.self c.put-2.new.self c.put_rows_list.new.out (table_name c.args.table) (codes "\":" ++ json) name
+    (lists_join c.put-2.new.self c.put-3.new.self c.put_rows_list.new.out (codes "\":") json c.in_ok-put-3.ensures last)))
     c.put_rows_list.ensures

@@ -9,10 +9,10 @@ use Rattle.log_audit.specs.Tables.{node_payments, is_counted}
 use Rattle.log_audit.proofs.tables.table.put_payments.Goals as goal
 
 pub returns : goal.returns
-returns c =
+returns g c =
     let w = c.args.world.now in
     let told = rw c.pharmacies.ensures at c.in_ok-counted.ensures w.routes in
     let same : has_auth c.in_ok-counted.counted.keys ≡ is_counted (context_of w) w.world.pharmacies = λ i auth. told auth i in
     on_ok_weaker c.put_paid.result
-    (λ last. (rw c.payers.ensures at last) ∙ ap (λ (counted : Auth → Bool). c.args.out.now.items ++ rows_text c.args.style (flat_map (node_payments (context_of w) counted) w.world.payers)) same)
+    (λ last. (rw c.payers.ensures at last) ∙ ap (λ (counted : Auth → Bool). c.args.out.now ++ rows_text c.args.style (flat_map (node_payments (context_of w) counted) w.world.payers)) same)
     (c.put_paid.ensures w.routes)

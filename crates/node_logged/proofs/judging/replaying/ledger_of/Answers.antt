@@ -9,8 +9,8 @@ use Rattle.node_logged.specs.Setting.{context_of}
 use Rattle.node_logged.proofs.Replaying.{there_at, has_journal}
 use Rattle.node_logged.proofs.judging.replaying.ledger_of.Goals as goal
 
-pub node_after-requires-clause-there : goal.node_after-requires-clause-there
-node_after-requires-clause-there c = there_at c.args.settings.now.pharmacies.items c.args.place c.requires.there
+pub node_after-requires : goal.node_after-requires
+node_after-requires c = there_at c.args.settings.now.pharmacies.items c.args.place c.requires
 
 pub unreachable-requires : goal.unreachable-requires
 unreachable-requires c =

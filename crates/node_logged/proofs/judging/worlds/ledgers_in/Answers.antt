@@ -1,4 +1,5 @@
-use Rattle.std.proofs.Common.{arith}
+use Rattle.std.proofs.Common.{arith, ap, length}
+use Rattle.world_setup.specs.declared.settings.WorldSettings.{WorldSettings}
 use Rattle.node_logged.proofs.Worlds.{one_more, none_more, all_made}
 use Rattle.node_logged.proofs.judging.worlds.ledgers_in.Goals as goal
 
@@ -11,4 +12,4 @@ loop-place-preserved-in-None c = λ logs of.
     none_more c.args.settings.now logs c.args.world.now.world c.loop-place.place c.loop-place.ledgers.items of (rw c.in-None.is at c.in_ok-ledger.ensures) (c.loop-place.invariant logs of)
 
 pub returns : goal.returns
-returns c = λ logs of. all_made c.args.settings.now logs c.loop-place.place c.loop-place.ledgers.items (omega arith) (c.loop-place.invariant logs of)
+returns c = λ logs of. all_made c.args.settings.now logs c.loop-place.place c.loop-place.ledgers.items (omega (arith, ap (λ (s : WorldSettings). length s.pharmacies.items) c.settings.ensures.kept)) (c.loop-place.invariant logs of)

@@ -40,17 +40,17 @@ returns-clause-refused c =
     (λ why. IsNotMade c.in_ok-digest.digest c.in_ok-shared.shared (log_seen b.log) why)
     (λ why. IsRefused text node c.args.bytes.now why)
     (λ why not_made. making_refused text node c.args.bytes.now c.in_ok-shared.shared (log_seen b.log) b.kept b.records.items why c.in_ok-shared.ensures.spelled
-    (sym c.has.ensures.value ∙ c.if-not-has.false) facts.own (rw (← c.in_ok-digest.ensures) facts.begun) (rw (← c.in_ok-digest.ensures) not_made)) c.serve_from.ensures.refused
+    (rw c.settings.ensures.kept at (sym c.is_there.ensures.value ∙ c.if-not-is_there.false)) facts.own (rw (← c.in_ok-digest.ensures) facts.begun) (rw (← c.in_ok-digest.ensures) not_made)) c.serve_from.ensures.refused
 
-pub returns-then-not-has-clause-refused : goal.returns-then-not-has-clause-refused
-returns-then-not-has-clause-refused c = record {
+pub returns-then-not-is_there-clause-refused : goal.returns-then-not-is_there-clause-refused
+returns-then-not-is_there-clause-refused c = record {
   settings = c.in_ok-shared.shared;
   spells = c.in_ok-shared.ensures.spelled;
-  absent = sym c.has.ensures.value ∙ c.if-not-has.true;
+  absent = rw c.settings.ensures.kept at (sym c.is_there.ensures.value ∙ c.if-not-is_there.true);
 }
 
 pub returns-in_err-begun-clause-refused : goal.returns-in_err-begun-clause-refused
 returns-in_err-begun-clause-refused c =
     let p = err_from_is_err_and c.from_residual-in_err-begun.result c.from_residual-in_err-begun.ensures.1 in
     rw (p.1, p.2) (log_refused c.args.text.now (node_seen c.args.node) c.args.bytes.now c.in_ok-shared.shared c.in_err-begun.field-0.0 c.in_ok-shared.ensures.spelled
-    (sym c.has.ensures.value ∙ c.if-not-has.false) (rw (← c.in_ok-digest.ensures) c.in_err-begun.ensures.refused))
+    (rw c.settings.ensures.kept at (sym c.is_there.ensures.value ∙ c.if-not-is_there.false)) (rw (← c.in_ok-digest.ensures) c.in_err-begun.ensures.refused))

@@ -13,7 +13,7 @@ returns-clause-ok g c = elim c.match-self.branch [
 pub returns-clause-fault : goal.returns-clause-fault
 returns-clause-fault g c = elim c.match-self.branch [
   | in-Up+in-Ok w ↦ rw (w.result-is, ← c.self.view_is, w.in-Up.is) (rw (g.met.K.Kind.reads c.args.routes.now w.in-Up.node (node_seen c.args.from) c.args.packet.now (Ok w.in-Ok.envelope) (w.in-Ok.ensures.read c.args.routes.now)) w.take_known.ensures.fault)
-  | in-Up+in-Err w ↦ rw (w.result-is, ← c.self.view_is, w.in-Up.is) (rw (w.envelope_fault.ensures, g.met.K.Kind.reads c.args.routes.now w.in-Up.node (node_seen c.args.from) c.args.packet.now (Err w.in-Err.refused) (w.in-Err.ensures.read c.args.routes.now)) refl)
+  | in-Up+in-Err w ↦ rw (w.result-is, ← c.self.view_is, w.in-Up.is) (rw (g.met.K.Kind.reads c.args.routes.now w.in-Up.node (node_seen c.args.from) c.args.packet.now (Err w.in-Err.refused) (w.in-Err.ensures.read c.args.routes.now)) refl)
   | in-AtRest w ↦ rw (w.result-is, ← c.self.view_is, w.in-AtRest.is) (g.met.K.Kind.takes_nothing c.args.routes.now _ (node_seen c.args.from) c.args.packet.now)
 ]
 

@@ -7,13 +7,13 @@ use Rattle.claim_profile.specs.Answer.{answer_text}
 use Rattle.claim_model.specs.Words.{RequestHeader, AcceptedStatus}
 use Rattle.claim_model.specs.Bytes.{bytes_with}
 use Rattle.claim_model.specs.Readable.{is_payer, payer_for}
-use Rattle.claim_model.specs.Refusal.{Refusal}
+use Rattle.claim_model.specs.declared.refusal.Refusal.{Refusal}
+use Rattle.claim_model.specs.declared.refusal.Fault.{Fault}
+use Rattle.claim_model.specs.Refusal.{refusal_of, IsRefused}
+use Rattle.claim_model.specs.declared.refusal.Fault.TheVariants.{OutOfMemory, Refused}
 use Rattle.claim_model.specs.Rows.{Row, Book}
 use Rattle.claim_model.specs.Book.{serial_fits, row_of, answered}
 use Rattle.payer_book.specs.declared.ruling.changes.Change.{Change}
-use Rattle.payer_book.specs.declared.fault.BookFault.{BookFault}
-use Rattle.payer_book.specs.declared.fault.BookFault.TheVariants.{OutOfMemory, SerialsUsedUp}
-use Rattle.payer_book.specs.Faults.{RefusedFor}
 use Rattle.payer_book.specs.Added.{with_row, kept_answer}
 use Rattle.payer_book.specs.Drafts.{ByPlan}
 use Rattle.payer_book.specs.Entries.{rulings_by, IsEntry}
@@ -54,14 +54,14 @@ returns-then-len-cap-clause-fault c =
 
 module _ (c : After-leads_to) (ours : c.leads_to.result ≡ true) (room : length c.self.inside.rows < c.self.inside.settings.cap) where
   -- a fault of the new row is a refusal of the request
-  refused : (f : BookFault) → (f ≡ OutOfMemory) ⊎ ((f ≡ SerialsUsedUp) × (list_all serial_fits (rulings_by (ByPlan c.self.inside.plan) c.args.self.now c.args.id c.args.request.now) ≡ false))
-      → RefusedFor f (answered (bytes_with c.args.routes.now) c.args.self.now c.args.id c.args.request.now)
+  refused : (f : Fault) → (f ≡ OutOfMemory) ⊎ ((f ≡ Refused Refusal.SerialsUsedUp) × (list_all serial_fits (rulings_by (ByPlan c.self.inside.plan) c.args.self.now c.args.id c.args.request.now) ≡ false))
+      → IsRefused (refusal_of f) (answered (bytes_with c.args.routes.now) c.args.self.now c.args.id c.args.request.now)
   refused f why =
-      let fault = subst (λ (b : Book). (f ≡ OutOfMemory) ⊎ ((f ≡ SerialsUsedUp) × (list_all serial_fits (rulings_by (ByPlan c.self.inside.plan) b c.args.id c.args.request.now) ≡ false))) (sym c.self.view_is) why in
-      subst (λ (b : Book). RefusedFor f (answered (bytes_with c.args.routes.now) b c.args.id c.args.request.now)) c.self.view_is
+      let fault = subst (λ (b : Book). (f ≡ OutOfMemory) ⊎ ((f ≡ Refused Refusal.SerialsUsedUp) × (list_all serial_fits (rulings_by (ByPlan c.self.inside.plan) b c.args.id c.args.request.now) ≡ false))) (sym c.self.view_is) why in
+      subst (λ (b : Book). IsRefused (refusal_of f) (answered (bytes_with c.args.routes.now) b c.args.id c.args.request.now)) c.self.view_is
       (elim fault [
-        | inl e ↦ subst (λ (g : BookFault). RefusedFor g (answered (bytes_with c.args.routes.now) (opened c) c.args.id c.args.request.now)) (sym e) tt
-        | inr e ↦ subst (λ (g : BookFault). RefusedFor g (answered (bytes_with c.args.routes.now) (opened c) c.args.id c.args.request.now)) (sym e.0)
+        | inl e ↦ subst (λ (g : Fault). IsRefused (refusal_of g) (answered (bytes_with c.args.routes.now) (opened c) c.args.id c.args.request.now)) (sym e) tt
+        | inr e ↦ subst (λ (g : Fault). IsRefused (refusal_of g) (answered (bytes_with c.args.routes.now) (opened c) c.args.id c.args.request.now)) (sym e.0)
             (used_up c.args.routes.now (opened c) c.args.id c.args.request.now c.in-Some.framed.header c.in-Some.ensures.readable (routed c true ours)
             (fresh c) (lt-ltb (length c.self.inside.rows) c.self.inside.settings.cap room) (row_alike c.args.routes.now (opened c) c.self.inside.payments c.self.invariant.0 c.args.id c.args.request.now) e.1)
       ])

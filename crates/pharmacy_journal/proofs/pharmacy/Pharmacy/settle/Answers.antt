@@ -6,7 +6,7 @@ use Rattle.std.proofs.lemmas.Result.{err_from_is_err_and}
 use Rattle.bin_routes.specs.Table.{routes_of}
 use Rattle.claim_model.specs.Words.{TxnId}
 use Rattle.claim_model.specs.Bytes.{bytes_with}
-use Rattle.claim_model.specs.Refusal.{Unreadable}
+use Rattle.claim_model.specs.declared.refusal.Refusal.TheVariants.{Unreadable}
 use Rattle.claim_model.specs.Journal.{Journal, heard}
 use Rattle.pharmacy_journal.specs.Hearing.{envelope_seen, answers, IsAnsweredBy}
 use Rattle.pharmacy_journal.proofs.Entering.{length-entries_of}

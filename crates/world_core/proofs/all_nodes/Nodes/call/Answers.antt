@@ -2,7 +2,7 @@ use Rattle.std.proofs.Common.{map, le_trans}
 use Rattle.std.proofs.lemmas.Result.{IfOk-weaker, IfErr-weaker}
 use Rattle.claim_model.specs.Bytes.{bytes_with}
 use Rattle.world_setup.specs.Seen.{sent_seen, lent_seen}
-use Rattle.world_setup.specs.Refused.{refusal_of}
+use Rattle.claim_model.specs.Refusal.{refusal_of}
 use Rattle.world_core.specs.NodeLists.{world_of}
 use Rattle.world_core.proofs.Asking.{pharmacy_done, pharmacy_refused, switch_done, switch_refused, payer_done, payer_refused}
 use Rattle.world_core.proofs.Rooms.{pharmacy_room, switch_room, payer_room}
