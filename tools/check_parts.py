@@ -90,6 +90,7 @@ SCRIPTS = (
     Part('callers', ('trials/run', 'callers', '--unproved')),
     Part('cases', ('cases/run',), PRODUCTS, spreads=True),
     Part('refuse-memory', ('tests/refuse-memory', '--every', REFUSALS), ('claimswitch', 'claimdump', 'claimaudit', 'claimnode', 'claimgrow', 'rows'), spreads=True),
+    Part('turned', ('tests/turned', '--each', KILLS), ('claimnode', 'claimaudit'), spreads=True),
     Part('killed', ('tests/killed', '--each', KILLS), ('claimnode', 'claimaudit'), spreads=True),
     Part('killed-library', ('tests/killed', '--library', '--each', '20'), ('library', 'claimaudit'), spreads=True),
     Part('killed-c', ('tests/killed', '--host', 'c', '--each', '9'), ('claimnode', 'library', 'claimaudit'), spreads=True),

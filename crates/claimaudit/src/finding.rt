@@ -3,6 +3,7 @@
 use claim_reports::ReportFault;
 use kept_logs::LogFault;
 use log_audit::AuditFault;
+use log_turning::JoinFault;
 use thiserror::Error;
 
 /// Why there is no verdict.
@@ -14,6 +15,9 @@ pub(crate) enum Finding {
     /// The file of this name is no log under the settings.
     #[error("{0}: {1}")]
     Log(String, LogFault),
+    /// The log of this name does not go on where the one before it ends, or is none.
+    #[error("{0}: {1}")]
+    Joining(String, JoinFault),
     /// The settings are refused: what is wrong in them.
     #[error("settings refused: {0}")]
     Settings(String),

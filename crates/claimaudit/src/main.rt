@@ -17,6 +17,7 @@ use command_line::{End, given_words, read_file, read_settings_file};
 use log_audit::{
     AuditFault, Form, LoneForm, Outgoing, WriterSink, put_alone, put_report, read_audited,
 };
+use log_turning::{JoinFault, WholeFault, whole_log};
 use std::alloc::Global;
 use std::io::{Stdout, Write};
 use std::process::ExitCode;
@@ -139,7 +140,7 @@ fn audit(rt: &HostRuntime, words: &Words<'_>) -> Result<bool, Unjudged> {
     let text = read_settings_file(rt, words.settings)?;
     let mut logs = Vec::new(alloc);
     for name in &words.logs {
-        logs.push(read_file(rt, name)?)?;
+        logs.push(read_log(rt, words, text.as_slice(), name)?)?;
     }
     let mut out = Outgoing::new(alloc, WriterSink::new(rt.stdout()));
     match judged(alloc, text, logs, words.asked, &mut out) {
@@ -149,6 +150,22 @@ fn audit(rt: &HostRuntime, words: &Words<'_>) -> Result<bool, Unjudged> {
         }
         Err(AuditFault::Settings) => Err(End::Own(why_refused(rt, words)?)),
         Err(fault) => Err(named(alloc, words, fault)),
+    }
+}
+
+/// The log of a node; where it goes on behind closed ones, which stand beside it, all of them as one.
+fn read_log(
+    rt: &HostRuntime,
+    words: &Words<'_>,
+    text: &[u8],
+    name: &str,
+) -> Result<Vec<u8>, Unjudged> {
+    match whole_log(rt, text, name) {
+        Ok(bytes) => Ok(bytes),
+        Err(WholeFault::OutOfMemory) => Err(End::OutOfMemory),
+        Err(WholeFault::File(name, error)) => Err(End::of_file(rt.alloc(), name.as_str(), error)),
+        Err(WholeFault::Logs(_, JoinFault::Settings)) => Err(End::Own(why_refused(rt, words)?)),
+        Err(WholeFault::Logs(name, fault)) => Err(End::Own(Finding::Joining(name, fault))),
     }
 }
 

@@ -1,7 +1,8 @@
 //! Messages made from the JSON that describes them.
 
+use crate::lines::next_line;
 use crate::stop::Stop;
-use input_text::{is_skipped, put_decimal, put_printed};
+use input_text::{put_decimal, put_printed};
 use message_encoding::{Described, Misfit, PartFault, ReadFault};
 use message_words::{ByteSource, LineSource, MessageKind, Page, Spelling, Style};
 use std::alloc::{AllocError, Global};
@@ -36,14 +37,10 @@ pub(crate) fn each_line<R: ByteSource + Drop, W: Write>(
     writer: &mut W,
 ) -> Result<bool, Stop> {
     let mut all = true;
-    for line in 1..u64::MAX {
-        match source.read_line() {
-            Ok(true) => {}
-            Ok(false) => return Ok(all),
-            Err(fault) => return Err(Stop::of_input(fault, line)),
-        }
-        if is_skipped(source.line()) {
-            continue;
+    let mut line = 0;
+    for _ in 0..u64::MAX {
+        if !next_line(source, &mut line)? {
+            return Ok(all);
         }
         let mut text = Vec::new(alloc);
         all &= put_line(alloc, spelling, line, source.line(), &mut text)?;

@@ -2,14 +2,15 @@
 #![tactic(auto)]
 
 mod encoding;
+mod lines;
 mod stop;
 mod words;
 
+use crate::lines::next_line;
 use crate::stop::Stop;
 use crate::words::{Asked, asked_in};
 use clap::Error as ClapError;
 use clap::error::ErrorKind;
-use input_text::is_skipped;
 use message_words::{
     ByteSource, LineSource, MessageKind, Page, ReaderBytes, Spelling, SpellingFault, hex_bytes,
     printed_bytes, unwrapped,
@@ -116,14 +117,10 @@ fn each_line<R: ByteSource + Drop, W: Write>(
     writer: &mut W,
 ) -> Result<bool, Stop> {
     let mut all = true;
-    for line in 1..u64::MAX {
-        match source.read_line() {
-            Ok(true) => {}
-            Ok(false) => return Ok(all),
-            Err(fault) => return Err(Stop::of_input(fault, line)),
-        }
-        if is_skipped(source.line()) {
-            continue;
+    let mut line = 0;
+    for _ in 0..u64::MAX {
+        if !next_line(source, &mut line)? {
+            return Ok(all);
         }
         all &= describe_line(alloc, asked, line, source.line(), page)?;
         put_page(page, writer)?;

@@ -1,6 +1,7 @@
 //! What the program alone can find wrong.
 
 use log_growth::GrowthFault;
+use log_turning::JoinFault;
 use thiserror::Error;
 
 /// What the program alone can find wrong.
@@ -18,6 +19,9 @@ pub(crate) enum Finding {
     /// Another process has the log of this name.
     #[error("{0}: another process has the log")]
     Locked(String),
+    /// The log of this name does not go on where the one before it ends, or is none.
+    #[error("{0}: {1}")]
+    Joining(String, JoinFault),
     /// Some log does not go over.
     #[error("no log was changed, since not all go over")]
     SomeStay,

@@ -18,6 +18,7 @@ use crate::telling::put_line;
 use crate::words::{Words, words_of};
 use command_line::{End, given_words, read_file};
 use log_growth::{Gone, Grown, GrowthFault, OverFault, go_over, grows};
+use log_turning::{WholeFault, whole_log};
 use node_service::ServiceFault;
 use settings_digest::Digests;
 use std::alloc::Global;
@@ -92,7 +93,7 @@ fn judge(
     let mut gone = Vec::new(alloc);
     let mut lines = Vec::new(alloc);
     for name in &words.logs {
-        let bytes = read_file(rt, name)?;
+        let bytes = read_log(rt, old, new, name)?;
         let becomes = go_over(alloc, &grown.old, &grown.new, new, bytes.as_slice());
         let routed = is_routed_now(alloc, &grown.old, old, bytes.as_slice(), &becomes);
         put_line(alloc, &mut lines, name, &becomes, routed)?;
@@ -107,6 +108,20 @@ fn judge(
         Ok(gone)
     } else {
         Err(End::Own(Finding::SomeStay))
+    }
+}
+
+/// The log of a node under one of these settings; where it goes on behind closed ones, which stand beside it, all of them as one.
+fn read_log(rt: &HostRuntime, old: &[u8], new: &[u8], name: &str) -> Result<Vec<u8>, Ungone> {
+    let read = match whole_log(rt, old, name) {
+        Err(WholeFault::Logs(_, _)) => whole_log(rt, new, name),
+        read => read,
+    };
+    match read {
+        Ok(bytes) => Ok(bytes),
+        Err(WholeFault::OutOfMemory) => Err(End::OutOfMemory),
+        Err(WholeFault::File(name, error)) => Err(End::of_file(rt.alloc(), name.as_str(), error)),
+        Err(WholeFault::Logs(name, fault)) => Err(End::Own(Finding::Joining(name, fault))),
     }
 }
 

@@ -1,5 +1,6 @@
 //! What the program alone can find wrong.
 
+use log_turning::JoinFault;
 use node_service::ServiceFault;
 use thiserror::Error;
 
@@ -36,6 +37,12 @@ pub(crate) enum Finding {
     /// The log has fewer calls than it was known to have: so many.
     #[error("the log has {0} calls, fewer than it is known to have")]
     FewCalls(u64),
+    /// The node left no record.
+    #[error("the node leaves no record")]
+    NoRecord,
+    /// The logs of a node do not go on one behind another: what is wrong with which file.
+    #[error("{0}: {1}")]
+    Joining(String, JoinFault),
     /// The settings, the node or its log are refused.
     #[error("{0}")]
     Service(ServiceFault),

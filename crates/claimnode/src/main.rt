@@ -4,15 +4,19 @@
 
 mod file;
 mod finding;
+mod joining;
 mod repair;
 mod standard;
+mod turning;
 mod undamaged;
 mod words;
 
-use crate::file::open_log;
+use crate::file::{Opened, open_log};
 use crate::finding::Finding;
+use crate::joining::join;
 use crate::repair::repair;
 use crate::standard::take_standard;
+use crate::turning::turn;
 use crate::words::{Words, words_of};
 use command_line::{End, given_words, read_settings_file};
 use node_process::{Host, Owner, Unserved, serve_all};
@@ -41,7 +45,7 @@ fn run(rt: &HostRuntime) -> Result<(), End<Finding>> {
 
 /// Refuses settings that have no such node, before a file is made for its log.
 fn check_settings(rt: &HostRuntime, words: &Words<'_>, text: &[u8]) -> Result<(), End<Finding>> {
-    match Service::open(rt.alloc(), &HashKeys::fixed(), text, words.node, b"") {
+    match Service::open(rt.alloc(), &HashKeys::fixed(), text, words.node, None, b"") {
         Ok(_) => Ok(()),
         Err(ServiceFault::Settings) => Err(End::Own(why_refused(rt.alloc(), text)?)),
         Err(fault) => Err(End::Own(Finding::Service(fault))),
@@ -62,13 +66,15 @@ fn run_node(rt: &HostRuntime, words: &Words<'_>, text: &[u8]) -> Result<(), End<
     if words.repair {
         return repair(rt, words, text);
     }
-    let log = open_log(rt, words.log)?;
-    let mut host = Host::new(rt, words.log, log, rt.stdin(), rt.stdout());
-    let owner = Owner {
-        settings: text,
-        node: words.node,
-        least: words.least,
-    };
+    if words.turn {
+        return turn(rt, words, text);
+    }
+    if let Some(out) = words.join {
+        return join(rt, words, text, out);
+    }
+    let Opened { file, rest, front } = open_log(rt, words.log)?;
+    let mut host = Host::new(rt, words.log, file, front, rt.stdin(), rt.stdout());
+    let owner = owner_of(words, text, rest.as_deref());
     match serve_all(rt.alloc(), &hash_keys(rt), &owner, &mut host) {
         Ok(()) => Ok(()),
         Err(Unserved::OutOfMemory) => Err(End::OutOfMemory),
@@ -77,6 +83,16 @@ fn run_node(rt: &HostRuntime, words: &Words<'_>, text: &[u8]) -> Result<(), End<
         Err(Unserved::LongLine) => Err(End::Own(Finding::LongLine)),
         Err(Unserved::TooManyTurns) => Err(End::Own(Finding::TooManyTurns)),
         Err(Unserved::Io(error)) => Err(End::Io(error)),
+    }
+}
+
+/// Whose process it is: of the node that the command line names, whose log begins with this rest, where it has one.
+fn owner_of<'a>(words: &Words<'_>, text: &'a [u8], rest: Option<&'a [u8]>) -> Owner<'a> {
+    Owner {
+        settings: text,
+        node: words.node,
+        rest,
+        least: words.least,
     }
 }
 

@@ -1,6 +1,6 @@
 //! The repair of a damaged log: what stands behind the damage is told, and is cut off where its place is typed back.
 
-use crate::file::open_found;
+use crate::file::{Opened, open_found};
 use crate::finding::Finding;
 use crate::undamaged::{Run, runs_from};
 use crate::words::Words;
@@ -9,7 +9,6 @@ use kept_logs::{LogFault, LogVersion, behind_record};
 use node_process::{keep_end, sync_folder};
 use node_service::{Service, ServiceFault};
 use payer_book::HashKeys;
-use std::fs::File;
 use std::io::Read;
 
 /// How many bytes the head of a log has.
@@ -20,19 +19,20 @@ const HEAD: usize = 46;
 /// # Errors
 /// The log is no log of the node under these settings, is damaged and stays so, or is not damaged and was to be cut.
 pub(crate) fn repair(rt: &HostRuntime, words: &Words<'_>, text: &[u8]) -> Result<(), End<Finding>> {
-    let mut file = open_found(rt, words.log)?;
+    let mut opened = open_found(rt, words.log)?;
     let mut bytes = Vec::new(rt.alloc());
-    file.read_to_end(&mut bytes)?;
+    opened.file.read_to_end(&mut bytes)?;
     match Service::open(
         rt.alloc(),
         &HashKeys::fixed(),
         text,
         words.node,
+        opened.rest(),
         bytes.as_slice(),
     ) {
         Ok((service, whole)) => sound(rt, words, service.calls(), whole, bytes.len()),
         Err(fault) => match place_of(fault) {
-            Some(place) => damaged(rt, words, &file, bytes.as_slice(), fault, place),
+            Some(place) => damaged(rt, words, &opened, bytes.as_slice(), fault, place),
             None => Err(End::Own(Finding::Service(fault))),
         },
     }
@@ -71,7 +71,7 @@ fn sound(
 fn damaged(
     rt: &HostRuntime,
     words: &Words<'_>,
-    file: &File,
+    opened: &Opened,
     bytes: &[u8],
     fault: ServiceFault,
     place: usize,
@@ -85,7 +85,7 @@ fn damaged(
             if typed != place as u64 {
                 return Err(End::Own(Finding::OtherPlace(place)));
             }
-            cut(rt, words.log, file, place)?;
+            cut(rt, words.log, opened, place)?;
             println!(rt; "cut at byte {place}: {calls} calls are left")?;
             Ok(())
         }
@@ -130,11 +130,12 @@ fn tell(
     Ok(())
 }
 
-/// Cuts a file off behind so many bytes, once what stands there is kept beside it, and has all that on disk.
-fn cut(rt: &HostRuntime, path: &str, file: &File, size: usize) -> Result<(), End<Finding>> {
-    keep_end(rt, path, size)?;
-    file.set_len(size as u64)?;
-    file.sync_all()?;
+/// Cuts a log off behind so many bytes, once what stands there is kept beside it, and has all that on disk.
+fn cut(rt: &HostRuntime, path: &str, opened: &Opened, size: usize) -> Result<(), End<Finding>> {
+    let behind = opened.front.saturating_add(size as u64);
+    keep_end(rt, path, behind)?;
+    opened.file.set_len(behind)?;
+    opened.file.sync_all()?;
     sync_folder(rt, path)?;
     Ok(())
 }

@@ -23,6 +23,12 @@ pub(crate) struct Words<'a> {
     pub(crate) repair: bool,
     /// Where the log is cut: the place of its damage, typed back.
     pub(crate) cut_at: Option<u64>,
+    /// Whether the log is not served, but closed, so that the node goes on in a new one.
+    pub(crate) turn: bool,
+    /// How many bytes its file has at least where it is closed.
+    pub(crate) at_size: u64,
+    /// The file of all logs joined: the log is not served, but written there behind those that were closed before it.
+    pub(crate) join: Option<&'a str>,
 }
 
 /// What the command line names; its first word is the program's own name.
@@ -47,6 +53,9 @@ fn words_in<'a>(matches: &ArgMatches<'a>) -> Option<Words<'a>> {
         least: matches.get_one::<u64>("at-least").unwrap_or(0),
         repair: matches.get_flag("repair"),
         cut_at: matches.get_one::<u64>("cut-at"),
+        turn: matches.get_flag("turn"),
+        at_size: matches.get_one::<u64>("at-size").unwrap_or(0),
+        join: matches.get_str("join"),
     })
 }
 
@@ -66,7 +75,10 @@ fn command<'a>(alloc: Global) -> Result<Command<'a>, AllocError> {
         ))?
         .arg(least(alloc))?
         .arg(repair(alloc)?)?
-        .arg(cut_at(alloc)?)
+        .arg(cut_at(alloc)?)?
+        .arg(turn(alloc)?)?
+        .arg(at_size(alloc)?)?
+        .arg(join(alloc)?)
 }
 
 /// How many calls the log is known to have.
@@ -99,6 +111,43 @@ fn cut_at<'a>(alloc: Global) -> Result<Arg<'a>, AllocError> {
             "with --repair: cut the log off at this place, that of its damage, and keep what stands behind it beside the log",
         )
         .requires_arg("repair")
+}
+
+/// That the log is closed, and the node goes on in a new one.
+fn turn<'a>(alloc: Global) -> Result<Arg<'a>, AllocError> {
+    Arg::new(alloc, "turn")
+        .long("turn")
+        .action(ArgAction::SetTrue)
+        .help(
+            "serve nothing: close the log, keep it as LOG.CALLS, and begin a new one with what the node has",
+        )
+        .conflicts_with("at-least")?
+        .conflicts_with("repair")
+}
+
+/// How large the file is where it is closed.
+fn at_size<'a>(alloc: Global) -> Result<Arg<'a>, AllocError> {
+    Arg::new(alloc, "at-size")
+        .long("at-size")
+        .value_name("BYTES")
+        .value_parser(value_parser!(u64))
+        .action(ArgAction::Set)
+        .help("with --turn: close the log only where its file has so many bytes")
+        .requires_arg("turn")
+}
+
+/// That all logs are joined.
+fn join<'a>(alloc: Global) -> Result<Arg<'a>, AllocError> {
+    Arg::new(alloc, "join")
+        .long("join")
+        .value_name("OUT")
+        .action(ArgAction::Set)
+        .help(
+            "serve nothing: write all calls, those of the closed logs LOG.CALLS too, to a new file as one log",
+        )
+        .conflicts_with("at-least")?
+        .conflicts_with("repair")?
+        .conflicts_with("turn")
 }
 
 /// A word that has to be there.

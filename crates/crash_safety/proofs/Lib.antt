@@ -8,3 +8,5 @@ pub mod Worlds
 pub mod Promises
 pub mod Appending
 pub mod Candidates
+pub mod Closing
+pub mod Stepping

@@ -2,4 +2,5 @@
 pub mod Network
 pub mod Runs
 pub mod Kept
+pub mod Steps
 pub mod Fenced

@@ -3,6 +3,7 @@ pub mod FieldsBack
 pub mod FramesBack
 pub mod CallsBack
 pub mod LogsBack
+pub mod RestsBack
 pub mod Loops
 pub mod FieldsOnly
 pub mod FitsOnly

@@ -1,5 +1,5 @@
 -- A node that makes the calls of a log as they are read.
-use Rattle.std.proofs.Common.{◌≡◌, ℕ, ◌+◌, ◌-◌, ◌<◌, Bool, true, false, List, [], ◌∷◌, ◌++◌, length, Option, Some, None, Result, Ok, Err, refl, sym, ap, ◌∙◌, arith, subst, length-append}
+use Rattle.std.proofs.Common.{◌≡◌, ℕ, ◌+◌, ◌-◌, ◌<◌, Bool, true, false, List, [], ◌∷◌, ◌++◌, length, Some, None, Result, Ok, Err, refl, sym, ap, ◌∙◌, arith, subst, length-append}
 use Rattle.claim_model.specs.Context.{Context}
 use Rattle.claim_model.specs.Node.{Node, Done}
 use Rattle.claim_model.specs.Nodes.{AnyNode, node_step, same_node}
@@ -114,18 +114,12 @@ pub no_record_here : (ctx : Context) (before : AnyNode) (version total : ℕ) (b
 no_record_here ctx before version total bytes node place rest why so_far within read =
     subst (AreNotMade ctx before) (sym (so_far.same ∙ calls_stop version total (length bytes) place so_far.calls rest why within read)) tt
 
--- what stands in an option
-abbrev in_some : {A : Type 0} → A → Option A → A
-in_some a None = a
-in_some a (Some b) = b
-
 -- behind a head of this node, and calls that it makes, bytes are its log
-pub made_as_read : (ctx : Context) (state before : AnyNode) (version : ℕ) (digest : List ℕ) (own node : Node) (bytes records : List ℕ) (made : MadeCalls) (whole : ℕ) → version ≡ version_of digest
-    → head_in digest bytes ≡ Ok (own, records) → same_node own node ≡ true → Some state ≡ Some before → AreMade ctx state version (length bytes) records made.node made.calls made.torn → whole ≡ length bytes - made.torn
-    → IsMadeAsRead ctx before digest node bytes (record { node = made.node; calls = made.calls; whole = whole })
+pub made_as_read : (ctx : Context) (state : AnyNode) (version : ℕ) (digest : List ℕ) (own node : Node) (bytes records : List ℕ) (made : MadeCalls) (whole : ℕ) → version ≡ version_of digest
+    → head_in digest bytes ≡ Ok (own, records) → same_node own node ≡ true → AreMade ctx state version (length bytes) records made.node made.calls made.torn → whole ≡ length bytes - made.torn
+    → IsMadeAsRead ctx state digest node bytes (record { node = made.node; calls = made.calls; whole = whole })
 unfolding log_in
-made_as_read ctx state before version digest own node bytes records made whole known head same opens are_so left =
-    let begins : state ≡ before = ap (in_some state) opens in
+made_as_read ctx state version digest own node bytes records made whole known head same are_so left =
     let are : AreMade ctx state (version_of digest) (length bytes) records made.node made.calls made.torn =
     subst (λ v. AreMade ctx state v (length bytes) records made.node made.calls made.torn) known are_so in
     record {
@@ -133,6 +127,6 @@ made_as_read ctx state before version digest own node bytes records made whole k
       own = same_is own node same;
       read = rw (head, are.read) (ap (λ n. Ok (record { log = record { node = own; calls = are.calls }; whole = n })) (ap (λ n. length bytes - n) are.left_behind ∙ sym left));
       count = are.number;
-      makes = subst (λ b. Makes ctx b are.calls) begins are.makes;
-      leads = are.leads ∙ ap (λ b. replay ctx b are.calls) begins;
+      makes = are.makes;
+      leads = are.leads;
     }

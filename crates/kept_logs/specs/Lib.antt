@@ -11,3 +11,5 @@ pub mod Fits
 pub mod Cuts
 pub mod MetSeen
 pub mod LogSeen
+pub mod Rests
+pub mod RestSeen

@@ -1,11 +1,16 @@
 //! Digests of settings.
 
-ghost use Rattle.std.specs.Prelude.{◌≡◌, length, take, drop};
+ghost use Rattle.std.specs.Prelude.{◌≡◌, ◌++◌, length, take, drop};
+ghost use Rattle.sha2.specs.Sha256.{sha256};
 ghost use Rattle.kept_logs.specs.Digests.{of_file, of_said, version_of, version_seen};
+ghost use Rattle.kept_logs.specs.Rests.{behind};
 
 use crate::version::LogVersion;
 use sha2::{Digest, Sha256};
 use std::marker::Model;
+
+/// How many bytes of a rest stand before the record.
+const REST_HEAD: usize = 54;
 
 /// What the head of a log has of the settings that its node was opened with: the version of the log, and behind it a SHA-256
 /// digest. In version 1 that is the digest of the bytes of the settings' file, in version 2 of a text of what they say.
@@ -51,6 +56,19 @@ impl SettingsDigest {
         }
     }
 
+    /// That of a log which goes on behind closed ones, under the same settings, and begins with this rest: of this digest, and of
+    /// what stands before the record in the rest.
+    #[tactic(auto, unfolding(crate::specs::Rests::behind))]
+    pub fn behind(&self, rest: &[u8]) -> SettingsDigest
+        ensures { result ≡ behind self.now rest.now }
+    {
+        let head = &rest[..REST_HEAD.min(rest.len())];
+        SettingsDigest {
+            version: LogVersion::Second,
+            bytes: digest_of(&self.bytes, head),
+        }
+    }
+
     /// The version of a log that has it.
     pub fn version(&self) -> LogVersion
         ensures { version_seen result ≡ version_of self.now }
@@ -72,4 +90,14 @@ impl SettingsDigest {
     {
         &self.bytes
     }
+}
+
+/// The SHA-256 digest of bytes and those behind them.
+fn digest_of(bytes: &[u8], more: &[u8]) -> [u8; 32]
+    ensures { result ≡ sha256 (bytes.now ++ more.now) }
+{
+    let mut hasher = Sha256::new();
+    hasher.update(bytes);
+    hasher.update(more);
+    hasher.finalize()
 }

@@ -1,7 +1,11 @@
 //! What holds of every log and its text, as facts that a caller cites by a call.
 
-ghost use Rattle.std.specs.Prelude.{◌≡◌, ◌⊎◌, ℕ, ◌+◌, ◌<◌, ◌≤◌, ◌++◌, true, List, length, take, Ok, Err};
+ghost use Rattle.std.specs.Prelude.{◌≡◌, ◌⊎◌, ℕ, ◌+◌, ◌<◌, ◌≤◌, ◌++◌, true, List, length, take, Some, Ok, Err};
 ghost use Rattle.claim_model.specs.Logs.{Logged, NodeLog};
+ghost use Rattle.claim_model.specs.Nodes.{AnyNode};
+ghost use Rattle.world_setup.specs.Seen.{settings_seen};
+ghost use Rattle.world_setup.specs.declared.settings.WorldSettings.{WorldSettings};
+ghost use Rattle.node_state.specs.Resting.{resumed};
 ghost use Rattle.node_log.specs.LogSeen.{with_call};
 ghost use Rattle.kept_logs.specs.declared.fault.LogFault.TheVariants.{Short};
 ghost use Rattle.kept_logs.specs.Records.{logged_text};
@@ -10,6 +14,7 @@ ghost use Rattle.kept_logs.specs.Frames.{frame_text, frame_at, is_zeros, CutOff}
 ghost use Rattle.kept_logs.specs.Logs.{log_text, Reading, log_in, ReadsAs};
 ghost use Rattle.kept_logs.specs.Fits.{FitsLog};
 ghost use Rattle.kept_logs.specs.Cuts.{EachIsByte, ReadsBack, Begins, IsLogOf};
+ghost use Rattle.kept_logs.specs.Rests.{FitsRest, Rest, begins, calls_before, rest_in, rest_text};
 
 /// The first n bytes of a log's text are read as the calls whose records stand whole in them, for every n; a log has
 /// no text of fewer bytes than its head has.
@@ -36,4 +41,14 @@ pub fn log_is_its_text()
         → length digest ≡ 33 → EachIsByte bytes → log_in digest bytes ≡ Ok read → IsLogOf digest bytes read }
     ensures cut { (version number : ℕ) (bytes : List ℕ) → EachIsByte bytes
         → frame_at version number bytes ≡ CutOff → Begins version number bytes ⊎ (is_zeros bytes ≡ true) }
+{}
+
+/// The text of what a log begins with is read as that; so a log which goes on behind closed ones begins with the node that its
+/// record starts, and with their calls before it.
+pub fn rests_read_back()
+    ensures reads { (r : Rest) → FitsRest r → rest_in (rest_text r) ≡ Some r }
+    ensures begins { (s : WorldSettings) (r : Rest) (state : AnyNode)
+        → FitsRest r → resumed (settings_seen s) r.node r.kept ≡ Some state
+        → begins s r.node (Some (rest_text r)) ≡ Some state }
+    ensures calls { (r : Rest) → FitsRest r → calls_before (Some (rest_text r)) ≡ r.calls }
 {}

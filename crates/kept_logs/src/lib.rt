@@ -16,13 +16,15 @@ mod making;
 mod met;
 mod putting;
 mod records;
+mod rests;
 mod sums;
 mod version;
 
 pub use digest::SettingsDigest;
 pub use fault::LogFault;
 pub use frames::behind_record;
-pub use laws::{log_is_its_text, log_reads_back, log_takes_one_more};
+pub use laws::{log_is_its_text, log_reads_back, log_takes_one_more, rests_read_back};
 pub use logs::{ReadLog, place_of, read_log, record_bytes, write_log};
 pub use making::{MadeLog, make_as_read};
+pub use rests::{Rest, begins, read_rest, write_rest};
 pub use version::{LogVersion, is_first};

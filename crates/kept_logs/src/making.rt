@@ -1,11 +1,8 @@
 //! A log that is made by its node as it is read, so that no more of it is kept than the node.
 
-ghost use Rattle.std.specs.Prelude.{◌≡◌, ◌≢◌, None, Some, Ok, IfOk, IsSome, OnOk};
-ghost use Rattle.bin_routes.specs.Table.{routes_of};
+ghost use Rattle.std.specs.Prelude.{◌≡◌, ◌≢◌, Ok, IfOk, OnOk};
 ghost use Rattle.claim_model.specs.Bytes.{bytes_with};
-ghost use Rattle.claim_model.specs.Nodes.{AnyNode, node_at};
-ghost use Rattle.claim_model.specs.Settings.{opening};
-ghost use Rattle.world_setup.specs.Seen.{node_seen, settings_seen};
+ghost use Rattle.world_setup.specs.Seen.{node_seen};
 ghost use Rattle.kept_logs.specs.declared.fault.LogFault.TheVariants.{OutOfMemory};
 ghost use Rattle.kept_logs.specs.Cuts.{IsLogOf};
 ghost use Rattle.kept_logs.specs.Digests.{version_seen};
@@ -22,7 +19,7 @@ use bin_routes::Routes;
 use node_log::{Record, is_same_node, makes};
 use node_state::NodeState;
 use std::alloc::{AllocError, Global};
-use world_setup::{CheckedSettings, Node};
+use world_setup::Node;
 
 /// A node that has made its log.
 #[derive(Drop)]
@@ -46,32 +43,29 @@ struct MadeCalls {
     torn: usize,
 }
 
-/// The node of a log under settings of this digest, which makes each call as it is read, from its opening state. `None` exactly
-/// where the bytes are no log of this node, or where it does not make a call, or sends something else: `read_log` and `make_log`
-/// say why.
-///
-/// The node is one of the settings.
+/// The node of a log under settings of this digest, which makes each call as it is read, from the state that the log begins with.
+/// `None` exactly where the bytes are no log of this node, or where it does not make a call, or sends something else: `read_log`
+/// and `make_log_from` say why.
 ///
 /// # Errors
 /// Memory was refused.
 pub fn make_as_read(
     alloc: Global,
     digest: &SettingsDigest,
-    settings: &CheckedSettings,
+    routes: &Routes,
+    begins: NodeState,
     node: Node,
     bytes: &[u8],
 ) -> Result<Option<MadeLog>, AllocError>
-    requires { IsSome (node_at (opening (settings_seen settings.now)) (node_seen node)) }
     // There is a node exactly where the bytes are its log, and it makes each call of it.
-    ensures made { IfOk result (λ made. (before : AnyNode)
-        → node_at (opening (settings_seen settings.now)) (node_seen node) ≡ Some before
-        → IsMadeIf (bytes_with (routes_of settings.now.routes.items)) before digest.now (node_seen node) bytes.now made) }
+    ensures made { IfOk result (λ made.
+        IsMadeIf (bytes_with routes.now) begins digest.now (node_seen node) bytes.now made) }
     // What is read is the text of what it is read as, and behind it how a record begins.
     ensures found { (read : Reading) → log_in digest.now bytes.now ≡ Ok read → IsLogOf digest.now bytes.now read }
 {
     log_is_its_text();
     let _ = digest.as_slice();
-    make_parts(alloc, digest, settings, node, bytes)
+    make_parts(alloc, digest, routes, begins, node, bytes)
 }
 
 /// Reads the head, and makes the calls behind it.
@@ -79,14 +73,13 @@ pub fn make_as_read(
 fn make_parts(
     alloc: Global,
     digest: &SettingsDigest,
-    settings: &CheckedSettings,
+    routes: &Routes,
+    begins: NodeState,
     node: Node,
     bytes: &[u8],
 ) -> Result<Option<MadeLog>, AllocError>
-    requires { IsSome (node_at (opening (settings_seen settings.now)) (node_seen node)) }
-    ensures { IfOk result (λ made. (before : AnyNode)
-        → node_at (opening (settings_seen settings.now)) (node_seen node) ≡ Some before
-        → IsMadeIf (bytes_with (routes_of settings.now.routes.items)) before digest.now (node_seen node) bytes.now made) }
+    ensures { IfOk result (λ made.
+        IsMadeIf (bytes_with routes.now) begins digest.now (node_seen node) bytes.now made) }
 {
     let Ok((own, records)) = take_head(digest, bytes) else {
         return Ok(None);
@@ -94,11 +87,10 @@ fn make_parts(
     if !is_same_node(own, node) {
         return Ok(None);
     }
-    let state = NodeState::opening(alloc, settings, node)?;
     let Some(MadeCalls { node, calls, torn }) = make_calls(
         alloc,
-        settings.routes(),
-        state,
+        routes,
+        begins,
         digest.version(),
         bytes.len(),
         records,

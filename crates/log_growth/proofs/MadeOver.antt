@@ -1,5 +1,5 @@
 -- What the theorems on settings that grow say of a log is what its start says.
-use Rattle.std.proofs.Common.{◌≡◌, ◌⊎◌, ℕ, zero, suc, List, [], ◌∷◌, Option, Some, None, Ok, Err, Result, inl, inr, refl, sym, ap, ◌∙◌, subst}
+use Rattle.std.proofs.Common.{◌≡◌, ℕ, zero, suc, List, [], ◌∷◌, Option, Some, None, Ok, Err, Result, inl, inr, sym, ap, ◌∙◌, subst}
 use Rattle.settings_digest.specs.Digests.{digest_in, digest_under}
 use Rattle.settings_digest.proofs.Keeping.{keeps_new}
 use Rattle.claim_model.specs.Context.{Context}
@@ -11,7 +11,7 @@ use Rattle.bin_routes.specs.Table.{routes_of}
 use Rattle.claim_model.specs.Bytes.{bytes_with}
 use Rattle.world_setup.specs.Seen.{settings_seen}
 use Rattle.world_setup.specs.declared.settings.WorldSettings.{WorldSettings}
-use Rattle.world_settings.specs.Document.{Document, document_seen, living_in}
+use Rattle.world_settings.specs.Document.{Document, document_seen}
 use Rattle.node_log.specs.Fits.{FitsBy}
 use Rattle.node_log.specs.Misfits.{BreaksAt}
 use Rattle.kept_logs.specs.declared.fault.LogFault.{LogFault}
@@ -61,7 +61,7 @@ made_under text log w t s before opens =
     let same : with_cap g.cap w.node ≡ before = cc in
     subst (λ (x : Document). Makes (context_in x) before log.calls) d (subst (λ (n : AnyNode). Makes (context_in (document_seen w.after)) n log.calls) same g.makes)
 
-refuted : (text : List ℕ) (log : NodeLog) (place : ℕ) → WasMade text log → DoesNotMake text log.node (log_text (digest_in text) log) place → ⊥
+refuted : (text : List ℕ) (log : NodeLog) (place : ℕ) → WasMade text log → DoesNotMake text log.node None (log_text (digest_in text) log) place → ⊥
 refuted text log place w r =
     let digest = digest_in text in
     let bytes = log_text digest log in
@@ -71,5 +71,5 @@ refuted text log place w r =
     unbroken (bytes_with (routes_of r.settings.routes.items)) r.breaks.before log.calls r.breaks.count (made_under text log w r.settings r.spells r.breaks.before opens)
     (subst (λ (l : NodeLog). BreaksAt (bytes_with (routes_of r.settings.routes.items)) r.breaks.before l.calls r.breaks.count) is r.breaks.breaks)
 
-pub never_refused : (text : List ℕ) (log : NodeLog) (place : ℕ) → WasMade text log → IsRefused text log.node (log_text (digest_in text) log) (NotMade place) → ⊥
+pub never_refused : (text : List ℕ) (log : NodeLog) (place : ℕ) → WasMade text log → IsRefused text log.node None (log_text (digest_in text) log) (NotMade place) → ⊥
 never_refused text log place w r = refuted text log place w r

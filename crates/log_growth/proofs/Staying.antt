@@ -1,5 +1,5 @@
 -- A log whose file is refused under the new settings stays.
-use Rattle.std.proofs.Common.{◌≡◌, ◌⊎◌, List, ℕ, Ok, sym, subst}
+use Rattle.std.proofs.Common.{◌≡◌, ◌⊎◌, List, ℕ, None, Ok, sym, subst}
 use Rattle.settings_digest.specs.Digests.{digest_in, digest_under}
 use Rattle.claim_model.specs.Node.{Node}
 use Rattle.kept_logs.specs.Logs.{Reading, log_text, log_in}
@@ -13,4 +13,4 @@ pub shut : (old text bytes : List ℕ) (read : Reading) (file : List ℕ) (why :
 shut old text bytes read file OutOfMemory under is = tt
 shut old text bytes read file (Log fault) under is = absurd is
 shut old text bytes read file (Refused who why) under is =
-    record { read = read; own = sym is.0; file = file; under = under; refused = subst (λ (n : Node). IsRefused text n file why) (sym is.0) is.1 }
+    record { read = read; own = sym is.0; file = file; under = under; refused = subst (λ (n : Node). IsRefused text n None file why) (sym is.0) is.1 }

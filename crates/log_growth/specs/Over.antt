@@ -1,5 +1,5 @@
 -- A log that goes over to other settings: the same calls under another head, which its node makes.
-use Rattle.std.specs.Prelude.{◌≡◌, ◌≢◌, ◌⊎◌, ⊤, ℕ, List, Ok, Err}
+use Rattle.std.specs.Prelude.{◌≡◌, ◌≢◌, ◌⊎◌, ⊤, ℕ, List, None, Ok, Err}
 use Rattle.claim_model.specs.Node.{Node}
 use Rattle.world_setup.specs.Seen.{node_seen}
 use Rattle.world_setup.specs.declared.node.Node.{Node as Named}
@@ -20,13 +20,13 @@ use Rattle.log_growth.specs.declared.over.OverFault.TheVariants.{OutOfMemory, Lo
 pub record Opens (text : List ℕ) (node : Node) (bytes : List ℕ) : Type 0 where
   pub kept : ℕ
   pub serving : Serving
-  pub opened : IsOpened text node bytes kept serving
+  pub opened : IsOpened text node None bytes kept serving
 
 -- a file is refused under these settings
 abbrev pub IsShutFor : List ℕ → Node → List ℕ → OverFault → Type 0
 IsShutFor text node bytes OutOfMemory = ⊤
 IsShutFor text node bytes (Log fault) = ⊥
-IsShutFor text node bytes (Refused who why) = (node_seen who ≡ node) × IsRefused text node bytes why
+IsShutFor text node bytes (Refused who why) = (node_seen who ≡ node) × IsRefused text node None bytes why
 
 -- the node of this name opens from these bytes, and nothing is to be written
 abbrev pub IsOpen : List ℕ → Named → List ℕ → Gone → Type 0
@@ -67,7 +67,7 @@ pub record IsShut (old text bytes : List ℕ) (node : Node) (why : ServiceFault)
   pub own : read.log.node ≡ node
   pub file : List ℕ
   pub under : ((log_in (digest_under text bytes) bytes ≡ Ok read) × (file ≡ bytes)) ⊎ ((log_in old bytes ≡ Ok read) × (file ≡ log_text (digest_in text) read.log))
-  pub refused : IsRefused text node file why
+  pub refused : IsRefused text node None file why
 
 -- a log stays for this cause
 abbrev pub StaysFor : List ℕ → List ℕ → List ℕ → OverFault → Type 0

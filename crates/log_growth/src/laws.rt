@@ -20,5 +20,5 @@ pub fn nodes_are_compared_exactly()
 /// the one premise: at a switch, that what it rejected for want of a route has none now.
 pub fn made_logs_go_over()
     ensures { (text : List ℕ) (log : NodeLog) (place : ℕ) → WasMade text log
-        → IsRefused text log.node (log_text (digest_in text) log) (NotMade place) → ⊥ }
+        → IsRefused text log.node None (log_text (digest_in text) log) (NotMade place) → ⊥ }
 {}

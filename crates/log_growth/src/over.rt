@@ -136,7 +136,7 @@ fn check_opens(alloc: Global, text: &[u8], node: Node, bytes: &[u8]) -> Result<(
     ensures opens { OnOk result (Opens text.now (node_seen node) bytes.now) }
     ensures shut { IfErr result (λ why. IsShutFor text.now (node_seen node) bytes.now why) }
 {
-    match Service::open(alloc, &HashKeys::fixed(), text, node, bytes) {
+    match Service::open(alloc, &HashKeys::fixed(), text, node, None, bytes) {
         Ok(_) => Ok(()),
         Err(ServiceFault::OutOfMemory) => Err(OverFault::OutOfMemory),
         Err(fault) => Err(OverFault::Refused(node, fault)),

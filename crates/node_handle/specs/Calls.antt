@@ -20,7 +20,7 @@ pub record HasCause (settings name log : List ℕ) (why : Refusal) (before kept 
   pub node : Node
   pub named : node_in name ≡ Some node
   pub fault : ServiceFault
-  pub refused : IsRefused settings (node_seen node) log fault
+  pub refused : IsRefused settings (node_seen node) None log fault
   pub is : why ≡ refusal_of fault
   pub place : kept ≡ place_in fault before
 
@@ -38,7 +38,7 @@ RefusesOpening old settings name log why before kept =
 -- where is told
 abbrev pub Opens : Option Hosting → List ℕ → List ℕ → List ℕ → Said → ℕ → ℕ → Option Hosting → Type 0
 Opens old settings name log (Ok made) before kept new =
-    (s : Serving) × (node : Node) × ((old ≡ None) × ((new ≡ Some (just_opened s)) × ((node_in name ≡ Some node) × IsOpened settings (node_seen node) log kept s)))
+    (s : Serving) × (node : Node) × ((old ≡ None) × ((new ≡ Some (just_opened s)) × ((node_in name ≡ Some node) × IsOpened settings (node_seen node) None log kept s)))
 Opens old settings name log (Err why) before kept new = (new ≡ old) × RefusesOpening old settings name log why before kept
 
 -- a line that was served made of the node what a line makes of it. Where memory was refused there is no node any more: it may have made the call

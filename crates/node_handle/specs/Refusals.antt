@@ -35,6 +35,7 @@ abbrev pub refusal_of : ServiceFault → Refusal
 refusal_of service.OutOfMemory = refusal.OutOfMemory
 refusal_of service.Settings = refusal.Settings
 refusal_of service.NoSuchNode = refusal.NoSuchNode
+refusal_of service.Rest = refusal.NotALog
 refusal_of (service.Log fault) = refusal_of_log fault
 refusal_of service.OtherNode = refusal.OtherNode
 refusal_of (service.NotMade place) = refusal.BadRecord
@@ -56,6 +57,7 @@ abbrev pub place_in : ServiceFault → ℕ → ℕ
 place_in service.OutOfMemory before = before
 place_in service.Settings before = before
 place_in service.NoSuchNode before = before
+place_in service.Rest before = before
 place_in (service.Log fault) before = place_in_log fault before
 place_in service.OtherNode before = before
 place_in (service.NotMade place) before = place

@@ -284,13 +284,13 @@ fn opened(
     kept: &mut usize,
 ) -> Result<Box<Hosted>, Refusal>
     ensures opened { IfOk result (λ o. (node : Node) × (s : Serving) × ((o.value ≡ just_opened s)
-        × ((node_in name.now ≡ Some node) × IsOpened settings.now (node_seen node) log.now kept.new s))) }
+        × ((node_in name.now ≡ Some node) × IsOpened settings.now (node_seen node) None log.now kept.new s))) }
     ensures refused { IfErr result (λ why. RefusesNode settings.now name.now log.now why kept.old kept.new) }
 {
     let Some(node) = node_in(name) else {
         return Err(Refusal::Name);
     };
-    match Service::open(alloc, &keys_of(seed), settings, node, log) {
+    match Service::open(alloc, &keys_of(seed), settings, node, None, log) {
         Ok((service, stay)) => boxed(alloc, service, stay, kept),
         Err(fault) => Err(told(fault, kept)),
     }

@@ -111,6 +111,8 @@ pub(crate) fn refusal_of(fault: ServiceFault) -> Refusal
         ServiceFault::OutOfMemory => Refusal::OutOfMemory,
         ServiceFault::Settings => Refusal::Settings,
         ServiceFault::NoSuchNode => Refusal::NoSuchNode,
+        // A node of a handle is opened with no rest.
+        ServiceFault::Rest => Refusal::NotALog,
         ServiceFault::OtherNode => Refusal::OtherNode,
         ServiceFault::Log(fault) => refusal_of_log(fault),
         ServiceFault::NotMade(_) => Refusal::BadRecord,

@@ -13,7 +13,7 @@ mod there;
 
 pub use log::NodeLog;
 pub use made::{fits, makes};
-pub use making::make_log;
+pub use making::{make_log, make_log_from};
 pub use misfit::{FirstMisfit, Misfit, first_misfit};
 pub use record::Record;
 pub use replay::replay_log;

@@ -42,7 +42,15 @@ impl NodeLog {
         ensures { log_seen self.new
             ≡ with_call (log_seen self.old) (record { call = call_seen call; sent = map sent_seen sent.items }) }
     {
-        self.calls.push_reserved(Record::new(call, sent));
+        self.enter(Record::new(call, sent));
+    }
+
+    /// Enters a record, in room that was made before.
+    pub fn enter(&mut self, one: Record)
+        requires { vec_len self.old.calls < vec_capacity self.old.calls }
+        ensures { log_seen self.new ≡ with_call (log_seen self.old) one }
+    {
+        self.calls.push_reserved(one);
     }
 
     /// The node.

@@ -4,10 +4,12 @@ ghost use Rattle.std.specs.Prelude.{IsSome, IfOk};
 ghost use Rattle.claim_model.specs.Settings.{opening};
 ghost use Rattle.claim_model.specs.Nodes.{node_at};
 ghost use Rattle.world_setup.specs.Seen.{node_seen, settings_seen};
-ghost use Rattle.node_log.specs.Misfits.{IsMade};
+ghost use Rattle.claim_model.specs.Bytes.{bytes_with};
+ghost use Rattle.node_log.specs.Misfits.{IsMade, IsMadeFrom};
 
 use crate::log::NodeLog;
 use crate::misfit::{FirstMisfit, misfit_among};
+use bin_routes::Routes;
 use node_state::NodeState;
 use std::alloc::{AllocError, Global};
 use world_setup::CheckedSettings;
@@ -27,8 +29,24 @@ pub fn make_log(
     requires { IsSome (node_at (opening (settings_seen settings.now)) (node_seen log.now.node)) }
     ensures { IfOk result (λ made. IsMade settings.now (node_seen log.now.node) log.now.calls.items made) }
 {
-    let mut node = NodeState::opening(alloc, settings, log.node())?;
-    match misfit_among(alloc, settings.routes(), &mut node, log.records())? {
+    let opening = NodeState::opening(alloc, settings, log.node())?;
+    make_log_from(alloc, settings.routes(), opening, log)
+}
+
+/// The same from any state of the node.
+///
+/// # Errors
+/// Memory was refused.
+pub fn make_log_from(
+    alloc: Global,
+    routes: &Routes,
+    begins: NodeState,
+    log: &NodeLog,
+) -> Result<Result<NodeState, FirstMisfit>, AllocError>
+    ensures { IfOk result (λ made. IsMadeFrom (bytes_with routes.now) begins log.now.calls.items made) }
+{
+    let mut node = begins;
+    match misfit_among(alloc, routes, &mut node, log.records())? {
         Some(first) => Ok(Err(first)),
         None => Ok(Ok(node)),
     }

@@ -8,12 +8,13 @@ use Rattle.claim_model.specs.Bytes.{bytes_with}
 use Rattle.claim_model.specs.Context.{Context}
 use Rattle.claim_model.specs.Node.{Node, Call, Outcome, Done, Refused}
 use Rattle.claim_model.specs.Nodes.{AnyNode, node_at}
-use Rattle.claim_model.specs.Settings.{WorldSettings, opening}
+use Rattle.claim_model.specs.Settings.{opening}
 use Rattle.claim_model.specs.Logs.{Logged, NodeLog, replay, Makes as MakesLog}
 use Rattle.claim_model.proofs.Options.{map_some, same_some}
-use Rattle.crash_safety.specs.Network.{Process, crashed, replayed}
+use Rattle.crash_safety.specs.Network.{Process, crashed}
 use Rattle.crash_safety.specs.Network.{file as model_file}
-use Rattle.world_setup.specs.Seen.{call_seen, settings_seen}
+use Rattle.crash_safety.specs.Steps.{Step, Crashes, Restarts, replayed_from, steps_from, at_first, process_after}
+use Rattle.world_setup.specs.Seen.{call_seen}
 use Rattle.world_setup.specs.declared.settings.WorldSettings.{WorldSettings as Settings}
 use Rattle.world_settings.specs.Document.{Document, document_seen}
 use Rattle.node_logged.specs.Setting.{context_of}
@@ -22,19 +23,20 @@ use Rattle.kept_logs.specs.Digests.{version_of}
 use Rattle.kept_logs.specs.Logs.{Reading, log_text, log_in}
 use Rattle.kept_logs.specs.Fits.{FitsNode, FitsLog}
 use Rattle.kept_logs.specs.Cuts.{calls_within}
+use Rattle.kept_logs.specs.Rests.{rest_in, begun_from, begins}
 use Rattle.kept_logs.proofs.LogsBack.{log_length, reads_back, reads_short}
 use Rattle.node_service.specs.Asking.{Asked, Calls, Tells as Asks, asked_of}
 use Rattle.node_service.specs.Serving.{Serving, after_call, after_asked, after_line}
 use Rattle.node_service.specs.Lines.{after_lines, lines_calls, IsServing}
-use Rattle.node_service.specs.Opened.{Spells, IsBegun, IsOpened, MakesAll}
-use Rattle.settings_digest.specs.Digests.{digest_in, digest_under}
-use Rattle.settings_digest.proofs.Keeping.{in_length}
+use Rattle.node_service.specs.Opened.{Spells, IsBegun, IsOpened}
+use Rattle.settings_digest.specs.Digests.{turned_in, turned_under}
+use Rattle.settings_digest.proofs.Keeping.{turned_in_length}
 use Rattle.node_service.proofs.Lines.{is_opened_serving, lines_serve}
 use Rattle.node_service.proofs.Crashes.{longer_text}
 use Rattle.node_process.specs.Acts.{Act, Found, Cut, Append, Sync, Say, Hear, found, file, has_failed, kept, said}
 use Rattle.node_process.specs.Heard.{whole_lines}
 use Rattle.node_process.specs.Safe.{IsStartOf, asked, log_of, FitsInput, IsCovered, IsRead, GoesWell, IsSafe, IsUnopened, IsRun, Whose}
-use Rattle.node_process.specs.Histories.{zeros, Happening, Does, Dies, acts_of, left_of, file_or, file_of, on_disk, IsLeft, IsHistory, Step, Crashes, Restarts, steps_from, process_after, HasCalls, ReadsCalls, IsAlive, IsToldBy, IsProcess, IsCourse}
+use Rattle.node_process.specs.Histories.{zeros, Happening, Does, Dies, acts_of, left_of, file_or, file_of, on_disk, IsLeft, IsHistory, HasCalls, ReadsCalls, IsAlive, IsToldBy, IsProcess, IsCourse}
 use Rattle.node_process.proofs.Left.{IsTornOf, HasLeft, first_of, start_length, taken_length, untorn, torn_fits, torn_reads, zeros_read, text_cut, nothing_cut, begins_with, same_calls, left_reads, front_fits, same_reading, not_short, torn_second}
 use Rattle.node_process.proofs.Spoken.{told_by, told_nothing, told_still}
 use Rattle.node_process.proofs.Stepping.{steps_append, makes_of, makes_all, syncs_of, syncs_all}
@@ -59,41 +61,44 @@ lines_settings : (s : Serving) (lines : List (List ℕ)) → (after_lines s line
 lines_settings s [] = refl
 lines_settings s (line ∷ lines) = lines_settings (after_line s line) lines ∙ line_settings s line
 
--- what a node makes hangs on the document alone
-abbrev MakesOf : Node → List Logged → Document → Type 0
-MakesOf node calls d = (before : AnyNode) → node_at (opening d.world) node ≡ Some before → MakesLog (bytes_with (routes_of d.routes)) before calls
+-- what a log begins with, and how its node reads bytes, hang on the document alone
+same_begin : (a b : Settings) (node : Node) (rest : Option (List ℕ)) → document_seen a ≡ document_seen b → begins a node rest ≡ begins b node rest
+same_begin a b node None same = ap (λ (d : Document). node_at (opening d.world) node) same
+same_begin a b node (Some rest) same = ap (λ (d : Document). begun_from d.world node (rest_in rest)) same
 
-abbrev opens_of : Node → Document → Option AnyNode
-opens_of node d = node_at (opening d.world) node
+same_context : (a b : Settings) → document_seen a ≡ document_seen b → context_of a ≡ context_of b
+same_context a b same = ap (λ (d : Document). bytes_with (routes_of d.routes)) same
 
 -- bytes are the text of a log of these calls, which its node makes
 record IsTextOf (whose : Whose) (settings : Settings) (bytes : List ℕ) (calls : List Logged) : Type 0 where
-  text : bytes ≡ log_text (digest_in whose.settings) (record { node = whose.node; calls = calls })
+  text : bytes ≡ log_text (turned_in whose.settings whose.rest) (record { node = whose.node; calls = calls })
   fits : FitsLog (record { node = whose.node; calls = calls })
   before : AnyNode
-  opens : node_at (opening (settings_seen settings)) whose.node ≡ Some before
+  opens : begins settings whose.node whose.rest ≡ Some before
   makes : MakesLog (context_of settings) before calls
 
-input_text : (whose : Whose) (settings : Settings) (bytes : List ℕ) (whole : ℕ) (start : Serving) (input : List ℕ) → Spells whose.settings settings → digest_under whose.settings bytes ≡ digest_in whose.settings → IsOpened whose.settings whose.node bytes whole start → FitsInput start input
+input_text : (whose : Whose) (settings : Settings) (bytes : List ℕ) (whole : ℕ) (start : Serving) (input : List ℕ) → Spells whose.settings settings → turned_under whose.settings whose.rest bytes ≡ turned_in whose.settings whose.rest → IsOpened whose.settings whose.node whose.rest bytes whole start → FitsInput start input
     → (log : List Logged) × IsTextOf whose settings (log_of start (take whole bytes) input) (log ++ lines_calls start (whole_lines input))
 input_text whose settings bytes whole start input spells second o fits =
-    let opened = is_opened_serving whose.settings whose.node bytes whole start o in
+    let opened = is_opened_serving whose.settings whose.node whose.rest bytes whole start o in
     let log = opened.0 in
     let calls = log.calls ++ lines_calls start (whole_lines input) in
-    let i = lines_serve (digest_in whose.settings) (take whole bytes) log start (whole_lines input) (subst (λ (x : List ℕ). IsServing x (take whole bytes) log start) second opened.1) fits in
+    let digest = turned_in whose.settings whose.rest in
+    let i = lines_serve whose.rest digest (take whole bytes) log start (whole_lines input) (subst (λ (x : List ℕ). IsServing whose.rest x (take whole bytes) log start) second opened.1) fits in
     let own : log.node ≡ whose.node = sym opened.1.named ∙ o.named in
-    let same : document_seen (asked start input).settings ≡ document_seen settings =
+    let there = (asked start input).settings in
+    let same : document_seen there ≡ document_seen settings =
     ap document_seen (lines_settings start (whole_lines input)) ∙ same_some (document_seen start.settings) (document_seen settings) (sym o.spells.spelled ∙ spells.spelled) in
-    let makes : MakesOf whose.node calls (document_seen settings) = subst (MakesOf whose.node calls) same (subst (λ (n : Node). MakesAll (asked start input).settings n calls) own i.makes) in
-    let first = map_some (λ (n : AnyNode). replay (context_of (asked start input).settings) n calls) (opens_of log.node (document_seen (asked start input).settings)) (asked start input).state i.state in
-    let opens : opens_of whose.node (document_seen settings) ≡ Some first.0 = sym (ap (λ (n : Node). opens_of n (document_seen settings)) own) ∙ (sym (ap (opens_of log.node) same) ∙ first.1) in (
+    let first = map_some (λ (n : AnyNode). replay (context_of there) n calls) (begins there log.node whose.rest) (asked start input).state i.state in
+    let opens : begins settings whose.node whose.rest ≡ Some first.0 =
+    sym (same_begin there settings whose.node whose.rest same) ∙ (sym (ap (λ (n : Node). begins there n whose.rest) own) ∙ first.1) in (
       log.calls,
       record {
-        text = i.text ∙ ap (λ (n : Node). log_text (digest_in whose.settings) (record { node = n; calls = calls })) own;
+        text = i.text ∙ ap (λ (n : Node). log_text digest (record { node = n; calls = calls })) own;
         fits = subst (λ (n : Node). FitsLog (record { node = n; calls = calls })) own i.fits;
         before = first.0;
         opens = opens;
-        makes = makes first.0 opens;
+        makes = subst (λ (ctx : Context). MakesLog ctx first.0 calls) (same_context there settings same) (i.makes first.0 first.1);
       },
     )
 
@@ -119,9 +124,9 @@ read_file : (left : List ℕ) (t : List Act) → IsRead t → file_or left t ≡
 read_file left [] r = absurd r
 read_file left (act ∷ t) r = refl
 
-lives : (ctx : Context) (s : WorldSettings) (node : Node) (t : List Act) (p : Process) → IsRead t → IsAlive ctx s node t p → p.memory ≡ replayed ctx s node (model_file p)
-lives ctx s node [] p r m = absurd r
-lives ctx s node (act ∷ t) p r m = m
+lives : (ctx : Context) (first : Option AnyNode) (t : List Act) (p : Process) → IsRead t → IsAlive ctx first t p → p.memory ≡ replayed_from ctx first (model_file p)
+lives ctx first [] p r m = absurd r
+lives ctx first (act ∷ t) p r m = m
 
 heads : (a b : Act) (s t : List Act) → a ∷ s ≡ b ∷ t → (a ≡ b) × (s ≡ t)
 heads a b s t e = (cc, cc)
@@ -129,16 +134,16 @@ heads a b s t e = (cc, cc)
 -- ---- between two happenings
 
 record IsInner (whose : Whose) (settings : Settings) (h : List Happening) (p : Process) : Type 0 where
-  disk : HasCalls (digest_in whose.settings) whose.node (on_disk h) p.synced
+  disk : HasCalls (turned_in whose.settings whose.rest) whose.node (on_disk h) p.synced
   under : IsStartOf (on_disk h) (file_of h)
-  lies : IsTornOf (digest_in whose.settings) whose.node (file_of h) (model_file p)
+  lies : IsTornOf (turned_in whose.settings whose.rest) whose.node (file_of h) (model_file p)
   -- what was found has the first of these calls
   first : List Logged
   more : List Logged
   goes : model_file p ≡ first ++ more
-  was : IsTornOf (digest_in whose.settings) whose.node (left_of h) first
+  was : IsTornOf (turned_in whose.settings whose.rest) whose.node (left_of h) first
   keeps : (kept (acts_of h) ≡ []) ⊎ (kept (acts_of h) ≡ on_disk h)
-  memory : IsAlive (context_of settings) (settings_seen settings) whose.node (acts_of h) p
+  memory : IsAlive (context_of settings) (begins settings whose.node whose.rest) (acts_of h) p
   told : IsToldBy whose.node p.synced (said (acts_of h))
 
 nothing_read : (digest : List ℕ) (node : Node) (bytes : List ℕ) (calls : List Logged) → length digest ≡ 33 → bytes ≡ [] → ReadsCalls digest node bytes calls → calls ≡ []
@@ -163,49 +168,53 @@ short_small digest node bytes calls d t short = by_end t.ends
         ]
 
 -- what was said is told by calls that are on the disk
-covered_told : (whose : Whose) (settings : Settings) (acts : List Act) (disk : List ℕ) (start : Serving) (whole : ℕ) (synced : List Logged) → Spells whose.settings settings → digest_under whose.settings (found acts) ≡ digest_in whose.settings → (o : IsOpened whose.settings whose.node (found acts) whole start)
-    → FitsLog (record { node = whose.node; calls = synced }) → HasCalls (digest_in whose.settings) whose.node disk synced → (kept acts ≡ []) ⊎ (kept acts ≡ disk) → (said acts ≡ []) ⊎ IsCovered start (take whole (found acts)) acts → IsToldBy whose.node synced (said acts)
+covered_told : (whose : Whose) (settings : Settings) (acts : List Act) (disk : List ℕ) (start : Serving) (whole : ℕ) (synced : List Logged) → Spells whose.settings settings → turned_under whose.settings whose.rest (found acts) ≡ turned_in whose.settings whose.rest → (o : IsOpened whose.settings whose.node whose.rest (found acts) whole start)
+    → FitsLog (record { node = whose.node; calls = synced }) → HasCalls (turned_in whose.settings whose.rest) whose.node disk synced → (kept acts ≡ []) ⊎ (kept acts ≡ disk) → (said acts ≡ []) ⊎ IsCovered start (take whole (found acts)) acts → IsToldBy whose.node synced (said acts)
 covered_told whose settings acts disk start whole synced spells second o fits has keeps (inl silent) = told_nothing whose.node synced (said acts) silent
 covered_told whose settings acts disk start whole synced spells second o fits has keeps (inr c) = by_disk has keeps
   where
-    d : length (digest_in whose.settings) ≡ 33
-    d = in_length whose.settings
+    d : length (turned_in whose.settings whose.rest) ≡ 33
+    d = turned_in_length whose.settings whose.rest
 
     text : (log : List Logged) × IsTextOf whose settings (log_of start (take whole (found acts)) c.input) (log ++ lines_calls start (whole_lines c.input))
     text = input_text whose settings (found acts) whole start c.input spells second o c.fits
 
     no_less : (bytes : List ℕ) → kept acts ≡ bytes → bytes ≡ [] → ⊥
     no_less bytes e none =
-        let long = log_length (digest_in whose.settings) (record { node = whose.node; calls = text.0 ++ lines_calls start (whole_lines c.input) }) d in
+        let long = log_length (turned_in whose.settings whose.rest) (record { node = whose.node; calls = text.0 ++ lines_calls start (whole_lines c.input) }) d in
         let a = ap length text.1.text in
         let b = start_length _ (kept acts) c.logged in
         let n = ap length (e ∙ none) in
         omega (arith, long, a, b, n)
 
-    by_disk : HasCalls (digest_in whose.settings) whose.node disk synced → (kept acts ≡ []) ⊎ (kept acts ≡ disk) → IsToldBy whose.node synced (said acts)
+    by_disk : HasCalls (turned_in whose.settings whose.rest) whose.node disk synced → (kept acts ≡ []) ⊎ (kept acts ≡ disk) → IsToldBy whose.node synced (said acts)
     by_disk has (inl none) = absurd (no_less [] none refl)
     by_disk (inr none) (inr same) = absurd (no_less disk same none.0)
     by_disk (inl is) (inr same) =
         let calls = text.0 ++ lines_calls start (whole_lines c.input) in
-        let own = log_text (digest_in whose.settings) (record { node = whose.node; calls = calls }) in
-        let start_of : IsStartOf own (log_text (digest_in whose.settings) (record { node = whose.node; calls = synced })) = subst (IsStartOf own) (same ∙ is) (subst (λ (x : List ℕ). IsStartOf x (kept acts)) text.1.text c.logged) in
-        told_by whose.node start c.input (said acts) text.0 synced _ o.silent (begins_with (digest_in whose.settings) whose.node calls synced (length own) d text.1.fits fits refl (first_of own _ start_of)) c.sent
+        let own = log_text (turned_in whose.settings whose.rest) (record { node = whose.node; calls = calls }) in
+        let start_of : IsStartOf own (log_text (turned_in whose.settings whose.rest) (record { node = whose.node; calls = synced })) = subst (IsStartOf own) (same ∙ is) (subst (λ (x : List ℕ). IsStartOf x (kept acts)) text.1.text c.logged) in
+        told_by whose.node start c.input (said acts) text.0 synced _ o.silent (begins_with (turned_in whose.settings whose.rest) whose.node calls synced (length own) d text.1.fits fits refl (first_of own _ start_of)) c.sent
 
 -- ---- what happens
 
 -- one thing more, and the steps that it is
 abbrev GoesOn : Whose → Settings → List Happening → Process → Type 0
-GoesOn whose settings h p = (steps : List Step) × IsInner whose settings h (steps_from (context_of settings) (settings_seen settings) whose.node p steps)
+GoesOn whose settings h p = (steps : List Step) × IsInner whose settings h (steps_from (context_of settings) (begins settings whose.node whose.rest) p steps)
 
 module _ (whose : Whose) (settings : Settings) (spells : Spells whose.settings settings) (fits_node : FitsNode whose.node) (h : List Happening) (p : Process) (i : IsInner whose settings h p) where
   abbrev digest : List ℕ
-  digest = digest_in whose.settings
+  digest = turned_in whose.settings whose.rest
 
   d : length digest ≡ 33
-  d = in_length whose.settings
+  d = turned_in_length whose.settings whose.rest
 
   abbrev node : Node
   node = whose.node
+
+  -- what the log begins with
+  abbrev first_node : Option AnyNode
+  first_node = begins settings whose.node whose.rest
 
   abbrev t : List Act
   t = acts_of h
@@ -238,7 +247,7 @@ module _ (whose : Whose) (settings : Settings) (spells : Spells whose.settings s
       )
 
   -- what stands behind the whole records is cut off
-  cut_step : (size : ℕ) (done : Bool) (start : Serving) (whole : ℕ) → digest_under whose.settings (found t) ≡ digest → IsOpened whose.settings node (found t) whole start → found t ≡ left_of h → t ≡ Found (found t) ∷ [] → take size (found t) ≡ take whole (found t)
+  cut_step : (size : ℕ) (done : Bool) (start : Serving) (whole : ℕ) → turned_under whose.settings whose.rest (found t) ≡ digest → IsOpened whose.settings node whose.rest (found t) whole start → found t ≡ left_of h → t ≡ Found (found t) ∷ [] → take size (found t) ≡ take whole (found t)
       → GoesOn whose settings (Does (Cut size done) ∷ h) p
   cut_step size done start whole second o is only cuts = by_begun (subst (λ (x : List ℕ). IsBegun x node (found t) o.log whole start.records) second o.begun) lies_found
     where
@@ -267,7 +276,7 @@ module _ (whose : Whose) (settings : Settings) (spells : Spells whose.settings s
           goes = i.goes;
           was = i.was;
           keeps = inl (ap (λ (acts : List Act). take size (kept acts)) only ∙ take_none size);
-          memory = subst (λ (acts : List Act). IsAlive (context_of settings) (settings_seen settings) node acts p) only i.memory;
+          memory = subst (λ (acts : List Act). IsAlive (context_of settings) first_node acts p) only i.memory;
           told = i.told;
         },
       )
@@ -336,7 +345,7 @@ module _ (whose : Whose) (settings : Settings) (spells : Spells whose.settings s
 
   -- calls are recorded
   append_step : (bytes : List ℕ) (done : Bool) (calls : List Logged) → GoesWell t → kept t ≡ file t → IsTextOf whose settings (file t ++ bytes) calls → GoesOn whose settings (Does (Append bytes done) ∷ h) p
-  append_step bytes done calls well synced text = with_new begins
+  append_step bytes done calls well synced text = with_new grows
     where
       -- the file is the text of what the process has recorded
       on_file : (file t ≡ log_text digest (record { node = node; calls = model_file p })) ⊎ ((file t ≡ []) × (model_file p ≡ []))
@@ -355,8 +364,8 @@ module _ (whose : Whose) (settings : Settings) (spells : Spells whose.settings s
           by_kept (inl none) = nothing (sym synced ∙ none)
           by_kept (inr same) = by_disk (sym synced ∙ same) i.disk
 
-      begins : (new : List Logged) × (model_file p ++ new ≡ calls)
-      begins = by_file on_file
+      grows : (new : List Logged) × (model_file p ++ new ≡ calls)
+      grows = by_file on_file
         where
           by_file : (file t ≡ log_text digest (record { node = node; calls = model_file p })) ⊎ ((file t ≡ []) × (model_file p ≡ [])) → (new : List Logged) × (model_file p ++ new ≡ calls)
           by_file (inr none) = (calls, ap (λ (x : List Logged). x ++ calls) none.1)
@@ -370,10 +379,9 @@ module _ (whose : Whose) (settings : Settings) (spells : Spells whose.settings s
       with_new : (new : List Logged) × (model_file p ++ new ≡ calls) → GoesOn whose settings (Does (Append bytes done) ∷ h) p
       with_new (new, all) =
           let ctx = context_of settings in
-          let s = settings_seen settings in
-          let alive : p.memory ≡ Some (replay ctx text.before (model_file p)) = lives ctx s node t p well.0 i.memory ∙ ap (option_map (λ (before : AnyNode). replay ctx before (model_file p))) text.opens in
-          let q = steps_from ctx s node p (makes_of new) in
-          let m = makes_all ctx s node text.before p (model_file p) new alive (subst (MakesLog ctx text.before) (sym all) text.makes) in
+          let alive : p.memory ≡ Some (replay ctx text.before (model_file p)) = lives ctx first_node t p well.0 i.memory ∙ ap (option_map (λ (before : AnyNode). replay ctx before (model_file p))) text.opens in
+          let q = steps_from ctx first_node p (makes_of new) in
+          let m = makes_all ctx first_node text.before p (model_file p) new alive (subst (MakesLog ctx text.before) (sym all) text.makes) in
           let grown : model_file q ≡ model_file p ++ new = ap (λ (x : List Logged). x ++ q.unsynced) m.synced ∙ (ap (λ (x : List Logged). p.synced ++ x) m.unsynced ∙ sym (append_assoc p.synced p.unsynced new)) in
           let is : model_file q ≡ calls = grown ∙ all in (
             makes_of new,
@@ -404,13 +412,12 @@ module _ (whose : Whose) (settings : Settings) (spells : Spells whose.settings s
       goes = i.goes;
       was = i.was;
       keeps = i.keeps;
-      memory = lives (context_of settings) (settings_seen settings) node t p well.0 i.memory;
+      memory = lives (context_of settings) first_node t p well.0 i.memory;
       told = i.told;
     },
   )
   sync_step true calls well text =
       let ctx = context_of settings in
-      let s = settings_seen settings in
       let q : Process = record { memory = p.memory; synced = model_file p; unsynced = [] } in
       let own : calls ≡ model_file p = same_calls digest node calls (model_file p) (file t) d text.fits text.text (reads_file well.0) in
       let disk : cond (true && not (has_failed t)) (file t) (on_disk h) ≡ file t = ap (λ b. cond (true && not b) (file t) (on_disk h)) well.1 in
@@ -425,10 +432,10 @@ module _ (whose : Whose) (settings : Settings) (spells : Spells whose.settings s
         goes = all ∙ i.goes;
         was = i.was;
         keeps = inr (keeps ∙ sym disk);
-        memory = lives ctx s node t p well.0 i.memory ∙ ap (replayed ctx s node) (sym all);
+        memory = lives ctx first_node t p well.0 i.memory ∙ ap (replayed_from ctx first_node) (sym all);
         told = told_still node p.synced p.unsynced (said t) i.told;
       } in
-      (syncs_of p.unsynced, subst (IsInner whose settings (Does (Sync true) ∷ h)) (sym (syncs_all ctx s node p.memory p.synced p.unsynced)) after)
+      (syncs_of p.unsynced, subst (IsInner whose settings (Does (Sync true) ∷ h)) (sym (syncs_all ctx first_node p.memory p.synced p.unsynced)) after)
 
   -- words that are on the disk are said
   say_step : (bytes : List ℕ) (done : Bool) → GoesWell t → IsToldBy node p.synced (said t ++ bytes) → GoesOn whose settings (Does (Say bytes done) ∷ h) p
@@ -443,7 +450,7 @@ module _ (whose : Whose) (settings : Settings) (spells : Spells whose.settings s
       goes = i.goes;
       was = i.was;
       keeps = i.keeps;
-      memory = lives (context_of settings) (settings_seen settings) node t p well.0 i.memory;
+      memory = lives (context_of settings) first_node t p well.0 i.memory;
       told = told;
     },
   )
@@ -460,7 +467,7 @@ module _ (whose : Whose) (settings : Settings) (spells : Spells whose.settings s
       goes = i.goes;
       was = i.was;
       keeps = i.keeps;
-      memory = lives (context_of settings) (settings_seen settings) node t p well.0 i.memory;
+      memory = lives (context_of settings) first_node t p well.0 i.memory;
       told = i.told;
     },
   )
@@ -513,10 +520,10 @@ module _ (whose : Whose) (settings : Settings) (spells : Spells whose.settings s
   run_step : (act : Act) → found (act ∷ t) ≡ left_of h → IsRun whose (act ∷ t) → GoesOn whose settings (Does act ∷ h) p
   run_step act is r = by_act act is r.start r.whole (is_second act is) r.opened (r.safe [] (act ∷ t) refl)
     where
-      is_second : (act : Act) → found (act ∷ t) ≡ left_of h → digest_under whose.settings (found (act ∷ t)) ≡ digest
-      is_second act is = ap (digest_under whose.settings) is ∙ torn_second whose.settings node (left_of h) i.first i.was
+      is_second : (act : Act) → found (act ∷ t) ≡ left_of h → turned_under whose.settings whose.rest (found (act ∷ t)) ≡ digest
+      is_second act is = ap (turned_under whose.settings whose.rest) is ∙ torn_second whose.settings whose.rest node (left_of h) i.first i.was
 
-      by_act : (act : Act) → found (act ∷ t) ≡ left_of h → (start : Serving) (whole : ℕ) → digest_under whose.settings (found (act ∷ t)) ≡ digest → IsOpened whose.settings node (found (act ∷ t)) whole start → IsSafe start (take whole (found (act ∷ t))) (act ∷ t) → GoesOn whose settings (Does act ∷ h) p
+      by_act : (act : Act) → found (act ∷ t) ≡ left_of h → (start : Serving) (whole : ℕ) → turned_under whose.settings whose.rest (found (act ∷ t)) ≡ digest → IsOpened whose.settings node whose.rest (found (act ∷ t)) whole start → IsSafe start (take whole (found (act ∷ t))) (act ∷ t) → GoesOn whose settings (Does act ∷ h) p
       by_act (Found bytes) is start whole second o safe = found_step bytes safe.order is
       by_act (Cut size done) is start whole second o safe = cut_step size done start whole second o is safe.order.0 safe.order.1
       by_act (Append bytes done) is start whole second o safe =
@@ -548,9 +555,9 @@ earlier : (whose : Whose) (one : Happening) (h : List Happening) → IsHistory w
 earlier whose (Does act) h is = is.0
 earlier whose (Dies left) h is = is.0
 
-begun : (whose : Whose) (settings : Settings) → FitsNode whose.node → IsInner whose settings [] (record { memory = None; synced = []; unsynced = [] })
+begun : (whose : Whose) (settings : Settings) → FitsNode whose.node → IsInner whose settings [] at_first
 begun whose settings fits =
-    let none = untorn (digest_in whose.settings) whose.node [] [] (nothing_cut (digest_in whose.settings) whose.node fits) in
+    let none = untorn (turned_in whose.settings whose.rest) whose.node [] [] (nothing_cut (turned_in whose.settings whose.rest) whose.node fits) in
     record {
       disk = inr (refl, refl);
       under = all_of [];
@@ -568,10 +575,10 @@ goes_on : (whose : Whose) (settings : Settings) (later h : List Happening) (p : 
 goes_on whose settings [] h p spells numbered i is = ([], i)
 goes_on whose settings (one ∷ later) h p spells numbered i is =
     let ctx = context_of settings in
-    let s = settings_seen settings in
+    let at_begin = begins settings whose.node whose.rest in
     let first = goes_on whose settings later h p spells numbered i (earlier whose one (later ++ h) is) in
-    let next = next_step whose settings spells numbered (later ++ h) (steps_from ctx s whose.node p first.0) first.1 one is in
-    (first.0 ++ next.0, subst (IsInner whose settings (one ∷ (later ++ h))) (sym (steps_append ctx s whose.node p first.0 next.0)) next.1)
+    let next = next_step whose settings spells numbered (later ++ h) (steps_from ctx at_begin p first.0) first.1 one is in
+    (first.0 ++ next.0, subst (IsInner whose settings (one ∷ (later ++ h))) (sym (steps_append ctx at_begin p first.0 next.0)) next.1)
 
 before_is : (whose : Whose) (later h : List Happening) → IsHistory whose (later ++ h) → IsHistory whose h
 before_is whose [] h is = is
@@ -579,20 +586,19 @@ before_is whose (one ∷ later) h is = before_is whose later h (earlier whose on
 
 is_process : (whose : Whose) (settings : Settings) (h : List Happening) (p : Process) → IsInner whose settings h p → IsProcess whose settings h p
 is_process whose settings h p i =
-    record { disk = i.disk; lies = torn_reads (digest_in whose.settings) whose.node (file_of h) (model_file p) (in_length whose.settings) i.lies; memory = i.memory; told = i.told }
+    record { disk = i.disk; lies = torn_reads (turned_in whose.settings whose.rest) whose.node (file_of h) (model_file p) (turned_in_length whose.settings whose.rest) i.lies; memory = i.memory; told = i.told }
 
 pub course : (whose : Whose) (settings : Settings) (later before : List Happening) → Spells whose.settings settings → FitsNode whose.node → IsHistory whose (later ++ before) → IsCourse whose settings before (later ++ before)
 course whose settings later before spells fits is =
     let ctx = context_of settings in
-    let s = settings_seen settings in
-    let none : Process = record { memory = None; synced = []; unsynced = [] } in
+    let at_begin = begins settings whose.node whose.rest in
     let nil : before ++ [] ≡ before = append-nil before in
-    let first : GoesOn whose settings before none = subst (λ (h : List Happening). GoesOn whose settings h none) nil
-    (goes_on whose settings before [] none spells fits (begun whose settings fits) (subst (IsHistory whose) (sym nil) (before_is whose later before is))) in
-    let then = goes_on whose settings later before (process_after ctx s whose.node first.0) spells fits first.1 is in
+    let first : GoesOn whose settings before at_first = subst (λ (h : List Happening). GoesOn whose settings h at_first) nil
+    (goes_on whose settings before [] at_first spells fits (begun whose settings fits) (subst (IsHistory whose) (sym nil) (before_is whose later before is))) in
+    let then = goes_on whose settings later before (process_after ctx at_begin first.0) spells fits first.1 is in
     record {
       steps = first.0;
       more = then.0;
-      first = is_process whose settings before (process_after ctx s whose.node first.0) first.1;
-      last = subst (IsProcess whose settings (later ++ before)) (sym (steps_append ctx s whose.node none first.0 then.0)) (is_process whose settings (later ++ before) (steps_from ctx s whose.node (process_after ctx s whose.node first.0) then.0) then.1);
+      first = is_process whose settings before (process_after ctx at_begin first.0) first.1;
+      last = subst (IsProcess whose settings (later ++ before)) (sym (steps_append ctx at_begin at_first first.0 then.0)) (is_process whose settings (later ++ before) (steps_from ctx at_begin (process_after ctx at_begin first.0) then.0) then.1);
     }

@@ -1,5 +1,5 @@
 -- What is read of the beginning of a log's text that a death has left.
-use Rattle.std.proofs.Common.{◌≡◌, inl, inr, ℕ, zero, suc, ◌+◌, ◌-◌, ◌<◌, ◌≤◌, ◌⊎◌, Bool, true, false, cond, nat_lt, List, [], ◌∷◌, ◌++◌, length, take, drop, Result, Ok, Err, refl, sym, ap, ◌∙◌, subst, arith, append_assoc, append-nil, length-append}
+use Rattle.std.proofs.Common.{◌≡◌, inl, inr, ℕ, zero, suc, ◌+◌, ◌-◌, ◌<◌, ◌≤◌, ◌⊎◌, Bool, true, false, cond, nat_lt, List, [], ◌∷◌, ◌++◌, length, take, drop, Option, Some, None, Result, Ok, Err, refl, sym, ap, ◌∙◌, subst, arith, append_assoc, append-nil, length-append}
 use Rattle.std.proofs.lemmas.Bool.{cases_lt}
 use Rattle.std.proofs.lemmas.Bool.Decides.{nat_tests}
 use Rattle.std.proofs.lemmas.List.{length-take-le, take_all, take_at, take-append-drop, take-append-le, take-take}
@@ -17,7 +17,7 @@ use Rattle.kept_logs.specs.Cuts.{whole_within, calls_within}
 use Rattle.kept_logs.proofs.FramesBack.{take_over}
 use Rattle.kept_logs.proofs.CallsBack.{all_within}
 use Rattle.kept_logs.proofs.LogsBack.{log_length, reads_back, reads_short, reads_whole}
-use Rattle.settings_digest.specs.Digests.{digest_in, digest_under}
+use Rattle.settings_digest.specs.Digests.{digest_in, digest_under, turned_in, turned_under}
 use Rattle.node_process.specs.Safe.{IsStartOf}
 use Rattle.node_process.specs.Histories.{zeros, IsWholeLog, HasCalls, ReadsCalls}
 use Rattle.node_process.proofs.Zeros.{zeros_length, reads_zeros}
@@ -238,8 +238,9 @@ second_cut file log (suc (suc zero)) zero = refl
 second_cut file log (suc (suc zero)) (suc lost) = refl
 second_cut file log (suc (suc (suc n))) lost = refl
 
-pub torn_second : (file : List ℕ) (node : Node) (bytes : List ℕ) (calls : List Logged) → IsTornOf (digest_in file) node bytes calls → digest_under file bytes ≡ digest_in file
-torn_second file node bytes calls t =
+pub torn_second : (file : List ℕ) (rest : Option (List ℕ)) (node : Node) (bytes : List ℕ) (calls : List Logged) → IsTornOf (turned_in file rest) node bytes calls → turned_under file rest bytes ≡ turned_in file rest
+torn_second file (Some rest) node bytes calls t = refl
+torn_second file None node bytes calls t =
     let c = t.cut in
     ap (digest_under file) (t.is ∙ ap (λ (x : List ℕ). x ++ zeros t.lost) c.is) ∙ second_cut file (record { node = node; calls = c.all }) c.size t.lost
 

@@ -233,7 +233,7 @@ module _ (start : Serving) (base : List ℕ) where
       }
 
 -- a run of the node of the log that was found
-pub runs : (whose : Whose) (t : List Act) (start : Serving) (whole : ℕ) → IsOpened whose.settings whose.node (found t) whole start → whose.least ≤ start.calls → AtEachMoment start (take whole (found t)) t → IsRun whose t
+pub runs : (whose : Whose) (t : List Act) (start : Serving) (whole : ℕ) → IsOpened whose.settings whose.node whose.rest (found t) whole start → whose.least ≤ start.calls → AtEachMoment start (take whole (found t)) t → IsRun whose t
 runs whose t start whole opened enough each =
     record { start = start; whole = whole; opened = opened; enough = enough; safe = λ later earlier e. throughout start (take whole (found t)) later t earlier each e }
 
@@ -279,7 +279,7 @@ trims_runs whose t whole s h = runs whose t s whole h.opened h.enough h.opening.
 -- a head is appended to an empty file alone
 empty_base : (whose : Whose) (t : List Act) (whole : ℕ) (s : Serving) → Trims whose t whole s → (s.records ≡ [] → ⊥) → kept t ≡ file t
 empty_base whose t whole s h some =
-    elim (new_or_whole whose.settings whose.node (found t) whole s h.opened) [
+    elim (new_or_whole whose.settings whose.node whose.rest (found t) whole s h.opened) [
       | inl none ↦ absurd (some none)
       | inr zero_kept ↦ h.unsynced ∙ sym (h.opening.is ∙ ap (λ (n : ℕ). take n (found t)) zero_kept)
     ]

@@ -1,23 +1,23 @@
 -- The processes of one node, one after another, and what is left of the file of its log where one dies; and the process of the model that they are.
-use Rattle.std.specs.Prelude.{◌≡◌, ◌⊎◌, ⊤, ℕ, not, ◌&&◌, cond, flat_map, false, map, List, [], ◌∷◌, ◌++◌, take, replicate, codes, Some, None, Ok, Err}
+use Rattle.std.specs.Prelude.{◌≡◌, ◌⊎◌, ⊤, ℕ, not, ◌&&◌, cond, flat_map, map, List, [], ◌∷◌, ◌++◌, take, replicate, codes, Option, None, Ok, Err}
 use Rattle.std.specs.List.{AllByRecursion}
 use Rattle.claim_model.specs.Context.{Context}
 use Rattle.claim_model.specs.declared.refusal.Refusal.{Refusal}
 use Rattle.claim_model.specs.Refusal.{refusal_name}
 use Rattle.claim_model.specs.Node.{Node, Call, Sent}
-use Rattle.claim_model.specs.Nodes.{AnyNode, same_node, asked}
-use Rattle.claim_model.specs.World.{Event, Packet, packet_from}
-use Rattle.claim_model.specs.Settings.{WorldSettings}
+use Rattle.claim_model.specs.Nodes.{AnyNode}
+use Rattle.claim_model.specs.World.{packet_from}
 use Rattle.claim_model.specs.Logs.{Logged, NodeLog, posted_by}
-use Rattle.crash_safety.specs.Network.{Process, Network, Move, after, calls, one_synced, crashed, restarted, replayed}
+use Rattle.crash_safety.specs.Network.{Process}
 use Rattle.crash_safety.specs.Network as model
 use Rattle.crash_safety.specs.Runs.{IsAmong}
-use Rattle.world_setup.specs.Seen.{settings_seen}
+use Rattle.crash_safety.specs.Steps.{Step, process_after, replayed_from}
 use Rattle.world_setup.specs.declared.settings.WorldSettings.{WorldSettings as Settings}
 use Rattle.node_logged.specs.Setting.{context_of}
 use Rattle.kept_logs.specs.declared.fault.LogFault.TheVariants.{Short}
 use Rattle.kept_logs.specs.Logs.{log_text, log_in, ReadsAs}
-use Rattle.settings_digest.specs.Digests.{digest_in}
+use Rattle.kept_logs.specs.Rests.{begins}
+use Rattle.settings_digest.specs.Digests.{turned_in}
 use Rattle.node_service.specs.Asking.{Asked, Calls, Tells as Asks}
 use Rattle.node_service.specs.Answering.{ready_line, sent_line, refused_line}
 use Rattle.node_service.specs.Serving.{last_line, told_of}
@@ -79,7 +79,7 @@ pub record IsLeft (whose : Whose) (before : List Happening) (left : List ℕ) : 
   pub is : left ≡ front ++ zeros lost
   pub kept : IsStartOf (on_disk before) front
   pub had : IsStartOf front (file_of before) ⊎ IsStartOf front (left_of before)
-  pub ends : (lost ≡ 0) ⊎ IsWholeLog (digest_in whose.settings) front
+  pub ends : (lost ≡ 0) ⊎ IsWholeLog (turned_in whose.settings whose.rest) front
 
 -- each process finds what the one before it left, and at each moment is a run of its node (`serve_all`), or has done nothing but to read the log
 abbrev pub IsHistory : Whose → List Happening → Type 0
@@ -96,33 +96,6 @@ happenings acts = map Does acts
 abbrev pub BeginsWith : List ℕ → List Act → Type 0
 BeginsWith left acts = (acts ≡ []) ⊎ (found acts ≡ left)
 
--- ---- the process
-
--- what a process of the model does
-pub data Step : Type 0 where
-  -- it makes a call in memory, and its record is appended
-  Makes : Call → Step
-  -- the first record that is not synced is synced
-  Syncs : Step
-  -- it dies; of the records that are not synced the first so many are still there
-  Crashes : (left : ℕ) → Step
-  -- a process reads the log, and replays it
-  Restarts : Step
-
-abbrev pub step : Context → WorldSettings → Node → Process → Step → Process
-step ctx s node p (Makes call) = calls ctx p call p.memory
-step ctx s node p Syncs = one_synced p p.unsynced
-step ctx s node p (Crashes left) = crashed p left
-step ctx s node p Restarts = restarted ctx s node p
-
-abbrev pub steps_from : Context → WorldSettings → Node → Process → List Step → Process
-steps_from ctx s node p [] = p
-steps_from ctx s node p (one ∷ more) = steps_from ctx s node (step ctx s node p one) more
-
--- the process that steps lead to, from an empty disk
-abbrev pub process_after : Context → WorldSettings → Node → List Step → Process
-process_after ctx s node steps = steps_from ctx s node (record { memory = None; synced = []; unsynced = [] }) steps
-
 -- ---- that they are the same
 
 -- bytes are the text of a log of these calls; or there is no log yet
@@ -135,10 +108,10 @@ ReadsCalls digest node bytes calls =
     ((whole : ℕ) × (log_in digest bytes ≡ Ok (record { log = record { node = node; calls = calls }; whole = whole })))
     ⊎ ((log_in digest bytes ≡ Err Short) × (calls ≡ []))
 
--- who lives has in memory what the log as it lies makes of the node
-abbrev pub IsAlive : Context → WorldSettings → Node → List Act → Process → Type 0
-IsAlive ctx s node [] p = p.memory ≡ None
-IsAlive ctx s node (act ∷ before) p = p.memory ≡ replayed ctx s node (model.file p)
+-- who lives has in memory what the log as it lies makes of the node that it begins with
+abbrev pub IsAlive : Context → Option AnyNode → List Act → Process → Type 0
+IsAlive ctx first [] p = p.memory ≡ None
+IsAlive ctx first (act ∷ before) p = p.memory ≡ replayed_from ctx first (model.file p)
 
 -- what is written: the line of a packet, or a line that sends nothing
 pub data Word : Type 0 where
@@ -176,37 +149,15 @@ pub record IsToldBy (node : Node) (calls : List Logged) (text : List ℕ) : Type
 -- what a node has on its disk, in its file and in its memory is what the process of the model has, and what its process has said is what the
 -- synced calls of that process sent
 pub record IsProcess (whose : Whose) (settings : Settings) (history : List Happening) (p : Process) : Type 0 where
-  pub disk : HasCalls (digest_in whose.settings) whose.node (on_disk history) p.synced
-  pub lies : ReadsCalls (digest_in whose.settings) whose.node (file_of history) (model.file p)
-  pub memory : IsAlive (context_of settings) (settings_seen settings) whose.node (acts_of history) p
+  pub disk : HasCalls (turned_in whose.settings whose.rest) whose.node (on_disk history) p.synced
+  pub lies : ReadsCalls (turned_in whose.settings whose.rest) whose.node (file_of history) (model.file p)
+  pub memory : IsAlive (context_of settings) (begins settings whose.node whose.rest) (acts_of history) p
   pub told : IsToldBy whose.node p.synced (said (acts_of history))
 
--- so at any two moments, and the steps to the later one go on from those to the first
+-- so at any two moments, and the steps to the later one go on from those to the first. They are steps over this log alone, which begins with the node
+-- that the settings open, or behind closed logs with the one that the rest starts
 pub record IsCourse (whose : Whose) (settings : Settings) (now later : List Happening) : Type 0 where
   pub steps : List Step
   pub more : List Step
-  pub first : IsProcess whose settings now (process_after (context_of settings) (settings_seen settings) whose.node steps)
-  pub last : IsProcess whose settings later (process_after (context_of settings) (settings_seen settings) whose.node (steps ++ more))
-
--- ---- that steps are moves
-
--- the calls of steps can come over a wire: some event asks the node for each
-abbrev pub CanCome : List Packet → Node → List Step → Type 0
-CanCome wire node [] = ⊤
-CanCome wire node (Makes call ∷ more) = ((event : Event) × (asked wire event ≡ Some (record { node = node; call = call }))) × CanCome wire node more
-CanCome wire node (Syncs ∷ more) = CanCome wire node more
-CanCome wire node (Crashes left ∷ more) = CanCome wire node more
-CanCome wire node (Restarts ∷ more) = CanCome wire node more
-
--- moves of a network do what these steps do to the process of this node, and nothing else
-pub record AreMoves (ctx : Context) (s : WorldSettings) (n : Network) (node : Node) (steps : List Step) : Type 0 where
-  pub moves : List Move
-  pub own : (after ctx s n moves).at node ≡ steps_from ctx s node (n.at node) steps
-  pub others : (other : Node) → same_node node other ≡ false → (after ctx s n moves).at other ≡ n.at other
-  pub wire : (after ctx s n moves).wire ≡ n.wire
-
--- a move says this packet, and does nothing else
-pub record IsSaid (ctx : Context) (s : WorldSettings) (n : Network) (node : Node) (p : Packet) : Type 0 where
-  pub move : Move
-  pub own : (other : Node) → (after ctx s n (move ∷ [])).at other ≡ n.at other
-  pub wire : (after ctx s n (move ∷ [])).wire ≡ n.wire ++ p ∷ []
+  pub first : IsProcess whose settings now (process_after (context_of settings) (begins settings whose.node whose.rest) steps)
+  pub last : IsProcess whose settings later (process_after (context_of settings) (begins settings whose.node whose.rest) (steps ++ more))

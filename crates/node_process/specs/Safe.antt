@@ -1,5 +1,6 @@
 -- What is safe at each moment of a process: what was said is on the disk.
-use Rattle.std.specs.Prelude.{◌≡◌, ◌≤◌, ◌⊎◌, ⊤, ℕ, length, false, List, [], ◌∷◌, ◌++◌, take}
+use Rattle.std.specs.Prelude.{◌≡◌, ◌≤◌, ◌⊎◌, ⊤, ℕ, length, false, List, [], ◌∷◌, ◌++◌, take, Option}
+use Rattle.std.specs.Option.{option_copied}
 use Rattle.std.specs.List.{AllByRecursion}
 use Rattle.claim_model.specs.Node.{Node}
 use Rattle.world_setup.specs.Seen.{node_seen}
@@ -87,21 +88,23 @@ AtEachMoment start base (act ∷ before) = IsSafe start base (act ∷ before) ×
 abbrev pub IsUnopened : List Act → Type 0
 IsUnopened acts = (acts ≡ []) ⊎ ((bytes : List ℕ) × (acts ≡ Found bytes ∷ []))
 
--- whose process it is: the text of the settings, the node, and how many calls its log has at least
+-- whose process it is: the text of the settings, the node, what its log begins with where it goes on behind closed ones, and how many calls it has at
+-- least
 pub record Whose : Type 0 where
   pub settings : List ℕ
   pub node : Node
+  pub rest : Option (List ℕ)
   pub least : ℕ
 
 -- the same, of the code's value
 abbrev pub owner_seen : Owner → Whose
-owner_seen o = record { settings = o.settings.now; node = node_seen o.node; least = o.least }
+owner_seen o = record { settings = o.settings.now; node = node_seen o.node; rest = option_copied o.rest; least = o.least }
 
 -- the node of the log that was found was served, and stopped at any moment it was safe
 pub record IsRun (whose : Whose) (acts : List Act) : Type 0 where
   pub start : Serving
   pub whole : ℕ
-  pub opened : IsOpened whose.settings whose.node (found acts) whole start
+  pub opened : IsOpened whose.settings whose.node whose.rest (found acts) whole start
   pub enough : whose.least ≤ start.calls
   pub safe : (later earlier : List Act) → acts ≡ later ++ earlier → IsSafe start (take whole (found acts)) earlier
 
@@ -115,7 +118,7 @@ pub record IsDone (start : Serving) (base : List ℕ) (acts : List Act) : Type 0
 pub record IsRunDone (whose : Whose) (acts : List Act) : Type 0 where
   pub start : Serving
   pub whole : ℕ
-  pub opened : IsOpened whose.settings whose.node (found acts) whole start
+  pub opened : IsOpened whose.settings whose.node whose.rest (found acts) whole start
   pub enough : whose.least ≤ start.calls
   pub done : IsDone start (take whole (found acts)) acts
   -- the input has ended
@@ -155,25 +158,25 @@ pub record Reads (whose : Whose) (acts : List Act) (whole size : ℕ) (s : Servi
   pub bytes : List ℕ
   pub is : acts ≡ Found bytes ∷ []
   pub count : size ≡ length bytes
-  pub opened : IsOpened whose.settings whose.node bytes whole s
+  pub opened : IsOpened whose.settings whose.node whose.rest bytes whole s
   pub enough : whose.least ≤ s.calls
 
 -- what is behind its whole records is cut off
 pub record Trims (whose : Whose) (acts : List Act) (whole : ℕ) (s : Serving) : Type 0 where
-  pub opened : IsOpened whose.settings whose.node (found acts) whole s
+  pub opened : IsOpened whose.settings whose.node whose.rest (found acts) whole s
   pub enough : whose.least ≤ s.calls
   pub opening : IsOpening s (take whole (found acts)) acts (take whole (found acts))
   pub unsynced : kept acts ≡ []
 
 -- the head of a new log stands in the file
 pub record Heads (whose : Whose) (acts : List Act) (whole : ℕ) (s : Serving) : Type 0 where
-  pub opened : IsOpened whose.settings whose.node (found acts) whole s
+  pub opened : IsOpened whose.settings whose.node whose.rest (found acts) whole s
   pub enough : whose.least ≤ s.calls
   pub opening : IsOpening s (take whole (found acts)) acts (take whole (found acts) ++ s.records)
 
 -- the log is on the disk
 pub record Begins (whose : Whose) (acts : List Act) (whole : ℕ) (s : Serving) : Type 0 where
-  pub opened : IsOpened whose.settings whose.node (found acts) whole s
+  pub opened : IsOpened whose.settings whose.node whose.rest (found acts) whole s
   pub enough : whose.least ≤ s.calls
   pub opening : IsOpening s (take whole (found acts)) acts (take whole (found acts) ++ s.records)
   pub synced : kept acts ≡ file acts
@@ -182,7 +185,7 @@ pub record Begins (whose : Whose) (acts : List Act) (whole : ℕ) (s : Serving) 
 pub record Serves (whose : Whose) (acts : List Act) (s : Serving) : Type 0 where
   pub start : Serving
   pub whole : ℕ
-  pub opened : IsOpened whose.settings whose.node (found acts) whole start
+  pub opened : IsOpened whose.settings whose.node whose.rest (found acts) whole start
   pub enough : whose.least ≤ start.calls
   pub served : IsServed start (take whole (found acts)) acts s
 
@@ -190,7 +193,7 @@ pub record Serves (whose : Whose) (acts : List Act) (s : Serving) : Type 0 where
 pub record Logs (whose : Whose) (acts : List Act) (s : Serving) : Type 0 where
   pub start : Serving
   pub whole : ℕ
-  pub opened : IsOpened whose.settings whose.node (found acts) whole start
+  pub opened : IsOpened whose.settings whose.node whose.rest (found acts) whole start
   pub enough : whose.least ≤ start.calls
   pub logged : IsLogged start (take whole (found acts)) acts s
 

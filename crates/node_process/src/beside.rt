@@ -11,9 +11,9 @@ const MOST_FILES: u32 = 1_000;
 
 /// Keeps what stands in a file behind so many bytes in a new file beside it, and says so on standard error: at the name of the
 /// log with `.cut-` and the place behind it. Its bytes and its name are on disk then.
-pub fn keep_end(rt: &HostRuntime, path: &str, size: usize) -> io::Result<()> {
+pub fn keep_end(rt: &HostRuntime, path: &str, size: u64) -> io::Result<()> {
     let bytes = fs::read(rt, path)?;
-    let Some(end) = bytes.get(size..) else {
+    let Some(end) = bytes.get(size as usize..) else {
         return Ok(());
     };
     let (name, mut file) = new_beside(rt, path, size)?;
@@ -38,7 +38,7 @@ pub fn sync_folder(rt: &HostRuntime, path: &str) -> io::Result<()> {
 }
 
 /// A file beside a log that was not there.
-fn new_beside(rt: &HostRuntime, path: &str, size: usize) -> io::Result<(String, File)> {
+fn new_beside(rt: &HostRuntime, path: &str, size: u64) -> io::Result<(String, File)> {
     for number in 1..=MOST_FILES {
         let name = name_of(rt.alloc(), path, size, number)?;
         match private_file()
@@ -61,7 +61,7 @@ fn new_beside(rt: &HostRuntime, path: &str, size: usize) -> io::Result<(String, 
 }
 
 /// The name of the file of that number.
-fn name_of(alloc: Global, path: &str, size: usize, number: u32) -> io::Result<String> {
+fn name_of(alloc: Global, path: &str, size: u64, number: u32) -> io::Result<String> {
     match number {
         1 => Ok(format!(in alloc; "{path}.cut-{size}")?),
         _ => Ok(format!(in alloc; "{path}.cut-{size}-{number}")?),

@@ -24,24 +24,28 @@ const SAID: u64 = 4;
 
 const HEARD: u64 = 5;
 
-/// A log's file that is read from its beginning and appended to, an input and an output. What is cut off the file is kept in
-/// another one beside it, and a sync that fails leaves a mark there.
+/// A log in a file, which is read from where it begins and appended to, an input and an output. What is cut off the file is kept
+/// in another one beside it, and a sync that fails leaves a mark there.
 #[derive(Drop)]
 pub struct Host<'a, I: Read + Drop, O: Write + Drop> {
     rt: &'a HostRuntime,
     path: &'a str,
     file: File,
+    /// How many bytes stand before the log in the file.
+    front: u64,
     input: I,
     output: O,
     noted: Noted,
 }
 
 impl<'a, I: Read + Drop, O: Write + Drop> Host<'a, I, O> {
-    /// Over a file of this name that was opened to read and to append.
+    /// Over a file of this name that was opened to read and to append, and stands at the place where the log begins, behind so
+    /// many bytes.
     pub fn new(
         rt: &'a HostRuntime,
         path: &'a str,
         file: File,
+        front: u64,
         input: I,
         output: O,
     ) -> Host<'a, I, O>
@@ -51,6 +55,7 @@ impl<'a, I: Read + Drop, O: Write + Drop> Host<'a, I, O> {
             rt,
             path,
             file,
+            front,
             input,
             output,
             noted: Noted::new(),
@@ -69,7 +74,8 @@ impl<'a, I: Read + Drop, O: Write + Drop> Machine for Host<'a, I, O> {
     }
 
     fn cut(&mut self, size: usize) -> io::Result<()> {
-        let answer = cut_off(self.rt, self.path, &self.file, size);
+        let behind = self.front.saturating_add(size as u64);
+        let answer = cut_off(self.rt, self.path, &self.file, behind);
         self.noted
             .note(&[CUT, u64::from(answer.is_ok()), size as u64], &[]);
         answer
@@ -104,9 +110,9 @@ impl<'a, I: Read + Drop, O: Write + Drop> Machine for Host<'a, I, O> {
 }
 
 /// Cuts a file behind so many bytes, once what stands there is kept beside it.
-fn cut_off(rt: &HostRuntime, path: &str, file: &File, size: usize) -> io::Result<()> {
+fn cut_off(rt: &HostRuntime, path: &str, file: &File, size: u64) -> io::Result<()> {
     keep_end(rt, path, size)?;
-    file.set_len(size as u64)
+    file.set_len(size)
 }
 
 /// Has a file on disk; a mark beside it stays where that fails.

@@ -18,7 +18,7 @@ mod unserved;
 
 pub use beside::{keep_end, mark_of_failed_sync, sync_folder};
 pub use host::Host;
-pub use laws::{files_are_processes, processes_follow_one_another, steps_are_moves};
+pub use laws::{files_are_processes, processes_follow_one_another};
 pub use machine::Machine;
 pub use opening::Owner;
 pub use serving::serve_all;

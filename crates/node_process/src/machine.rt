@@ -6,7 +6,7 @@ ghost use Rattle.node_process.specs.Acts.{Found, Cut, Append, Sync, Say, Hear};
 use std::alloc::Global;
 use std::io;
 
-/// The system: the file of a log, an input and an output. Whatever a call answers, it is noted as an act.
+/// The system: the log in its file, an input and an output. Whatever a call answers, it is noted as an act.
 pub trait Machine {
     ghost use Rattle.std.specs.Prelude.{List};
     ghost use Rattle.node_process.specs.Acts.{Act};
@@ -14,20 +14,20 @@ pub trait Machine {
     /// What was asked of it so far, the newest first.
     ghost acts: { Self → List Act };
 
-    /// All bytes of the file.
+    /// All bytes of the log.
     fn read(&mut self, alloc: Global) -> io::Result<Vec<u8>>
         ensures found { IfOk result (λ bytes. acts self.new ≡ Found bytes.items ∷ acts self.old) }
         ensures failed { OnErr result (acts self.new ≡ acts self.old) };
 
-    /// Cuts the file off behind so many bytes.
+    /// Cuts the log off behind so many bytes.
     fn cut(&mut self, size: usize) -> io::Result<()>
         ensures { acts self.new ≡ Cut size (is_ok result) ∷ acts self.old };
 
-    /// Appends bytes to the file.
+    /// Appends bytes to the log.
     fn append(&mut self, bytes: &[u8]) -> io::Result<()>
         ensures { acts self.new ≡ Append bytes.now (is_ok result) ∷ acts self.old };
 
-    /// Has the file on disk as it is.
+    /// Has the log on disk as it is.
     fn sync(&mut self) -> io::Result<()>
         ensures { acts self.new ≡ Sync (is_ok result) ∷ acts self.old };
 

@@ -21,6 +21,8 @@ pub struct Owner<'a> {
     pub settings: &'a [u8],
     /// The node.
     pub node: Node,
+    /// What the log begins with, where it goes on behind closed ones.
+    pub rest: Option<&'a [u8]>,
     /// How many calls its log is known to have: a log of fewer is an older copy, or was cut, and is not served.
     pub least: u64,
 }
@@ -41,7 +43,14 @@ pub(crate) fn open<M: Machine>(
     ensures quiet { IfOk result (λ s. (s.records ≡ []) × (s.out ≡ [])) }
 {
     let bytes = machine.read(alloc)?;
-    match Service::open(alloc, keys, owner.settings, owner.node, bytes.as_slice()) {
+    match Service::open(
+        alloc,
+        keys,
+        owner.settings,
+        owner.node,
+        owner.rest,
+        bytes.as_slice(),
+    ) {
         Ok((service, whole)) => {
             if service.calls() < owner.least {
                 return Err(Unserved::FewCalls(service.calls()));

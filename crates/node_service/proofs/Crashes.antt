@@ -1,18 +1,15 @@
 -- What a crash leaves of a file.
-use Rattle.std.proofs.Common.{◌≡◌, ℕ, suc, ◌+◌, ◌-◌, ◌<◌, ◌≤◌, List, [], ◌∷◌, ◌++◌, length, take, drop, Some, Result, Ok, Err, sym, ap, ◌∙◌, subst, inl, inr, arith, length-append}
+use Rattle.std.proofs.Common.{◌≡◌, ℕ, suc, ◌+◌, ◌-◌, ◌<◌, ◌≤◌, List, [], ◌∷◌, ◌++◌, length, take, drop, Option, Some, Result, Ok, Err, sym, ap, ◌∙◌, subst, inl, inr, arith, length-append}
 use Rattle.std.proofs.lemmas.Bool.{cases_lt}
 use Rattle.std.proofs.Math.Seq.{take-append-add}
 use Rattle.std.proofs.lemmas.List.{take-append-le, take-append-drop}
-use Rattle.settings_digest.specs.Digests.{digest_under}
-use Rattle.settings_digest.proofs.Keeping.{keeps_cut, under_length}
+use Rattle.settings_digest.specs.Digests.{turned_under}
+use Rattle.settings_digest.proofs.Keeping.{turned_keeps_cut, turned_length}
 use Rattle.claim_model.specs.Node.{Node}
 use Rattle.claim_model.specs.Nodes.{AnyNode}
 use Rattle.claim_model.specs.Logs.{Logged, NodeLog}
-use Rattle.crash_safety.specs.Network.{Process, file, crashed, restarted}
-use Rattle.world_setup.specs.Seen.{settings_seen}
+use Rattle.crash_safety.specs.Network.{Process, file, crashed}
 use Rattle.world_setup.specs.declared.settings.WorldSettings.{WorldSettings}
-use Rattle.node_log.specs.Replayed.{replayed}
-use Rattle.node_logged.specs.Setting.{context_of}
 use Rattle.kept_logs.specs.declared.fault.LogFault.{LogFault}
 use Rattle.kept_logs.specs.declared.fault.LogFault.TheVariants.{Short}
 use Rattle.kept_logs.specs.Records.{logged_text}
@@ -22,7 +19,7 @@ use Rattle.kept_logs.specs.Logs.{Reading, calls_text, log_text, log_in}
 use Rattle.kept_logs.specs.Fits.{FitsLog}
 use Rattle.kept_logs.specs.Cuts.{first_calls, calls_within, log_within}
 use Rattle.kept_logs.proofs.LogsBack.{log_length, reads_back}
-use Rattle.node_service.specs.Opened.{IsBegun}
+use Rattle.node_service.specs.Opened.{IsBegun, replayed_behind}
 use Rattle.node_service.specs.Lines.{IsRestart}
 
 -- the first calls of a log have no more bytes than those with more calls
@@ -60,19 +57,20 @@ same_reading a b h = cc
 not_short : (a : Reading) → ◌≡◌ {A = Result Reading LogFault} (Ok a) (Err Short) → ⊥
 not_short a h = cc
 
-restarted_as : (digest : List ℕ) (node : Node) (p : Process) (image : List ℕ) (left whole kept : ℕ) (settings : WorldSettings) (state : AnyNode) (records : List ℕ) (log : NodeLog)
-    → log_in digest image ≡ Ok (record { log = record { node = node; calls = file (crashed p left) }; whole = whole }) → IsBegun digest node image log kept records → replayed settings node log.calls ≡ Some state
-    → (restarted (context_of settings) (settings_seen settings) node (crashed p left)).memory ≡ Some state
-restarted_as digest node p image left whole kept settings state records log reads (inr none) is = absurd (not_short (record { log = record { node = node; calls = file (crashed p left) }; whole = whole }) (sym reads ∙ none.0))
-restarted_as digest node p image left whole kept settings state records log reads (inl read) is =
+restarted_as : (digest : List ℕ) (node : Node) (rest : Option (List ℕ)) (p : Process) (image : List ℕ) (left whole kept : ℕ) (settings : WorldSettings) (state : AnyNode) (records : List ℕ) (log : NodeLog)
+    → log_in digest image ≡ Ok (record { log = record { node = node; calls = file (crashed p left) }; whole = whole }) → IsBegun digest node image log kept records → replayed_behind settings node rest log.calls ≡ Some state
+    → replayed_behind settings node rest (file (crashed p left)) ≡ Some state
+restarted_as digest node rest p image left whole kept settings state records log reads (inr none) is = absurd (not_short (record { log = record { node = node; calls = file (crashed p left) }; whole = whole }) (sym reads ∙ none.0))
+restarted_as digest node rest p image left whole kept settings state records log reads (inl read) is =
     let r = same_reading (record { log = log; whole = kept }) (record { log = record { node = node; calls = file (crashed p left) }; whole = whole }) (sym read.0 ∙ reads) in
-    ap (λ (x : Reading). replayed settings node x.log.calls) (sym r) ∙ is
+    ap (λ (x : Reading). replayed_behind settings node rest x.log.calls) (sym r) ∙ is
 
-pub crashed_restarts : (settings begun : List ℕ) (node : Node) (p : Process) (n : ℕ) → FitsLog (record { node = node; calls = file p }) → length (log_text (digest_under settings begun) (record { node = node; calls = p.synced })) ≤ n
-    → IsRestart settings node p (take n (log_text (digest_under settings begun) (record { node = node; calls = file p })))
-crashed_restarts settings begun node p n fits long =
-    let digest = digest_under settings begun in
-    let d = under_length settings begun in
+pub crashed_restarts : (settings begun : List ℕ) (node : Node) (rest : Option (List ℕ)) (p : Process) (n : ℕ) → FitsLog (record { node = node; calls = file p })
+    → length (log_text (turned_under settings rest begun) (record { node = node; calls = p.synced })) ≤ n
+    → IsRestart settings node rest p (take n (log_text (turned_under settings rest begun) (record { node = node; calls = file p })))
+crashed_restarts settings begun node rest p n fits long =
+    let digest = turned_under settings rest begun in
+    let d = turned_length settings rest begun in
     let log : NodeLog = record { node = node; calls = file p } in
     let synced : NodeLog = record { node = node; calls = p.synced } in
     let k = calls_within digest n log in
@@ -85,10 +83,10 @@ crashed_restarts settings begun node p n fits long =
     let reads : log_in digest (take n (log_text digest log)) ≡ Ok (record { log = record { node = node; calls = file (crashed p left) }; whole = whole }) =
     back.read ∙ ap (λ (cs : List Logged). let r : Reading = record { log = record { node = node; calls = cs }; whole = whole } in Ok r) calls in
     let image = take n (log_text digest log) in
-    let own : digest_under settings image ≡ digest = keeps_cut settings begun log n (omega (arith, log_length digest synced d, long)) in
+    let own : turned_under settings rest image ≡ digest = turned_keeps_cut settings rest begun log n (omega (arith, log_length digest synced d, long)) in
     record {
       left = left;
       whole = whole;
       reads = ap (λ (x : List ℕ). log_in x image) own ∙ reads;
-      restarts = λ s kept o. restarted_as digest node p image left whole kept s.settings s.state s.records o.log reads (subst (λ (x : List ℕ). IsBegun x node image o.log kept s.records) own o.begun) o.state;
+      restarts = λ s kept o. restarted_as digest node rest p image left whole kept s.settings s.state s.records o.log reads (subst (λ (x : List ℕ). IsBegun x node image o.log kept s.records) own o.begun) o.state;
     }

@@ -1,5 +1,6 @@
 -- A node is refused for what one step on the way to it says.
-use Rattle.std.proofs.Common.{rules, ◌≡◌, ◌⊎◌, inl, inr, ℕ, zero, suc, ◌≤◌, length, [], ◌∷◌, Result, Err, true, List, Some, Ok, subst}
+use Rattle.std.proofs.Common.{rules, ◌≡◌, ◌⊎◌, inl, inr, ℕ, zero, suc, ◌≤◌, length, [], ◌∷◌, Option, Result, Err, true, List, Some, Ok, subst}
+use Rattle.std.specs.Prelude.{IsSome}
 use Rattle.std.proofs.Math.Nat.{suc-le-suc_iff}
 use Rattle.claim_model.specs.Context.{Context}
 use Rattle.claim_model.specs.Node.{Node, Outcome, Done, Refused, Sent}
@@ -13,12 +14,13 @@ use Rattle.world_setup.specs.declared.world_fault.WorldFault.TheVariants as faul
 use Rattle.world_settings.specs.Document.{document_seen, living_in}
 use Rattle.node_log.specs.There.{is_there}
 use Rattle.node_log.specs.Fits.{FitsBy}
-use Rattle.node_log.specs.Misfits.{BreaksAt, IsMade}
+use Rattle.node_log.specs.Misfits.{BreaksAt, IsMadeFrom}
 use Rattle.node_log.specs.declared.misfit.FirstMisfit.{FirstMisfit}
 use Rattle.kept_logs.specs.Logs.{Reading, log_in}
-use Rattle.settings_digest.specs.Digests.{digest_under}
+use Rattle.kept_logs.specs.Rests.{begins}
+use Rattle.settings_digest.specs.Digests.{turned_under}
 use Rattle.node_service.specs.declared.fault.ServiceFault.{ServiceFault}
-use Rattle.node_service.specs.declared.fault.ServiceFault.TheVariants.{OutOfMemory, Settings, NoSuchNode, Log, OtherNode, NotMade}
+use Rattle.node_service.specs.declared.fault.ServiceFault.TheVariants.{OutOfMemory, Settings, NoSuchNode, Rest, Log, OtherNode, NotMade}
 use Rattle.node_service.specs.Opened.{Spells, IsBegun}
 use Rattle.node_service.specs.Refused.{Tells, NoSettings, IsAnothers, NoLog, IsNotMade, IsRefused}
 
@@ -37,6 +39,11 @@ no_world text s fault.TooMany NoSuchNode spelled refused tells = absurd cc
 no_world text s fault.NoNode NoSuchNode spelled refused tells = absurd cc
 no_world text s fault.SameProvider NoSuchNode spelled refused tells = absurd cc
 no_world text s (fault.BadRoute why) NoSuchNode spelled refused tells = absurd cc
+no_world text s fault.OutOfMemory Rest spelled refused tells = absurd cc
+no_world text s fault.TooMany Rest spelled refused tells = absurd cc
+no_world text s fault.NoNode Rest spelled refused tells = absurd cc
+no_world text s fault.SameProvider Rest spelled refused tells = absurd cc
+no_world text s (fault.BadRoute why) Rest spelled refused tells = absurd cc
 no_world text s fault.OutOfMemory (Log f) spelled refused tells = absurd cc
 no_world text s fault.TooMany (Log f) spelled refused tells = absurd cc
 no_world text s fault.NoNode (Log f) spelled refused tells = absurd cc
@@ -59,37 +66,41 @@ anothers digest node bytes read OtherNode reads other = record { read = read; re
 anothers digest node bytes read OutOfMemory reads other = tt
 anothers digest node bytes read Settings reads other = absurd other
 anothers digest node bytes read NoSuchNode reads other = absurd other
+anothers digest node bytes read Rest reads other = absurd other
 anothers digest node bytes read (Log f) reads other = absurd other
 anothers digest node bytes read (NotMade n) reads other = absurd other
 
 -- the settings are refused
-pub settings_refused : (text : List ℕ) (node : Node) (bytes : List ℕ) (why : ServiceFault) → NoSettings text why → IsRefused text node bytes why
-settings_refused text node bytes OutOfMemory is = tt
-settings_refused text node bytes Settings is = is
-settings_refused text node bytes NoSuchNode is = absurd is
-settings_refused text node bytes (Log f) is = absurd is
-settings_refused text node bytes OtherNode is = absurd is
-settings_refused text node bytes (NotMade n) is = absurd is
+pub settings_refused : (text : List ℕ) (node : Node) (rest : Option (List ℕ)) (bytes : List ℕ) (why : ServiceFault) → NoSettings text why → IsRefused text node rest bytes why
+settings_refused text node rest bytes OutOfMemory is = tt
+settings_refused text node rest bytes Settings is = is
+settings_refused text node rest bytes NoSuchNode is = absurd is
+settings_refused text node rest bytes Rest is = absurd is
+settings_refused text node rest bytes (Log f) is = absurd is
+settings_refused text node rest bytes OtherNode is = absurd is
+settings_refused text node rest bytes (NotMade n) is = absurd is
 
 -- the log is refused
-pub log_refused : (text : List ℕ) (node : Node) (bytes : List ℕ) (s : WorldSettings) (why : ServiceFault) → Spells text s → is_there (settings_seen s) node ≡ true
-    → NoLog (digest_under text bytes) node bytes why → IsRefused text node bytes why
-log_refused text node bytes s OutOfMemory spells there found = tt
-log_refused text node bytes s Settings spells there found = absurd found
-log_refused text node bytes s NoSuchNode spells there found = absurd found
-log_refused text node bytes s (Log f) spells there found = record { settings = s; spells = spells; there = there; refused = found }
-log_refused text node bytes s OtherNode spells there found = record { settings = s; spells = spells; there = there; refused = found }
-log_refused text node bytes s (NotMade n) spells there found = absurd found
+pub log_refused : (text : List ℕ) (node : Node) (rest : Option (List ℕ)) (bytes : List ℕ) (s : WorldSettings) (why : ServiceFault) → Spells text s → is_there (settings_seen s) node ≡ true → IsSome (begins s node rest)
+    → NoLog (turned_under text rest bytes) node bytes why → IsRefused text node rest bytes why
+log_refused text node rest bytes s OutOfMemory spells there some found = tt
+log_refused text node rest bytes s Settings spells there some found = absurd found
+log_refused text node rest bytes s NoSuchNode spells there some found = absurd found
+log_refused text node rest bytes s Rest spells there some found = absurd found
+log_refused text node rest bytes s (Log f) spells there some found = record { settings = s; spells = spells; there = there; some = some; refused = found }
+log_refused text node rest bytes s OtherNode spells there some found = record { settings = s; spells = spells; there = there; some = some; refused = found }
+log_refused text node rest bytes s (NotMade n) spells there some found = absurd found
 
 -- the log is not made
-pub making_refused : (text : List ℕ) (node : Node) (bytes : List ℕ) (s : WorldSettings) (log : NodeLog) (kept : ℕ) (records : List ℕ) (why : ServiceFault) → Spells text s
-    → is_there (settings_seen s) node ≡ true → log.node ≡ node → IsBegun (digest_under text bytes) node bytes log kept records → IsNotMade (digest_under text bytes) s log why → IsRefused text node bytes why
-making_refused text node bytes s log kept records OutOfMemory spells there own begun found = tt
-making_refused text node bytes s log kept records Settings spells there own begun found = absurd found
-making_refused text node bytes s log kept records NoSuchNode spells there own begun found = absurd found
-making_refused text node bytes s log kept records (Log f) spells there own begun found = absurd found
-making_refused text node bytes s log kept records OtherNode spells there own begun found = absurd found
-making_refused text node bytes s log kept records (NotMade n) spells there own begun found =
+pub making_refused : (text : List ℕ) (node : Node) (rest : Option (List ℕ)) (bytes : List ℕ) (s : WorldSettings) (log : NodeLog) (kept : ℕ) (records : List ℕ) (why : ServiceFault) → Spells text s
+    → is_there (settings_seen s) node ≡ true → log.node ≡ node → IsBegun (turned_under text rest bytes) node bytes log kept records → IsNotMade (turned_under text rest bytes) s rest log why → IsRefused text node rest bytes why
+making_refused text node rest bytes s log kept records OutOfMemory spells there own begun found = tt
+making_refused text node rest bytes s log kept records Settings spells there own begun found = absurd found
+making_refused text node rest bytes s log kept records NoSuchNode spells there own begun found = absurd found
+making_refused text node rest bytes s log kept records Rest spells there own begun found = absurd found
+making_refused text node rest bytes s log kept records (Log f) spells there own begun found = absurd found
+making_refused text node rest bytes s log kept records OtherNode spells there own begun found = absurd found
+making_refused text node rest bytes s log kept records (NotMade n) spells there own begun found =
     record { settings = s; spells = spells; there = there; log = log; own = own; kept = kept; records = records; begun = begun; breaks = found }
 
 -- a call that breaks stands among the calls
@@ -107,6 +118,6 @@ breaks_within ctx s (r ∷ more) (suc place) breaks =
 err_is : (f g : FirstMisfit) → (◌≡◌ {A = Result AnyNode FirstMisfit} (Err f) (Err g)) → f ≡ g
 err_is f g e = cc
 
-pub made_not : (s : WorldSettings) (node : Node) (calls : List Logged) (made : Result AnyNode FirstMisfit) (first : FirstMisfit) → made ≡ Err first → IsMade s node calls made → first.place ≤ length calls
-made_not s node calls (Err found) first is made = subst (λ (f : FirstMisfit). f.place ≤ length calls) (err_is found first is) (breaks_within _ made.before calls found.place made.made)
-made_not s node calls (Ok state) first is made = absurd cc
+pub made_not : (ctx : Context) (before : AnyNode) (calls : List Logged) (made : Result AnyNode FirstMisfit) (first : FirstMisfit) → made ≡ Err first → IsMadeFrom ctx before calls made → first.place ≤ length calls
+made_not ctx before calls (Err found) first is made = subst (λ (f : FirstMisfit). f.place ≤ length calls) (err_is found first is) (breaks_within ctx before calls found.place made)
+made_not ctx before calls (Ok state) first is made = absurd cc

@@ -3,17 +3,18 @@ use Rattle.std.specs.Prelude.{◌≡◌, ℕ, List, [], ◌∷◌, ◌++◌, len
 use Rattle.claim_model.specs.Node.{Node, Call, Outcome, Done, Refused}
 use Rattle.claim_model.specs.Nodes.{AnyNode, node_step}
 use Rattle.claim_model.specs.Logs.{Logged, NodeLog}
-use Rattle.world_setup.specs.Seen.{call_seen, settings_seen}
-use Rattle.crash_safety.specs.Network.{Process, file, crashed, restarted}
-use Rattle.node_log.specs.Replayed.{replayed}
+use Rattle.world_setup.specs.Seen.{call_seen}
+use Rattle.crash_safety.specs.Network.{Process, file, crashed}
+use Rattle.crash_safety.specs.Steps.{replayed_from}
 use Rattle.node_logged.specs.Setting.{context_of}
 use Rattle.kept_logs.specs.Digests.{version_of}
 use Rattle.kept_logs.specs.Logs.{log_text, log_in}
 use Rattle.kept_logs.specs.Fits.{FitsLog}
-use Rattle.settings_digest.specs.Digests.{digest_under}
+use Rattle.kept_logs.specs.Rests.{begins}
+use Rattle.settings_digest.specs.Digests.{turned_under}
 use Rattle.node_service.specs.Asking.{Asked, Calls, Tells, asked_of}
 use Rattle.node_service.specs.Serving.{Serving, after_line}
-use Rattle.node_service.specs.Opened.{IsOpened, MakesAll}
+use Rattle.node_service.specs.Opened.{IsOpened, MakesAll, replayed_behind}
 
 -- what is made of it, with the records and the words of another in front
 abbrev pub joined : Serving → Serving → Serving
@@ -48,12 +49,12 @@ abbrev pub with_calls : NodeLog → List Logged → NodeLog
 with_calls log more = record { node = log.node; calls = log.calls ++ more }
 
 -- the node that is served makes this log, and is its replay; the bytes of its file, and behind them the records that are to be appended, are its text
-pub record IsServing (digest : List ℕ) (bytes : List ℕ) (log : NodeLog) (s : Serving) : Type 0 where
+pub record IsServing (rest : Option (List ℕ)) (digest : List ℕ) (bytes : List ℕ) (log : NodeLog) (s : Serving) : Type 0 where
   pub named : s.node ≡ log.node
   pub version : s.version ≡ version_of digest
   pub calls : s.calls ≡ length log.calls
-  pub makes : MakesAll s.settings log.node log.calls
-  pub state : replayed s.settings log.node log.calls ≡ Some s.state
+  pub makes : MakesAll s.settings log.node rest log.calls
+  pub state : replayed_behind s.settings log.node rest log.calls ≡ Some s.state
   pub text : bytes ++ s.records ≡ log_text digest log
   pub fits : FitsLog log
 
@@ -68,8 +69,8 @@ pub record IsSame (s t : Serving) : Type 0 where
 
 -- a file that a crash has left, of a process whose synced calls' text it has: it is read as the log of that process, crashed with so many calls
 -- left, and the node that is opened from it is the one that this process restarts with
-pub record IsRestart (settings : List ℕ) (node : Node) (p : Process) (image : List ℕ) : Type 0 where
+pub record IsRestart (settings : List ℕ) (node : Node) (rest : Option (List ℕ)) (p : Process) (image : List ℕ) : Type 0 where
   pub left : ℕ
   pub whole : ℕ
-  pub reads : log_in (digest_under settings image) image ≡ Ok (record { log = record { node = node; calls = file (crashed p left) }; whole = whole })
-  pub restarts : (s : Serving) (kept : ℕ) → IsOpened settings node image kept s → (restarted (context_of s.settings) (settings_seen s.settings) node (crashed p left)).memory ≡ Some s.state
+  pub reads : log_in (turned_under settings rest image) image ≡ Ok (record { log = record { node = node; calls = file (crashed p left) }; whole = whole })
+  pub restarts : (s : Serving) (kept : ℕ) → IsOpened settings node rest image kept s → replayed_from (context_of s.settings) (begins s.settings node rest) (file (crashed p left)) ≡ Some s.state

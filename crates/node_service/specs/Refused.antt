@@ -1,5 +1,5 @@
 -- Why a node is not served: each cause is true, and those before it in the order do not stand.
-use Rattle.std.specs.Prelude.{◌≡◌, ◌≢◌, ◌⊎◌, ⊤, ℕ, true, false, List, length, Some, None, Ok, Err}
+use Rattle.std.specs.Prelude.{◌≡◌, ◌≢◌, ◌⊎◌, ⊤, ℕ, true, false, List, length, Option, Some, None, IsSome, Ok, Err}
 use Rattle.claim_model.specs.Node.{Node}
 use Rattle.claim_model.specs.Nodes.{AnyNode, same_node}
 use Rattle.claim_model.specs.Logs.{NodeLog}
@@ -11,13 +11,14 @@ use Rattle.world_setup.specs.declared.world_fault.WorldFault.TheVariants as worl
 use Rattle.world_settings.specs.Document.{document_seen, living_in}
 use Rattle.node_log.specs.There.{is_there}
 use Rattle.node_log.specs.Misfits.{BreaksAt}
-use Rattle.node_logged.specs.Setting.{context_of, opened}
+use Rattle.node_logged.specs.Setting.{context_of}
 use Rattle.kept_logs.specs.declared.fault.LogFault.TheVariants as log_fault
 use Rattle.kept_logs.specs.Logs.{Reading, log_text, log_in}
 use Rattle.kept_logs.specs.Cuts.{first_calls}
-use Rattle.settings_digest.specs.Digests.{digest_under}
+use Rattle.kept_logs.specs.Rests.{begins}
+use Rattle.settings_digest.specs.Digests.{turned_under}
 use Rattle.node_service.specs.declared.fault.ServiceFault.{ServiceFault}
-use Rattle.node_service.specs.declared.fault.ServiceFault.TheVariants.{OutOfMemory, Settings, NoSuchNode, Log, OtherNode, NotMade}
+use Rattle.node_service.specs.declared.fault.ServiceFault.TheVariants.{OutOfMemory, Settings, NoSuchNode, Rest, Log, OtherNode, NotMade}
 use Rattle.node_service.specs.Opened.{Spells, IsBegun}
 
 -- a text spells settings that no world takes
@@ -40,6 +41,7 @@ abbrev pub NoSettings : List ℕ → ServiceFault → Type 0
 NoSettings text OutOfMemory = ⊤
 NoSettings text Settings = (living_in text ≡ None) ⊎ SpellsNoWorld text
 NoSettings text NoSuchNode = ⊥
+NoSettings text Rest = ⊥
 NoSettings text (Log fault) = ⊥
 NoSettings text OtherNode = ⊥
 NoSettings text (NotMade place) = ⊥
@@ -49,6 +51,7 @@ abbrev pub IsAnothers : NodeLog → Node → ServiceFault → Type 0
 IsAnothers log node OutOfMemory = ⊥
 IsAnothers log node Settings = ⊥
 IsAnothers log node NoSuchNode = ⊥
+IsAnothers log node Rest = ⊥
 IsAnothers log node (Log fault) = ⊥
 IsAnothers log node OtherNode = same_node log.node node ≡ false
 IsAnothers log node (NotMade place) = ⊥
@@ -64,26 +67,28 @@ abbrev pub NoLog : List ℕ → Node → List ℕ → ServiceFault → Type 0
 NoLog digest node bytes OutOfMemory = ⊤
 NoLog digest node bytes Settings = ⊥
 NoLog digest node bytes NoSuchNode = ⊥
+NoLog digest node bytes Rest = ⊥
 NoLog digest node bytes (Log fault) = (fault ≢ log_fault.Short) × (log_in digest bytes ≡ Err fault)
 NoLog digest node bytes OtherNode = ReadsAnothers digest node bytes
 NoLog digest node bytes (NotMade place) = ⊥
 
 -- the first call of a log that its node does not make has its record at this place
-pub record BreaksAtPlace (digest : List ℕ) (settings : WorldSettings) (log : NodeLog) (place : ℕ) : Type 0 where
+pub record BreaksAtPlace (digest : List ℕ) (settings : WorldSettings) (rest : Option (List ℕ)) (log : NodeLog) (place : ℕ) : Type 0 where
   pub before : AnyNode
-  pub opens : opened settings log.node ≡ Some before
+  pub opens : begins settings log.node rest ≡ Some before
   pub count : ℕ
   pub breaks : BreaksAt (context_of settings) before log.calls count
   pub is : place ≡ length (log_text digest (first_calls count log))
 
 -- the node does not make its log
-abbrev pub IsNotMade : List ℕ → WorldSettings → NodeLog → ServiceFault → Type 0
-IsNotMade digest settings log OutOfMemory = ⊤
-IsNotMade digest settings log Settings = ⊥
-IsNotMade digest settings log NoSuchNode = ⊥
-IsNotMade digest settings log (Log fault) = ⊥
-IsNotMade digest settings log OtherNode = ⊥
-IsNotMade digest settings log (NotMade place) = BreaksAtPlace digest settings log place
+abbrev pub IsNotMade : List ℕ → WorldSettings → Option (List ℕ) → NodeLog → ServiceFault → Type 0
+IsNotMade digest settings rest log OutOfMemory = ⊤
+IsNotMade digest settings rest log Settings = ⊥
+IsNotMade digest settings rest log NoSuchNode = ⊥
+IsNotMade digest settings rest log Rest = ⊥
+IsNotMade digest settings rest log (Log fault) = ⊥
+IsNotMade digest settings rest log OtherNode = ⊥
+IsNotMade digest settings rest log (NotMade place) = BreaksAtPlace digest settings rest log place
 
 -- the settings are taken, and have no such node
 pub record HasNoNode (text : List ℕ) (node : Node) : Type 0 where
@@ -91,15 +96,23 @@ pub record HasNoNode (text : List ℕ) (node : Node) : Type 0 where
   pub spells : Spells text settings
   pub absent : is_there (settings_seen settings) node ≡ false
 
--- the settings are taken and have the node, and its log is refused
-pub record HasNoLog (text : List ℕ) (node : Node) (bytes : List ℕ) (why : ServiceFault) : Type 0 where
+-- the settings are taken and have the node, and its log begins with no rest of it
+pub record HasNoRest (text : List ℕ) (node : Node) (rest : Option (List ℕ)) : Type 0 where
   pub settings : WorldSettings
   pub spells : Spells text settings
   pub there : is_there (settings_seen settings) node ≡ true
-  pub refused : NoLog (digest_under text bytes) node bytes why
+  pub none : begins settings node rest ≡ None
+
+-- the settings are taken and have the node, its log begins with one, and the log is refused
+pub record HasNoLog (text : List ℕ) (node : Node) (rest : Option (List ℕ)) (bytes : List ℕ) (why : ServiceFault) : Type 0 where
+  pub settings : WorldSettings
+  pub spells : Spells text settings
+  pub there : is_there (settings_seen settings) node ≡ true
+  pub some : IsSome (begins settings node rest)
+  pub refused : NoLog (turned_under text rest bytes) node bytes why
 
 -- the settings are taken and have the node, its log is read, and the node does not make it
-pub record DoesNotMake (text : List ℕ) (node : Node) (bytes : List ℕ) (place : ℕ) : Type 0 where
+pub record DoesNotMake (text : List ℕ) (node : Node) (rest : Option (List ℕ)) (bytes : List ℕ) (place : ℕ) : Type 0 where
   pub settings : WorldSettings
   pub spells : Spells text settings
   pub there : is_there (settings_seen settings) node ≡ true
@@ -107,14 +120,15 @@ pub record DoesNotMake (text : List ℕ) (node : Node) (bytes : List ℕ) (place
   pub own : log.node ≡ node
   pub kept : ℕ
   pub records : List ℕ
-  pub begun : IsBegun (digest_under text bytes) node bytes log kept records
-  pub breaks : BreaksAtPlace (digest_under text bytes) settings log place
+  pub begun : IsBegun (turned_under text rest bytes) node bytes log kept records
+  pub breaks : BreaksAtPlace (turned_under text rest bytes) settings rest log place
 
 -- a node is refused for this cause, and for none before it
-abbrev pub IsRefused : List ℕ → Node → List ℕ → ServiceFault → Type 0
-IsRefused text node bytes OutOfMemory = ⊤
-IsRefused text node bytes Settings = (living_in text ≡ None) ⊎ SpellsNoWorld text
-IsRefused text node bytes NoSuchNode = HasNoNode text node
-IsRefused text node bytes (Log fault) = HasNoLog text node bytes (Log fault)
-IsRefused text node bytes OtherNode = HasNoLog text node bytes OtherNode
-IsRefused text node bytes (NotMade place) = DoesNotMake text node bytes place
+abbrev pub IsRefused : List ℕ → Node → Option (List ℕ) → List ℕ → ServiceFault → Type 0
+IsRefused text node rest bytes OutOfMemory = ⊤
+IsRefused text node rest bytes Settings = (living_in text ≡ None) ⊎ SpellsNoWorld text
+IsRefused text node rest bytes NoSuchNode = HasNoNode text node
+IsRefused text node rest bytes Rest = HasNoRest text node rest
+IsRefused text node rest bytes (Log fault) = HasNoLog text node rest bytes (Log fault)
+IsRefused text node rest bytes OtherNode = HasNoLog text node rest bytes OtherNode
+IsRefused text node rest bytes (NotMade place) = DoesNotMake text node rest bytes place

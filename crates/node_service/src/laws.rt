@@ -1,6 +1,6 @@
 //! What holds of every node that is served, as facts that a caller cites by a call.
 
-ghost use Rattle.std.specs.Prelude.{◌≡◌, ℕ, ◌≤◌, ◌++◌, List, length, take};
+ghost use Rattle.std.specs.Prelude.{◌≡◌, ℕ, ◌≤◌, ◌++◌, List, length, take, Option};
 ghost use Rattle.std.specs.List.{AllByRecursion};
 ghost use Rattle.claim_model.specs.Node.{Node};
 ghost use Rattle.claim_model.specs.Logs.{NodeLog};
@@ -8,7 +8,7 @@ ghost use Rattle.world_settings.specs.Document.{document_seen};
 ghost use Rattle.crash_safety.specs.Network.{Process, file};
 ghost use Rattle.kept_logs.specs.Logs.{log_text};
 ghost use Rattle.kept_logs.specs.Fits.{FitsLog, FitsLogged};
-ghost use Rattle.settings_digest.specs.Digests.{digest_under};
+ghost use Rattle.settings_digest.specs.Digests.{turned_under};
 ghost use Rattle.node_service.specs.Opened.{IsOpened};
 ghost use Rattle.node_service.specs.Serving.{Serving, after_line, cleared};
 ghost use Rattle.node_service.specs.Lines.{IsRestart, IsSame, IsServing, after_lines, joined, line_calls, lines_calls, with_calls};
@@ -22,31 +22,32 @@ pub fn lines_add()
 /// A node that was opened makes the log of its file, and goes on to: each line adds its calls to the log, and their records
 /// to what is to be appended.
 pub fn served_logs_grow()
-    ensures opened { (settings : List ℕ) (node : Node) (bytes : List ℕ) (kept : ℕ) (s : Serving)
-        → IsOpened settings node bytes kept s
-        → (log : NodeLog) × IsServing (digest_under settings bytes) (take kept bytes) log s }
-    ensures lines { (digest bytes : List ℕ) (log : NodeLog) (s : Serving) (lines : List (List ℕ))
-        → IsServing digest bytes log s → AllByRecursion FitsLogged (lines_calls s lines)
-        → IsServing digest bytes (with_calls log (lines_calls s lines)) (after_lines s lines) }
-    ensures cleared { (digest bytes : List ℕ) (log : NodeLog) (s : Serving) → IsServing digest bytes log s
-        → IsServing digest (bytes ++ s.records) log (cleared s) }
+    ensures opened { (settings : List ℕ) (node : Node) (rest : Option (List ℕ)) (bytes : List ℕ) (kept : ℕ) (s : Serving)
+        → IsOpened settings node rest bytes kept s
+        → (log : NodeLog) × IsServing rest (turned_under settings rest bytes) (take kept bytes) log s }
+    ensures lines { (rest : Option (List ℕ)) (digest bytes : List ℕ) (log : NodeLog) (s : Serving) (lines : List (List ℕ))
+        → IsServing rest digest bytes log s → AllByRecursion FitsLogged (lines_calls s lines)
+        → IsServing rest digest bytes (with_calls log (lines_calls s lines)) (after_lines s lines) }
+    ensures cleared { (rest : Option (List ℕ)) (digest bytes : List ℕ) (log : NodeLog) (s : Serving)
+        → IsServing rest digest bytes log s → IsServing rest digest (bytes ++ s.records) log (cleared s) }
 {}
 
-/// A node that was served, and whose file has all its records, is opened again as it was, under the same settings: nothing of
-/// the file is cut, nothing is to be appended.
+/// A node that was served, and whose file has all its records, is opened again as it was, under the same settings and with the
+/// same rest: nothing of the file is cut, nothing is to be appended.
 pub fn restarts_are_the_same()
-    ensures { (settings file bytes : List ℕ) (log : NodeLog) (s t : Serving) (kept : ℕ)
-        → IsServing (digest_under settings file) bytes log s → document_seen t.settings ≡ document_seen s.settings
-        → IsOpened settings log.node (bytes ++ s.records) kept t → (kept ≡ length (bytes ++ s.records)) × IsSame s t }
+    ensures { (settings file : List ℕ) (rest : Option (List ℕ)) (bytes : List ℕ) (log : NodeLog) (s t : Serving) (kept : ℕ)
+        → IsServing rest (turned_under settings rest file) bytes log s → document_seen t.settings ≡ document_seen s.settings
+        → IsOpened settings log.node rest (bytes ++ s.records) kept t
+        → (kept ≡ length (bytes ++ s.records)) × IsSame s t }
 {}
 
 /// A crash leaves of a log's file a beginning that has the text of its synced calls; behind it a record may be cut off. Such
 /// a file is read as the log of the process after that crash, and opens as the process that is restarted: what the theorems
 /// on crashes say of processes is true of files.
 pub fn crashed_files_restart()
-    ensures { (settings begun : List ℕ) (node : Node) (p : Process) (n : ℕ)
+    ensures { (settings begun : List ℕ) (node : Node) (rest : Option (List ℕ)) (p : Process) (n : ℕ)
         → FitsLog (record { node = node; calls = file p })
-        → length (log_text (digest_under settings begun) (record { node = node; calls = p.synced })) ≤ n
-        → IsRestart settings node p
-        (take n (log_text (digest_under settings begun) (record { node = node; calls = file p }))) }
+        → length (log_text (turned_under settings rest begun) (record { node = node; calls = p.synced })) ≤ n
+        → IsRestart settings node rest p
+        (take n (log_text (turned_under settings rest begun) (record { node = node; calls = file p }))) }
 {}

@@ -1,6 +1,7 @@
 //! From the bytes of a log to the node that is served.
 
-ghost use Rattle.std.specs.Prelude.{◌≡◌, [], ◌++◌, take, Some, IfOk, IfErr, IsSome};
+ghost use Rattle.std.specs.Prelude.{◌≡◌, ℕ, List, [], ◌++◌, take, Option, Some, IfOk, IfErr, IsSome};
+ghost use Rattle.std.specs.Option.{option_copied};
 ghost use Rattle.world_setup.specs.Seen.{node_seen};
 ghost use Rattle.world_settings.specs.Document.{document_seen, living_in};
 ghost use Rattle.node_log.specs.LogSeen.{log_seen};
@@ -9,7 +10,8 @@ ghost use Rattle.kept_logs.specs.Digests.{version_of, version_seen};
 ghost use Rattle.kept_logs.specs.Logs.{log_text};
 ghost use Rattle.kept_logs.specs.LogSeen.{reading_seen};
 ghost use Rattle.kept_logs.specs.Fits.{FitsLog};
-ghost use Rattle.settings_digest.specs.Digests.{digest_under};
+ghost use Rattle.kept_logs.specs.Rests.{begins};
+ghost use Rattle.settings_digest.specs.Digests.{turned_under};
 ghost use Rattle.node_service.specs.declared.fault.ServiceFault.TheVariants.{OutOfMemory};
 ghost use Rattle.node_service.specs.Opened.{IsBegun, IsMadeBy, IsOpened, IsRead, IsServed, IsServedAs, Spells, empty_log};
 ghost use Rattle.node_service.specs.Refused.{IsAnothers, IsNotMade, IsRefused, NoLog, NoSettings};
@@ -17,10 +19,10 @@ ghost use Rattle.node_service.specs.Refused.{IsAnothers, IsNotMade, IsRefused, N
 use crate::fault::ServiceFault;
 use crate::service::Service;
 use kept_logs::{
-    LogFault, LogVersion, MadeLog, ReadLog, SettingsDigest, make_as_read, place_of, read_log,
-    write_log,
+    LogFault, LogVersion, MadeLog, ReadLog, SettingsDigest, begins, make_as_read, place_of,
+    read_log, write_log,
 };
-use node_log::{NodeLog, is_there, make_log};
+use node_log::{NodeLog, is_there, make_log_from};
 use node_state::NodeState;
 use payer_book::HashKeys;
 use settings_digest::Digests;
@@ -37,13 +39,14 @@ struct Begun {
 }
 
 impl Service {
-    /// The node of this name under the settings that a text spells, from the bytes of its log; and how many of these bytes
-    /// stay. What stands behind them is a record that was cut off, or zeros, and goes. Where there is no log yet, or no whole
-    /// head of one, the head is to be appended. The node has made each call of the log anew, and sent every byte that the log
-    /// has as sent. The maps of a payer's book hash with these keys, on which no answer hangs.
+    /// The node of this name under the settings that a text spells, from the bytes of its log, and where this goes on behind
+    /// closed ones, from the rest that it begins with; and how many of the log's bytes stay. What stands behind them is a
+    /// record that was cut off, or zeros, and goes. Where there is no log yet, or no whole head of one, the head is to be
+    /// appended. The node has made each call of the log anew, and sent every byte that the log has as sent. The maps of a
+    /// payer's book hash with these keys, on which no answer hangs.
     ///
     /// # Errors
-    /// The first that stands: `Settings` where the text spells none, or those that open no world; `NoSuchNode`; `Log`;
+    /// The first that stands: `Settings` where the text spells none, or those that open no world; `NoSuchNode`; `Rest`; `Log`;
     /// `OtherNode`; `NotMade` with the place of the first record that the node does not make. `OutOfMemory` may stand in
     /// place of any answer.
     pub fn open(
@@ -51,22 +54,28 @@ impl Service {
         keys: &HashKeys,
         text: &[u8],
         node: Node,
+        rest: Option<&[u8]>,
         bytes: &[u8],
     ) -> Result<(Service, usize), ServiceFault>
-        ensures opened { IfOk result (λ opened. IsOpened text.now (node_seen node) bytes.now opened.1 opened.0) }
-        ensures refused { IfErr result (λ why. IsRefused text.now (node_seen node) bytes.now why) }
+        ensures opened { IfOk result (λ opened.
+            IsOpened text.now (node_seen node) (option_copied rest.entry) bytes.now opened.1 opened.0) }
+        ensures refused { IfErr result (λ why.
+            IsRefused text.now (node_seen node) (option_copied rest.entry) bytes.now why) }
     {
         let shared = shared_of(alloc, keys, text)?;
         if !is_there(shared.settings(), node) {
             return Err(ServiceFault::NoSuchNode);
         }
-        let digest = digest_of(alloc, text, &shared, bytes)?;
-        if let Some(made) = made(alloc, &digest, &shared, node, bytes)? {
+        let Some(before) = begins(alloc, &shared, node, rest)? else {
+            return Err(ServiceFault::Rest);
+        };
+        let digest = digest_of(alloc, text, &shared, rest, bytes)?;
+        if let Some(made) = made(alloc, &digest, &shared, before, node, bytes)? {
             return Ok(served(alloc, shared, node, digest.version(), made));
         }
         // Why it was not made, or a log that begins.
         let begun = begin(alloc, &digest, node, bytes)?;
-        serve_from(alloc, &digest, shared, begun)
+        serve_from(alloc, &digest, shared, rest, begun)
     }
 }
 
@@ -75,27 +84,30 @@ fn digest_of(
     alloc: Global,
     text: &[u8],
     shared: &CheckedSettings,
+    rest: Option<&[u8]>,
     bytes: &[u8],
 ) -> Result<SettingsDigest, AllocError>
     requires { living_in text.now ≡ Some (document_seen shared.now) }
-    ensures { IfOk result (λ digest. digest ≡ digest_under text.now bytes.now) }
+    ensures { IfOk result (λ digest. digest ≡ turned_under text.now (option_copied rest.entry) bytes.now) }
 {
     let digests = Digests::of(alloc, shared.settings(), text)?;
-    Ok(digests.under(bytes))
+    Ok(digests.turned(rest, bytes))
 }
 
-/// The node that makes the log which bytes are, as they are read; `None` where they are none, or it does not make them.
+/// The node that makes the log which bytes are, as they are read, from what it begins with; `None` where they are none, or it does
+/// not make them.
 fn made(
     alloc: Global,
     digest: &SettingsDigest,
     shared: &CheckedSettings,
+    before: NodeState,
     node: Node,
     bytes: &[u8],
 ) -> Result<Option<MadeLog>, AllocError>
-    requires { IsSome (opened shared.now (node_seen node)) }
-    ensures { IfOk result (λ made. IsRead shared.now digest.now (node_seen node) bytes.now made) }
+    ensures { IfOk result (λ made. (rest : Option (List ℕ)) → begins shared.now (node_seen node) rest ≡ Some before
+        → IsRead shared.now rest digest.now (node_seen node) bytes.now made) }
 {
-    make_as_read(alloc, digest, shared, node, bytes)
+    make_as_read(alloc, digest, shared.routes(), before, node, bytes)
 }
 
 /// A node that has made its log, of this version, is served.
@@ -207,15 +219,18 @@ fn serve_from(
     alloc: Global,
     digest: &SettingsDigest,
     shared: CheckedSettings,
+    rest: Option<&[u8]>,
     begun: Begun,
 ) -> Result<(Service, usize), ServiceFault>
-    requires { IsSome (opened shared (log_seen begun.log).node) }
-    ensures served { IfOk result (λ s.
-        IsServed shared (version_of digest.now) (log_seen begun.log) begun.kept begun.records.items s.1 s.0) }
-    ensures refused { IfErr result (λ why. IsNotMade digest.now shared (log_seen begun.log) why) }
+    requires there { IsSome (opened shared (log_seen begun.log).node) }
+    requires begins { IsSome (begins shared (log_seen begun.log).node (option_copied rest)) }
+    ensures served { IfOk result (λ s. IsServed shared (option_copied rest.entry) (version_of digest.now)
+        (log_seen begun.log) begun.kept begun.records.items s.1 s.0) }
+    ensures refused { IfErr result (λ why.
+        IsNotMade digest.now shared (option_copied rest.entry) (log_seen begun.log) why) }
 {
     let Begun { log, kept, records } = begun;
-    let state = state_of(alloc, digest, &shared, &log)?;
+    let state = state_of(alloc, digest, &shared, rest, &log)?;
     let service = Service {
         shared,
         name: log.node(),
@@ -228,18 +243,24 @@ fn serve_from(
     Ok((service, kept))
 }
 
-/// The node that makes a log.
+/// The node that makes a log, from what it begins with.
 fn state_of(
     alloc: Global,
     digest: &SettingsDigest,
     shared: &CheckedSettings,
+    rest: Option<&[u8]>,
     log: &NodeLog,
 ) -> Result<NodeState, ServiceFault>
-    requires { IsSome (opened shared.now (log_seen log.now).node) }
-    ensures made { IfOk result (λ state. IsMadeBy shared.now (log_seen log.now) state) }
-    ensures refused { IfErr result (λ why. IsNotMade digest.now shared.now (log_seen log.now) why) }
+    requires there { IsSome (opened shared.now (log_seen log.now).node) }
+    requires begins { IsSome (begins shared.now (log_seen log.now).node (option_copied rest)) }
+    ensures made { IfOk result (λ state. IsMadeBy shared.now (option_copied rest.entry) (log_seen log.now) state) }
+    ensures refused { IfErr result (λ why.
+        IsNotMade digest.now shared.now (option_copied rest.entry) (log_seen log.now) why) }
 {
-    match make_log(alloc, shared, log)? {
+    let Some(before) = begins(alloc, shared, log.node(), rest)? else {
+        unreachable!()
+    };
+    match make_log_from(alloc, shared.routes(), before, log)? {
         Ok(state) => Ok(state),
         Err(first) => {
             let place = place_of(alloc, digest, log, first.place)?;

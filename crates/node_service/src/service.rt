@@ -1,10 +1,12 @@
 //! A node that is served.
 
-ghost use Rattle.std.specs.Prelude.{◌≡◌, codes, OnOk};
+ghost use Rattle.std.specs.Prelude.{◌≡◌, codes, IfSome, OnOk};
+ghost use Rattle.std.specs.Option.{option_copied};
 ghost use Rattle.std.specs.List.{AllByRecursion};
 ghost use Rattle.claim_model.specs.Node.{Done};
 ghost use Rattle.claim_model.specs.Nodes.{node_step};
 ghost use Rattle.world_setup.specs.Seen.{call_seen, node_seen, settings_seen};
+ghost use Rattle.node_state.specs.Resting.{IsRecord};
 ghost use Rattle.node_service.specs.Answering.{refused_line};
 ghost use Rattle.node_logged.specs.Setting.{context_of};
 ghost use Rattle.kept_logs.specs.Fits.{FitsLogged};
@@ -116,6 +118,14 @@ impl Service {
         put_made(alloc, &mut self.out, &self.state, one)?;
         self.calls = number;
         Ok(())
+    }
+
+    /// The bytes of the node's record, where it is at rest: what its settings make of them is the node that a call to start it makes.
+    pub fn record_at_rest(&self) -> Option<&[u8]>
+        ensures { IfSome (option_copied result) (λ bytes.
+            IsRecord (settings_seen self.now.settings) self.now.node bytes self.now.state) }
+    {
+        self.state.record(&self.shared, self.name)
     }
 
     /// The node as it stands, to be read.

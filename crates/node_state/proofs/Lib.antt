@@ -1,3 +1,4 @@
 pub mod Stepping
 pub mod Openings
 pub mod Known
+pub mod AtRest

@@ -6,3 +6,4 @@ pub mod Taking
 pub mod Reading
 pub mod Nodes
 pub mod Any
+pub mod Resting

@@ -1,7 +1,8 @@
 //! The book of a payer at rest, as bytes.
 
-ghost use Rattle.std.specs.Prelude.{◌≡◌, IfOk};
-ghost use Rattle.kept_records.specs.Books.{book_text};
+ghost use Rattle.std.specs.Prelude.{◌≡◌, Ok, IfOk, IfSome};
+ghost use Rattle.std.specs.Option.{option_copied};
+ghost use Rattle.kept_records.specs.Books.{book_in, book_text};
 
 use bin_routes::PayerNo;
 use kept_records::{RecordFault, read_book_keyed, save_book};
@@ -49,6 +50,17 @@ impl BookBytes {
         ensures { result.now ≡ book_text 2 self.now }
     {
         self.bytes.as_slice()
+    }
+
+    /// The bytes, where the payer has this number and its book these settings: they are read as its book.
+    pub(crate) fn record_under(&self, number: u16, settings: BookSettings) -> Option<&[u8]>
+        ensures { IfSome (option_copied result) (λ bytes. book_in number settings bytes ≡ Ok self.now) }
+    {
+        if self.payer.get() == number && self.settings == settings {
+            Some(self.bytes.as_slice())
+        } else {
+            None
+        }
     }
 
     /// The book, started again. Its bytes are its record, so nothing but memory can be wanting.

@@ -1,8 +1,9 @@
 //! The journal of a pharmacy at rest, as bytes.
 
-ghost use Rattle.std.specs.Prelude.{◌≡◌, IfOk};
+ghost use Rattle.std.specs.Prelude.{◌≡◌, Ok, IfOk, IfSome, IsTrue};
+ghost use Rattle.std.specs.Option.{option_copied};
 ghost use Rattle.claim_model.specs.Journal.{stopped, started};
-ghost use Rattle.kept_records.specs.Journals.{journal_text};
+ghost use Rattle.kept_records.specs.Journals.{journal_in, journal_text};
 
 use kept_records::{RecordFault, read_journal, save_journal};
 use pharmacy_journal::{JournalAtRest, Pharmacy, PharmacySettings};
@@ -50,6 +51,18 @@ impl JournalBytes {
         self.bytes.as_slice()
     }
 
+    /// The bytes, where the pharmacy has this number and these settings: they are read as its journal.
+    pub(crate) fn record_under(&self, number: u16, settings: &PharmacySettings) -> Option<&[u8]>
+        ensures { IfSome (option_copied result) (λ bytes.
+            journal_in number settings.now bytes ≡ Ok self.now) }
+    {
+        if self.number == number && is_same(&self.settings, settings) {
+            Some(self.bytes.as_slice())
+        } else {
+            None
+        }
+    }
+
     /// The journal, read again. Its bytes are its record, so nothing but memory can be wanting.
     pub(crate) fn read(&self, alloc: Global) -> Result<JournalAtRest, AllocError>
         ensures { IfOk result (λ journal. journal ≡ self.now) }
@@ -71,4 +84,16 @@ impl JournalBytes {
             Err(_) => Err(AllocError),
         }
     }
+}
+
+/// Whether two pharmacies have the same settings.
+fn is_same(a: &PharmacySettings, b: &PharmacySettings) -> bool
+    ensures { IsTrue result → a.now ≡ b.now }
+{
+    a.qualifier() == b.qualifier()
+        && a.provider() == b.provider()
+        && a.nodes() == b.nodes()
+        && a.again() == b.again()
+        && a.tries() == b.tries()
+        && a.cap() == b.cap()
 }

@@ -57,9 +57,13 @@ impl Kind for Book {
         routes: &Routes,
         from: Node,
         envelope: &Envelope<'_>,
-        packet: &Octets,
+        _packet: &Octets,
     ) -> Result<Vec<Sent>, Fault> {
-        self.take(alloc, routes, from, envelope, packet)
+        if is_request(envelope) {
+            answer(alloc, self, routes, from, envelope)
+        } else {
+            Err(Fault::Refused(Refusal::Unreadable))
+        }
     }
 
     /// Changes its plan.

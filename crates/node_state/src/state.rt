@@ -36,7 +36,7 @@ pub enum StateKind {
 /// One node, up or at rest.
 #[derive(Drop)]
 pub struct NodeState {
-    kind: StateKind,
+    pub(crate) kind: StateKind,
 }
 
 impl Model for NodeState {

@@ -1,12 +1,13 @@
 -- A log has the version of the digest that it was written under.
-use Rattle.std.proofs.Common.{◌≡◌, ℕ, zero, suc, ◌≤◌, Bool, true, false, cond, List, Option, length, take, Some, refl, sym, ap, ◌∙◌, arith}
+use Rattle.std.proofs.Common.{◌≡◌, ℕ, zero, suc, ◌≤◌, Bool, true, false, cond, List, Option, None, length, take, Some, refl, sym, ap, ◌∙◌, arith}
 use Rattle.sha2.specs.Sha256.{sha256, digest_bytes}
 use Rattle.claim_model.specs.Logs.{NodeLog}
 use Rattle.world_settings.specs.Document.{Document, living_in}
 use Rattle.kept_logs.specs.Digests.{of_file, of_said, is_first}
+use Rattle.kept_logs.specs.Rests.{behind}
 use Rattle.kept_logs.specs.Logs.{head_text, log_text}
 use Rattle.settings_digest.specs.Said.{said}
-use Rattle.settings_digest.specs.Digests.{said_by, digest_in, digest_under, under, AreOf}
+use Rattle.settings_digest.specs.Digests.{said_by, digest_in, digest_under, turned_in, turned_under, under, turned, AreOf}
 use Rattle.settings_digest.specs.declared.digests.Digests.{Digests}
 
 -- of either version
@@ -70,3 +71,34 @@ under_is file digests are =
 
 pub under_at : (file : List ℕ) (digests : Digests) (bytes : List ℕ) → AreOf file digests → under digests bytes ≡ digest_under file bytes
 under_at file digests bytes are = ap (λ (digest : List ℕ → List ℕ). digest bytes) (under_is file digests are)
+
+-- the same, whatever a log begins with
+
+pub turned_keeps : (file : List ℕ) (rest : Option (List ℕ)) (bytes : List ℕ) (log : NodeLog) → turned_under file rest (log_text (turned_under file rest bytes) log) ≡ turned_under file rest bytes
+turned_keeps file None bytes log = keeps file bytes log
+turned_keeps file (Some rest) bytes log = refl
+
+pub turned_keeps_cut : (file : List ℕ) (rest : Option (List ℕ)) (bytes : List ℕ) (log : NodeLog) (n : ℕ) → 3 ≤ n → turned_under file rest (take n (log_text (turned_under file rest bytes) log)) ≡ turned_under file rest bytes
+turned_keeps_cut file None bytes log n h = keeps_cut file bytes log n h
+turned_keeps_cut file (Some rest) bytes log n h = refl
+
+pub turned_keeps_new : (file : List ℕ) (rest : Option (List ℕ)) (log : NodeLog) → turned_under file rest (log_text (turned_in file rest) log) ≡ turned_in file rest
+turned_keeps_new file None log = keeps_new file log
+turned_keeps_new file (Some rest) log = refl
+
+behind_length : (digest rest : List ℕ) → length (behind digest rest) ≡ 33
+unfolding behind sha256 digest_bytes
+behind_length digest rest = refl
+
+pub turned_length : (file : List ℕ) (rest : Option (List ℕ)) (bytes : List ℕ) → length (turned_under file rest bytes) ≡ 33
+turned_length file None bytes = under_length file bytes
+turned_length file (Some rest) bytes = behind_length (digest_in file) rest
+
+pub turned_in_length : (file : List ℕ) (rest : Option (List ℕ)) → length (turned_in file rest) ≡ 33
+turned_in_length file None = in_length file
+turned_in_length file (Some rest) = behind_length (digest_in file) rest
+
+-- digests of settings are those under which bytes are read that begin so
+pub turned_at : (file : List ℕ) (rest : Option (List ℕ)) (digests : Digests) (bytes : List ℕ) → AreOf file digests → turned digests rest bytes ≡ turned_under file rest bytes
+turned_at file None digests bytes are = under_at file digests bytes are
+turned_at file (Some rest) digests bytes are = ap (λ (said : List ℕ). behind said rest) are.second

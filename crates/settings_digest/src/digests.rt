@@ -1,8 +1,9 @@
 //! The digests of settings, one for each version of logs.
 
 ghost use Rattle.std.specs.Prelude.{◌≡◌, Some, IfOk};
+ghost use Rattle.std.specs.Option.{option_copied};
 ghost use Rattle.world_settings.specs.Document.{document_seen, living_in};
-ghost use Rattle.settings_digest.specs.Digests.{AreOf, under};
+ghost use Rattle.settings_digest.specs.Digests.{AreOf, turned, under};
 
 use crate::writing::said;
 use kept_logs::{SettingsDigest, is_first};
@@ -32,6 +33,16 @@ impl Digests {
             file: SettingsDigest::of_file(file),
             said: SettingsDigest::of_said(text.as_slice()),
         })
+    }
+
+    /// The one under which bytes are read as a log that begins with this rest, where it goes on behind closed ones.
+    pub fn turned(&self, rest: Option<&[u8]>, bytes: &[u8]) -> SettingsDigest
+        ensures { result ≡ turned self.now (option_copied rest.entry) bytes.now }
+    {
+        match rest {
+            None => self.under(bytes),
+            Some(rest) => self.said.behind(rest),
+        }
     }
 
     /// The one under which bytes are read as a log.

@@ -1,12 +1,12 @@
 //! What holds of all settings and of all logs, as facts that a caller cites by a call.
 
-ghost use Rattle.std.specs.Prelude.{◌≡◌, ℕ, ◌≤◌, List, take};
+ghost use Rattle.std.specs.Prelude.{◌≡◌, ℕ, ◌≤◌, List, take, Option};
 ghost use Rattle.claim_model.specs.Logs.{NodeLog};
 ghost use Rattle.world_settings.specs.Document.{Document, living_in};
 ghost use Rattle.kept_logs.specs.Logs.{log_text};
 ghost use Rattle.settings_digest.specs.Said.{said};
 ghost use Rattle.settings_digest.specs.Fits.{FitsDocument};
-ghost use Rattle.settings_digest.specs.Digests.{digest_in, digest_under};
+ghost use Rattle.settings_digest.specs.Digests.{digest_in, turned_in, turned_under};
 
 /// Settings that say the same text are the same in every field, and files that spell the same settings have the same digest.
 pub fn said_tells_settings()
@@ -14,11 +14,13 @@ pub fn said_tells_settings()
     ensures digest { (file other : List ℕ) → living_in file ≡ living_in other → digest_in file ≡ digest_in other }
 {}
 
-/// A log is read under the digest that it was written under, and so are the first bytes of it, from the third on.
+/// A log is read under the digest that it was written under, and so are the first bytes of it, from the third on: whatever it
+/// begins with.
 pub fn logs_keep_their_digest()
-    ensures text { (file bytes : List ℕ) (log : NodeLog)
-        → digest_under file (log_text (digest_under file bytes) log) ≡ digest_under file bytes }
-    ensures cut { (file bytes : List ℕ) (log : NodeLog) (n : ℕ)
-        → 3 ≤ n → digest_under file (take n (log_text (digest_under file bytes) log)) ≡ digest_under file bytes }
-    ensures new { (file : List ℕ) (log : NodeLog) → digest_under file (log_text (digest_in file) log) ≡ digest_in file }
+    ensures text { (file : List ℕ) (rest : Option (List ℕ)) (bytes : List ℕ) (log : NodeLog)
+        → turned_under file rest (log_text (turned_under file rest bytes) log) ≡ turned_under file rest bytes }
+    ensures cut { (file : List ℕ) (rest : Option (List ℕ)) (bytes : List ℕ) (log : NodeLog) (n : ℕ)
+        → 3 ≤ n → turned_under file rest (take n (log_text (turned_under file rest bytes) log)) ≡ turned_under file rest bytes }
+    ensures new { (file : List ℕ) (rest : Option (List ℕ)) (log : NodeLog)
+        → turned_under file rest (log_text (turned_in file rest) log) ≡ turned_in file rest }
 {}

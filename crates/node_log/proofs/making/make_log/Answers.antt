@@ -1,14 +1,18 @@
--- A log has no misfit where all of its calls are made.
+-- From the node's opening state.
+use Rattle.std.proofs.lemmas.Result.{IfOk-weaker}
 use Rattle.claim_model.specs.Bytes.{bytes_with}
-use Rattle.node_log.proofs.Breaking.{made_whole}
+use Rattle.world_setup.specs.Seen.{node_seen}
+use Rattle.node_log.specs.Misfits.{IsMade, IsMadeFrom}
 use Rattle.node_log.proofs.making.make_log.Goals as goal
 
-pub returns-in-None : goal.returns-in-None
-returns-in-None c =
-    let before = c.in_ok-node.node in
-    let made = made_whole (bytes_with c.routes.result.now) before c.misfit_among.new.node c.records.result.now c.in_ok-first.field-0 c.in-None.is c.in_ok-first.ensures.first c.in_ok-first.ensures.ends in
-    record {
-      before = before;
-      opens = rw (← c.node.ensures) c.in_ok-node.ensures;
-      made = rw (← c.routes.ensures, ← c.records.ensures) made;
-    }
+pub returns : goal.returns
+returns c =
+    let log = c.args.log.now in
+    IfOk-weaker c.make_log_from.result
+    (λ made. IsMadeFrom (bytes_with c.routes.result.now) c.in_ok-opening.opening log.calls.items made)
+    (λ made. IsMade c.args.settings.now (node_seen log.node) log.calls.items made)
+    (λ made is. record {
+      before = c.in_ok-opening.opening;
+      opens = rw (← c.node.ensures) c.in_ok-opening.ensures;
+      made = rw (← c.routes.ensures) is;
+    }) c.make_log_from.ensures

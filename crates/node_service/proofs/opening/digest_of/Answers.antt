@@ -1,7 +1,8 @@
--- Of both digests that of the log's version.
+-- Of both digests that of the log's version, or that of a log which goes on behind closed ones.
 use Rattle.std.proofs.Common.{◌∙◌}
-use Rattle.settings_digest.proofs.Keeping.{under_at}
+use Rattle.std.specs.Option.{option_copied}
+use Rattle.settings_digest.proofs.Keeping.{turned_at}
 use Rattle.node_service.proofs.opening.digest_of.Goals as goal
 
 pub returns : goal.returns
-returns c = c.under.ensures ∙ under_at c.args.text.now c.in_ok-digests.digests c.args.bytes.now c.in_ok-digests.ensures
+returns c = c.turned.ensures ∙ turned_at c.args.text.now (option_copied c.args.rest) c.in_ok-digests.digests c.args.bytes.now c.in_ok-digests.ensures

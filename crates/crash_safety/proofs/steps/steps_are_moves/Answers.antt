@@ -1,6 +1,6 @@
 -- One step after another.
-use Rattle.node_process.proofs.Stepping.{are_moves, can_be_said}
-use Rattle.node_process.proofs.laws.steps_are_moves.Goals as goal
+use Rattle.crash_safety.proofs.Stepping.{are_moves, can_be_said}
+use Rattle.crash_safety.proofs.steps.steps_are_moves.Goals as goal
 
 pub returns-clause-moves : goal.returns-clause-moves
 returns-clause-moves c = are_moves

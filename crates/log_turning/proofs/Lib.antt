@@ -1,0 +1,5 @@
+pub mod Lines
+pub mod Closing
+pub mod GoingOn
+pub mod Parts
+pub mod FilesBack

@@ -1,0 +1,53 @@
+-- Logs that go on one behind another, as one log.
+use Rattle.std.specs.Prelude.{◌≡◌, ⊤, ℕ, ◌+◌, List, [], ◌∷◌, ◌++◌, length, Option, Some, None, Ok}
+use Rattle.std.specs.Option.{option_copied}
+use Rattle.sha2.specs.Sha256.{sha256}
+use Rattle.claim_model.specs.Node.{Node}
+use Rattle.claim_model.specs.Logs.{Logged}
+use Rattle.kept_logs.specs.Logs.{log_text, log_in}
+use Rattle.kept_logs.specs.Rests.{Rest, rest_in}
+use Rattle.settings_digest.specs.Digests.{digest_in, turned_under}
+use Rattle.log_turning.specs.declared.joining.Part as value
+
+-- a log, and the rest that it begins with
+pub record Part : Type 0 where
+  pub rest : Option (List ℕ)
+  pub log : List ℕ
+
+abbrev pub part_seen : value.Part → Part
+part_seen p = record { rest = option_copied p.rest; log = p.log.now }
+
+-- a rest names these calls of the node, of which the last stand in these bytes
+pub record Names (node : Node) (calls : ℕ) (closed rest : List ℕ) : Type 0 where
+  pub names : Rest
+  pub reads : rest_in rest ≡ Some names
+  pub own : names.node ≡ node
+  pub count : names.calls ≡ calls
+  pub digest : names.closed ≡ sha256 closed
+
+-- a log goes on behind so many calls, of which the last stand in these bytes; the first log goes on behind none
+abbrev pub Follows : Node → ℕ → Option (List ℕ) → Option (List ℕ) → Type 0
+Follows node calls None None = ⊤
+Follows node calls None (Some rest) = ⊥
+Follows node calls (Some closed) None = ⊥
+Follows node calls (Some closed) (Some rest) = Names node calls closed rest
+
+abbrev pub GoesOn : Node → ℕ → Option (List ℕ) → Part → Type 0
+GoesOn node calls last p = Follows node calls last p.rest
+
+-- a part is read as a log of this node with these calls
+pub record IsPart (text : List ℕ) (node : Node) (p : Part) (calls : List Logged) : Type 0 where
+  pub whole : ℕ
+  pub reads : log_in (turned_under text p.rest p.log) p.log ≡ Ok (record { log = record { node = node; calls = calls }; whole = whole })
+
+-- parts go on one behind another, behind so many calls, and have these calls
+abbrev pub AreParts : List ℕ → Node → ℕ → Option (List ℕ) → List Part → List Logged → Type 0
+AreParts text node before last [] calls = calls ≡ []
+AreParts text node before last (p ∷ more) calls =
+    GoesOn node before last p × ((own : List Logged) × (behind : List Logged) × (IsPart text node p own × (AreParts text node (before + length own) (Some p.log) more behind × (calls ≡ own ++ behind))))
+
+-- bytes are the text of one log with all calls of the parts
+pub record IsJoined (text : List ℕ) (node : Node) (parts : List Part) (joined : List ℕ) : Type 0 where
+  pub calls : List Logged
+  pub parted : AreParts text node 0 None parts calls
+  pub is : joined ≡ log_text (digest_in text) (record { node = node; calls = calls })

@@ -1,0 +1,4 @@
+-- In the order in which one explains them.
+pub mod Turned
+pub mod Joined
+pub mod Files

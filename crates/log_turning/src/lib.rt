@@ -1,0 +1,17 @@
+//! Logs that turn over: a log is closed, and its node goes on in a new one, which begins with what the node left at rest; and such
+//! logs joined, as if none had been closed.
+#![tactic(auto)]
+
+mod fault;
+mod files;
+mod joining;
+mod laws;
+mod turning;
+mod whole;
+
+pub use fault::{JoinFault, TurnFault};
+pub use files::{BEFORE_REST, part_of, rest_size, write_file};
+pub use joining::{Part, join_logs};
+pub use laws::{files_have_their_parts, turned_logs_go_on};
+pub use turning::{Turned, turn_log};
+pub use whole::{LogFile, WholeFault, closed_name, join_files, log_files, whole_log};

@@ -1,0 +1,228 @@
+//! A log that is closed, and the one in which its node goes on.
+
+ghost use Rattle.std.specs.Prelude.{◌≡◌, ℕ, ◌++◌, List, take, Option, IfOk, OnOk};
+ghost use Rattle.std.specs.Option.{option_copied};
+ghost use Rattle.sha2.specs.Sha256.{sha256};
+ghost use Rattle.world_setup.specs.Seen.{node_seen};
+ghost use Rattle.claim_model.specs.Node as model;
+ghost use Rattle.kept_logs.specs.Rests.{calls_before};
+ghost use Rattle.node_service.specs.Serving.{after_line};
+ghost use Rattle.log_turning.specs.Turned.{IsClosed, IsNew, IsStarted, IsTurned, Serves, ServesOn};
+
+use crate::fault::TurnFault;
+use kept_logs::{Rest, read_rest, write_rest};
+use node_service::Service;
+use payer_book::HashKeys;
+use sha2::{Digest, Sha256};
+use std::alloc::{AllocError, Global};
+use world_setup::Node;
+
+/// What is left of a log that turned over: how it ends, and how the one begins in which its node goes on (own).
+#[derive(Drop)]
+pub struct Turned {
+    /// How many bytes of the log stay.
+    pub kept: usize,
+    /// What is to be appended behind them: the records of a stop, where the node was up, and of a start.
+    pub closing: Vec<u8>,
+    /// What the new log begins with.
+    pub rest: Vec<u8>,
+    /// The new log: its head, and where the node was at rest, the record of a stop.
+    pub log: Vec<u8>,
+    /// How many calls were made before the new log.
+    pub calls: u64,
+}
+
+/// Closes the log of a node, and begins the one in which it goes on. The node makes each call of the log that is closed, as at any
+/// start; it is stopped there, where it was up, and started again, and the new log begins with the node that stands there. A node
+/// that was at rest stops again as the first call of the new log.
+///
+/// # Errors
+/// `Refused` where the node is not served from the log, as `Service::open` says.
+pub fn turn_log(
+    alloc: Global,
+    text: &[u8],
+    node: Node,
+    rest: Option<&[u8]>,
+    bytes: &[u8],
+) -> Result<Turned, TurnFault>
+    ensures { IfOk result (λ turned.
+        IsTurned text.now (node_seen node) (option_copied rest.entry) bytes.now turned) }
+{
+    let closed = close_log(alloc, text, node, rest, bytes)?;
+    let Some(calls) = calls_before(rest).checked_add(closed.calls) else {
+        return Err(TurnFault::NoRecord);
+    };
+    let digest = digest_of(front(bytes, closed.kept), closed.closing.as_slice());
+    let begins = write_rest(
+        alloc,
+        &Rest {
+            node,
+            calls,
+            closed: &digest,
+            kept: closed.record.as_slice(),
+        },
+    )?;
+    let log = begun(alloc, text, node, begins.as_slice(), closed.was_up)?;
+    Ok(Turned {
+        kept: closed.kept,
+        closing: closed.closing,
+        rest: begins,
+        log,
+        calls,
+    })
+}
+
+/// A log that is closed.
+#[derive(Drop)]
+struct Closed {
+    /// How many of its bytes stay.
+    kept: usize,
+    /// What is to be appended behind them.
+    closing: Vec<u8>,
+    /// How many calls it has then.
+    calls: u64,
+    /// The record that its node left at rest, from which it was started.
+    record: Vec<u8>,
+    /// Whether the node was up.
+    was_up: bool,
+}
+
+/// Closes the log of a node.
+fn close_log(
+    alloc: Global,
+    text: &[u8],
+    node: Node,
+    rest: Option<&[u8]>,
+    bytes: &[u8],
+) -> Result<Closed, TurnFault>
+    ensures { IfOk result (λ closed. IsClosed text.now (node_seen node) (option_copied rest.entry) bytes.now closed) }
+{
+    let (mut service, kept) = open(alloc, text, node, rest, bytes)?;
+    end_log(alloc, &mut service, kept)
+}
+
+/// Closes the log of the node that is served, of whose bytes so many stay.
+fn end_log(alloc: Global, service: &mut Service, kept: usize) -> Result<Closed, TurnFault>
+    ensures { (text : List ℕ) (node : model.Node) (rest : Option (List ℕ)) (bytes : List ℕ)
+        → Serves text node rest bytes kept service.old
+        → IfOk result (λ closed. IsClosed text node rest bytes closed) }
+{
+    let was_up = stop(alloc, service)?;
+    let record = start(alloc, service)?;
+    let closing = Vec::from_slice(alloc, service.records())?;
+    Ok(Closed {
+        kept,
+        closing,
+        calls: service.calls(),
+        record,
+        was_up,
+    })
+}
+
+/// The node that makes a log, and how many of its bytes stay.
+fn open(
+    alloc: Global,
+    text: &[u8],
+    node: Node,
+    rest: Option<&[u8]>,
+    bytes: &[u8],
+) -> Result<(Service, usize), TurnFault>
+    ensures { IfOk result (λ opened.
+        Serves text.now (node_seen node) (option_copied rest.entry) bytes.now opened.1 opened.0) }
+{
+    match Service::open(alloc, &HashKeys::fixed(), text, node, rest, bytes) {
+        Ok(opened) => Ok(opened),
+        Err(fault) => Err(TurnFault::from(fault)),
+    }
+}
+
+/// Does what a line asks of the node.
+fn ask(alloc: Global, service: &mut Service, line: &[u8]) -> Result<(), AllocError>
+    ensures asked { OnOk result (service.new ≡ after_line service.old line.now) }
+    ensures on { OnOk result (ServesOn service.old service.new) }
+{
+    service.serve(alloc, line)
+}
+
+/// Stops the node where it is up, and says whether it was.
+fn stop(alloc: Global, service: &mut Service) -> Result<bool, AllocError>
+    ensures { OnOk result (ServesOn service.old service.new) }
+{
+    if service.record_at_rest().is_some() {
+        return Ok(false);
+    }
+    ask(alloc, service, b"stop")?;
+    Ok(true)
+}
+
+/// Starts the node, which is at rest, and gives the record that it left there.
+fn start(alloc: Global, service: &mut Service) -> Result<Vec<u8>, TurnFault>
+    ensures on { OnOk result (ServesOn service.old service.new) }
+    ensures started { IfOk result (λ kept. IsStarted service.new kept.items) }
+{
+    let Some(record) = service.record_at_rest() else {
+        return Err(TurnFault::NoRecord);
+    };
+    let kept = Vec::from_slice(alloc, record)?;
+    ask(alloc, service, b"start")?;
+    Ok(kept)
+}
+
+/// The log that begins with this rest; its node stops at once, where it does not stay up.
+fn begun(
+    alloc: Global,
+    text: &[u8],
+    node: Node,
+    rest: &[u8],
+    stays_up: bool,
+) -> Result<Vec<u8>, TurnFault>
+    ensures { IfOk result (λ log. IsNew text.now (node_seen node) rest.now log.items) }
+{
+    let (mut service, _) = open(alloc, text, node, Some(rest), b"")?;
+    records_of(alloc, &mut service, stays_up)
+}
+
+/// The records of a new log; its node stops at once, where it does not stay up.
+fn records_of(alloc: Global, service: &mut Service, stays_up: bool) -> Result<Vec<u8>, TurnFault>
+    ensures on { OnOk result (ServesOn service.old service.new) }
+    ensures records { IfOk result (λ records. records.items ≡ service.new.records) }
+{
+    if !stays_up {
+        ask(alloc, service, b"stop")?;
+    }
+    Ok(Vec::from_slice(alloc, service.records())?)
+}
+
+/// How many calls were made before a log that begins with this rest.
+fn calls_before(rest: Option<&[u8]>) -> u64
+    ensures { result ≡ calls_before (option_copied rest.entry) }
+{
+    match rest {
+        None => 0,
+        Some(bytes) => match read_rest(bytes) {
+            Some(rest) => rest.calls,
+            None => 0,
+        },
+    }
+}
+
+/// The first bytes, so many where there are as many.
+fn front(bytes: &[u8], count: usize) -> &[u8]
+    ensures { result.now ≡ take count bytes.now }
+{
+    if count < bytes.len() {
+        &bytes[..count]
+    } else {
+        bytes
+    }
+}
+
+/// The SHA-256 digest of bytes and those behind them.
+fn digest_of(bytes: &[u8], more: &[u8]) -> [u8; 32]
+    ensures { result ≡ sha256 (bytes.now ++ more.now) }
+{
+    let mut hasher = Sha256::new();
+    hasher.update(bytes);
+    hasher.update(more);
+    hasher.finalize()
+}

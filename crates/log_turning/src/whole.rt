@@ -1,0 +1,143 @@
+//! All logs of a node from their files, as one: the newest, and those that were closed before it, which stand beside it.
+
+use crate::fault::JoinFault;
+use crate::files::part_of;
+use crate::joining::{Part, join_logs};
+use kept_logs::{Rest, read_rest};
+use std::alloc::{AllocError, Global};
+use std::{fs, io};
+use thiserror::Error;
+use world_setup::Node;
+
+/// The most logs of one node.
+const MOST_LOGS: usize = 1_000_000;
+
+/// The file of a log, with its name.
+#[derive(Drop)]
+pub struct LogFile {
+    /// The name.
+    pub name: String,
+    /// What the file has.
+    pub bytes: Vec<u8>,
+}
+
+/// Why the logs of a node are not read as one.
+#[derive(Debug, Drop, Error)]
+pub enum WholeFault {
+    /// Memory was refused.
+    #[error("out of memory")]
+    OutOfMemory,
+    /// The file of this name could not be read.
+    #[error("{0}: {1}")]
+    File(String, io::Error),
+    /// The log in the file of this name does not go on where the one before it ends, or is none.
+    #[error("{0}: {1}")]
+    Logs(String, JoinFault),
+}
+
+impl From<AllocError> for WholeFault {
+    fn from(_refused: AllocError) -> WholeFault {
+        WholeFault::OutOfMemory
+    }
+}
+
+/// The name of a log that was closed, when its node had made so many calls in all.
+pub fn closed_name(alloc: Global, path: &str, calls: u64) -> Result<String, AllocError> {
+    format!(in alloc; "{path}.{calls}")
+}
+
+/// The log in a file, where it begins with the opening of its node; else all calls of the node as one log, under the settings that
+/// the text spells.
+///
+/// # Errors
+/// A file could not be read, or the logs do not go on one behind another.
+pub fn whole_log(rt: &HostRuntime, text: &[u8], path: &str) -> Result<Vec<u8>, WholeFault> {
+    let file = read_log_file(rt, path)?;
+    match rest_of(file.as_slice()) {
+        None => Ok(file),
+        Some(rest) => {
+            let node = rest.node;
+            let files = log_files(rt, path)?;
+            join_files(rt.alloc(), text, node, files.as_slice())
+        }
+    }
+}
+
+/// The files of a node's logs, the newest first: each but the last begins with what the one behind it was closed with.
+///
+/// # Errors
+/// A file could not be read.
+pub fn log_files(rt: &HostRuntime, path: &str) -> Result<Vec<LogFile>, WholeFault> {
+    let alloc = rt.alloc();
+    let mut files = Vec::new(alloc);
+    let mut wanted = Some(format!(in alloc; "{path}")?);
+    for _ in 0..MOST_LOGS {
+        let Some(name) = wanted else {
+            return Ok(files);
+        };
+        let bytes = read_log_file(rt, name.as_str())?;
+        wanted = match rest_of(bytes.as_slice()) {
+            Some(rest) => Some(closed_name(alloc, path, rest.calls)?),
+            None => None,
+        };
+        put(&mut files, LogFile { name, bytes })?;
+    }
+    Ok(files)
+}
+
+/// The logs of a node in these files, the newest first, as one log.
+///
+/// # Errors
+/// `Logs` with the first that is refused.
+pub fn join_files(
+    alloc: Global,
+    text: &[u8],
+    node: Node,
+    files: &[LogFile],
+) -> Result<Vec<u8>, WholeFault> {
+    let mut parts: Vec<Part<'_>> = Vec::new(alloc);
+    for file in files.iter().rev() {
+        put(&mut parts, part_of(file.bytes.as_slice()))?;
+    }
+    match join_logs(alloc, text, node, parts.as_slice()) {
+        Ok(joined) => Ok(joined),
+        Err(JoinFault::OutOfMemory) => Err(WholeFault::OutOfMemory),
+        Err(fault) => Err(WholeFault::Logs(name_of(alloc, files, fault)?, fault)),
+    }
+}
+
+/// Puts one more behind a list.
+fn put<T: Drop>(list: &mut Vec<T>, one: T) -> Result<(), AllocError> {
+    Ok(list.push(one)?)
+}
+
+/// The name of the file that a fault is about; none where it is about the settings.
+fn name_of(alloc: Global, files: &[LogFile], fault: JoinFault) -> Result<String, AllocError> {
+    let place = match fault {
+        JoinFault::Log(place, _) => place,
+        JoinFault::OtherNode(place) => place,
+        JoinFault::NotNext(place) => place,
+        JoinFault::OutOfMemory | JoinFault::Settings => files.len(),
+    };
+    let newest = files.len().saturating_sub(1).checked_sub(place);
+    match newest.and_then(|at| files.get(at)) {
+        Some(file) => {
+            let name = file.name.as_str();
+            format!(in alloc; "{name}")
+        }
+        None => Ok(String::new(alloc)),
+    }
+}
+
+/// What the log in a file begins with, where it goes on behind closed ones.
+fn rest_of(bytes: &[u8]) -> Option<Rest<'_>> {
+    read_rest(part_of(bytes).rest?)
+}
+
+/// The bytes of a file.
+fn read_log_file(rt: &HostRuntime, name: &str) -> Result<Vec<u8>, WholeFault> {
+    match fs::read(rt, name) {
+        Ok(bytes) => Ok(bytes),
+        Err(error) => Err(WholeFault::File(format!(in rt.alloc(); "{name}")?, error)),
+    }
+}
