@@ -16,9 +16,16 @@ PASSING = ("another process has the log", "out of memory")
 # What a log has that no room was left for is cut at the next start; any other fault of its file may be one of the disk.
 FULL = ("No space left", "Disk quota exceeded")
 MOST_LINE_BYTES = 1 << 21
+# The words with which a call begins, of which the program notes the time. All else is a question, or nothing.
+CALLS = frozenset((b"submit", b"submit-as", b"take", b"tick", b"plan", b"stop", b"start"))
 
 # The packets of a call, each as addressee and text, and its last line, behind those of a list: entries, payments, the transactions of a row.
 Done = Callable[[list[tuple[str, bytes]], bytes], None]
+
+
+def timed(line: bytes) -> bytes:
+    """A line as the program is given it: a call has the time of day before it, in milliseconds."""
+    return b"at %d %s" % (time.time_ns() // 1_000_000, line) if line.split(b" ", 1)[0] in CALLS else line
 
 
 class Ended(Exception):
@@ -96,9 +103,9 @@ class Node:
         return self._process is not None and self._process.returncode is None
 
     def call(self, line: bytes, done: Done) -> None:
-        """Makes a call; `done` hears the packets that it sends and its last line. How many may wait is the caller's to bound."""
+        """Makes a call, at this time; `done` hears the packets that it sends and its last line. How many may wait is the caller's to bound."""
         self._waiting.append(done)
-        self._process.stdin.write(line + b"\n")
+        self._process.stdin.write(timed(line) + b"\n")
 
     async def ask(self, line: bytes) -> bytes:
         """The last line of a call that sends nothing."""

@@ -21,11 +21,11 @@ class Failed(Exception):
 
 
 class Caller:
-    """A caller of a pharmacy: submits, asks again where it hears nothing, and keeps what it is told."""
+    """A caller of a pharmacy: submits, under a reference, again where it hears nothing, asks, and keeps what it is told."""
 
     def __init__(self, run, pharmacy, connection):
         self._run, self._pharmacy, self._connection = run, pharmacy, connection
-        self.told, self.answers = {}, {}
+        self.told, self.answers, self.references = {}, {}, 0
 
     def text(self):
         """A claim of a prescription, new or known, or its reversal, in printed bytes."""
@@ -42,15 +42,26 @@ class Caller:
 
     async def go(self):
         """Submits until the time is over."""
+        text = None
         while not self._run.calm:
-            text = self.text().encode()
-            reply = await self._connection.request(f"claims.ph{self._pharmacy}.call", b"submit " + text, 1)
+            if text is None:
+                self.references += 1
+                text = self.text().encode()
+            line = b"submit-as claim-%d %s" % (self.references, text)
+            reply = await self._connection.request(f"claims.ph{self._pharmacy}.call", line, 1)
             self._run.count("submissions")
             if reply is None:
                 self._run.count("replies lost")
-            elif reply.startswith(b"number "):
-                self.keep(int(reply.split()[1]), text)
+            else:
+                self.hear(reply, text)
+                text = None
             await self.ask()
+
+    def hear(self, reply, text):
+        """What is replied to a submission."""
+        self._run.count("known references", reply.startswith(b"known "))
+        if reply.startswith((b"number ", b"known ")):
+            self.keep(int(reply.split()[1]), text)
 
     def keep(self, number, text):
         if self.told.setdefault(number, text) != text:
@@ -166,6 +177,8 @@ def judge(run, callers, entries):
     for number, (caller, count) in enumerate(zip(callers, entries), 1):
         if report.nodes["pharmacy", number].count != count:
             raise Failed(f"pharmacy {number} told of {count} entries, and the logs have {report.nodes['pharmacy', number].count}")
+        if count > caller.references:
+            raise Failed(f"pharmacy {number} has {count} entries of {caller.references} references")
         for name, text in caller.told.items():
             asked = walk.requests.get((number, name))
             if asked is None or asked.text != bytes_of(text.decode()):

@@ -5,9 +5,10 @@
                   [--watch ADDRESS:PORT] [--hold-back MS] [--reserve ROWS] [--ping SECONDS] [--program PATH] [-v]
 
 The node's packets come on the subjects `claims.NODE.from.SENDER`, in printed bytes: the subject says who sent one, and the server
-lets nobody publish there but that sender (hosts/permissions). Callers' lines come on `claims.NODE.call`: `submit` and `answer`, and `wait
-NUMBER`, which is replied to as `answer NUMBER` is, but not before the entry has its answer; no others. An operator's come on `claims.NODE.operate`: any line but `take`, and `kill`, which ends the host as a power cut would. Each
-is replied to with the last line of what the node says. The program appends each call to its log and syncs the log before it says
+lets nobody publish there but that sender (hosts/permissions). Callers' lines come on `claims.NODE.call`: `submit`, `submit-as`
+and `answer`, and `wait NUMBER`, which is replied to as `answer NUMBER` is, but not before the entry has its answer; no others. An operator's
+come on `claims.NODE.operate`: any line but `take` and `at`, and `kill`, which ends the host as a power cut would. Each is replied to with the
+last line of what the node says. Each call goes to the program with the time of day, which is noted in its record. The program appends each call to its log and syncs the log before it says
 anything, so whatever this host hears may go out. Ticks carry progress: what the carrier loses is sent again, and what a tick
 sends is spread over its time. While no entry is open a tick would change nothing, and none is made. So many entries of a pharmacy and rows
 of a payer as --reserve says, a tenth of the cap where it is not there, are kept for reversals (reserve.py). SIGTERM drains: what was taken
@@ -40,7 +41,9 @@ from said import Said
 from settings import Settings
 from waits import Waits
 
-CALLERS = (b"submit ", b"answer ")
+CALLERS = (b"submit ", b"submit-as ", b"answer ")
+# An operator operates one node: packets come from nodes alone, and the time of a call is the host's.
+NO_OPERATORS = (b"take", b"at ")
 # What may wait for the node at most; what comes beyond it is refused, or lost, as a packet may be.
 MOST_WAITING = 512
 MOST_WAITING_BYTES = 16 << 20
@@ -96,6 +99,7 @@ class Host:
             done(sent, last)
 
         word = line.split(b" ", 1)[0]
+        word = b"submit" if word == b"submit-as" else word
         self.counts.calls[word.decode() if word in KNOWN else "other"] += 1
         self.reserve.asked(line)
         self.node.call(line, heard)
@@ -180,7 +184,7 @@ class Host:
         if message.payload == b"kill":
             self._reply(message, b"ok")
             self.kill()
-        self._answer(message, not message.payload.startswith(b"take"))
+        self._answer(message, not message.payload.startswith(NO_OPERATORS))
 
     def _answer(self, message: nats.Message, is_allowed: bool) -> None:
         def heard(sent: list[tuple[str, bytes]], last: bytes) -> None:

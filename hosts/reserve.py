@@ -13,12 +13,18 @@ CODE_AT = 8
 # How many rows of a payer are asked for at once.
 AT_ONCE = 64
 # How the lines begin that may change how many rows a node has.
-CHANGES = {"ph": (b"submit ",), "sw": (b"take ", b"stop", b"start"), "pr": (b"take ",)}
+CHANGES = {"ph": (b"submit ", b"submit-as "), "sw": (b"take ", b"stop", b"start"), "pr": (b"take ",)}
 
 
 def code_of(request: bytes) -> bytes:
     """The transaction code of a request in printed bytes; nothing where it has none."""
     return (unprinted(request, CODE_AT + 2) or b"")[CODE_AT:]
+
+
+def submitted(line: bytes) -> bytes | None:
+    """The request that a line submits, in printed bytes; None of any other line."""
+    word, _, rest = line.partition(b" ")
+    return rest if word == b"submit" else rest.partition(b" ")[2] if word == b"submit-as" else None
 
 
 def billing_of(packet: bytes) -> tuple[int, int] | None:
@@ -56,8 +62,9 @@ class Reserve:
             self.kept = min(most, most // 10 if self._given is None else self._given)
 
     def turns_away(self, line: bytes) -> bool:
-        """Whether a pharmacy is not to hear a line: it submits a billing, and only the reserve is left."""
-        return self._kind == "ph" and not self._has_room() and line.startswith(b"submit ") and code_of(line[7:]) != b"B2"
+        """Whether a pharmacy is not to hear a line: it submits a billing, under a reference or not, and only the reserve is left."""
+        request = submitted(line)
+        return self._kind == "ph" and not self._has_room() and request is not None and code_of(request) != b"B2"
 
     def loses(self, packet: bytes) -> bool:
         """Whether a payer is not to hear a packet: it asks for a billing that the payer may not have, and only the reserve is left. A payer

@@ -1,8 +1,8 @@
 """The subjects of messages, and who stands in them: what hosts/permissions lets a user use is written from these names alone.
 
     claims.sw1.from.ph1     a packet of ph1 for sw1, in printed bytes; the server lets nobody but ph1 publish here
-    claims.ph1.call         a caller's line for ph1: `submit`, `answer` or `wait`
-    claims.ph1.operate      an operator's line for a node: any but `take`
+    claims.ph1.call         a caller's line for ph1: `submit`, `submit-as`, `answer` or `wait`
+    claims.ph1.operate      an operator's line for a node: any but `take` and `at`
     claims.ph1.owner        what hosts of ph1 whose log is in a stream say to one another, and operators who vouch for its end
     log.ph1                 what is appended to the log of ph1, where that is in a stream
     deliver.ph1             where JetStream hands over what it keeps for ph1; the server's own, nobody publishes here
@@ -13,8 +13,8 @@ import re
 
 NODE = re.compile(r"(?:ph|sw|pr)[1-9][0-9]{0,4}")
 USER = re.compile(r"[A-Za-z0-9_-]{1,64}")
-# A packet has at most 131,144 printed bytes, a request 131,072; what is longer is none.
-MOST_BYTES = 131_200
+# A packet has at most 131,144 printed bytes, a request 131,072, its reference 256; what is longer is none.
+MOST_BYTES = 131_400
 
 
 def packet(to: str, sender: str) -> str:

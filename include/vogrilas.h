@@ -176,17 +176,21 @@ vogrilas_code vogrilas_open(vogrilas_node *node, const void *settings, size_t se
 ** Does what a line asks, and adds to the records and to what was written. A line has no newline at its end:
 **
 **     submit TEXT            of a pharmacy: enters a request, and sends it
+**     submit-as NAME TEXT    the same once for each name, which is 1 to 64 bytes, printed, and a space in it \x20
 **     tick                   of a pharmacy: time goes on, and what is due is sent again
 **     take FROM TEXT         a packet has come from this node
 **     plan PRODUCT PRICE     of a payer: another price
 **     stop / start           the node stops, and starts again from what it keeps
 **     answer NUMBER          of a pharmacy: what is known of this entry
 **
-** TEXT is printed bytes, as vogrilas_print() writes them. What is written, each on a line:
+** TEXT is printed bytes, as vogrilas_print() writes them. All but `answer` may stand behind `at TIME`, in milliseconds as the host
+** counts them: the record of the call has it then. What is written, each on a line:
 **
 **     send TO TEXT           a packet for this node. `take OWN TEXT` is the line that it is there, with the sender's name
 **     number N               the call was made, and its entry has this number (submit)
 **     ok                     the call was made (tick, take, plan, stop, start)
+**     known N                the name has an entry already, of this request and with this number: nothing has changed
+**     idle                   a tick without an open entry: nothing has changed, and there is no record
 **     answer TEXT / open / none      to the question
 **     refused NAME           the call was not made, and nothing has changed; `refused Line`: the line asks nothing
 **
@@ -230,9 +234,9 @@ vogrilas_code vogrilas_kept(vogrilas_node *node, size_t size);
 vogrilas_code vogrilas_written(vogrilas_node *node, void *buffer, size_t room, size_t *size);
 
 /*
-** The number of the entry that a submission made, in what was written: of the first line from *place on that served a call, which
-** *place is behind then. 0: that call was refused, or was no submission, or no line is left. So behind one vogrilas_submit(), and
-** from place 0, it is the entry's number, and behind several it gives them one by one. Tested, not proved.
+** The number of the entry that a submission made, or made before under its name, in what was written: of the first line from *place
+** on that served a call, which *place is behind then. 0: that call was refused, or was no submission, or no line is left. So behind
+** one vogrilas_submit(), and from place 0, it is the entry's number, and behind several it gives them one by one. Tested, not proved.
 */
 static inline uint64_t vogrilas_number_in(const void *written, size_t size, size_t *place) {
     const char *text = (const char *)written;
@@ -243,8 +247,8 @@ static inline uint64_t vogrilas_number_in(const void *written, size_t size, size
         *place += length + (end != NULL);
         if (length >= 5 && memcmp(line, "send ", 5) == 0) continue;
         uint64_t number = 0;
-        if (length > 7 && memcmp(line, "number ", 7) == 0)
-            for (size_t at = 7; at < length; at++) number = 10 * number + (uint64_t)(line[at] - '0');
+        size_t at = length > 7 && memcmp(line, "number ", 7) == 0 ? 7 : length > 6 && memcmp(line, "known ", 6) == 0 ? 6 : length;
+        for (; at < length; at++) number = 10 * number + (uint64_t)(line[at] - '0');
         return number;
     }
     return 0;

@@ -158,6 +158,42 @@ def body_parts(body):
     return kind, text, sent
 
 
+# What a call is, by its kind, and the letters of a node.
+CALLS = {0: 'submission', 1: 'tick', 2: 'packet', 3: 'stop', 4: 'start', 5: 'price', 6: 'price'}
+LETTERS = {'pharmacy': 'ph', 'switch': 'sw', 'payer': 'pr'}
+
+
+def called(node):
+    """A node as tables name it."""
+    kind, named = node.split(' ')
+    return LETTERS[kind] + named
+
+
+def calls_in(log):
+    """The records of a log as rows of the table of calls, from its bytes."""
+    with open(log, 'rb') as file:
+        data = file.read()
+    node = node_in(data, 3)[0]
+    rows, submissions = [], 0
+    for place, (begin, end) in enumerate(records(data), 1):
+        body, time, reference = data[begin + 16:end - 8], 0, b''
+        if body[0] == 7:
+            time, at = number(body, 1, 8)
+            reference, at = text_in(body, at)
+            body = body[at:]
+        kind, text, _ = body_parts(body)
+        row = {'node': called(node), 'call': str(place), 'time': str(time or ''), 'reference': printed(reference), 'kind': CALLS[kind], 'from': '',
+               'carries': '', 'pharmacy': '', 'number': ''}
+        if kind == 0:
+            submissions += 1
+            row.update(carries='request', pharmacy=node.split(' ')[1], number=str(submissions))
+        elif kind == 2:
+            row['from'] = called(node_in(body, 1)[0])
+            row.update(carries={1: 'request', 2: 'answer'}[text[3]], pharmacy=str(number(text, 4, 2)[0]), number=str(number(text, 6, 8)[0]))
+        rows.append(row)
+    return rows
+
+
 def made_anew(data, bodies):
     """A log of these bodies, each with its sizes and its check sum."""
     log = data[:46]

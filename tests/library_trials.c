@@ -132,6 +132,9 @@ static void try_handles(void) {
     check(is_unsynced(&node, 46), "a head that is not on disk");
     settle(&node);
     check(record_size == 46 && said_size == 0, "a head, and nothing said");
+    check(vogrilas_serve(&node, "at 5 tick", 9) == VOGRILAS_OK, "a tick without an open entry");
+    settle(&node);
+    check(record_size == 0 && said_size == 5 && memcmp(said, "idle\n", 5) == 0, "is idle, and has no record");
     vogrilas_node moved = node;
     uint64_t calls = 77;
     check(vogrilas_calls(&moved, &calls) == VOGRILAS_OK && calls == 0, "a node that has moved");
@@ -247,6 +250,8 @@ static void try_numbers(void) {
     check(vogrilas_number_in(written, size, &place) == 0 && place == size, "no line is left");
     place = 0;
     check(vogrilas_number_in("number 7", 8, &place) == 7 && place == 8, "a line without its end");
+    place = 0;
+    check(vogrilas_number_in("known 7\n", 8, &place) == 7 && place == 8, "the number of an entry that was there");
 }
 
 /* Messages of any bytes are described, in lines and as JSON, and a buffer is enough or unchanged. */

@@ -276,7 +276,7 @@ class Trials(unittest.TestCase):
             "import os, sys; os.close(0); os.close(1)\n"
             "from vogrilas import FileNode\n"
             "node = FileNode(open(sys.argv[1], 'rb').read(), 'ph1', sys.argv[2])\n"
-            "node.tick()\n"
+            "node.stop()\n"
             "os.write(node._file, b'') if node._file > 2 else sys.exit(3)\n"
         )
         path = self.folder / "ph1.log"

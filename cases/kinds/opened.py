@@ -3,7 +3,7 @@ import os
 import struct
 
 from suite.case import Case, Group, rows_apart
-from suite.logs import DROP, TICK, Call, Log, Sent, head_of, head_of_file, text, write_log
+from suite.logs import DROP, STOP, TICK, Call, Log, Sent, head_of, head_of_file, text, write_log
 from suite.nodes import room
 from suite.programs import run
 from suite.rows import read_rows
@@ -15,7 +15,7 @@ SETTINGS = (b'again = 1\ntries = 1\n[[pharmacy]]\nqualifier = "01"\nprovider = "
 HEAD = head_of('ph1', SETTINGS)
 # The head of each version of a log.
 HEADS = {'first': head_of_file('ph1', SETTINGS), 'second': HEAD}
-# A tick of a pharmacy that has no entry sends nothing; its record has 33 bytes.
+# A tick of a pharmacy that has no entry sends nothing; its record, which earlier versions made, has 33 bytes.
 QUIET = Call(TICK, b'', ())
 TICKS = 3
 MOST_SETTINGS = 1 << 24
@@ -47,14 +47,14 @@ def edited(text: str) -> bytes:
 
 
 def went_on(head: bytes, settings: bytes) -> str:
-    """What pharmacy 1 says under settings that starts from a log of this head and ticks once more, where its log then has one record more."""
-    before, after = (write_log(Log(head, (QUIET,) * count)) for count in (TICKS, TICKS + 1))
+    """What pharmacy 1 says under settings that starts from a log of this head, ticks and stops, where its log then has the stop and no tick more."""
+    before, after = (write_log(Log(head, (QUIET,) * TICKS + more)) for more in ((), (Call(STOP, b'', ()),)))
     with room() as folder:
         paths = f'{folder}/settings.toml', f'{folder}/ph1.log'
         for path, given in zip(paths, (settings, before)):
             with open(path, 'wb') as file:
                 file.write(given)
-        ran = run('claimnode', paths[0], 'ph1', paths[1], given=b'tick\n')
+        ran = run('claimnode', paths[0], 'ph1', paths[1], given=b'tick\nstop\n')
         with open(paths[1], 'rb') as file:
             left = file.read()
     if left != (before if ran.status else after):

@@ -40,10 +40,10 @@ class Live:
         return self.served[name]
 
     def make(self, event: tuple) -> None:
-        """Makes an event, refused or not."""
+        """Makes an event, refused or not. An idle tick is no call: its node's log does not have it."""
         self.events.append(event)
         told, node = self.ask(event)
-        if told and not told.refused:
+        if told and not told.refused and told.last != 'idle':
             self.calls += 1
             self.packets += [Packet(node, to, octets) for to, octets in told.sent]
             if event[0] in ('stop', 'start'):

@@ -9,6 +9,8 @@ from suite.sums import check_sum
 HEAD = 46
 KINDS = ('ph', 'sw', 'pr')
 SUBMIT, TICK, TAKE, STOP, START, DROP, PRICE = range(7)
+# What stands before a call of which something was noted.
+NOTED = 7
 
 
 class Sent(NamedTuple):
@@ -18,12 +20,15 @@ class Sent(NamedTuple):
 
 
 class Call(NamedTuple):
-    """A call that a node accepted: its kind, the bytes behind that, and what it sent. Of a TAKE `sender` and `octets` are the packet."""
+    """A call that a node accepted: its kind, the bytes behind that, and what it sent. Of a TAKE `sender` and `octets` are the packet. What
+    was noted of it: when it was made, in milliseconds, or 0, and what its caller calls it, or nothing."""
     kind: int
     rest: bytes
     sent: tuple[Sent, ...]
     sender: str = ''
     octets: bytes = b''
+    time: int = 0
+    reference: bytes = b''
 
 
 class Log(NamedTuple):
@@ -71,8 +76,18 @@ def read_text(octets: bytes, at: int) -> tuple[bytes, int]:
     return octets[at + 8:at + 8 + size], at + 8 + size
 
 
+def noted(time: int, reference: bytes) -> bytes:
+    """What stands before a call in a record's body, where something was noted of it."""
+    return struct.pack('>BQ', NOTED, time) + text(reference) if time or reference else b''
+
+
 def read_call(body: bytes) -> Call:
     """The call of a record's body."""
+    time, reference = 0, b''
+    if body[0] == NOTED:
+        time = struct.unpack('>Q', body[1:9])[0]
+        reference, at = read_text(body, 9)
+        body = body[at:]
     kind, at, sender, octets = body[0], 1, '', b''
     if kind == TAKE:
         sender, at = node_name(body[1:4]), 4
@@ -86,7 +101,7 @@ def read_call(body: bytes) -> Call:
         to = node_name(body[at:at + 3])
         packet, at = read_text(body, at + 3)
         sent.append(Sent(to, packet))
-    return Call(kind, rest, tuple(sent), sender, octets)
+    return Call(kind, rest, tuple(sent), sender, octets, time, reference)
 
 
 def read_log(octets: bytes) -> Log:
@@ -103,7 +118,7 @@ def write_log(log: Log) -> bytes:
     """The bytes of a log, each record as the version of its head has it."""
     parts = [log.head]
     for number, call in enumerate(log.calls, 1):
-        body = bytes([call.kind]) + call.rest + struct.pack('>Q', len(call.sent))
+        body = noted(call.time, call.reference) + bytes([call.kind]) + call.rest + struct.pack('>Q', len(call.sent))
         body += b''.join(node_octets(to) + text(packet) for to, packet in call.sent)
         size = struct.pack('>Q', len(body))
         parts += [size, bytes(it ^ 255 for it in size), body, check_sum(log.head[2], number, body)]

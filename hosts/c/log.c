@@ -76,6 +76,24 @@ void node_serve(struct served *node, const char *line, size_t size) {
     if (code != VOGRILAS_OK) fail(node->name, vogrilas_code_text(code));
 }
 
+/* Whether a line begins as a call; all else is a question, or asks nothing. */
+static bool is_call(const char *line, size_t size) {
+    static const char *const word[] = { "submit", "submit-as", "take", "tick", "plan", "stop", "start" };
+    const char *space = size == 0 ? NULL : memchr(line, ' ', size);
+    size_t length = space == NULL ? size : (size_t)(space - line);
+    for (size_t at = 0; at < sizeof word / sizeof *word; at++)
+        if (length == strlen(word[at]) && begins(line, size, word[at])) return true;
+    return false;
+}
+
+void node_serve_now(struct served *node, const char *line, size_t size) {
+    struct bytes timed = { NULL, 0, 0 };
+    if (is_call(line, size)) add_form(&timed, "at %llu ", (unsigned long long)(wall() * 1000));
+    add(&timed, line, size);
+    node_serve(node, timed.at, timed.size);
+    free(timed.at);
+}
+
 void node_kept(struct served *node, size_t size) {
     vogrilas_code code = vogrilas_kept(&node->node, size);
     if (code != VOGRILAS_OK) fail(node->name, vogrilas_code_text(code));

@@ -6,9 +6,10 @@
 **          [--patience SECONDS] [--part BYTES]
 **
 ** The subjects are those of hosts/node.py, so hosts of both kinds can serve nodes of one network: packets come on
-** `claims.NODE.from.SENDER`, in printed bytes; callers' lines, `submit` and `answer`, on `claims.NODE.call`; an operator's, any line but
-** `take`, and `kill`, on `claims.NODE.operate`. Each of those lines is replied to with the last line of what the node says. A caller's
-** `wait NUMBER` is replied to as `answer NUMBER` is, but not before the entry has its answer.
+** `claims.NODE.from.SENDER`, in printed bytes; callers' lines, `submit`, `submit-as` and `answer`, on `claims.NODE.call`; an operator's,
+** any line but `take` and `at`, and `kill`, on `claims.NODE.operate`. Each of those lines is replied to with the last line of what the
+** node says. A caller's `wait NUMBER` is replied to as `answer NUMBER` is, but not before the entry has its answer. Each call has the
+** time of day in its record.
 **
 ** A turn serves all that waits, appends the records to the log, syncs it once, and only then sends and replies. A host that
 ** dies before the sync has told nobody; one that dies behind it is started again and sends again what is due. SIGTERM drains. URL is as

@@ -20,8 +20,8 @@
 
 /* The status of a host whose node is refused: its settings, its name or its log. It stays so until people have looked. */
 #define REFUSED 78
-/* A packet has at most 131,144 printed bytes, a request 131,072; what is longer is none. */
-#define MOST_BYTES 131200
+/* A packet has at most 131,144 printed bytes, a request 131,072, its reference 256; what is longer is none. */
+#define MOST_BYTES 131400
 /* A settings file has at most 16 MiB. */
 #define MOST_SETTINGS (16u << 20)
 
@@ -87,6 +87,8 @@ size_t node_open(struct served *node, const struct bytes *settings, const struct
 /* A node whose log is a file alone. */
 struct served node_of_file(const char *settings, const char *name, const char *log);
 void node_serve(struct served *node, const char *line, size_t size);
+/* The same as it comes; where the line is a call the time of day stands before it, in milliseconds, so its record has it. */
+void node_serve_now(struct served *node, const char *line, size_t size);
 /* Makes the call of a record, or of a log's head, anew: the node's own record has to be this one. For a stand-by, which keeps a copy. */
 void node_make(struct served *node, const char *record, size_t size);
 /* Has the records where they have to be. Only then may be used what was written. `speaks`: something is to be said even if there are no

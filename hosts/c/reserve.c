@@ -17,9 +17,17 @@ static bool has_code(const char *text, size_t size, size_t before, const char *c
 /* What a message may have the node enter. */
 enum entry { NOTHING, REVERSAL, BILLING };
 
+/* Of a line of a caller or an operator, who submits under a reference or without one. */
 static enum entry entry_of_line(const struct message *one, const char *text, size_t size) {
-    if (one->from == FROM_NODE || !begins(text, size, "submit ")) return NOTHING;
-    return has_code(text + 7, size - 7, 0, "B2") ? REVERSAL : BILLING;
+    if (one->from == FROM_NODE) return NOTHING;
+    size_t before = 7;
+    if (begins(text, size, "submit-as ")) {
+        const char *space = memchr(text + 10, ' ', size - 10);
+        before = space == NULL ? size : (size_t)(space - text) + 1;
+    } else if (!begins(text, size, "submit ")) {
+        return NOTHING;
+    }
+    return has_code(text + before, size - before, 0, "B2") ? REVERSAL : BILLING;
 }
 
 /* Of a packet for a payer; what the payer has is asked of one that is up alone. */

@@ -26,10 +26,11 @@ static bool line_of(const struct host *host, const struct message *one, struct b
             text += 5, size -= 5;
             break;
         }
-        if (!begins(text, size, "submit ") && !begins(text, size, "answer ")) return false;
+        if (!begins(text, size, "submit ") && !begins(text, size, "submit-as ") && !begins(text, size, "answer ")) return false;
         break;
     case FROM_OPERATOR:
-        if (begins(text, size, "take")) return false;
+        /* An operator operates one node: packets come from nodes alone, and the time of a call is the host's. */
+        if (begins(text, size, "take") || begins(text, size, "at ")) return false;
         break;
     }
     add(line, text, size);
@@ -96,7 +97,7 @@ static void serve(struct host *host, struct message *one) {
             if (begins(host->given.name, 2, "sw"))
                 held_went(host->given.hold_back / 1000, sender, text, (size_t)natsMsg_GetDataLength(one->text));
         }
-        node_serve(&host->node, host->line.at, host->line.size);
+        node_serve_now(&host->node, host->line.at, host->line.size);
         one->is_served = true;
     } else {
         counts_refusal("Line", 4);
@@ -195,7 +196,7 @@ void turn(struct host *host, struct message *batch, bool is_tick) {
     if (is_tick) {
         later_send(&host->later, host->carrier, true);
         counts_call("tick", 4);
-        node_serve(&host->node, "tick", 4);
+        node_serve_now(&host->node, "tick", 4);
     }
 #ifdef WRONG_SAID_EARLY
     struct bytes early = node_records(&host->node);

@@ -1,6 +1,9 @@
 /* A stand-by's node: the calls of records that come are made anew, so that it is up as soon as it has the log. */
 #include "stream.h"
 
+/* What a body begins with where the host noted something of its call. */
+#define NOTED 7
+
 static uint64_t number_of(const unsigned char *bytes, int count) {
     uint64_t number = 0;
     for (int at = 0; at < count; at++) number = number << 8 | bytes[at];
@@ -30,65 +33,62 @@ static uint64_t take_number(struct body *body, int count) {
     return at == NULL ? 0 : number_of(at, count);
 }
 
-/* A text: its length and its bytes. */
-static struct bytes take_text(struct body *body) {
-    struct bytes text = { NULL, 0, 0 };
+/* Adds bytes in printed ones, as one word: a space is spelled too. */
+static void add_printed(struct bytes *line, const unsigned char *at, uint64_t size) {
+    static const char digit[] = "0123456789abcdef";
+    for (uint64_t place = 0; place < size; place++) {
+        unsigned char byte = at[place];
+        const char spelled[] = { '\\', 'x', digit[byte >> 4], digit[byte & 15] };
+        if (byte > ' ' && byte <= '~' && byte != '\\') add(line, at + place, 1);
+        else add(line, spelled, sizeof spelled);
+    }
+}
+
+/* Adds a text of the body, its length and its bytes; how many they are. */
+static uint64_t add_taken(struct bytes *line, struct body *body) {
     uint64_t size = take_number(body, 8);
     const unsigned char *at = take(body, size);
-    add(&text, "", 0);
-    if (at != NULL) add(&text, at, (size_t)size);
-    return text;
+    if (at == NULL) return 0;
+    add_printed(line, at, size);
+    return size;
 }
 
-/* Serves the line that sets a price, or takes a product off the plan. */
-static void serve_plan(struct served *node, struct body *body, bool has_price) {
-    struct bytes product = take_text(body), line = { NULL, 0, 0 };
-    char printed[256];
-    size_t size = 0;
-    uint64_t price = has_price ? take_number(body, 4) : 0;
-    if (vogrilas_print(product.at, product.size, printed, sizeof printed, &size) == VOGRILAS_OK) {
-        add_text(&line, "plan ");
-        add(&line, printed, size);
-        if (has_price) add_form(&line, " %llu", (unsigned long long)price);
-        else add_text(&line, " none");
-        node_serve(node, line.at, line.size);
+/* Adds the time that was noted of a call, and its name to `name`; the kind of the call, which stands behind that. */
+static uint64_t take_noted(struct bytes *line, struct bytes *name, struct body *body) {
+    uint64_t kind = take_number(body, 1);
+    if (kind != NOTED) return kind;
+    uint64_t time = take_number(body, 8);
+    if (time > 0) add_form(line, "at %llu ", (unsigned long long)time);
+    add_taken(name, body);
+    return take_number(body, 1);
+}
+
+/* Adds the line of a call, of this kind and under this name, where it has one. */
+static void add_call(struct bytes *line, uint64_t kind, const struct bytes *name, struct body *body) {
+    static const char *const node[] = { "ph", "sw", "pr" };
+    static const char *const word[] = { "submit ", "tick", "take ", "stop", "start", "plan ", "plan " };
+    enum { SUBMIT = 0, TAKE = 2, DROP = 5, PRICE = 6 };
+    if (kind >= sizeof word / sizeof *word) return;
+    if (name->size > 0) add_form(line, "submit-as %s ", name->at);
+    else add_text(line, word[kind]);
+    if (kind == TAKE) {
+        uint64_t which = take_number(body, 1), number = take_number(body, 2);
+        add_form(line, "%s%u ", node[which < 3 ? which : 0], (unsigned)number);
     }
-    free(line.at);
-    free(product.at);
+    if (kind == SUBMIT || kind == TAKE || kind == DROP || kind == PRICE) add_taken(line, body);
+    if (kind == DROP) add_text(line, " none");
+    if (kind == PRICE) add_form(line, " %llu", (unsigned long long)take_number(body, 4));
 }
 
-static vogrilas_code take_packet(struct served *node, struct body *body) {
-    static const char *const kind[] = { "ph", "sw", "pr" };
-    char from[16];
-    uint64_t which = take_number(body, 1), number = take_number(body, 2);
-    struct bytes packet = take_text(body);
-    int size = snprintf(from, sizeof from, "%s%u", kind[which < 3 ? which : 0], (unsigned)number);
-    vogrilas_code code = vogrilas_take(&node->node, from, (size_t)size, packet.at, packet.size);
-    free(packet.at);
-    return code;
-}
-
-static vogrilas_code submit(struct served *node, struct body *body) {
-    struct bytes text = take_text(body);
-    vogrilas_code code = vogrilas_submit(&node->node, text.at, text.size);
-    free(text.at);
-    return code;
-}
-
-/* Makes the call of a body. */
+/* Makes the call of a body, with what was noted of it. */
 static void make(struct served *node, struct body *body) {
-    vogrilas_code code = VOGRILAS_OK;
-    switch (take_number(body, 1)) {
-    case 0: code = submit(node, body); break;
-    case 1: node_serve(node, "tick", 4); break;
-    case 2: code = take_packet(node, body); break;
-    case 3: node_serve(node, "stop", 4); break;
-    case 4: node_serve(node, "start", 5); break;
-    case 5: serve_plan(node, body, false); break;
-    case 6: serve_plan(node, body, true); break;
-    default: break;
-    }
-    if (code == VOGRILAS_NO_MEMORY) fail("memory", "refused");
+    struct bytes line = { NULL, 0, 0 }, name = { NULL, 0, 0 };
+    add(&line, "", 0);
+    uint64_t kind = take_noted(&line, &name, body);
+    add_call(&line, kind, &name, body);
+    if (!body->is_short) node_serve(node, line.at, line.size);
+    free(line.at);
+    free(name.at);
 }
 
 /* Whether the node's own records are these bytes. */

@@ -19,7 +19,7 @@ from front_service.receipts import SCHEMA  # noqa: E402
 # How many writes one sync may be for.
 MOST_AT_ONCE = 512
 # What is told of a claim, in the order of receipts.Receipt.
-COLUMNS = "pharmacy, number, key, digest, request, answer, after_number, entered, answered"
+COLUMNS = "pharmacy, number, key, digest, request, answer, entered, answered"
 _BY_KEY = f"SELECT {COLUMNS} FROM claims WHERE pharmacy = ? AND key = ?"
 _BY_NUMBER = f"SELECT {COLUMNS} FROM claims WHERE pharmacy = ? AND number = ?"
 
@@ -36,12 +36,12 @@ def opened(name: str) -> sqlite3.Connection:
     return file
 
 
-def reserve(file: sqlite3.Connection, pharmacy: str, key: str, digest: bytes, request: bytes, after_number: int) -> tuple[bool, Any]:
+def reserve(file: sqlite3.Connection, pharmacy: str, key: str, digest: bytes, request: bytes) -> tuple[bool, Any]:
     """Whether a key is new, and its row."""
     now = time.time()
-    text = "INSERT OR IGNORE INTO claims (pharmacy, key, digest, request, after_number, entered) VALUES (?, ?, ?, ?, ?, ?)"
-    if file.execute(text, (pharmacy, key, digest, request, after_number, now)).rowcount == 1:
-        return True, (pharmacy, None, key, digest, request, None, after_number, now, None)
+    text = "INSERT OR IGNORE INTO claims (pharmacy, key, digest, request, entered) VALUES (?, ?, ?, ?, ?)"
+    if file.execute(text, (pharmacy, key, digest, request, now)).rowcount == 1:
+        return True, (pharmacy, None, key, digest, request, None, now, None)
     return False, file.execute(_BY_KEY, (pharmacy, key)).fetchone()
 
 

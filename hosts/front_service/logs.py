@@ -1,28 +1,13 @@
-"""Records of a log (docs/FORMATS.md) by their places: to find what was entered under a key where the front ended before it noted the
-number, and to cut the copy of a log behind a call. What records say is for the proved programs to judge."""
+"""Records of a log (docs/FORMATS.md) by their places: to cut the copy of a log behind a call. What records say is for the proved programs to judge."""
 
 from __future__ import annotations
 
-import pathlib
 from collections.abc import Iterator
 
 # Head: PL, version, node, digest of the settings, check sum. Around a body: its length twice, and a check sum.
 _HEAD_BYTES = 46
 _LENGTHS_BYTES = 16
 _SUM_BYTES = 8
-_SUBMISSION = 0
-
-
-def entries_in(name: str, after: int) -> Iterator[tuple[int, bytes]]:
-    """The numbers beyond this one, and their requests. Check sums are the node's own to look at; what has no whole record is not there."""
-    log = pathlib.Path(name).read_bytes()
-    number = 0
-    for body, _ in _records(log):
-        if log[body] == _SUBMISSION:
-            number += 1
-            if number > after:
-                start = body + 9
-                yield number, log[start : start + int.from_bytes(log[body + 1 : start])]
 
 
 def place_of(log: bytes, call: int) -> int:

@@ -4,12 +4,13 @@ from __future__ import annotations
 
 import asyncio
 import contextlib
+import hashlib
+import re
 from collections.abc import AsyncIterator, Callable
 
 import nats
 import subjects
 
-from .logs import entries_in
 from .printed import printed, unprinted
 from .problems import Problem
 from .receipts import Receipt, Receipts, digest_of
@@ -24,6 +25,15 @@ BUSY_SECONDS = 0.2
 LOOK_SECONDS = 2.0
 LOOK_AT_ONCE = 64
 MOST_BYTES = 32_768
+# A key that is a reference as it stands: printed bytes that spell themselves.
+REFERENCE = re.compile(r"[!-\[\]-~]{1,64}")
+# What a host refuses before its node looks for the reference: an earlier try may have entered the message all the same.
+OF_HOSTS = ("Busy", "WouldBeFull")
+
+
+def reference_of(key: str) -> bytes:
+    """Under which reference the node knows a key: the key, or the digest of one that is no reference."""
+    return key.encode() if REFERENCE.fullmatch(key) else hashlib.sha256(key.encode()).hexdigest().encode()
 
 
 class Wait:
@@ -39,14 +49,13 @@ class Wait:
 class Pharmacy:
     """A pharmacy, and the connection on which its caller comes."""
 
-    def __init__(self, name: str, carrier: nats.Connection, receipts: Receipts, log: str | None, say: Callable[..., None]) -> None:
+    def __init__(self, name: str, carrier: nats.Connection, receipts: Receipts, say: Callable[..., None]) -> None:
         self.name = name
-        self._carrier, self._receipts, self._log, self._say = carrier, receipts, log, say
+        self._carrier, self._receipts, self._say = carrier, receipts, say
         self._keys: dict[str, tuple[asyncio.Lock, list[int]]] = {}
         self._waits: dict[int, Wait] = {}
         self._host_waits = True
         self._writes: set[asyncio.Future[None]] = set()
-        self.last_number = 0
         # All numbers up to this one are known.
         self._looked = 0
         self.listeners: set[asyncio.Queue[int]] = set()
@@ -55,27 +64,21 @@ class Pharmacy:
     def is_connected(self) -> bool:
         return self._carrier.is_open.is_set()
 
-    async def start(self) -> None:
-        """Learns which numbers are known from an earlier life."""
-        rows = await self._receipts.rows("SELECT max(number) FROM claims WHERE pharmacy = ?", self.name)
-        self.last_number = rows[0][0] or 0
-
     async def submit(self, key: str, message: bytes) -> Receipt:
         """The receipt of a message under a key: the one that is there, or that of a new entry. Problem where nothing was entered, or where
         that is not known yet."""
         if len(message) > MOST_BYTES:
             raise Problem("TooLong")
         async with self._one_at_a_time(key):
-            is_new, kept = await self._receipts.reserve(self.name, key, message, self.last_number)
+            is_new, kept = await self._receipts.reserve(self.name, key, message)
             if kept.digest != digest_of(message):
                 raise Problem("KeyReused")
             if kept.number is not None:
                 return kept
-            number = (None if is_new else await self._find(kept)) or await self._enter(key, message)
+            number = await self._enter(key, message, is_new)
             # The answer may be on its way while the number is noted, which takes a sync.
             self._begin(number)
             await self._receipts.number(self.name, key, number)
-            self.last_number = max(self.last_number, number)
             return kept._replace(number=number)
 
     async def wait(self, number: int, seconds: float) -> bytes | None:
@@ -115,7 +118,6 @@ class Pharmacy:
             absent = []
             for number, reply in zip(asked, replies):
                 if reply == b"open" or reply.startswith(b"answer "):
-                    self.last_number = max(self.last_number, number)
                     await self._note(number, reply)
                 else:
                     absent.append(number)
@@ -158,29 +160,17 @@ class Pharmacy:
             if not users[0]:
                 del self._keys[key]
 
-    async def _find(self, kept: Receipt) -> int | None:
-        """The entry that an earlier try under this key has left, where its number was not noted: the first of these bytes, behind those that
-        were known then, that has no key. Without the node's log nobody can tell; the message is then submitted once more (docs/FRONT.md).
-        """
-        if not self._log:
-            return None
-        # What was on its way to the node stands before this question, and in its log once this is answered.
-        await self._ask(b"answer 1", REPLY_SECONDS)
-        found = await asyncio.to_thread(
-            lambda: [number for number, request in entries_in(self._log, kept.after_number) if request == kept.request]
-        )
-        for number in found:
-            known = await self._receipts.of_number(self.name, number)
-            if known is None or known.key is None:
-                return number
-        return None
-
-    async def _enter(self, key: str, message: bytes) -> int:
-        reply = await self._ask(b"submit " + printed(message), REPLY_SECONDS)
-        if reply.startswith(b"number "):
-            return int(reply[7:])
+    async def _enter(self, key: str, message: bytes, is_new: bool) -> int:
+        """The number of the entry of a message: that of an earlier try under this key, where there was one, else a new one."""
+        reply = await self._ask(b"submit-as %s %s" % (reference_of(key), printed(message)), REPLY_SECONDS)
+        word, _, told = reply.partition(b" ")
+        if word in (b"number", b"known"):
+            return int(told)
+        name = told.decode(errors="replace")
+        if not is_new and name in OF_HOSTS:
+            raise Problem("NoReply")
         await self._receipts.forget(self.name, key)
-        raise Problem(reply.removeprefix(b"refused ").decode(errors="replace"))
+        raise Problem("KeyReused" if name == "ReferenceReused" else name)
 
     async def _ask(self, line: bytes, seconds: float) -> bytes:
         """The node's reply; Problem where none comes: what was asked may have been done all the same."""

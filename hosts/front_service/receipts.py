@@ -1,7 +1,8 @@
 """What the front keeps: which key stands for which number, and the messages that it has seen. One SQLite file, synced at each commit.
 
 A row is there, synced, before its message goes to the node, and has its number, synced, before the caller hears of it. So the same key
-never becomes two entries, also where the front ends in between: `number` is then empty, and what the node has is looked up (pharmacy.py).
+never becomes two entries, also where the front ends in between: `number` is then empty, and the message is submitted again under the
+reference that the key is to the node, which tells the number that there is (pharmacy.py).
 A process of its own writes it (keeping.py), so that what is synced holds up nothing else.
 """
 
@@ -19,7 +20,7 @@ from .helpers import Helper
 SCHEMA = """
 CREATE TABLE IF NOT EXISTS claims (
     id INTEGER PRIMARY KEY, pharmacy TEXT NOT NULL, number INTEGER, key TEXT, digest BLOB, request BLOB, answer BLOB,
-    after_number INTEGER NOT NULL DEFAULT 0, entered REAL NOT NULL, answered REAL, is_ruled INTEGER NOT NULL DEFAULT 0);
+    entered REAL NOT NULL, answered REAL, is_ruled INTEGER NOT NULL DEFAULT 0);
 CREATE UNIQUE INDEX IF NOT EXISTS claims_by_key ON claims (pharmacy, key) WHERE key IS NOT NULL;
 CREATE UNIQUE INDEX IF NOT EXISTS claims_by_number ON claims (pharmacy, number) WHERE number IS NOT NULL;
 CREATE INDEX IF NOT EXISTS claims_open ON claims (pharmacy, number) WHERE answer IS NULL;
@@ -41,7 +42,6 @@ class Receipt(NamedTuple):
     digest: bytes | None
     request: bytes | None
     answer: bytes | None
-    after_number: int
     entered: float
     answered: float | None
 
@@ -73,9 +73,9 @@ class Receipts:
 
     # What is asked of it.
 
-    async def reserve(self, pharmacy: str, key: str, request: bytes, after_number: int) -> tuple[bool, Receipt]:
-        """The row of a key, and whether it is new: then it has no number yet, and its entry will have a greater one than this."""
-        is_new, row = await self._keeper.ask("reserve", pharmacy, key, digest_of(request), request, after_number)
+    async def reserve(self, pharmacy: str, key: str, request: bytes) -> tuple[bool, Receipt]:
+        """The row of a key, and whether it is new: then it has no number yet."""
+        is_new, row = await self._keeper.ask("reserve", pharmacy, key, digest_of(request), request)
         return is_new, Receipt(*row)
 
     async def forget(self, pharmacy: str, key: str) -> None:

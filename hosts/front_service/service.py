@@ -139,9 +139,7 @@ class Front:
         if given.access:
             words.login = f"{given.access}/{name}-caller.login"
         carrier = self._carriers[name] = nats.Connection(nats.access_of(words), f"front-{name}", self._say)
-        log = f"{given.logs}/{name}.log" if given.logs else None
-        pharmacy = Pharmacy(name, carrier, receipts, log, self._say)
-        await pharmacy.start()
+        pharmacy = Pharmacy(name, carrier, receipts, self._say)
         await asyncio.wait_for(carrier.start(), START_SECONDS)
         return pharmacy
 

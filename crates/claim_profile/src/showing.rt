@@ -46,23 +46,3 @@ impl Display for Rejects {
         Ok(())
     }
 }
-
-impl Code {
-    /// The short name that the standard's list of reject codes gives it. "M/I" is "missing or invalid".
-    pub fn name(self) -> &'static str {
-        match self {
-            Code::Bin => "M/I BIN Number",
-            Code::Cardholder => "M/I Cardholder ID",
-            Code::DateOfService => "M/I Date of Service",
-            Code::Prescription => "M/I Prescription/Service Reference Number",
-            Code::FillNumber => "M/I Fill Number",
-            Code::Product => "M/I Product/Service ID",
-            Code::IngredientCost => "M/I Ingredient Cost Submitted",
-            Code::Quantity => "M/I Quantity Dispensed",
-            Code::DispensingFee => "M/I Dispensing Fee Submitted",
-            Code::NotCovered => "Product/Service Not Covered",
-            Code::DuplicateClaim => "Duplicate Paid/Captured Claim",
-            Code::ReversalNotProcessed => "Reversal Not Processed",
-        }
-    }
-}

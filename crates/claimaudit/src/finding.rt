@@ -10,7 +10,7 @@ use thiserror::Error;
 #[derive(Debug, Drop, Error)]
 pub(crate) enum Finding {
     /// The words are wrong.
-    #[error("usage: claimaudit [--alone] [--csv payments|entries|rows|packets|open|counted | --json | --schedule] SETTINGS LOG..., or a report on tables (-h)")]
+    #[error("usage: claimaudit [--alone] [--csv payments|entries|rows|packets|open|counted | --json | --schedule] SETTINGS LOG..., --calls SETTINGS LOG..., or a report on tables (-h)")]
     Usage,
     /// The file of this name is no log under the settings.
     #[error("{0}: {1}")]

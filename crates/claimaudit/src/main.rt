@@ -15,7 +15,8 @@ use claim_reports::{
 };
 use command_line::{End, given_words, read_file, read_settings_file};
 use log_audit::{
-    AuditFault, Form, LoneForm, Outgoing, WriterSink, put_alone, put_report, read_audited,
+    AuditFault, Form, LoneForm, Outgoing, WriterSink, calls_table, put_alone, put_report,
+    read_audited,
 };
 use log_turning::{JoinFault, WholeFault, whole_log};
 use std::alloc::Global;
@@ -42,6 +43,7 @@ fn run(rt: &HostRuntime) -> Result<bool, Unjudged> {
     let words = words_of(alloc, given.as_slice())?;
     let good = match words.asked {
         Asked::Report(report) => write_told(rt, reported(rt, &words, report)?)?,
+        Asked::Calls => write_told(rt, told_calls(rt, &words)?)?,
         Asked::Together(_) | Asked::Alone(_) => audit(rt, &words)?,
     };
     if !good {
@@ -138,18 +140,45 @@ fn table_at(tables: &[Vec<u8>], place: usize) -> &[u8] {
 fn audit(rt: &HostRuntime, words: &Words<'_>) -> Result<bool, Unjudged> {
     let alloc = rt.alloc();
     let text = read_settings_file(rt, words.settings)?;
-    let mut logs = Vec::new(alloc);
-    for name in &words.logs {
-        logs.push(read_log(rt, words, text.as_slice(), name)?)?;
-    }
+    let logs = read_logs(rt, words, text.as_slice())?;
     let mut out = Outgoing::new(alloc, WriterSink::new(rt.stdout()));
     match judged(alloc, text, logs, words.asked, &mut out) {
         Ok(good) => {
             out.finish()?.end()?;
             Ok(good)
         }
-        Err(AuditFault::Settings) => Err(End::Own(why_refused(rt, words)?)),
-        Err(fault) => Err(named(alloc, words, fault)),
+        Err(fault) => Err(why_unjudged(rt, words, fault)?),
+    }
+}
+
+/// Reads the files, and tells of the records of each log; nothing is judged.
+fn told_calls(rt: &HostRuntime, words: &Words<'_>) -> Result<Told, Unjudged> {
+    let text = read_settings_file(rt, words.settings)?;
+    let logs = read_logs(rt, words, text.as_slice())?;
+    match calls_table(rt.alloc(), text.as_slice(), logs) {
+        Ok(text) => Ok(Told { text, good: true }),
+        Err(fault) => Err(why_unjudged(rt, words, fault)?),
+    }
+}
+
+/// The logs of the nodes, in order.
+fn read_logs(rt: &HostRuntime, words: &Words<'_>, text: &[u8]) -> Result<Vec<Vec<u8>>, Unjudged> {
+    let mut logs = Vec::new(rt.alloc());
+    for name in &words.logs {
+        logs.push(read_log(rt, words, text, name)?)?;
+    }
+    Ok(logs)
+}
+
+/// Why there is no verdict, by what is wrong with the settings or with a log.
+fn why_unjudged(
+    rt: &HostRuntime,
+    words: &Words<'_>,
+    fault: AuditFault,
+) -> Result<Unjudged, Unjudged> {
+    match fault {
+        AuditFault::Settings => Ok(End::Own(why_refused(rt, words)?)),
+        fault => Ok(named(rt.alloc(), words, fault)),
     }
 }
 
@@ -190,7 +219,7 @@ fn judged(
     match asked {
         Asked::Together(form) => put_report(alloc, audited, form, out),
         Asked::Alone(form) => put_alone(alloc, &audited, form, out),
-        Asked::Report(_) => Err(AuditFault::Settings),
+        Asked::Calls | Asked::Report(_) => Err(AuditFault::Settings),
     }
 }
 

@@ -26,16 +26,60 @@ pub(crate) enum Asked {
     Together(Form),
     /// Whether the node of each log makes it, with nothing judged of other nodes.
     Alone(LoneForm),
+    /// The records of logs as a table.
+    Calls,
     /// A report on tables.
     Report(Report),
 }
 
 /// What the command line names; its first word is the program's own name.
 pub(crate) fn words_of<'a>(alloc: Global, given: &'a [String]) -> Result<Words<'a>, Unjudged> {
+    let settings = Arg::new(alloc, "SETTINGS")
+        .required(true)
+        .action(ArgAction::Set)
+        .help("the settings of all nodes, a TOML file; of a report a table");
+    let logs = Arg::new(alloc, "LOG")
+        .action(ArgAction::Append)
+        .num_args(0..)
+        .help("the log of a node, each of them once, in any order; of a report a table");
+    let command = Command::new(alloc, "claimaudit").version(VERSION).about(
+        "Tells whether the logs of all nodes are those of one legal run, and what that run left.",
+    );
+    let command = with_ways(alloc, command)?.arg(settings)?.arg(logs)?;
+    let command = with_reports(alloc, command)?;
+    let matches = command.try_get_matches_from(given)?;
+    let report = report_of(&matches)?;
+    let form = asked_for(
+        matches.get_flag("alone"),
+        matches.get_flag("calls"),
+        matches.get_flag("schedule"),
+        matches.get_flag("json"),
+        matches.get_str("csv"),
+    )?;
+    let logs = matches.get_strs("LOG").unwrap_or(&[]);
+    let asked = asked_of(form, report, logs.len())?;
+    match matches.get_str("SETTINGS") {
+        Some(settings) => Ok(Words {
+            settings,
+            logs: Vec::from_slice(alloc, logs)?,
+            asked,
+        }),
+        None => Err(End::Own(Finding::Usage)),
+    }
+}
+
+/// A command that takes the words for what is asked of logs, too.
+fn with_ways<'a>(alloc: Global, command: Command<'a>) -> Result<Command<'a>, Unjudged> {
     let alone = Arg::new(alloc, "alone")
         .long("alone")
         .action(ArgAction::SetTrue)
         .help("judges each log by itself, and nothing of other nodes");
+    let calls = Arg::new(alloc, "calls")
+        .long("calls")
+        .action(ArgAction::SetTrue)
+        .help(
+            "writes the records of each log as CSV, with their times and references, and judges nothing",
+        );
     let schedule = Arg::new(alloc, "schedule")
         .long("schedule")
         .action(ArgAction::SetTrue)
@@ -51,44 +95,14 @@ pub(crate) fn words_of<'a>(alloc: Global, given: &'a [String]) -> Result<Words<'
         .help(
             "writes a table of what the run left as CSV: payments, entries, rows, packets, counted or prices; alone, payments, entries, rows, open, counted or prices",
         );
-    let settings = Arg::new(alloc, "SETTINGS")
-        .required(true)
-        .action(ArgAction::Set)
-        .help("the settings of all nodes, a TOML file; of a report a table");
-    let logs = Arg::new(alloc, "LOG")
-        .action(ArgAction::Append)
-        .num_args(0..)
-        .help("the log of a node, each of them once, in any order; of a report a table");
-    let command = Command::new(alloc, "claimaudit")
-        .version(VERSION)
-        .about(
-            "Tells whether the logs of all nodes are those of one legal run, and what that run left.",
-        )
-        .arg(alone)?
-        .arg(csv)?
-        .arg(json)?
-        .arg(schedule)?
-        .arg(settings)?
-        .arg(logs)?;
-    let command = with_reports(alloc, command)?;
-    let matches = command.try_get_matches_from(given)?;
-    let report = report_of(&matches)?;
-    let form = asked_for(
-        matches.get_flag("alone"),
-        matches.get_flag("schedule"),
-        matches.get_flag("json"),
-        matches.get_str("csv"),
-    )?;
-    let logs = matches.get_strs("LOG").unwrap_or(&[]);
-    let asked = asked_of(form, report, logs.len())?;
-    match matches.get_str("SETTINGS") {
-        Some(settings) => Ok(Words {
-            settings,
-            logs: Vec::from_slice(alloc, logs)?,
-            asked,
-        }),
-        None => Err(End::Own(Finding::Usage)),
-    }
+    Ok(
+        command
+            .arg(alone)?
+            .arg(calls)?
+            .arg(csv)?
+            .arg(json)?
+            .arg(schedule)?,
+    )
 }
 
 /// What is asked of so many files behind the first one: a report asks for nothing else, and has its own count of tables.
@@ -110,10 +124,17 @@ fn asked_of(form: Asked, report: Option<Report>, others: usize) -> Result<Asked,
 /// What is asked of the logs; one way at most of telling is.
 fn asked_for(
     alone: bool,
+    calls: bool,
     schedule: bool,
     json: bool,
     csv: Option<&str>,
 ) -> Result<Asked, Unjudged> {
+    if calls {
+        return match (alone, schedule, json, csv) {
+            (false, false, false, None) => Ok(Asked::Calls),
+            _ => Err(End::Own(Finding::Usage)),
+        };
+    }
     if !alone {
         return Ok(Asked::Together(form_of(schedule, json, csv)?));
     }

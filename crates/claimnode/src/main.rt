@@ -2,6 +2,7 @@
 //! what it says goes to standard output, and each call is on disk before what it sent is said.
 #![tactic(auto)]
 
+mod checking;
 mod file;
 mod finding;
 mod joining;
@@ -11,6 +12,7 @@ mod turning;
 mod undamaged;
 mod words;
 
+use crate::checking::check_settings;
 use crate::file::{Opened, open_log};
 use crate::finding::Finding;
 use crate::joining::join;
@@ -20,11 +22,8 @@ use crate::turning::turn;
 use crate::words::{Words, words_of};
 use command_line::{End, given_words, read_settings_file};
 use node_process::{Host, Owner, Unserved, serve_all};
-use node_service::{Service, ServiceFault};
 use payer_book::HashKeys;
-use std::alloc::Global;
 use std::process::ExitCode;
-use world_settings::living_settings_fault;
 
 fn main(rt: HostRuntime) -> ExitCode {
     match run(&rt) {
@@ -41,23 +40,6 @@ fn run(rt: &HostRuntime) -> Result<(), End<Finding>> {
     let words = words_of(alloc, given.as_slice())?;
     let text = read_settings_file(rt, words.settings)?;
     run_node(rt, &words, text.as_slice())
-}
-
-/// Refuses settings that have no such node, before a file is made for its log.
-fn check_settings(rt: &HostRuntime, words: &Words<'_>, text: &[u8]) -> Result<(), End<Finding>> {
-    match Service::open(rt.alloc(), &HashKeys::fixed(), text, words.node, None, b"") {
-        Ok(_) => Ok(()),
-        Err(ServiceFault::Settings) => Err(End::Own(why_refused(rt.alloc(), text)?)),
-        Err(fault) => Err(End::Own(Finding::Service(fault))),
-    }
-}
-
-/// What is wrong in settings that are refused.
-fn why_refused(alloc: Global, text: &[u8]) -> Result<Finding, End<Finding>> {
-    match living_settings_fault(alloc, text)? {
-        Some(why) => Ok(Finding::Settings(why)),
-        None => Ok(Finding::Service(ServiceFault::Settings)),
-    }
 }
 
 /// Serves a node under settings from its log.

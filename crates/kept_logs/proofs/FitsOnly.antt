@@ -1,5 +1,5 @@
 -- What was taken has numbers of a machine.
-use Rattle.std.proofs.Common.{◌≡◌, ℕ, zero, suc, ◌<◌, ◌^◌, true, List, [], ◌∷◌, length, Option, Some, None, ap, ◌∙◌, sym, subst}
+use Rattle.std.proofs.Common.{◌≡◌, ℕ, zero, suc, ◌<◌, ◌^◌, List, [], ◌∷◌, length, Option, Some, None, ap, ◌∙◌, sym, subst}
 use Rattle.std.proofs.lemmas.Option.{some_pair_parts, same_Some}
 use Rattle.std.specs.List.{AllByRecursion}
 use Rattle.claim_model.specs.Node.{Node, Pharmacy, Switch, Payer, Sent, Call, Submit, Tick, Take, Stop, Start, Reprice}
@@ -11,9 +11,8 @@ use Rattle.kept_records.proofs.FieldsOnly.{AreBytes, IsTaken, u8_at_taken, u16_a
 use Rattle.kept_logs.specs.Fields.{bytes_at, text_at, node_of, node_at, node_text, text_of}
 use Rattle.kept_logs.specs.Calls.{call_of, call_at, submit_at, take_at, unplan_at, plan_at}
 use Rattle.kept_logs.specs.Records.{sent_at, sents_in, logged_in, sent_text}
-use Rattle.kept_logs.specs.Frames.{is_size}
 use Rattle.kept_logs.specs.Fits.{FitsNode, FitsCall, FitsSent, FitsLogged}
-use Rattle.kept_logs.proofs.FieldsOnly.{bytes_at_taken, text_at_taken, node_at_taken, mapped, call_at_taken, sent_at_taken, logged_in_taken}
+use Rattle.kept_logs.proofs.FieldsOnly.{bytes_at_taken, text_at_taken, node_at_taken, mapped, call_at_taken, sent_at_taken}
 
 pub text_fits : (bytes text rest : List ℕ) → AreBytes bytes → text_at bytes ≡ Some (text, rest) → length text < 2 ^ 64
 unfolding text_at
@@ -118,9 +117,9 @@ sents_fit (suc count) bytes sents are h =
     let others = sents_fit count sent.0.1 more.0 first.rest_bytes more.1 in
     (subst (AllByRecursion FitsSent) is (sent_fits bytes sent.0.0 sent.0.1 are sent.1, others.0), sym (ap length is) ∙ ap suc others.1)
 
-pub logged_fits : (bytes : List ℕ) (r : Logged) → AreBytes bytes → is_size (length bytes) ≡ true → logged_in bytes ≡ Some r → FitsLogged r
+pub logged_fits : (bytes : List ℕ) (r : Logged) → AreBytes bytes → logged_in bytes ≡ Some r → FitsLogged r
 unfolding logged_in
-logged_fits bytes r are size h =
+logged_fits bytes r are h =
     let call = option_then (call_at bytes) (λ (c : Call × List ℕ). u64_at c.1 >>= λ (n : ℕ × List ℕ). sents_in n.0 n.1 >>= λ (s : List Sent). Some (record { call = c.0; sent = s })) r h in
     let count = option_then (u64_at call.0.1) (λ (n : ℕ × List ℕ). sents_in n.0 n.1 >>= λ (s : List Sent). Some (record { call = call.0.0; sent = s })) r call.2 in
     let sent = option_then (sents_in count.0.0 count.0.1) (λ (s : List Sent). Some (record { call = call.0.0; sent = s })) r count.2 in
@@ -132,4 +131,4 @@ logged_fits bytes r are size h =
     let calls : FitsCall r.call = subst (λ (x : Logged). FitsCall x.call) is (call_fits bytes call.0.0 call.0.1 are call.1) in
     let counts : length r.sent < 2 ^ 64 = subst (λ (x : Logged). length x.sent < 2 ^ 64) is (subst (λ n. n < 2 ^ 64) (sym third.1) second.1) in
     let sents : AllByRecursion FitsSent r.sent = subst (λ (x : Logged). AllByRecursion FitsSent x.sent) is third.0 in
-    record { call = calls; count = counts; sent = sents; body = ap (λ (xs : List ℕ). is_size (length xs)) (sym (logged_in_taken bytes r are h)) ∙ size }
+    record { call = calls; count = counts; sent = sents }

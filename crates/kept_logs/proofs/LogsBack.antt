@@ -4,15 +4,13 @@ use Rattle.std.proofs.lemmas.Bool.{cases_lt}
 use Rattle.std.proofs.lemmas.Bool.Decides.{nat_tests}
 use Rattle.std.proofs.lemmas.List.{take_at, take_all, take-append-le}
 use Rattle.claim_model.specs.Node.{Node, Pharmacy, Switch, Payer}
-use Rattle.claim_model.specs.Logs.{Logged, NodeLog}
-use Rattle.node_log.specs.LogSeen.{with_call}
+use Rattle.kept_logs.specs.Stamps.{Stamped, KeptLog, with_record, stamped_text}
 use Rattle.kept_logs.specs.declared.fault.LogFault.TheVariants.{Short}
 use Rattle.kept_logs.specs.Fields.{bytes_at, node_text, node_at}
-use Rattle.kept_logs.specs.Records.{logged_text}
 use Rattle.kept_logs.specs.Digests.{version_of}
 use Rattle.kept_logs.specs.Frames.{check_of, frame_text, Whole, met}
-use Rattle.kept_logs.specs.Logs.{owner_text, head_text, calls_text, log_text, head_in, calls_in, log_in, ReadsAs}
-use Rattle.kept_logs.specs.Fits.{FitsNode, FitsLog}
+use Rattle.kept_logs.specs.Logs.{owner_text, head_text, calls_text, kept_text, head_in, calls_in, kept_in, KeptAs}
+use Rattle.kept_logs.specs.Fits.{FitsNode, FitsKept}
 use Rattle.kept_logs.specs.Cuts.{whole_within, first_calls, calls_within, log_within, ReadsBack}
 use Rattle.kept_logs.proofs.Meeting.{met-append, met-short, same_byte}
 use Rattle.kept_logs.proofs.FieldsBack.{bytes_at-put, node_at-put}
@@ -94,71 +92,71 @@ head_in-short (version ∷ digest) node (suc (suc (suc m))) rest h small = elim 
 
 -- ---- the log
 
-pub log_length : (digest : List ℕ) (log : NodeLog) → length digest ≡ 33 → length (log_text digest log) ≡ 46 + length (calls_text (version_of digest) 1 log.calls)
-unfolding log_text
+pub log_length : (digest : List ℕ) (log : KeptLog) → length digest ≡ 33 → length (kept_text digest log) ≡ 46 + length (calls_text (version_of digest) 1 log.calls)
+unfolding kept_text
 log_length digest log h = omega (arith, length-append (head_text digest log.node) (calls_text (version_of digest) 1 log.calls), head_length digest log.node h)
 
 -- a cut behind the head
-cut_text : (digest : List ℕ) (log : NodeLog) (n : ℕ) → length digest ≡ 33 → 46 ≤ n → take n (log_text digest log) ≡ head_text digest log.node ++ take (n - 46) (calls_text (version_of digest) 1 log.calls)
-unfolding log_text
+cut_text : (digest : List ℕ) (log : KeptLog) (n : ℕ) → length digest ≡ 33 → 46 ≤ n → take n (kept_text digest log) ≡ head_text digest log.node ++ take (n - 46) (calls_text (version_of digest) 1 log.calls)
+unfolding kept_text
 cut_text digest log n h long =
     let head : List ℕ = head_text digest log.node in
     let text : List ℕ = calls_text (version_of digest) 1 log.calls in
     let e : length head ≡ 46 = head_length digest log.node h in
     take_over head text n (omega (arith, long, e)) ∙ ap (λ m. head ++ take (n - m) text) e
 
-read_by : (digest : List ℕ) (log : NodeLog) (n : ℕ) → length digest ≡ 33 → FitsLog log
+read_by : (digest : List ℕ) (log : KeptLog) (n : ℕ) → length digest ≡ 33 → FitsKept log
     → (left bytes : List ℕ) → left ≡ take n (calls_text (version_of digest) 1 log.calls) → bytes ≡ head_text digest log.node ++ left → ReadsCalls (version_of digest) (length bytes) 1 (length left) n log.calls (whole_within (version_of digest) 1 n log.calls)
-    → log_in digest bytes ≡ Ok (record { log = first_calls (whole_within (version_of digest) 1 n log.calls) log; whole = length (log_text digest (first_calls (whole_within (version_of digest) 1 n log.calls) log)) })
-unfolding log_in
+    → kept_in digest bytes ≡ Ok (record { log = first_calls (whole_within (version_of digest) 1 n log.calls) log; whole = length (kept_text digest (first_calls (whole_within (version_of digest) 1 n log.calls) log)) })
+unfolding kept_in
 read_by digest log n h fits left bytes is all read =
     let k : ℕ = whole_within (version_of digest) 1 n log.calls in
     let head : head_in digest bytes ≡ Ok (log.node, left) = ap (head_in digest) all ∙ head_in-put digest log.node left h fits.node in
     let calls : calls_in (version_of digest) (length bytes) 1 (length left) left ≡ Ok (take k log.calls, read.rest) = ap (calls_in (version_of digest) (length bytes) 1 (length left)) is ∙ read.read in
-    let count : length bytes - length read.rest ≡ length (log_text digest (first_calls k log)) =
+    let count : length bytes - length read.rest ≡ length (kept_text digest (first_calls k log)) =
     omega (arith, ap length all, length-append (head_text digest log.node) left, head_length digest log.node h, read.count, ap length is, log_length digest (first_calls k log) h) in
     rw (head, calls, count) refl
 
 -- the text of the first calls, and what follows
-text_split : (digest : List ℕ) (log : NodeLog) (k : ℕ) → log_text digest log ≡ log_text digest (first_calls k log) ++ calls_text (version_of digest) (1 + k) (drop k log.calls)
-unfolding log_text
+text_split : (digest : List ℕ) (log : KeptLog) (k : ℕ) → kept_text digest log ≡ kept_text digest (first_calls k log) ++ calls_text (version_of digest) (1 + k) (drop k log.calls)
+unfolding kept_text
 text_split digest log k =
     let head : List ℕ = head_text digest log.node in
     ap (λ t. head ++ t) (calls_text-split (version_of digest) 1 k log.calls) ∙ sym (append_assoc head (calls_text (version_of digest) 1 (take k log.calls)) (calls_text (version_of digest) (1 + k) (drop k log.calls)))
 
-pub reads_back : (digest : List ℕ) (log : NodeLog) (n : ℕ) → length digest ≡ 33 → FitsLog log → 46 ≤ n → ReadsBack digest n log
+pub reads_back : (digest : List ℕ) (log : KeptLog) (n : ℕ) → length digest ≡ 33 → FitsKept log → 46 ≤ n → ReadsBack digest n log
 reads_back digest log n h fits long =
     let k : ℕ = calls_within digest n log in
     let left : List ℕ = take (n - 46) (calls_text (version_of digest) 1 log.calls) in
-    let bytes : List ℕ = take n (log_text digest log) in
+    let bytes : List ℕ = take n (kept_text digest log) in
     let all : bytes ≡ head_text digest log.node ++ left = cut_text digest log n h long in
     let read = reads_calls (version_of digest) (length bytes) 1 (length left) (n - 46) log.calls fits.calls (omega arith) in
     record {
       read = read_by digest log (n - 46) h fits left bytes refl all read;
       stand = omega (arith, log_length digest (first_calls k log) h, read.stand, long);
       most = λ l. omega (arith, log_length digest (first_calls (suc k) log) h, read.more l, long);
-      text = ap (take (length (log_text digest (first_calls k log)))) (text_split digest log k) ∙ take_at (log_text digest (first_calls k log)) (calls_text (version_of digest) (1 + k) (drop k log.calls)) (length (log_text digest (first_calls k log))) refl;
+      text = ap (take (length (kept_text digest (first_calls k log)))) (text_split digest log k) ∙ take_at (kept_text digest (first_calls k log)) (calls_text (version_of digest) (1 + k) (drop k log.calls)) (length (kept_text digest (first_calls k log))) refl;
     }
 
-pub reads_whole : (digest : List ℕ) (log : NodeLog) → length digest ≡ 33 → FitsLog log → ReadsAs digest (log_text digest log) log
+pub reads_whole : (digest : List ℕ) (log : KeptLog) → length digest ≡ 33 → FitsKept log → KeptAs digest (kept_text digest log) log
 reads_whole digest log h fits =
-    let text : List ℕ = log_text digest log in
+    let text : List ℕ = kept_text digest log in
     let n : ℕ = length text in
     let size : n ≡ 46 + length (calls_text (version_of digest) 1 log.calls) = log_length digest log h in
     let back = reads_back digest log n h fits (omega (arith, size)) in
     let all : calls_within digest n log ≡ length log.calls = all_within (version_of digest) 1 (n - 46) log.calls (omega (arith, size)) in
     let calls : take (calls_within digest n log) log.calls ≡ log.calls = ap (λ k. take k log.calls) all ∙ take_all (length log.calls) log.calls (omega arith) in
-    let same : log_within digest n log ≡ log = ap (λ (cs : List Logged). record { node = log.node; calls = cs }) calls in
-    ap (log_in digest) (sym (take_all n text (omega arith))) ∙ back.read ∙ ap (λ (l : NodeLog). Ok (record { log = l; whole = length (log_text digest l) })) same
+    let same : log_within digest n log ≡ log = ap (λ (cs : List Stamped). record { node = log.node; calls = cs }) calls in
+    ap (kept_in digest) (sym (take_all n text (omega arith))) ∙ back.read ∙ ap (λ (l : KeptLog). Ok (record { log = l; whole = length (kept_text digest l) })) same
 
-pub reads_short : (digest : List ℕ) (log : NodeLog) (n : ℕ) → length digest ≡ 33 → n < 46 → log_in digest (take n (log_text digest log)) ≡ Err Short
-unfolding log_in log_text
+pub reads_short : (digest : List ℕ) (log : KeptLog) (n : ℕ) → length digest ≡ 33 → n < 46 → kept_in digest (take n (kept_text digest log)) ≡ Err Short
+unfolding kept_in kept_text
 reads_short digest log n h small = rw (head_in-short digest log.node n (calls_text (version_of digest) 1 log.calls) h small) refl
 
-pub one_more : (digest : List ℕ) (log : NodeLog) (r : Logged) → log_text digest (with_call log r) ≡ log_text digest log ++ frame_text (version_of digest) (length log.calls + 1) (logged_text r)
-unfolding log_text
+pub one_more : (digest : List ℕ) (log : KeptLog) (r : Stamped) → kept_text digest (with_record log r) ≡ kept_text digest log ++ frame_text (version_of digest) (length log.calls + 1) (stamped_text r)
+unfolding kept_text
 one_more digest log r =
     let head : List ℕ = head_text digest log.node in
     let e : 1 + length log.calls ≡ length log.calls + 1 = omega arith in
-    ap (λ t. head ++ t) (calls_text-more (version_of digest) 1 log.calls r ∙ ap (λ n. calls_text (version_of digest) 1 log.calls ++ frame_text (version_of digest) n (logged_text r)) e)
-    ∙ sym (append_assoc head (calls_text (version_of digest) 1 log.calls) (frame_text (version_of digest) (length log.calls + 1) (logged_text r)))
+    ap (λ t. head ++ t) (calls_text-more (version_of digest) 1 log.calls r ∙ ap (λ n. calls_text (version_of digest) 1 log.calls ++ frame_text (version_of digest) n (stamped_text r)) e)
+    ∙ sym (append_assoc head (calls_text (version_of digest) 1 log.calls) (frame_text (version_of digest) (length log.calls + 1) (stamped_text r)))

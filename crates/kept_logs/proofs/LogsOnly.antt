@@ -4,23 +4,23 @@ use Rattle.std.proofs.lemmas.Bool.Decides.{nat_tests}
 use Rattle.std.proofs.lemmas.List.{take_at, take-append-drop, length-take-le}
 use Rattle.std.specs.Int.{w64, to_be_bytes}
 use Rattle.claim_model.specs.Node.{Node}
-use Rattle.claim_model.specs.Logs.{Logged}
 use Rattle.kept_records.specs.Fields.{u64_at}
 use Rattle.kept_records.proofs.FieldsOnly.{AreBytes, drop_bytes, take_bytes, IsTaken, u64_at_taken}
+use Rattle.kept_logs.specs.Stamps.{Stamped, stamped_text, stamped_in}
 use Rattle.kept_logs.specs.declared.fault.LogFault.{LogFault}
 use Rattle.kept_logs.specs.declared.fault.LogFault.TheVariants as fault
 use Rattle.kept_logs.specs.Faults.{◌>>=◌, some_or}
 use Rattle.kept_logs.specs.Fields.{bytes_at, node_text, node_at}
-use Rattle.kept_logs.specs.Records.{logged_text, logged_in}
 use Rattle.kept_logs.specs.Digests.{version_of}
 use Rattle.kept_logs.specs.Frames.{largest, is_size, is_zeros, no_record, check_of, frame_text, Met, Whole, Torn, Differs, met, Frame, Framed, CutOff, Damaged, checked, behind_length, sized_frame, body_at, frame_at}
-use Rattle.kept_logs.specs.Logs.{owner_text, head_text, calls_text, log_text, expected, head_in, read_record, framed_record, record_in, behind, and_more, calls_in, Reading, log_in}
+use Rattle.kept_logs.specs.Logs.{owner_text, head_text, calls_text, kept_text, expected, head_in, read_record, framed_record, record_in, behind, and_more, calls_in, KeptReading, kept_in, Reading, alone, calls_alone, log_in}
 use Rattle.std.specs.List.{AllByRecursion}
-use Rattle.kept_logs.specs.Fits.{FitsNode, FitsLogged}
-use Rattle.kept_logs.specs.Cuts.{IsLogOf}
-use Rattle.kept_logs.proofs.FitsOnly.{node_fits, logged_fits}
+use Rattle.kept_logs.specs.Fits.{FitsNode, FitsStamped}
+use Rattle.kept_logs.specs.Cuts.{IsLogOf, IsOfLog}
+use Rattle.kept_logs.proofs.FitsOnly.{node_fits}
 use Rattle.kept_logs.proofs.Meeting.{met-whole}
-use Rattle.kept_logs.proofs.FieldsOnly.{both_taken, bytes_at_taken, node_at_taken, logged_in_taken}
+use Rattle.kept_logs.proofs.FieldsOnly.{both_taken, bytes_at_taken, node_at_taken}
+use Rattle.kept_logs.proofs.StampsOnly.{stamped_in_taken, stamped_fits}
 use Rattle.kept_logs.proofs.LogsBack.{node_length}
 
 -- ---- frames
@@ -112,42 +112,42 @@ frame_at_taken version number bytes body after are h = by_count (u64_at bytes) r
 -- ---- records
 
 abbrev Step : Type 0
-Step = Result (Option (Logged × List ℕ)) LogFault
+Step = Result (Option (Stamped × List ℕ)) LogFault
 
-abbrev IsRecord : ℕ → ℕ → List ℕ → Logged → List ℕ → Type 0
-IsRecord version number bytes r after = IsTaken bytes (frame_text version number (logged_text r)) after × FitsLogged r
+abbrev IsRecord : ℕ → ℕ → List ℕ → Stamped → List ℕ → Type 0
+IsRecord version number bytes r after = IsTaken bytes (frame_text version number (stamped_text r)) after × FitsStamped r
 
-record_taken : (version number place : ℕ) (bytes : List ℕ) (r : Logged) (after : List ℕ) → AreBytes bytes → record_in version number place bytes ≡ Ok (Some (r, after)) → IsRecord version number bytes r after
+record_taken : (version number place : ℕ) (bytes : List ℕ) (r : Stamped) (after : List ℕ) → AreBytes bytes → record_in version number place bytes ≡ Ok (Some (r, after)) → IsRecord version number bytes r after
 unfolding record_in
 record_taken version number place bytes r after are h = by_frame (frame_at version number bytes) refl h
   where
-    same : (a x : Logged) (b y : List ℕ) → ◌≡◌ {A = Step} (Ok (Some (a, b))) (Ok (Some (x, y))) → (a ≡ x) × (b ≡ y)
-    same a x b y h = let e : ◌≡◌ {A = Logged × List ℕ} (a, b) (x, y) = cc in (ap (λ p. p.0) e, ap (λ p. p.1) e)
+    same : (a x : Stamped) (b y : List ℕ) → ◌≡◌ {A = Step} (Ok (Some (a, b))) (Ok (Some (x, y))) → (a ≡ x) × (b ≡ y)
+    same a x b y h = let e : ◌≡◌ {A = Stamped × List ℕ} (a, b) (x, y) = cc in (ap (λ p. p.0) e, ap (λ p. p.1) e)
 
-    by_logged : (body rest : List ℕ) → IsFramed version number bytes body rest → (o : Option Logged) → logged_in body ≡ o → read_record place rest o ≡ Ok (Some (r, after)) → IsRecord version number bytes r after
-    by_logged body rest framed None e h = cc
-    by_logged body rest framed (Some one) e h =
+    by_body : (body rest : List ℕ) → IsFramed version number bytes body rest → (o : Option Stamped) → stamped_in body ≡ o → read_record place rest o ≡ Ok (Some (r, after)) → IsRecord version number bytes r after
+    by_body body rest framed None e h = cc
+    by_body body rest framed (Some one) e h =
         let parts = same one r rest after h in
-        let text : body ≡ logged_text r = logged_in_taken body one framed.body_bytes e ∙ ap logged_text parts.0 in
-        (subst (λ t. IsTaken bytes (frame_text version number (logged_text r)) t) parts.1 (subst (λ b. IsTaken bytes (frame_text version number b) rest) text framed.taken), subst FitsLogged parts.0 (logged_fits body one framed.body_bytes framed.size e))
+        let text : body ≡ stamped_text r = stamped_in_taken body one framed.body_bytes e ∙ ap stamped_text parts.0 in
+        (subst (λ t. IsTaken bytes (frame_text version number (stamped_text r)) t) parts.1 (subst (λ b. IsTaken bytes (frame_text version number b) rest) text framed.taken), subst FitsStamped parts.0 (stamped_fits body one framed.body_bytes framed.size e))
 
     by_frame : (f : Frame) → frame_at version number bytes ≡ f → framed_record place f ≡ Ok (Some (r, after)) → IsRecord version number bytes r after
     by_frame CutOff e h = cc
     by_frame Damaged e h = cc
-    by_frame (Framed body rest) e h = by_logged body rest (frame_at_taken version number bytes body rest are e) (logged_in body) refl h
+    by_frame (Framed body rest) e h = by_body body rest (frame_at_taken version number bytes body rest are e) (stamped_in body) refl h
 
 record_cut : (version number place : ℕ) (bytes : List ℕ) → record_in version number place bytes ≡ Ok None → frame_at version number bytes ≡ CutOff
 unfolding record_in
 record_cut version number place bytes h = by_frame (frame_at version number bytes) refl h
   where
-    by_logged : (after : List ℕ) (o : Option Logged) → read_record place after o ≡ Ok None → frame_at version number bytes ≡ CutOff
-    by_logged after None h = cc
-    by_logged after (Some one) h = cc
+    by_body : (after : List ℕ) (o : Option Stamped) → read_record place after o ≡ Ok None → frame_at version number bytes ≡ CutOff
+    by_body after None h = cc
+    by_body after (Some one) h = cc
 
     by_frame : (f : Frame) → frame_at version number bytes ≡ f → framed_record place f ≡ Ok None → frame_at version number bytes ≡ CutOff
     by_frame CutOff e h = e
     by_frame Damaged e h = cc
-    by_frame (Framed body after) e h = by_logged after (logged_in body) h
+    by_frame (Framed body after) e h = by_body after (stamped_in body) h
 
 -- nothing is left, where no byte is
 nothing_cut : (version number : ℕ) (bytes : List ℕ) → length bytes ≤ 0 → frame_at version number bytes ≡ CutOff
@@ -156,39 +156,39 @@ nothing_cut version number [] h = refl
 nothing_cut version number (x ∷ xs) h = absurd (omega arith)
 
 -- calls that were read, and what is left
-pub record AreCalls (version number : ℕ) (bytes : List ℕ) (calls : List Logged) (rest : List ℕ) : Type 0 where
+pub record AreCalls (version number : ℕ) (bytes : List ℕ) (calls : List Stamped) (rest : List ℕ) : Type 0 where
   pub text : bytes ≡ calls_text version number calls ++ rest
   pub cut : frame_at version (number + length calls) rest ≡ CutOff
-  pub fits : AllByRecursion FitsLogged calls
+  pub fits : AllByRecursion FitsStamped calls
 
-no_more : (version number : ℕ) (bytes : List ℕ) (calls : List Logged) (rest : List ℕ) → frame_at version number bytes ≡ CutOff → ([] ≡ calls) → (bytes ≡ rest) → AreCalls version number bytes calls rest
+no_more : (version number : ℕ) (bytes : List ℕ) (calls : List Stamped) (rest : List ℕ) → frame_at version number bytes ≡ CutOff → ([] ≡ calls) → (bytes ≡ rest) → AreCalls version number bytes calls rest
 unfolding calls_text
 no_more version number bytes calls rest cut none same =
     let e : number ≡ number + 0 = omega arith in
     let found : AreCalls version number bytes [] bytes = record { text = refl; cut = ap (λ n. frame_at version n bytes) (sym e) ∙ cut; fits = tt } in
     subst (λ r. AreCalls version number bytes calls r) same (subst (λ cs. AreCalls version number bytes cs bytes) none found)
 
-one_more : (version number : ℕ) (bytes after : List ℕ) (r : Logged) (calls : List Logged) (rest : List ℕ) → IsRecord version number bytes r after → AreCalls version (number + 1) after calls rest → AreCalls version number bytes (r ∷ calls) rest
+one_more : (version number : ℕ) (bytes after : List ℕ) (r : Stamped) (calls : List Stamped) (rest : List ℕ) → IsRecord version number bytes r after → AreCalls version (number + 1) after calls rest → AreCalls version number bytes (r ∷ calls) rest
 unfolding calls_text
 one_more version number bytes after r calls rest first others =
     let e : number + 1 + length calls ≡ number + suc (length calls) = omega arith in
     record {
-      text = first.0.all ∙ ap (λ t. frame_text version number (logged_text r) ++ t) others.text ∙ sym (append_assoc (frame_text version number (logged_text r)) (calls_text version (number + 1) calls) rest);
+      text = first.0.all ∙ ap (λ t. frame_text version number (stamped_text r) ++ t) others.text ∙ sym (append_assoc (frame_text version number (stamped_text r)) (calls_text version (number + 1) calls) rest);
       cut = ap (λ n. frame_at version n rest) (sym e) ∙ others.cut;
       fits = (first.1, others.fits);
     }
 
 abbrev Reads : Type 0
-Reads = Result (List Logged × List ℕ) LogFault
+Reads = Result (List Stamped × List ℕ) LogFault
 
-same_reads : (a x : List Logged) (b y : List ℕ) → ◌≡◌ {A = Reads} (Ok (a, b)) (Ok (x, y)) → (a ≡ x) × (b ≡ y)
-same_reads a x b y h = let e : ◌≡◌ {A = List Logged × List ℕ} (a, b) (x, y) = cc in (ap (λ p. p.0) e, ap (λ p. p.1) e)
+same_reads : (a x : List Stamped) (b y : List ℕ) → ◌≡◌ {A = Reads} (Ok (a, b)) (Ok (x, y)) → (a ≡ x) × (b ≡ y)
+same_reads a x b y h = let e : ◌≡◌ {A = List Stamped × List ℕ} (a, b) (x, y) = cc in (ap (λ p. p.0) e, ap (λ p. p.1) e)
 
 frame_some : (version number : ℕ) (body : List ℕ) → 0 < length (frame_text version number body)
 unfolding frame_text
 frame_some version number body = omega arith
 
-pub calls_in_taken : (version total number most : ℕ) (bytes : List ℕ) (calls : List Logged) (rest : List ℕ) → AreBytes bytes → length bytes ≤ most → calls_in version total number most bytes ≡ Ok (calls, rest) → AreCalls version number bytes calls rest
+pub calls_in_taken : (version total number most : ℕ) (bytes : List ℕ) (calls : List Stamped) (rest : List ℕ) → AreBytes bytes → length bytes ≤ most → calls_in version total number most bytes ≡ Ok (calls, rest) → AreCalls version number bytes calls rest
 unfolding calls_in
 calls_in_taken version total number zero bytes calls rest are room h = let same = same_reads [] calls bytes rest h in no_more version number bytes calls rest (nothing_cut version number bytes room) same.0 same.1
 calls_in_taken version total number (suc most) bytes calls rest are room h =
@@ -197,21 +197,21 @@ calls_in_taken version total number (suc most) bytes calls rest are room h =
     more : List ℕ → Reads
     more after = calls_in version total (number + 1) most after
 
-    by_rest : (after : List ℕ) (r : Logged) → IsRecord version number bytes r after → ((cs : List Logged) → more after ≡ Ok (cs, rest) → AreCalls version (number + 1) after cs rest)
+    by_rest : (after : List ℕ) (r : Stamped) → IsRecord version number bytes r after → ((cs : List Stamped) → more after ≡ Ok (cs, rest) → AreCalls version (number + 1) after cs rest)
         → (reading : Reads) → more after ≡ reading → behind (r ∷ []) reading ≡ Ok (calls, rest) → AreCalls version number bytes calls rest
     by_rest after r first inner (Err why) e h = cc
     by_rest after r first inner (Ok (cs, left)) e h =
         let same = same_reads (r ∷ cs) calls left rest h in
         let others : AreCalls version (number + 1) after cs rest = inner cs (e ∙ ap (λ t. Ok (cs, t)) same.1) in
-        subst (λ (x : List Logged). AreCalls version number bytes x rest) same.0 (one_more version number bytes after r cs rest first others)
+        subst (λ (x : List Stamped). AreCalls version number bytes x rest) same.0 (one_more version number bytes after r cs rest first others)
 
-    by_step : (step : Step) → record_in version number (total - length bytes) bytes ≡ step → ((after : List ℕ) (cs : List Logged) → AreBytes after → length after ≤ most → more after ≡ Ok (cs, rest) → AreCalls version (number + 1) after cs rest)
+    by_step : (step : Step) → record_in version number (total - length bytes) bytes ≡ step → ((after : List ℕ) (cs : List Stamped) → AreBytes after → length after ≤ most → more after ≡ Ok (cs, rest) → AreCalls version (number + 1) after cs rest)
         → and_more bytes more step ≡ Ok (calls, rest) → AreCalls version number bytes calls rest
     by_step (Err why) e inner h = cc
     by_step (Ok None) e inner h = let same = same_reads [] calls bytes rest h in no_more version number bytes calls rest (record_cut version number (total - length bytes) bytes e) same.0 same.1
     by_step (Ok (Some (r, after))) e inner h =
         let first : IsRecord version number bytes r after = record_taken version number (total - length bytes) bytes r after are e in
-        let fewer : length after ≤ most = omega (arith, room, ap length first.0.all, length-append (frame_text version number (logged_text r)) after, frame_some version number (logged_text r)) in
+        let fewer : length after ≤ most = omega (arith, room, ap length first.0.all, length-append (frame_text version number (stamped_text r)) after, frame_some version number (stamped_text r)) in
         by_rest after r first (λ cs e. inner after cs first.0.rest_bytes fewer e) (more after) refl h
 
 -- ---- the head
@@ -298,12 +298,12 @@ head_in_taken (version ∷ digest) bytes node rest d are h =
 
 -- ---- the log
 
-same_ok : (a b : Reading) → ◌≡◌ {A = Result Reading LogFault} (Ok a) (Ok b) → a ≡ b
+same_ok : (a b : KeptReading) → ◌≡◌ {A = Result KeptReading LogFault} (Ok a) (Ok b) → a ≡ b
 same_ok a b h = cc
 
-log_is : (digest bytes : List ℕ) (node : Node) (text : List ℕ) (calls : List Logged) (rest : List ℕ) → bytes ≡ head_text digest node ++ text → FitsNode node → AreCalls (version_of digest) 1 text calls rest
+log_is : (digest bytes : List ℕ) (node : Node) (text : List ℕ) (calls : List Stamped) (rest : List ℕ) → bytes ≡ head_text digest node ++ text → FitsNode node → AreCalls (version_of digest) 1 text calls rest
     → IsLogOf digest bytes (record { log = record { node = node; calls = calls }; whole = length bytes - length rest })
-unfolding log_text
+unfolding kept_text
 log_is digest bytes node text calls rest front small found =
     let log : List ℕ = head_text digest node ++ calls_text (version_of digest) 1 calls in
     let all : bytes ≡ log ++ rest = front ∙ ap (λ t. head_text digest node ++ t) found.text ∙ sym (append_assoc (head_text digest node) (calls_text (version_of digest) 1 calls) rest) in
@@ -316,13 +316,25 @@ log_is digest bytes node text calls rest front small found =
       fits = record { node = small; calls = found.fits };
     }
 
-pub log_in_taken : (digest bytes : List ℕ) (read : Reading) → length digest ≡ 33 → AreBytes bytes → log_in digest bytes ≡ Ok read → IsLogOf digest bytes read
-unfolding log_in
-log_in_taken digest bytes read d are h =
-    let head = result_then (head_in digest bytes) (λ (n : Node × List ℕ). calls_in (version_of digest) (length bytes) 1 (length n.1) n.1 >>= λ (c : List Logged × List ℕ). Ok (record { log = record { node = n.0; calls = c.0 }; whole = length bytes - length c.1 })) read h in
-    let calls = result_then (calls_in (version_of digest) (length bytes) 1 (length head.0.1) head.0.1) (λ (c : List Logged × List ℕ). Ok (record { log = record { node = head.0.0; calls = c.0 }; whole = length bytes - length c.1 })) read head.2 in
+pub kept_in_taken : (digest bytes : List ℕ) (read : KeptReading) → length digest ≡ 33 → AreBytes bytes → kept_in digest bytes ≡ Ok read → IsLogOf digest bytes read
+unfolding kept_in
+kept_in_taken digest bytes read d are h =
+    let head = result_then (head_in digest bytes) (λ (n : Node × List ℕ). calls_in (version_of digest) (length bytes) 1 (length n.1) n.1 >>= λ (c : List Stamped × List ℕ). Ok (record { log = record { node = n.0; calls = c.0 }; whole = length bytes - length c.1 })) read h in
+    let calls = result_then (calls_in (version_of digest) (length bytes) 1 (length head.0.1) head.0.1) (λ (c : List Stamped × List ℕ). Ok (record { log = record { node = head.0.0; calls = c.0 }; whole = length bytes - length c.1 })) read head.2 in
     let front = head_in_taken digest bytes head.0.0 head.0.1 d are head.1 in
     let found : AreCalls (version_of digest) 1 head.0.1 calls.0.0 calls.0.1 = calls_in_taken (version_of digest) (length bytes) 1 (length head.0.1) head.0.1 calls.0.0 calls.0.1 front.0.rest_bytes (omega arith) calls.1 in
-    let made : Reading = record { log = record { node = head.0.0; calls = calls.0.0 }; whole = length bytes - length calls.0.1 } in
+    let made : KeptReading = record { log = record { node = head.0.0; calls = calls.0.0 }; whole = length bytes - length calls.0.1 } in
     let is : made ≡ read = same_ok made read calls.2 in
-    subst (λ (r : Reading). IsLogOf digest bytes r) is (log_is digest bytes head.0.0 head.0.1 calls.0.0 calls.0.1 front.0.all front.1 found)
+    subst (λ (r : KeptReading). IsLogOf digest bytes r) is (log_is digest bytes head.0.0 head.0.1 calls.0.0 calls.0.1 front.0.all front.1 found)
+
+-- the same of its calls alone
+pub log_in_taken : (digest bytes : List ℕ) (read : Reading) → length digest ≡ 33 → AreBytes bytes → log_in digest bytes ≡ Ok read → IsOfLog digest bytes read
+unfolding log_in
+log_in_taken digest bytes read d are h = by_kept (kept_in digest bytes) refl h
+  where
+    same : (a b : Reading) → ◌≡◌ {A = Result Reading LogFault} (Ok a) (Ok b) → a ≡ b
+    same a b h = cc
+
+    by_kept : (r : Result KeptReading LogFault) → kept_in digest bytes ≡ r → calls_alone r ≡ Ok read → IsOfLog digest bytes read
+    by_kept (Ok kept) e h = record { kept = kept; of = same (alone kept) read h; is = kept_in_taken digest bytes kept d are e }
+    by_kept (Err why) e h = cc

@@ -2,8 +2,8 @@
 use Rattle.std.specs.Prelude.{◌≡◌, ⊤, ℕ, ◌<◌, ◌^◌, true, length, Some, None}
 use Rattle.std.specs.List.{AllByRecursion}
 use Rattle.claim_model.specs.Node.{Node, Pharmacy, Switch, Payer, Sent, Call, Submit, Tick, Take, Stop, Start, Reprice}
-use Rattle.claim_model.specs.Logs.{Logged, NodeLog}
-use Rattle.kept_logs.specs.Records.{logged_text}
+use Rattle.claim_model.specs.Logs.{Logged}
+use Rattle.kept_logs.specs.Stamps.{Stamped, KeptLog, stamped_text}
 use Rattle.kept_logs.specs.Frames.{is_size}
 
 abbrev pub number_of : Node → ℕ
@@ -30,14 +30,20 @@ pub record FitsSent (sent : Sent) : Type 0 where
   pub to : FitsNode sent.to
   pub bytes : length sent.bytes < 2 ^ 64
 
--- a record's numbers
+-- an accepted call's numbers, with what it sent
 pub record FitsLogged (r : Logged) : Type 0 where
   pub call : FitsCall r.call
   pub count : length r.sent < 2 ^ 64
   pub sent : AllByRecursion FitsSent r.sent
-  pub body : is_size (length (logged_text r)) ≡ true
 
--- a log's numbers: each node's has two bytes, each price four, each length eight, and no body of a record has more than it may
-pub record FitsLog (log : NodeLog) : Type 0 where
+-- a record's numbers
+pub record FitsStamped (r : Stamped) : Type 0 where
+  pub logged : FitsLogged r.logged
+  pub time : r.stamp.time < 2 ^ 64
+  pub reference : length r.stamp.reference < 2 ^ 64
+  pub body : is_size (length (stamped_text r)) ≡ true
+
+-- a log's numbers: each node's has two bytes, each price four, each length and each time eight, and no body of a record has more than it may
+pub record FitsKept (log : KeptLog) : Type 0 where
   pub node : FitsNode log.node
-  pub calls : AllByRecursion FitsLogged log.calls
+  pub calls : AllByRecursion FitsStamped log.calls

@@ -4,4 +4,4 @@ use Rattle.kept_logs.specs.Rests as rest
 use Rattle.kept_logs.specs.declared.rests.Rest.{Rest}
 
 abbrev pub rest_seen : Rest → rest.Rest
-rest_seen r = record { node = node_seen r.node; calls = r.calls; closed = r.closed.now; kept = r.kept.now }
+rest_seen r = record { node = node_seen r.node; calls = r.calls; closed = r.closed.now; references = r.references.items; kept = r.kept.now }

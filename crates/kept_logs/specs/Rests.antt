@@ -1,5 +1,6 @@
 -- Logs that go on behind closed ones: what such a log begins with, which stands in a file of its own.
-use Rattle.std.specs.Prelude.{◌≡◌, ℕ, ◌<◌, ◌^◌, cond, bytes_eq, List, [], ◌∷◌, ◌++◌, length, take, drop, codes, Option, Some, None}
+use Rattle.std.specs.Prelude.{◌≡◌, ℕ, zero, suc, ◌<◌, ◌^◌, ◌==◌, ◌||◌, cond, bytes_eq, List, [], ◌∷◌, ◌++◌, length, take, drop, codes, Option, Some, None}
+use Rattle.std.specs.List.{AllByRecursion}
 use Rattle.std.specs.Int.{w64, to_be_bytes}
 use Rattle.claim_model.specs.Node.{Node}
 use Rattle.claim_model.specs.Nodes.{AnyNode, node_at, same_node}
@@ -8,28 +9,51 @@ use Rattle.claim_model.specs.Settings as model
 use Rattle.world_setup.specs.Seen.{settings_seen}
 use Rattle.world_setup.specs.declared.settings.WorldSettings.{WorldSettings}
 use Rattle.node_state.specs.Resting.{resumed}
-use Rattle.kept_records.specs.Fields.{u64_at}
+use Rattle.kept_records.specs.Fields.{u8_at, u64_at}
 use Rattle.kept_records.specs.Options.{◌>>=◌}
 use Rattle.kept_logs.specs.Digests.{of_said}
 use Rattle.kept_logs.specs.Fields as field
-use Rattle.kept_logs.specs.Fields.{bytes_at, node_text}
+use Rattle.kept_logs.specs.Fields.{bytes_at, node_text, text_at, text_of}
+use Rattle.kept_logs.specs.References.{Reference}
 use Rattle.kept_logs.specs.Fits.{FitsNode}
 use Rattle.kept_logs.specs.Frames.{check_of, Met, Whole, Torn, Differs, met}
 
--- what a log begins with that goes on behind closed ones: whose it is, how many calls these have, the SHA-256 digest of the last of them, and the record
--- that the node left at rest
+-- what a log begins with that goes on behind closed ones: whose it is, how many calls these have, the SHA-256 digest of the last of them, the references
+-- of their submissions, and the record that the node left at rest
 pub record Rest : Type 0 where
   pub node : Node
   pub calls : ℕ
   pub closed : List ℕ
+  pub references : List Reference
   pub kept : List ℕ
 
--- before the record: the name, the version, the node, the calls, the digest, and what vouches for the record; 54 bytes
+-- a reference: its name, and the number
+unfoldable pub reference_text : Reference → List ℕ
+reference_text r = text_of r.name ++ to_be_bytes w64 r.number
+
+-- references, one behind the other
+unfoldable pub each_text : List Reference → List ℕ
+each_text [] = []
+each_text (r ∷ more) = reference_text r ++ each_text more
+
+-- how many references there are, and these
+unfoldable pub references_text : List Reference → List ℕ
+references_text references = to_be_bytes w64 (length references) ++ each_text references
+
+-- version 2 has references, version 1 has none
+abbrev pub rest_version : List Reference → ℕ
+rest_version references = cond (length references == 0) 1 2
+
+-- what the check sum is of: the references, if there are any, and the record
+unfoldable pub rest_body : List Reference → List ℕ → List ℕ
+rest_body references kept = cond (length references == 0) kept (references_text references ++ kept)
+
+-- before that: the name, the version, the node, the calls, the digest, and what vouches for what follows; 54 bytes
 unfoldable pub rest_head : Rest → List ℕ
-rest_head r = codes "PR" ++ (1 ∷ (node_text r.node ++ (to_be_bytes w64 r.calls ++ (r.closed ++ check_of 2 r.calls r.kept))))
+rest_head r = codes "PR" ++ (rest_version r.references ∷ (node_text r.node ++ (to_be_bytes w64 r.calls ++ (r.closed ++ check_of 2 r.calls (rest_body r.references r.kept)))))
 
 unfoldable pub rest_text : Rest → List ℕ
-rest_text r = rest_head r ++ r.kept
+rest_text r = rest_head r ++ rest_body r.references r.kept
 
 -- what follows these bytes, where they stand there
 abbrev pub behind_met : Met → Option (List ℕ)
@@ -37,21 +61,62 @@ behind_met (Whole rest) = Some rest
 behind_met Torn = None
 behind_met Differs = None
 
--- what bytes are as the beginning of a log; none where they are none, or what vouches for the record does not
-unfoldable pub rest_in : List ℕ → Option Rest
-rest_in bytes = do
-  named ← behind_met (met (codes "PR" ++ (1 ∷ [])) bytes)
+-- a reference at the front, and what follows it; None where it is cut off
+unfoldable pub reference_at : List ℕ → Option (Reference × List ℕ)
+reference_at bytes = do
+  name ← text_at bytes
+  number ← u64_at name.1
+  Some (record { name = name.0; number = number.0 }, number.1)
+
+-- so many references at the front, and what follows them; None where they are cut off
+unfoldable pub each_at : ℕ → List ℕ → Option (List Reference × List ℕ)
+each_at zero bytes = Some ([], bytes)
+each_at (suc count) bytes = do
+  one ← reference_at bytes
+  more ← each_at count one.1
+  Some (one.0 ∷ more.0, more.1)
+
+unfoldable pub references_at : List ℕ → Option (List Reference × List ℕ)
+references_at bytes = do
+  count ← u64_at bytes
+  each_at count.0 count.1
+
+-- the references and the record
+abbrev pub body_in : ℕ → List ℕ → Option (List Reference × List ℕ)
+body_in version body = cond (version == 2) (references_at body) (Some ([], body))
+
+-- behind the version: the node, the calls, the digest, and what is vouched for
+unfoldable pub rest_behind : ℕ → List ℕ → Option Rest
+rest_behind version named = do
   node ← field.node_at named
   calls ← u64_at node.1
   closed ← bytes_at 32 calls.1
   sum ← bytes_at 8 closed.1
-  cond (bytes_eq sum.0 (check_of 2 calls.0 sum.1)) (Some (record { node = node.0; calls = calls.0; closed = closed.0; kept = sum.1 })) None
+  body ← cond (bytes_eq sum.0 (check_of 2 calls.0 sum.1)) (body_in version sum.1) None
+  Some (record { node = node.0; calls = calls.0; closed = closed.0; references = body.0; kept = body.1 })
+
+-- of one of the two versions
+abbrev pub versioned : Option (ℕ × List ℕ) → Option Rest
+versioned None = None
+versioned (Some (version, named)) = cond ((version == 1) || (version == 2)) (rest_behind version named) None
+
+-- what bytes are as the beginning of a log; none where they are none, or what vouches for the record does not
+unfoldable pub rest_in : List ℕ → Option Rest
+rest_in bytes = do
+  named ← behind_met (met (codes "PR") bytes)
+  versioned (u8_at named)
 
 -- its numbers are numbers of a machine, and its digest is one
+pub record FitsReference (r : Reference) : Type 0 where
+  pub name : length r.name < 2 ^ 64
+  pub number : r.number < 2 ^ 64
+
 pub record FitsRest (r : Rest) : Type 0 where
   pub node : FitsNode r.node
   pub calls : r.calls < 2 ^ 64
   pub closed : length r.closed ≡ 32
+  pub count : length r.references < 2 ^ 64
+  pub references : AllByRecursion FitsReference r.references
 
 -- the node of that name, from its record
 abbrev pub begun_from : model.WorldSettings → Node → Option Rest → Option AnyNode
@@ -73,7 +138,16 @@ abbrev pub calls_before : Option (List ℕ) → ℕ
 calls_before None = 0
 calls_before (Some rest) = calls_in (rest_in rest)
 
--- what the head of a log has of its settings that goes on behind closed ones: a digest of what it would have, and of what stands before the record that it
--- begins with
+-- the references of the calls before a log
+abbrev pub references_of : Option Rest → List Reference
+references_of None = []
+references_of (Some r) = r.references
+
+abbrev pub references_before : Option (List ℕ) → List Reference
+references_before None = []
+references_before (Some rest) = references_of (rest_in rest)
+
+-- what the head of a log has of its settings that goes on behind closed ones: a digest of what it would have, and of what stands in front of the references
+-- and the record that it begins with
 unfoldable pub behind : List ℕ → List ℕ → List ℕ
 behind digest rest = of_said (drop 1 digest ++ take 54 rest)

@@ -1,18 +1,18 @@
 //! Logs as they are written and read.
 
-ghost use Rattle.std.specs.Prelude.{◌≡◌, ◌≢◌, ◌≤◌, ◌++◌, length, Ok, Err, IfOk, IfErr, OnOk};
+ghost use Rattle.std.specs.Prelude.{◌≡◌, ◌≢◌, ◌≤◌, ◌+◌, ◌-◌, ◌++◌, ℕ, List, length, map, take, Ok, Err, IfOk, IfErr, OnOk};
 ghost use Rattle.std.specs.List.{AllByRecursion};
 ghost use Rattle.std.specs.Option.{option_map};
 ghost use Rattle.world_setup.specs.Seen.{node_seen};
 ghost use Rattle.node_log.specs.LogSeen.{log_seen};
 ghost use Rattle.kept_logs.specs.declared.fault.LogFault.TheVariants.{OutOfMemory};
-ghost use Rattle.kept_logs.specs.Records.{logged_text, logged_in};
+ghost use Rattle.kept_logs.specs.Stamps.{Stamped, plain, plain_log, stamped_in, stamped_text};
 ghost use Rattle.kept_logs.specs.Digests.{version_seen};
 ghost use Rattle.kept_logs.specs.Frames.{frame_text};
-ghost use Rattle.kept_logs.specs.Logs.{calls_text, log_text, read_record, record_in, records_in, log_in, ReadsAs};
-ghost use Rattle.kept_logs.specs.Cuts.{IsLogOf, first_calls};
-ghost use Rattle.kept_logs.specs.LogSeen.{entry_seen, reading_seen, CallsAre};
-ghost use Rattle.kept_logs.specs.Fits.{FitsLogged, FitsLog};
+ghost use Rattle.kept_logs.specs.Logs.{calls_text, kept_text, read_record, record_in, records_in, kept_in, log_in, KeptAs, KeptReading};
+ghost use Rattle.kept_logs.specs.Cuts.{IsOfLog, first_calls};
+ghost use Rattle.kept_logs.specs.LogSeen.{entry_seen, reading_seen, stamp_seen, CallsAre};
+ghost use Rattle.kept_logs.specs.Fits.{FitsStamped, FitsKept};
 
 use crate::digest::SettingsDigest;
 use crate::fault::LogFault;
@@ -20,6 +20,7 @@ use crate::frames::{Frame, frame_of, take_frame};
 use crate::heads::{put_head, take_head};
 use crate::laws::{log_is_its_text, log_reads_back};
 use crate::records::{Entry, body_of, entry_of};
+use crate::stamps::Stamp;
 use crate::version::LogVersion;
 use node_log::{NodeLog, Record};
 use std::alloc::{AllocError, Global};
@@ -35,16 +36,16 @@ pub struct ReadLog {
     pub whole: usize,
 }
 
-/// The text of a log under settings of this digest.
+/// The text of a log under settings of this digest, of whose calls nothing was noted.
 pub fn write_log(
     alloc: Global,
     settings: &SettingsDigest,
     log: &NodeLog,
 ) -> Result<Vec<u8>, AllocError>
-    ensures text { IfOk result (λ text. text.items ≡ log_text settings.now (log_seen log.now)) }
-    ensures fits { IfOk result (λ _. FitsLog (log_seen log.now)) }
+    ensures text { IfOk result (λ text. text.items ≡ kept_text settings.now (plain_log (log_seen log.now))) }
+    ensures fits { IfOk result (λ _. FitsKept (plain_log (log_seen log.now))) }
     // It is read as this log.
-    ensures read { IfOk result (λ text. ReadsAs settings.now text.items (log_seen log.now)) }
+    ensures read { IfOk result (λ text. KeptAs settings.now text.items (plain_log (log_seen log.now))) }
 {
     log_reads_back();
     let _ = settings.as_slice();
@@ -53,8 +54,8 @@ pub fn write_log(
 
 /// Writes the text of a log.
 fn put_log(alloc: Global, settings: &SettingsDigest, log: &NodeLog) -> Result<Vec<u8>, AllocError>
-    ensures text { IfOk result (λ text. text.items ≡ log_text settings.now (log_seen log.now)) }
-    ensures fits { IfOk result (λ _. FitsLog (log_seen log.now)) }
+    ensures text { IfOk result (λ text. text.items ≡ kept_text settings.now (plain_log (log_seen log.now))) }
+    ensures fits { IfOk result (λ _. FitsKept (plain_log (log_seen log.now))) }
 {
     let mut text = Vec::new(alloc);
     put_head(alloc, &mut text, settings, log.node())?;
@@ -69,51 +70,62 @@ fn put_records(
     version: LogVersion,
     records: &[Record],
 ) -> Result<(), AllocError>
-    ensures text { OnOk result (text.new.items ≡ text.old.items ++ calls_text (version_seen version) 1 records.now) }
-    ensures fits { OnOk result (AllByRecursion FitsLogged records.now) }
+    ensures text { OnOk result (text.new.items
+        ≡ text.old.items ++ calls_text (version_seen version) 1 (map plain records.now)) }
+    ensures fits { OnOk result (AllByRecursion FitsStamped (map plain records.now)) }
 {
     for (place, one) in records.iter().enumerate() {
-        let bytes = record_bytes(alloc, version, place as u64 + 1, one)?;
+        let bytes = record_bytes(alloc, version, place as u64 + 1, one, &Stamp::none())?;
         text.extend_from_slice(&bytes)?;
     }
     Ok(())
 }
 
-/// The place behind the first so many calls of a log in its text, from 0: that of the next one's record.
-///
-/// # Errors
-/// Memory was refused.
-pub fn place_of(
-    alloc: Global,
-    settings: &SettingsDigest,
-    log: &NodeLog,
-    count: usize,
-) -> Result<usize, AllocError>
-    requires { count ≤ length (log_seen log.now).calls }
-    ensures { IfOk result (λ place. place ≡ length (log_text settings.now (first_calls count (log_seen log.now)))) }
+/// The place in a log's bytes, from 0, of the record behind the first so many calls.
+pub fn place_of(settings: &SettingsDigest, bytes: &[u8], count: usize) -> usize
+    ensures { (read : KeptReading) → kept_in settings.now bytes.now ≡ Ok read → count ≤ length read.log.calls
+        → result ≡ length (kept_text settings.now (first_calls count read.log)) }
 {
-    let mut text = Vec::new(alloc);
-    put_head(alloc, &mut text, settings, log.node())?;
-    put_records(
-        alloc,
-        &mut text,
-        settings.version(),
-        &log.records()[..count],
-    )?;
-    Ok(text.as_slice().len())
+    log_is_its_text();
+    let _ = settings.as_slice();
+    match take_head(settings, bytes) {
+        Ok((_, records)) => behind_calls(settings.version(), bytes.len(), records, count),
+        Err(_) => 0,
+    }
 }
 
-/// What a host appends to the text of a log of this version for the call that is the next one, of this number from 1.
+/// The place behind the first so many records of a log of this version, where its records begin so many bytes before the end of
+/// all.
+fn behind_calls(version: LogVersion, total: usize, records: &[u8], count: usize) -> usize
+    ensures { (calls : List Stamped) (torn : List ℕ)
+        → records.now ≡ calls_text (version_seen version) 1 calls ++ torn → count ≤ length calls
+        → AllByRecursion FitsStamped calls → length records.now ≤ total
+        → result ≡ (total - length records.now) + length (calls_text (version_seen version) 1 (take count calls)) }
+{
+    let mut rest = records;
+    for place in 0..count {
+        let Frame::Whole(_, after) = take_frame(version, place as u64 + 1, rest) else {
+            return total.saturating_sub(rest.len());
+        };
+        rest = after;
+    }
+    total.saturating_sub(rest.len())
+}
+
+/// What a host appends to the text of a log of this version for the call that is the next one, of this number from 1, and of which
+/// this was noted.
 pub fn record_bytes(
     alloc: Global,
     version: LogVersion,
     number: u64,
     one: &Record,
+    stamp: &Stamp<'_>,
 ) -> Result<Vec<u8>, AllocError>
-    ensures text { IfOk result (λ bytes. bytes.items ≡ frame_text (version_seen version) number (logged_text one.now)) }
-    ensures fits { IfOk result (λ _. FitsLogged one.now) }
+    ensures text { IfOk result (λ bytes. bytes.items ≡ frame_text (version_seen version) number
+        (stamped_text (record { logged = one.now; stamp = stamp_seen stamp.now }))) }
+    ensures fits { IfOk result (λ _. FitsStamped (record { logged = one.now; stamp = stamp_seen stamp.now })) }
 {
-    let body = body_of(alloc, one)?;
+    let body = body_of(alloc, one, stamp)?;
     frame_of(alloc, version, number, &body)
 }
 
@@ -127,7 +139,7 @@ pub fn read_log(alloc: Global, settings: &SettingsDigest, bytes: &[u8]) -> Resul
     ensures ok { IfOk result (λ read. log_in settings.now bytes.now ≡ Ok (reading_seen read)) }
     ensures fault { IfErr result (λ e. e ≢ OutOfMemory → log_in settings.now bytes.now ≡ Err e) }
     // What is read is the text of what it is read as, and behind it how a record begins.
-    ensures found { IfOk result (λ read. IsLogOf settings.now bytes.now (reading_seen read)) }
+    ensures found { IfOk result (λ read. IsOfLog settings.now bytes.now (reading_seen read)) }
 {
     log_is_its_text();
     let _ = settings.as_slice();
@@ -135,7 +147,7 @@ pub fn read_log(alloc: Global, settings: &SettingsDigest, bytes: &[u8]) -> Resul
 }
 
 /// Reads the head and the records of a log.
-#[tactic(auto, unfolding(crate::specs::Logs::log_in))]
+#[tactic(auto, unfolding(crate::specs::Logs::log_in, crate::specs::Logs::kept_in))]
 fn read_parts(alloc: Global, settings: &SettingsDigest, bytes: &[u8]) -> Result<ReadLog, LogFault>
     ensures ok { IfOk result (λ read. log_in settings.now bytes.now ≡ Ok (reading_seen read)) }
     ensures fault { IfErr result (λ e. e ≢ OutOfMemory → log_in settings.now bytes.now ≡ Err e) }
@@ -181,7 +193,7 @@ pub(crate) fn take_record(
     number: u64,
     start: usize,
     bytes: &[u8],
-) -> Result<Option<(Entry, &[u8])>, LogFault>
+) -> Result<Option<(Entry<'_>, &[u8])>, LogFault>
     ensures ok { IfOk result (λ o.
         record_in (version_seen version) number start bytes.now
         ≡ Ok (option_map (λ taken. (entry_seen taken.0, taken.1.now)) o)) }
@@ -198,12 +210,12 @@ pub(crate) fn take_record(
 fn take_entry<'a>(
     alloc: Global,
     start: usize,
-    body: &[u8],
+    body: &'a [u8],
     after: &'a [u8],
-) -> Result<Option<(Entry, &'a [u8])>, LogFault>
-    ensures ok { IfOk result (λ o. read_record start after.now (logged_in body.now)
+) -> Result<Option<(Entry<'a>, &'a [u8])>, LogFault>
+    ensures ok { IfOk result (λ o. read_record start after.now (stamped_in body.now)
         ≡ Ok (option_map (λ taken. (entry_seen taken.0, taken.1.now)) o)) }
-    ensures fault { IfErr result (λ e. e ≢ OutOfMemory → read_record start after.now (logged_in body.now) ≡ Err e) }
+    ensures fault { IfErr result (λ e. e ≢ OutOfMemory → read_record start after.now (stamped_in body.now) ≡ Err e) }
 {
     match entry_of(alloc, body)? {
         Some(entry) => Ok(Some((entry, after))),

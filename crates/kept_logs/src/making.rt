@@ -6,7 +6,7 @@ ghost use Rattle.world_setup.specs.Seen.{node_seen};
 ghost use Rattle.kept_logs.specs.declared.fault.LogFault.TheVariants.{OutOfMemory};
 ghost use Rattle.kept_logs.specs.Cuts.{IsLogOf};
 ghost use Rattle.kept_logs.specs.Digests.{version_seen};
-ghost use Rattle.kept_logs.specs.Logs.{Reading, log_in};
+ghost use Rattle.kept_logs.specs.Logs.{KeptReading, kept_in};
 ghost use Rattle.kept_logs.specs.Making.{AreMadeIf, IsMadeIf};
 
 use crate::digest::SettingsDigest;
@@ -14,6 +14,7 @@ use crate::fault::LogFault;
 use crate::heads::take_head;
 use crate::laws::log_is_its_text;
 use crate::logs::take_record;
+use crate::references::{Reference, note_reference};
 use crate::version::LogVersion;
 use bin_routes::Routes;
 use node_log::{Record, is_same_node, makes};
@@ -28,6 +29,8 @@ pub struct MadeLog {
     pub node: NodeState,
     /// How many these are.
     pub calls: u64,
+    /// The references of those that are submissions and have one, in order.
+    pub references: Vec<Reference>,
     /// How many bytes their records take, with the head. What stands behind them is the beginning of a record that is cut
     /// off; a host that goes on cuts its file there first.
     pub whole: usize,
@@ -39,6 +42,7 @@ struct MadeCalls {
     node: NodeState,
     /// How many calls these are.
     calls: u64,
+    references: Vec<Reference>,
     /// How many bytes are left behind them.
     torn: usize,
 }
@@ -61,7 +65,7 @@ pub fn make_as_read(
     ensures made { IfOk result (λ made.
         IsMadeIf (bytes_with routes.now) begins digest.now (node_seen node) bytes.now made) }
     // What is read is the text of what it is read as, and behind it how a record begins.
-    ensures found { (read : Reading) → log_in digest.now bytes.now ≡ Ok read → IsLogOf digest.now bytes.now read }
+    ensures found { (read : KeptReading) → kept_in digest.now bytes.now ≡ Ok read → IsLogOf digest.now bytes.now read }
 {
     log_is_its_text();
     let _ = digest.as_slice();
@@ -69,7 +73,7 @@ pub fn make_as_read(
 }
 
 /// Reads the head, and makes the calls behind it.
-#[tactic(auto, unfolding(crate::specs::Logs::log_in))]
+#[tactic(auto, unfolding(crate::specs::Logs::log_in, crate::specs::Logs::kept_in))]
 fn make_parts(
     alloc: Global,
     digest: &SettingsDigest,
@@ -87,7 +91,14 @@ fn make_parts(
     if !is_same_node(own, node) {
         return Ok(None);
     }
-    let Some(MadeCalls { node, calls, torn }) = make_calls(
+    let Some(
+        MadeCalls {
+            node,
+            calls,
+            references,
+            torn,
+        },
+    ) = make_calls(
         alloc,
         routes,
         begins,
@@ -99,7 +110,12 @@ fn make_parts(
         return Ok(None);
     };
     let whole = bytes.len().saturating_sub(torn);
-    Ok(Some(MadeLog { node, calls, whole }))
+    Ok(Some(MadeLog {
+        node,
+        calls,
+        references,
+        whole,
+    }))
 }
 
 /// The node after the calls of these records of a log of this version, how many they are, and how many bytes the torn end has.
@@ -114,16 +130,20 @@ fn make_calls(
     ensures { IfOk result (λ made. AreMadeIf (bytes_with routes.now) opening (version_seen version) total bytes.now made) }
 {
     let mut node = opening;
+    let mut references = Vec::new(alloc);
     let mut rest = bytes;
     for place in 0..bytes.len() {
         let number = place as u64 + 1;
         let start = total.saturating_sub(rest.len());
-        let (one, after) = match take_record(alloc, version, number, start, rest) {
-            Ok(Some((entry, after))) => (Record::new(entry.call, entry.sent), after),
+        let (one, stamp, after) = match take_record(alloc, version, number, start, rest) {
+            Ok(Some((entry, after))) => {
+                (Record::new(entry.call, entry.sent), entry.stamp, after)
+            }
             Ok(None) => {
                 return Ok(Some(MadeCalls {
                     node,
                     calls: place as u64,
+                    references,
                     torn: rest.len(),
                 }));
             }
@@ -135,11 +155,13 @@ fn make_calls(
         if !makes(alloc, routes, &mut node, &one)? {
             return Ok(None);
         }
+        note_reference(alloc, &mut references, stamp.reference, one.call(), &node)?;
         rest = after;
     }
     Ok(Some(MadeCalls {
         node,
         calls: bytes.len() as u64,
+        references,
         torn: rest.len(),
     }))
 }

@@ -5,34 +5,53 @@ ghost use Rattle.std.specs.List.{AllByRecursion};
 ghost use Rattle.std.specs.Option.{option_map};
 ghost use Rattle.world_setup.specs.Seen.{sent_seen};
 ghost use Rattle.kept_logs.specs.Records.{sent_text, sent_at, sents_text, sents_in, logged_text, logged_in};
-ghost use Rattle.kept_logs.specs.LogSeen.{entry_seen};
-ghost use Rattle.kept_logs.specs.Fits.{FitsCall, FitsSent};
+ghost use Rattle.kept_logs.specs.Stamps.{noted_in, stamp_at, stamped_in, stamped_text, with_stamp};
+ghost use Rattle.kept_logs.specs.LogSeen.{entry_seen, stamp_seen};
+ghost use Rattle.kept_logs.specs.Fits.{FitsLogged, FitsSent};
 
 use crate::calls::{put_call, take_call};
 use crate::fields::{take_node, take_text};
 use crate::putting::{put_node, put_text};
-use kept_records::{put_u64, take_u64};
+use crate::stamps::{Stamp, is_plain, put_stamp, take_stamp};
+use kept_records::{put_u8, put_u64, take_u8, take_u64};
 use node_log::Record;
 use octets::Octets;
 use std::alloc::{AllocError, Global};
 use world_setup::{Call, Sent};
 
+/// The kind that a body begins with where something was noted of its call (own).
+const NOTED: u8 = 7;
+
 /// What a body of a record takes at first, in bytes: more than most bodies have.
 const ROOM: usize = 1024;
 
-/// The body of a record.
-#[tactic(auto, unfolding(crate::specs::Records::logged_text))]
-pub(crate) fn body_of(alloc: Global, one: &Record) -> Result<Vec<u8>, AllocError>
-    ensures text { IfOk result (λ body. body.items ≡ logged_text one.now) }
-    ensures call { IfOk result (λ _. FitsCall one.now.call) }
-    ensures count { IfOk result (λ _. length one.now.sent < 2 ^ 64) }
-    ensures sent { IfOk result (λ _. AllByRecursion FitsSent one.now.sent) }
+/// The body of a record of a call, of which this was noted.
+#[tactic(auto, unfolding(crate::specs::Stamps::stamped_text))]
+pub(crate) fn body_of(alloc: Global, one: &Record, stamp: &Stamp<'_>) -> Result<Vec<u8>, AllocError>
+    ensures text { IfOk result (λ body. body.items
+        ≡ stamped_text (record { logged = one.now; stamp = stamp_seen stamp.now })) }
+    ensures logged { IfOk result (λ _. FitsLogged one.now) }
+    ensures time { IfOk result (λ _. stamp.now.time < 2 ^ 64) }
+    ensures reference { IfOk result (λ _. length stamp.now.reference.now < 2 ^ 64) }
 {
     let mut body = Vec::with_capacity(alloc, ROOM)?;
-    put_call(&mut body, one.call())?;
-    put_u64(&mut body, one.sent().len() as u64)?;
-    put_sents(&mut body, one.sent())?;
+    if !is_plain(stamp) {
+        put_u8(&mut body, NOTED)?;
+        put_stamp(&mut body, stamp)?;
+    }
+    put_logged(&mut body, one)?;
     Ok(body)
+}
+
+/// Puts an accepted call, and what it sent.
+#[tactic(auto, unfolding(crate::specs::Records::logged_text))]
+fn put_logged(out: &mut Vec<u8>, one: &Record) -> Result<(), AllocError>
+    ensures text { OnOk result (out.new.items ≡ out.old.items ++ logged_text one.now) }
+    ensures fits { OnOk result (FitsLogged one.now) }
+{
+    put_call(out, one.call())?;
+    put_u64(out, one.sent().len() as u64)?;
+    put_sents(out, one.sent())
 }
 
 /// Puts packets, one behind the other.
@@ -56,17 +75,44 @@ fn put_sent(out: &mut Vec<u8>, one: &Sent) -> Result<(), AllocError>
     put_text(out, one.bytes.as_slice())
 }
 
-/// An accepted call that was read, and what it sent.
+/// An accepted call that was read, what it sent, and what was noted of it.
 #[derive(Drop)]
-pub(crate) struct Entry {
+pub(crate) struct Entry<'a> {
     pub(crate) call: Call,
     pub(crate) sent: Vec<Sent>,
+    pub(crate) stamp: Stamp<'a>,
 }
 
-/// The accepted call that these bytes are; none where they are none.
+/// The record that these bytes are the body of; none where they are none.
+#[tactic(auto, unfolding(crate::specs::Stamps::stamped_in))]
+pub(crate) fn entry_of(alloc: Global, body: &[u8]) -> Result<Option<Entry<'_>>, AllocError>
+    ensures { IfOk result (λ o. option_map entry_seen o ≡ stamped_in body.now) }
+{
+    match take_u8(body) {
+        None => Ok(None),
+        Some((NOTED, rest)) => noted_of(alloc, rest),
+        Some(_) => call_of(alloc, Stamp::none(), body),
+    }
+}
+
+/// The call behind what was noted of it, which has to be something.
+fn noted_of(alloc: Global, bytes: &[u8]) -> Result<Option<Entry<'_>>, AllocError>
+    ensures { IfOk result (λ o. option_map entry_seen o ≡ noted_in (stamp_at bytes.now)) }
+{
+    match take_stamp(bytes) {
+        Some((stamp, rest)) if !is_plain(&stamp) => call_of(alloc, stamp, rest),
+        _ => Ok(None),
+    }
+}
+
+/// The accepted call that these bytes are, of which this was noted; none where they are none.
 #[tactic(auto, unfolding(crate::specs::Records::logged_in))]
-pub(crate) fn entry_of(alloc: Global, body: &[u8]) -> Result<Option<Entry>, AllocError>
-    ensures { IfOk result (λ o. option_map entry_seen o ≡ logged_in body.now) }
+fn call_of<'a>(
+    alloc: Global,
+    stamp: Stamp<'a>,
+    body: &[u8],
+) -> Result<Option<Entry<'a>>, AllocError>
+    ensures { IfOk result (λ o. option_map entry_seen o ≡ with_stamp (stamp_seen stamp.entry) (logged_in body.now)) }
 {
     let Some((call, rest)) = take_call(alloc, body)? else {
         return Ok(None);
@@ -77,7 +123,7 @@ pub(crate) fn entry_of(alloc: Global, body: &[u8]) -> Result<Option<Entry>, Allo
     let Some(sent) = take_sents(alloc, count, rest)? else {
         return Ok(None);
     };
-    Ok(Some(Entry { call, sent }))
+    Ok(Some(Entry { call, sent, stamp }))
 }
 
 /// So many packets, which are all of these bytes; none where bytes are too few or too many.

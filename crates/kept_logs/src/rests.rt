@@ -1,28 +1,36 @@
 //! What a log begins with that goes on behind closed ones.
 
-ghost use Rattle.std.specs.Prelude.{◌≡◌, ◌++◌, ◌∷◌, [], codes, IfOk, IsSome};
+ghost use Rattle.std.specs.Prelude.{◌≡◌, ◌<◌, ◌^◌, length, codes, IfOk, IfSome, IsSome};
+ghost use Rattle.std.specs.List.{AllByRecursion};
 ghost use Rattle.std.specs.Option.{option_copied, option_map};
 ghost use Rattle.world_setup.specs.Seen.{node_seen, settings_seen};
 ghost use Rattle.claim_model.specs.Settings.{opening};
 ghost use Rattle.claim_model.specs.Nodes.{node_at};
 ghost use Rattle.kept_logs.specs.Fits.{FitsNode};
 ghost use Rattle.kept_logs.specs.Frames.{met};
-ghost use Rattle.kept_logs.specs.Rests.{begins, begun_from, behind_met, rest_in, rest_text};
+ghost use Rattle.kept_logs.specs.Rests.{FitsReference, begins, begun_from, behind_met, body_in, references_before, references_of, rest_behind, rest_body, rest_in, rest_text, rest_version};
 ghost use Rattle.kept_logs.specs.RestSeen.{rest_seen};
 
 use crate::fields::{take_bytes, take_node};
 use crate::met::{Met, meet};
 use crate::putting::put_node;
+use crate::references::Reference;
+use crate::referring::{put_references, take_references};
 use crate::sums::check_of;
 use crate::version::LogVersion;
-use kept_records::{put_u64, take_u64};
+use kept_records::{put_u8, put_u64, take_u8, take_u64};
 use node_log::is_same_node;
 use node_state::NodeState;
 use std::alloc::{AllocError, Global};
 use world_setup::{CheckedSettings, Node};
 
-/// The bytes that begin a rest: its name and its version (own).
-const NAME: [u8; 3] = [b'P', b'R', 1];
+/// The bytes that begin a rest (own).
+const NAME: [u8; 2] = *b"PR";
+
+/// The version of a rest without references, and that of one with some (own).
+const BARE: u8 = 1;
+
+const REFERRED: u8 = 2;
 
 /// How many bytes a SHA-256 digest has.
 const DIGEST: u64 = 32;
@@ -31,7 +39,7 @@ const DIGEST: u64 = 32;
 const SUM: u64 = 8;
 
 /// What a log begins with that goes on behind closed ones (own).
-#[derive(Clone, Copy)]
+#[derive(Drop)]
 pub struct Rest<'a> {
     /// Whose log it is.
     pub node: Node,
@@ -39,6 +47,8 @@ pub struct Rest<'a> {
     pub calls: u64,
     /// The SHA-256 digest of the last of them, 32 bytes.
     pub closed: &'a [u8],
+    /// The references of their submissions, in order.
+    pub references: Vec<Reference>,
     /// The record that the node left at rest.
     pub kept: &'a [u8],
 }
@@ -48,47 +58,132 @@ pub struct Rest<'a> {
 pub fn write_rest(alloc: Global, rest: &Rest<'_>) -> Result<Vec<u8>, AllocError>
     ensures text { IfOk result (λ text. text.items ≡ rest_text (rest_seen rest.now)) }
     ensures node { IfOk result (λ _. FitsNode (node_seen rest.now.node)) }
+    ensures references { IfOk result (λ _. AllByRecursion FitsReference rest.now.references.items) }
+    ensures count { IfOk result (λ _. length rest.now.references.items < 2 ^ 64) }
 {
+    let references = rest.references.as_slice();
+    let body = body_of(alloc, references, rest.kept)?;
     let mut text = Vec::new(alloc);
     text.extend_from_slice(&NAME)?;
+    put_u8(&mut text, version_of(references))?;
     put_node(&mut text, rest.node)?;
     put_u64(&mut text, rest.calls)?;
     text.extend_from_slice(rest.closed)?;
-    text.extend_from_slice(&check_of(LogVersion::Second, rest.calls, rest.kept))?;
-    text.extend_from_slice(rest.kept)?;
+    text.extend_from_slice(&check_of(LogVersion::Second, rest.calls, body.as_slice()))?;
+    text.extend_from_slice(body.as_slice())?;
     Ok(text)
 }
 
-/// What bytes are as the beginning of a log; `None` where they are none, or are damaged.
-#[tactic(auto, unfolding(crate::specs::Rests::rest_in))]
-pub fn read_rest(bytes: &[u8]) -> Option<Rest<'_>>
-    ensures { option_map rest_seen result ≡ rest_in bytes.now }
+/// The version of a rest with these references.
+fn version_of(references: &[Reference]) -> u8
+    ensures { result ≡ rest_version references.now }
 {
-    let named = named(bytes)?;
-    let (node, after) = take_node(named)?;
-    let (calls, after) = take_u64(after)?;
-    let (closed, after) = take_bytes(DIGEST, after)?;
-    let (sum, kept) = take_bytes(SUM, after)?;
-    if sum != check_of(LogVersion::Second, calls, kept).as_slice() {
-        return None;
+    if references.len() == 0 {
+        BARE
+    } else {
+        REFERRED
     }
-    Some(Rest {
-        node,
-        calls,
-        closed,
-        kept,
-    })
 }
 
-/// What follows the name and the version.
+/// The references, if there are any, and the record.
+#[tactic(auto, unfolding(crate::specs::Rests::rest_body))]
+fn body_of(alloc: Global, references: &[Reference], kept: &[u8]) -> Result<Vec<u8>, AllocError>
+    ensures text { IfOk result (λ body. body.items ≡ rest_body references.now kept.now) }
+    ensures fits { IfOk result (λ _. AllByRecursion FitsReference references.now) }
+    ensures count { length references.now < 2 ^ 64 }
+{
+    let mut body = Vec::new(alloc);
+    if references.len() > 0 {
+        put_references(&mut body, references)?;
+    }
+    body.extend_from_slice(kept)?;
+    Ok(body)
+}
+
+/// What bytes are as the beginning of a log; `None` where they are none, or are damaged.
+///
+/// # Errors
+/// Memory was refused.
+#[tactic(auto, unfolding(crate::specs::Rests::rest_in))]
+pub fn read_rest(alloc: Global, bytes: &[u8]) -> Result<Option<Rest<'_>>, AllocError>
+    ensures { IfOk result (λ rest. option_map rest_seen rest ≡ rest_in bytes.now) }
+{
+    let Some(named) = named(bytes) else {
+        return Ok(None);
+    };
+    match take_u8(named) {
+        Some((version, rest)) if version == BARE || version == REFERRED => rest_behind(
+            alloc, version, rest,
+        ),
+        _ => Ok(None),
+    }
+}
+
+/// What follows the name.
 fn named(bytes: &[u8]) -> Option<&[u8]>
-    ensures { option_map (λ rest. rest.now) result ≡ behind_met (met (codes "PR" ++ (1 ∷ [])) bytes.now) }
+    ensures { option_map (λ rest. rest.now) result ≡ behind_met (met (codes "PR") bytes.now) }
 {
     match meet(&NAME, bytes) {
         Met::Whole(rest) => Some(rest),
         Met::Torn => None,
         Met::Differs => None,
     }
+}
+
+/// What stands behind the version.
+#[tactic(auto, unfolding(crate::specs::Rests::rest_behind))]
+fn rest_behind(alloc: Global, version: u8, bytes: &[u8]) -> Result<Option<Rest<'_>>, AllocError>
+    ensures { IfOk result (λ rest. option_map rest_seen rest ≡ rest_behind version bytes.now) }
+{
+    let Some((node, after)) = take_node(bytes) else {
+        return Ok(None);
+    };
+    let Some((calls, after)) = take_u64(after) else {
+        return Ok(None);
+    };
+    let Some((closed, after)) = take_bytes(DIGEST, after) else {
+        return Ok(None);
+    };
+    let Some((sum, body)) = take_bytes(SUM, after) else {
+        return Ok(None);
+    };
+    if sum != check_of(LogVersion::Second, calls, body).as_slice() {
+        return Ok(None);
+    }
+    let Some((references, kept)) = body_in(alloc, version, body)? else {
+        return Ok(None);
+    };
+    Ok(Some(Rest {
+        node,
+        calls,
+        closed,
+        references,
+        kept,
+    }))
+}
+
+/// The references, where this version has some, and the record.
+fn body_in(
+    alloc: Global,
+    version: u8,
+    body: &[u8],
+) -> Result<Option<(Vec<Reference>, &[u8])>, AllocError>
+    ensures { IfOk result (λ o. option_map (λ taken. (taken.0.items, taken.1.now)) o ≡ body_in version body.now) }
+{
+    if version == REFERRED {
+        take_references(alloc, body)
+    } else {
+        Ok(Some((Vec::new(alloc), body)))
+    }
+}
+
+/// What a node that a log begins with is, and the references of the calls before the log.
+#[derive(Drop)]
+pub struct Beginning {
+    /// The node.
+    pub node: NodeState,
+    /// The references of the submissions of closed logs, in order.
+    pub references: Vec<Reference>,
 }
 
 /// The node that a log of this name begins with: as the settings open it, or where the log goes on behind closed ones, as it was
@@ -103,13 +198,19 @@ pub fn begins(
     settings: &CheckedSettings,
     node: Node,
     rest: Option<&[u8]>,
-) -> Result<Option<NodeState>, AllocError>
+) -> Result<Option<Beginning>, AllocError>
     requires { IsSome (node_at (opening (settings_seen settings.now)) (node_seen node)) }
-    ensures { IfOk result (λ begins_with. begins_with ≡ begins settings.now (node_seen node) (option_copied rest.entry)) }
+    ensures node { IfOk result (λ found. option_map (λ b. b.node) found
+        ≡ begins settings.now (node_seen node) (option_copied rest.entry)) }
+    ensures references { IfOk result (λ found. IfSome found (λ b.
+        b.references.items ≡ references_before (option_copied rest.entry))) }
 {
     match rest {
-        None => Ok(Some(NodeState::opening(alloc, settings, node)?)),
-        Some(bytes) => resumed(alloc, settings, node, read_rest(bytes)),
+        None => Ok(Some(Beginning {
+            node: NodeState::opening(alloc, settings, node)?,
+            references: Vec::new(alloc),
+        })),
+        Some(bytes) => resumed(alloc, settings, node, read_rest(alloc, bytes)?),
     }
 }
 
@@ -119,14 +220,23 @@ fn resumed(
     settings: &CheckedSettings,
     node: Node,
     rest: Option<Rest<'_>>,
-) -> Result<Option<NodeState>, AllocError>
-    ensures { IfOk result (λ n. n
+) -> Result<Option<Beginning>, AllocError>
+    ensures node { IfOk result (λ found. option_map (λ b. b.node) found
         ≡ begun_from (settings_seen settings.now) (node_seen node) (option_map rest_seen rest.entry)) }
+    ensures references { IfOk result (λ found. IfSome found (λ b.
+        b.references.items ≡ references_of (option_map rest_seen rest.entry))) }
 {
-    match rest {
-        Some(rest) if is_same_node(rest.node, node) => NodeState::resumed(
-            alloc, settings, node, rest.kept,
-        ),
-        _ => Ok(None),
+    let Some(rest) = rest else {
+        return Ok(None);
+    };
+    if !is_same_node(rest.node, node) {
+        return Ok(None);
+    }
+    match NodeState::resumed(alloc, settings, node, rest.kept)? {
+        Some(node) => Ok(Some(Beginning {
+            node,
+            references: rest.references,
+        })),
+        None => Ok(None),
     }
 }

@@ -24,6 +24,7 @@ use Rattle.world_setup.specs.Seen.{event_seen, settings_seen}
 use Rattle.world_setup.specs.declared.event.Event.{Event as Made}
 use Rattle.world_setup.specs.declared.settings.WorldSettings.{WorldSettings}
 use Rattle.world_core.specs.NodeLists.{NodeLists, world_of}
+use Rattle.world_core.specs.declared.leading.KnownParts.{KnownParts}
 use Rattle.node_log.specs.LogSeen.{log_seen, logs_seen}
 use Rattle.run_merge.specs.Merged.{IsMerged, FitsThere, AllFit, packets_after}
 use Rattle.node_log.specs.Fits.{Fits, FitsBy}
@@ -37,7 +38,6 @@ use Rattle.log_audit.specs.declared.judging.LegalRun.{LegalRun}
 use Rattle.log_audit.specs.Standing.{IsLeftBy, StandsBy, EachStands, AreByNumber, Enters, AreNumbered, IsInOrder, AreStanding}
 use Rattle.log_audit.specs.StandingSeen.{nodes_seen}
 use Rattle.log_audit.specs.declared.standing.ByNumber.{ByNumber}
-use Rattle.log_audit.specs.declared.standing.Nodes.{Nodes}
 
 -- one log
 
@@ -125,7 +125,7 @@ taken_all {A} found left place count list le ge t =
 
 -- all nodes
 
-pub standing_by : {E : Type 0} (s : WorldSettings) (logs : List NodeLog) (found : ByNumber) (r : Result (Option Nodes) E) → AllFit (bytes_with (routes_of s.routes.items)) (settings_seen s) logs → AreByNumber s logs found
+pub standing_by : {E : Type 0} (s : WorldSettings) (logs : List NodeLog) (found : ByNumber) (r : Result (Option KnownParts) E) → AllFit (bytes_with (routes_of s.routes.items)) (settings_seen s) logs → AreByNumber s logs found
     → IfOk r (λ o. IfSome o (λ nodes. IsInOrder s found (nodes_seen nodes))) → IfOk r (λ o. IfSome o (λ nodes. AreStanding s logs (nodes_seen nodes)))
 standing_by s logs found (Err fault) fit by order = tt
 standing_by s logs found (Ok None) fit by order = tt

@@ -20,3 +20,4 @@ pub mod LoneMaking
 mod LastReason
 mod Pricing
 mod Ends
+mod Calling

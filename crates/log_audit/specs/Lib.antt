@@ -32,3 +32,4 @@ pub mod Reasons
 pub mod Prices
 pub mod Telling
 pub mod LoneTelling
+pub mod Calls

@@ -1,7 +1,7 @@
 -- Nodes as they stand, as contracts see them.
 use Rattle.world_core.specs.NodeLists.{NodeLists}
-use Rattle.log_audit.specs.declared.standing.Nodes.{Nodes}
+use Rattle.world_core.specs.declared.leading.KnownParts.{KnownParts}
 
 -- the nodes of each kind
-abbrev pub nodes_seen : Nodes → NodeLists
+abbrev pub nodes_seen : KnownParts → NodeLists
 nodes_seen n = record { pharmacies = n.pharmacies.items; switches = n.switches.items; payers = n.payers.items }

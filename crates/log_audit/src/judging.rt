@@ -10,7 +10,7 @@ ghost use Rattle.log_audit.specs.Judged.{IsFound, IsJudged, left_by};
 ghost use Rattle.log_audit.specs.Standing.{AreStanding};
 ghost use Rattle.log_audit.specs.StandingSeen.{nodes_seen};
 
-use crate::standing::{Nodes, nodes_left};
+use crate::standing::nodes_left;
 use node_log::NodeLog;
 use run_merge::{MergeFault, MergedRun, merge, merge_fitting};
 use std::alloc::{AllocError, Global};
@@ -104,7 +104,7 @@ pub(crate) fn run_and_world(
 fn found_standing(
     alloc: Global,
     settings: &CheckedSettings,
-    nodes: Nodes,
+    nodes: KnownParts,
     logs: &[NodeLog],
 ) -> Result<Found, AllocError>
     requires standing { AreStanding settings.now (logs_seen logs.now) (nodes_seen nodes) }
@@ -121,7 +121,7 @@ fn found_standing(
 fn standing_run(
     alloc: Global,
     settings: &CheckedSettings,
-    nodes: Nodes,
+    nodes: KnownParts,
     logs: &[NodeLog],
     run: MergedRun,
 ) -> Result<LegalRun, AllocError>
@@ -131,17 +131,7 @@ fn standing_run(
         ≡ record { events = run.events; world = Some (left_by settings.now (map event_seen run.events.items)) }) }
 {
     let MergedRun { events, packets } = run;
-    let Nodes {
-        pharmacies,
-        switches,
-        payers,
-    } = nodes;
-    let parts = KnownParts {
-        pharmacies,
-        switches,
-        payers,
-        packets,
-    };
+    let parts = KnownParts { packets, ..nodes };
     let world = opening_world(alloc, settings)?.led_to(events.as_slice(), parts);
     Ok(LegalRun {
         events,

@@ -4,6 +4,7 @@
 
 mod ages;
 mod alone;
+mod calls;
 mod fault;
 mod judging;
 mod ledger;
@@ -30,6 +31,7 @@ mod walking;
 mod writer_sink;
 mod wrongs;
 
+pub use calls::calls_table;
 pub use fault::AuditFault;
 pub use judging::{Verdict, judge};
 pub use lone_report::{LoneForm, put_alone};

@@ -127,7 +127,7 @@ fn read_one(
 }
 
 /// The settings that a text spells.
-fn settings_of(alloc: Global, text: &[u8]) -> Result<WorldSettings, AuditFault>
+pub(crate) fn settings_of(alloc: Global, text: &[u8]) -> Result<WorldSettings, AuditFault>
     ensures read { IfOk result (λ settings. living_in text.now ≡ Some (document_seen settings)) }
     ensures refused { IfErr result (λ why. SpellsNone text.now why) }
 {
@@ -139,7 +139,7 @@ fn settings_of(alloc: Global, text: &[u8]) -> Result<WorldSettings, AuditFault>
 }
 
 /// Settings, where a world takes them.
-fn checked(alloc: Global, settings: WorldSettings) -> Result<CheckedSettings, AuditFault>
+pub(crate) fn checked(alloc: Global, settings: WorldSettings) -> Result<CheckedSettings, AuditFault>
     ensures kept { IfOk result (λ checked. checked ≡ settings) }
     ensures taken { OnOk result (world_fault settings ≡ None) }
     ensures refused { IfErr result (λ why. TakesNone settings why) }

@@ -14,23 +14,16 @@ use node_log::{NodeLog, is_there, make_log};
 use node_state::{NodeState, PayerNode, PharmacyNode, StateKind, SwitchNode};
 use std::alloc::{AllocError, Global};
 use std::collections::BTreeMap;
+use world_core::KnownParts;
 use world_setup::{CheckedSettings, Node};
 
-/// All nodes as they stand, each kind in the order of its numbers, from 1.
-#[derive(Drop)]
-pub(crate) struct Nodes {
-    pub(crate) pharmacies: Vec<PharmacyNode>,
-    pub(crate) switches: Vec<SwitchNode>,
-    pub(crate) payers: Vec<PayerNode>,
-}
-
-/// The nodes that logs leave, where each log is one that its node makes, and each node of the settings has one; else none, and
-/// the logs alone say what they are.
+/// The nodes that logs leave, without packets, where each log is one that its node makes, and each node of the settings has
+/// one; else none, and the logs alone say what they are.
 pub(crate) fn nodes_left(
     alloc: Global,
     settings: &CheckedSettings,
     logs: &[NodeLog],
-) -> Result<Option<Nodes>, AllocError>
+) -> Result<Option<KnownParts>, AllocError>
     ensures { IfOk result (λ o. IfSome o (λ nodes. AreStanding settings.now (logs_seen logs.now) (nodes_seen nodes))) }
 {
     let mut found = ByNumber::new(alloc);
@@ -109,7 +102,7 @@ impl ByNumber {
         self,
         alloc: Global,
         settings: &CheckedSettings,
-    ) -> Result<Option<Nodes>, AllocError>
+    ) -> Result<Option<KnownParts>, AllocError>
         ensures { IfOk result (λ o. IfSome o (λ nodes. IsInOrder settings.now self (nodes_seen nodes))) }
     {
         let ByNumber {
@@ -127,10 +120,11 @@ impl ByNumber {
         let Some(payers) = in_order(alloc, payers, settings.payers.len())? else {
             return Ok(None);
         };
-        Ok(Some(Nodes {
+        Ok(Some(KnownParts {
             pharmacies,
             switches,
             payers,
+            packets: Vec::new(alloc),
         }))
     }
 }

@@ -2,5 +2,6 @@ mod Counts
 mod NodesGrown
 mod RoutesGrown
 mod GrownTo
+mod Moved
 mod Staying
 mod MadeOver

@@ -1,11 +1,11 @@
--- A log that goes over to other settings: the same calls under another head, which its node makes.
+-- A log that goes over to other settings: the same calls, with what was noted of them, under another head, which its node makes.
 use Rattle.std.specs.Prelude.{◌≡◌, ◌≢◌, ◌⊎◌, ⊤, ℕ, List, None, Ok, Err}
 use Rattle.claim_model.specs.Node.{Node}
 use Rattle.world_setup.specs.Seen.{node_seen}
 use Rattle.world_setup.specs.declared.node.Node.{Node as Named}
 use Rattle.kept_logs.specs.declared.fault.LogFault.{LogFault}
 use Rattle.kept_logs.specs.declared.fault.LogFault.TheVariants as log_fault
-use Rattle.kept_logs.specs.Logs.{Reading, log_text, log_in, ReadsAs}
+use Rattle.kept_logs.specs.Logs.{KeptReading, Reading, kept_text, kept_in, log_in, KeptAs}
 use Rattle.settings_digest.specs.Digests.{digest_in, digest_under}
 use Rattle.node_service.specs.Serving.{Serving}
 use Rattle.node_service.specs.Opened.{IsOpened}
@@ -40,14 +40,19 @@ pub record IsThere (text bytes : List ℕ) (node : Node) : Type 0 where
   pub own : read.log.node ≡ node
   pub opens : Opens text node bytes
 
+-- bytes are a log of this node under settings of the old digest, and what is written is the same log under those of the new one, with all that was noted
+-- of its calls
+pub record IsMoved (old new bytes : List ℕ) (node : Node) (written : List ℕ) : Type 0 where
+  pub read : KeptReading
+  pub reads : kept_in old bytes ≡ Ok read
+  pub own : read.log.node ≡ node
+  pub is : written ≡ kept_text new read.log
+  pub back : KeptAs new written read.log
+
 -- bytes are a log under the old settings, and what is written is the same log under the new ones, and opens
 pub record GoesOver (old text bytes : List ℕ) (node : Node) (written : List ℕ) : Type 0 where
   pub other : log_in (digest_under text bytes) bytes ≡ Err log_fault.OtherSettings
-  pub read : Reading
-  pub reads : log_in old bytes ≡ Ok read
-  pub own : read.log.node ≡ node
-  pub is : written ≡ log_text (digest_in text) read.log
-  pub back : ReadsAs (digest_in text) written read.log
+  pub moved : IsMoved old (digest_in text) bytes node written
   pub opens : Opens text node written
 
 -- what becomes of the bytes of a log under settings of the old digest, where new settings are what the text spells
@@ -61,12 +66,16 @@ IsNoLog old text bytes fault =
     ((fault ≢ log_fault.OtherSettings) × (log_in (digest_under text bytes) bytes ≡ Err fault))
     ⊎ ((log_in (digest_under text bytes) bytes ≡ Err log_fault.OtherSettings) × (log_in old bytes ≡ Err fault))
 
--- the log is read, and its file under the new settings is refused
-pub record IsShut (old text bytes : List ℕ) (node : Node) (why : ServiceFault) : Type 0 where
+-- bytes are a log of this node under settings of this digest
+pub record IsLogUnder (digest bytes : List ℕ) (node : Node) : Type 0 where
   pub read : Reading
+  pub reads : log_in digest bytes ≡ Ok read
   pub own : read.log.node ≡ node
+
+-- the log is read, and its file under the new settings is refused: the bytes where they are a log under these, else the same log under the new digest
+pub record IsShut (old text bytes : List ℕ) (node : Node) (why : ServiceFault) : Type 0 where
   pub file : List ℕ
-  pub under : ((log_in (digest_under text bytes) bytes ≡ Ok read) × (file ≡ bytes)) ⊎ ((log_in old bytes ≡ Ok read) × (file ≡ log_text (digest_in text) read.log))
+  pub under : (IsLogUnder (digest_under text bytes) bytes node × (file ≡ bytes)) ⊎ IsMoved old (digest_in text) bytes node file
   pub refused : IsRefused text node None file why
 
 -- a log stays for this cause

@@ -1,7 +1,6 @@
 //! Settings beside those that they are to have grown to.
 
-ghost use Rattle.std.specs.Prelude.{◌≡◌, length, None};
-ghost use Rattle.bin_routes.specs.Fault.{first_fault};
+ghost use Rattle.std.specs.Prelude.{◌≡◌, None};
 ghost use Rattle.world_setup.specs.Seen.{settings_seen};
 ghost use Rattle.log_growth.specs.Compared.{GrowsTo, first_ungrown, node_ungrown};
 
@@ -10,25 +9,25 @@ use crate::pharmacies::first_pharmacy;
 use crate::rows::{first_gone, first_taking};
 use crate::switches::first_switch;
 use crate::ungrown::Ungrown;
-use world_setup::WorldSettings;
+use world_setup::{CheckedSettings, WorldSettings};
 
 /// The first thing of these settings that has not grown to what it is in the new ones; where there is none, the new ones
-/// have grown from these. The rows of the new ones are such as a world takes.
+/// have grown from these. The new ones are such as a world takes.
 ///
 /// Of nodes the answer is exact. Of routes it is on the safe side: a new route of BIN and processor control number under an
 /// old one of the BIN alone has to lead to the same payer.
-pub(crate) fn first_ungrown(old: &WorldSettings, new: &WorldSettings) -> Option<Ungrown>
-    requires { first_fault (length new.now.payers.items) new.now.routes.items ≡ None }
+pub(crate) fn first_ungrown(old: &WorldSettings, new: &CheckedSettings) -> Option<Ungrown>
     ensures first { result ≡ first_ungrown old.now new.now }
     ensures grows { result ≡ None → GrowsTo old.now new.now }
 {
-    if let Some(found) = first_node(old, new) {
+    let later = new.settings();
+    if let Some(found) = first_node(old, later) {
         return Some(found);
     }
-    if let Some(place) = first_gone(old.routes.as_slice(), new.routes.as_slice()) {
+    if let Some(place) = first_gone(old.routes.as_slice(), later.routes.as_slice()) {
         return Some(Ungrown::RouteGone(place));
     }
-    match first_taking(old.routes.as_slice(), new.routes.as_slice()) {
+    match first_taking(old.routes.as_slice(), later.routes.as_slice()) {
         Some(place) => Some(Ungrown::RouteTaken(place)),
         None => None,
     }

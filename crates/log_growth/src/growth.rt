@@ -14,7 +14,7 @@ use settings_digest::Digests;
 use std::alloc::{AllocError, Global};
 use thiserror::Error;
 use world_settings::{SettingsFault, read_living_settings};
-use world_setup::{WorldFault, WorldSettings};
+use world_setup::{CheckedSettings, WorldFault};
 
 /// Why settings have not grown to others: the first cause in the order of this list. Want of memory may stand in place of any
 /// answer.
@@ -64,11 +64,13 @@ pub fn grows(alloc: Global, old: &[u8], new: &[u8]) -> Result<Grown, GrowthFault
         Err(Untaken::OutOfMemory) => return Err(GrowthFault::OutOfMemory),
         Err(Untaken::Settings) => return Err(GrowthFault::NewSettings),
     };
-    match first_ungrown(&before, &after) {
-        Some(found) => Err(GrowthFault::NotGrown(found, reason(&before, &after, found))),
+    let earlier = before.settings();
+    let later = after.settings();
+    match first_ungrown(earlier, &after) {
+        Some(found) => Err(GrowthFault::NotGrown(found, reason(earlier, later, found))),
         None => Ok(Grown {
-            old: Digests::of(alloc, &before, old)?,
-            new: Digests::of(alloc, &after, new)?,
+            old: Digests::of(alloc, earlier, old)?,
+            new: Digests::of(alloc, later, new)?,
         }),
     }
 }
@@ -91,7 +93,7 @@ enum Untaken {
 }
 
 /// The settings that a text spells, where a world takes them.
-fn settings_of(alloc: Global, text: &[u8]) -> Result<WorldSettings, Untaken>
+fn settings_of(alloc: Global, text: &[u8]) -> Result<CheckedSettings, Untaken>
     ensures spelled { IfOk result (λ settings. Spells text.now settings) }
     ensures refused { IfErr result (λ why. why ≡ Settings → SpellsNone text.now) }
 {
@@ -100,8 +102,8 @@ fn settings_of(alloc: Global, text: &[u8]) -> Result<WorldSettings, Untaken>
         Err(SettingsFault::OutOfMemory) => return Err(Untaken::OutOfMemory),
         Err(SettingsFault::Settings) => return Err(Untaken::Settings),
     };
-    match settings.checked_routes(alloc) {
-        Ok(_) => Ok(settings),
+    match CheckedSettings::new(alloc, settings) {
+        Ok(taken) => Ok(taken),
         Err(fault) => Err(cause_of(fault)),
     }
 }

@@ -2,8 +2,8 @@
 
 ghost use Rattle.std.specs.Prelude.{◌≡◌, ◌↔◌, ℕ, List, None};
 ghost use Rattle.claim_model.specs.Settings.{WorldSettings};
-ghost use Rattle.claim_model.specs.Logs.{NodeLog};
-ghost use Rattle.kept_logs.specs.Logs.{log_text};
+ghost use Rattle.kept_logs.specs.Stamps.{KeptLog};
+ghost use Rattle.kept_logs.specs.Logs.{kept_text};
 ghost use Rattle.node_service.specs.Refused.{IsRefused};
 ghost use Rattle.node_service.specs.declared.fault.ServiceFault.TheVariants.{NotMade};
 ghost use Rattle.settings_digest.specs.Digests.{digest_in};
@@ -19,6 +19,6 @@ pub fn nodes_are_compared_exactly()
 /// A log that its node made under settings that have grown since is never refused as one that the node does not make, but for
 /// the one premise: at a switch, that what it rejected for want of a route has none now.
 pub fn made_logs_go_over()
-    ensures { (text : List ℕ) (log : NodeLog) (place : ℕ) → WasMade text log
-        → IsRefused text log.node None (log_text (digest_in text) log) (NotMade place) → ⊥ }
+    ensures { (text : List ℕ) (log : KeptLog) (place : ℕ) → WasMade text log
+        → IsRefused text log.node None (kept_text (digest_in text) log) (NotMade place) → ⊥ }
 {}

@@ -1,11 +1,12 @@
 //! Settings that have grown, and logs that go over to them. Whether settings have grown to others is exact for pharmacies,
 //! switches and payers, and on the safe side for routes. A log goes over where its node opens from it under the new ones:
-//! the same records under a head of version 2 with the new digest.
+//! the same records, with all that was noted of their calls, under a head of version 2 with the new digest.
 #![tactic(auto)]
 
 mod comparing;
 mod growth;
 mod laws;
+mod moving;
 mod over;
 mod payers;
 mod pharmacies;

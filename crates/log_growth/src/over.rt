@@ -3,12 +3,12 @@
 ghost use Rattle.std.specs.Prelude.{◌≡◌, OnOk, IfOk, IfErr};
 ghost use Rattle.world_setup.specs.Seen.{node_seen};
 ghost use Rattle.kept_logs.specs.Logs.{log_in};
-ghost use Rattle.kept_logs.specs.LogSeen.{reading_seen};
 ghost use Rattle.kept_logs.specs.declared.fault.LogFault.TheVariants.{OtherSettings};
 ghost use Rattle.settings_digest.specs.Digests.{AreOf, digest_in, digest_under, under};
 ghost use Rattle.log_growth.specs.Over.{Becomes, IsOpen, IsShutFor, Opens, StaysFor};
 
-use kept_logs::{LogFault, ReadLog, SettingsDigest, read_log, write_log};
+use crate::moving::moved;
+use kept_logs::{LogFault, SettingsDigest, read_log};
 use node_service::{Service, ServiceFault};
 use payer_book::HashKeys;
 use settings_digest::Digests;
@@ -21,7 +21,8 @@ use world_setup::Node;
 pub enum Gone {
     /// The log of this node is one of the new settings already.
     Already(Node),
-    /// The log of this node goes over, and these are its bytes then: a head of version 2 with the new digest, and the records as they are.
+    /// The log of this node goes over, and these are its bytes then: a head of version 2 with the new digest, and the records
+    /// with all that was noted of their calls.
     Over(Node, Vec<u8>),
 }
 
@@ -118,13 +119,11 @@ fn go(
     ensures over { IfOk result (λ gone. Becomes old.now text.now bytes.now gone) }
     ensures stays { IfErr result (λ why. StaysFor old.now text.now bytes.now why) }
 {
-    let ReadLog { log, .. } = match read_log(alloc, old, bytes) {
-        Ok(read) => read,
+    let (node, written) = match moved(alloc, old, new, bytes) {
+        Ok(log) => log,
         Err(LogFault::OutOfMemory) => return Err(OverFault::OutOfMemory),
         Err(fault) => return Err(OverFault::Log(fault)),
     };
-    let node = log.node();
-    let written = write_log(alloc, new, &log)?;
     if let Err(why) = check_opens(alloc, text, node, written.as_slice()) {
         return Err(why);
     }

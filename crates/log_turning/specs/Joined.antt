@@ -3,8 +3,8 @@ use Rattle.std.specs.Prelude.{◌≡◌, ⊤, ℕ, ◌+◌, List, [], ◌∷◌,
 use Rattle.std.specs.Option.{option_copied}
 use Rattle.sha2.specs.Sha256.{sha256}
 use Rattle.claim_model.specs.Node.{Node}
-use Rattle.claim_model.specs.Logs.{Logged}
-use Rattle.kept_logs.specs.Logs.{log_text, log_in}
+use Rattle.kept_logs.specs.Stamps.{Stamped}
+use Rattle.kept_logs.specs.Logs.{calls_text, kept_text, kept_in}
 use Rattle.kept_logs.specs.Rests.{Rest, rest_in}
 use Rattle.settings_digest.specs.Digests.{digest_in, turned_under}
 use Rattle.log_turning.specs.declared.joining.Part as value
@@ -35,19 +35,26 @@ Follows node calls (Some closed) (Some rest) = Names node calls closed rest
 abbrev pub GoesOn : Node → ℕ → Option (List ℕ) → Part → Type 0
 GoesOn node calls last p = Follows node calls last p.rest
 
--- a part is read as a log of this node with these calls
-pub record IsPart (text : List ℕ) (node : Node) (p : Part) (calls : List Logged) : Type 0 where
+-- a part is read as a log of this node with these records
+pub record IsPart (text : List ℕ) (node : Node) (p : Part) (calls : List Stamped) : Type 0 where
   pub whole : ℕ
-  pub reads : log_in (turned_under text p.rest p.log) p.log ≡ Ok (record { log = record { node = node; calls = calls }; whole = whole })
+  pub reads : kept_in (turned_under text p.rest p.log) p.log ≡ Ok (record { log = record { node = node; calls = calls }; whole = whole })
 
--- parts go on one behind another, behind so many calls, and have these calls
-abbrev pub AreParts : List ℕ → Node → ℕ → Option (List ℕ) → List Part → List Logged → Type 0
+-- the records of a part stand behind a text, numbered behind so many, and are so many in all then
+pub record IsPartBehind (text : List ℕ) (node : Node) (p : Part) (before : ℕ) (old new : List ℕ) (all : ℕ) : Type 0 where
+  pub calls : List Stamped
+  pub part : IsPart text node p calls
+  pub counted : all ≡ before + length calls
+  pub is : new ≡ old ++ calls_text 2 (before + 1) calls
+
+-- parts go on one behind another, behind so many calls, and have these records
+abbrev pub AreParts : List ℕ → Node → ℕ → Option (List ℕ) → List Part → List Stamped → Type 0
 AreParts text node before last [] calls = calls ≡ []
 AreParts text node before last (p ∷ more) calls =
-    GoesOn node before last p × ((own : List Logged) × (behind : List Logged) × (IsPart text node p own × (AreParts text node (before + length own) (Some p.log) more behind × (calls ≡ own ++ behind))))
+    GoesOn node before last p × ((own : List Stamped) × (behind : List Stamped) × (IsPart text node p own × (AreParts text node (before + length own) (Some p.log) more behind × (calls ≡ own ++ behind))))
 
--- bytes are the text of one log with all calls of the parts
+-- bytes are the text of one log with all records of the parts, and what was noted in them
 pub record IsJoined (text : List ℕ) (node : Node) (parts : List Part) (joined : List ℕ) : Type 0 where
-  pub calls : List Logged
+  pub calls : List Stamped
   pub parted : AreParts text node 0 None parts calls
-  pub is : joined ≡ log_text (digest_in text) (record { node = node; calls = calls })
+  pub is : joined ≡ kept_text (digest_in text) (record { node = node; calls = calls })

@@ -1,16 +1,14 @@
 //! Logs that go on one behind another, joined as if none had been closed.
 
-ghost use Rattle.std.specs.Prelude.{◌≡◌, ℕ, List, IfOk, IsTrue, OnOk, map};
+ghost use Rattle.std.specs.Prelude.{◌≡◌, ℕ, List, IfOk, IsTrue, map};
 ghost use Rattle.std.specs.Option.{option_copied};
 ghost use Rattle.sha2.specs.Sha256.{sha256};
 ghost use Rattle.world_setup.specs.Seen.{node_seen};
-ghost use Rattle.node_log.specs.LogSeen.{log_seen};
 ghost use Rattle.settings_digest.specs.Digests.{AreOf};
-ghost use Rattle.node_service.specs.Lines.{with_calls};
-ghost use Rattle.log_turning.specs.Joined.{GoesOn, IsJoined, IsPart, Names, part_seen};
+ghost use Rattle.log_turning.specs.Joined.{GoesOn, IsJoined, IsPartBehind, Names, part_seen};
 
 use crate::fault::JoinFault;
-use kept_logs::{LogFault, ReadLog, Rest, read_log, read_rest, write_log};
+use kept_logs::{LogFault, Rest, append_records, read_rest, write_log};
 use node_log::{NodeLog, is_same_node};
 use settings_digest::Digests;
 use sha2::{Digest, Sha256};
@@ -41,17 +39,17 @@ pub fn join_logs(
     ensures { IfOk result (λ joined. IsJoined text.now (node_seen node) (map part_seen parts.now) joined.items) }
 {
     let digests = digests_of(alloc, text)?;
-    let mut joined = NodeLog::new(alloc, node);
+    let mut joined = write_log(alloc, &digests.said, &NodeLog::new(alloc, node))?;
+    let mut calls: u64 = 0;
     let mut last: Option<&[u8]> = None;
     for (place, part) in parts.iter().enumerate() {
-        if !goes_on(node, joined.records().len() as u64, last, part) {
+        if !goes_on(alloc, node, calls, last, part)? {
             return Err(JoinFault::NotNext(place));
         }
-        let log = read_part(alloc, &digests, node, part, place)?;
-        append(alloc, &mut joined, &log)?;
+        calls = append_part(alloc, &digests, node, part, place, calls, &mut joined)?;
         last = Some(part.log);
     }
-    Ok(write_log(alloc, &digests.said, &joined)?)
+    Ok(joined)
 }
 
 /// The digests of the settings that a text spells.
@@ -67,25 +65,38 @@ fn digests_of(alloc: Global, text: &[u8]) -> Result<Digests, JoinFault>
 
 /// Whether a log goes on behind so many calls of a node, of which the last stand in these bytes: the first begins with no rest, and
 /// each later one with one that names the calls, and the digest of those bytes.
-fn goes_on(node: Node, calls: u64, last: Option<&[u8]>, part: &Part<'_>) -> bool
-    ensures { IsTrue result → GoesOn (node_seen node) calls (option_copied last.entry) (part_seen part.now) }
+fn goes_on(
+    alloc: Global,
+    node: Node,
+    calls: u64,
+    last: Option<&[u8]>,
+    part: &Part<'_>,
+) -> Result<bool, AllocError>
+    ensures { IfOk result (λ yes. IsTrue yes
+        → GoesOn (node_seen node) calls (option_copied last.entry) (part_seen part.now)) }
 {
     match last {
-        None => part.rest.is_none(),
+        None => Ok(part.rest.is_none()),
         Some(closed) => match part.rest {
-            Some(rest) => names(node, calls, closed, rest),
-            None => false,
+            Some(rest) => names(alloc, node, calls, closed, rest),
+            None => Ok(false),
         },
     }
 }
 
 /// Whether a rest names these calls of the node, of which the last stand in these bytes.
-fn names(node: Node, calls: u64, closed: &[u8], rest: &[u8]) -> bool
-    ensures { IsTrue result → Names (node_seen node) calls closed.now rest.now }
+fn names(
+    alloc: Global,
+    node: Node,
+    calls: u64,
+    closed: &[u8],
+    rest: &[u8],
+) -> Result<bool, AllocError>
+    ensures { IfOk result (λ yes. IsTrue yes → Names (node_seen node) calls closed.now rest.now) }
 {
-    match read_rest(rest) {
-        Some(rest) => are_these(node, calls, closed, &rest),
-        None => false,
+    match read_rest(alloc, rest)? {
+        Some(rest) => Ok(are_these(node, calls, closed, &rest)),
+        None => Ok(false),
     }
 }
 
@@ -100,39 +111,31 @@ fn are_these(node: Node, calls: u64, closed: &[u8], rest: &Rest<'_>) -> bool
         && rest.closed == Sha256::digest(closed).as_slice()
 }
 
-/// The log of a part, where it is one of this node.
-fn read_part(
+/// Appends the records of a part, where it is a log of this node, behind so many; and says how many there are then.
+fn append_part(
     alloc: Global,
     digests: &Digests,
     node: Node,
     part: &Part<'_>,
     place: usize,
-) -> Result<NodeLog, JoinFault>
-    ensures { (text : List ℕ) → AreOf text digests.now
-        → IfOk result (λ log. IsPart text (node_seen node) (part_seen part.now) (log_seen log).calls) }
+    before: u64,
+    joined: &mut Vec<u8>,
+) -> Result<u64, JoinFault>
+    ensures { (text : List ℕ) → AreOf text digests.now → IfOk result (λ calls.
+        IsPartBehind text (node_seen node) (part_seen part.now) before joined.old.items joined.new.items calls) }
 {
     let digest = digests.turned(part.rest, part.log);
-    match read_log(alloc, &digest, part.log) {
-        Ok(ReadLog { log, .. }) => {
-            if log.is_of(node) {
-                Ok(log)
-            } else {
-                Err(JoinFault::OtherNode(place))
+    match append_records(alloc, &digest, part.log, before, joined) {
+        Ok(appended) => {
+            if !is_same_node(appended.node, node) {
+                return Err(JoinFault::OtherNode(place));
+            }
+            match before.checked_add(appended.calls) {
+                Some(calls) => Ok(calls),
+                None => Err(JoinFault::OutOfMemory),
             }
         }
         Err(LogFault::OutOfMemory) => Err(JoinFault::OutOfMemory),
         Err(fault) => Err(JoinFault::Log(place, fault)),
     }
-}
-
-/// Appends the calls of a log to another one.
-fn append(alloc: Global, joined: &mut NodeLog, log: &NodeLog) -> Result<(), AllocError>
-    ensures { OnOk result (log_seen joined.new ≡ with_calls (log_seen joined.old) (log_seen log.now).calls) }
-{
-    for one in log.records() {
-        joined.reserve()?;
-        let copy = one.copy(alloc)?;
-        joined.enter(copy);
-    }
-    Ok(())
 }

@@ -3,6 +3,7 @@
 ghost use Rattle.std.specs.Prelude.{◌≡◌, ℕ, ◌^◌, ◌<◌, ◌++◌, List, length, Option, Some};
 ghost use Rattle.claim_model.specs.Node.{Node};
 ghost use Rattle.claim_model.specs.Logs.{Logged};
+ghost use Rattle.kept_logs.specs.Stamps.{bare_calls};
 ghost use Rattle.node_service.specs.Opened.{MakesAll, replayed_behind};
 ghost use Rattle.log_turning.specs.Files.{file_text, part_in};
 ghost use Rattle.log_turning.specs.Turned.{IsTurned};
@@ -14,11 +15,11 @@ pub fn turned_logs_go_on()
     ensures replays { (text : List ℕ) (node : Node) (rest : Option (List ℕ)) (bytes : List ℕ) (turned : Turned)
         (more : List Logged) → (is : IsTurned text node rest bytes turned)
         → replayed_behind is.last.settings node (Some turned.rest.items) more
-        ≡ replayed_behind is.last.settings node rest (is.closed.calls ++ more) }
+        ≡ replayed_behind is.last.settings node rest (bare_calls is.closed.calls ++ more) }
     ensures makes { (text : List ℕ) (node : Node) (rest : Option (List ℕ)) (bytes : List ℕ) (turned : Turned)
         (more : List Logged) → (is : IsTurned text node rest bytes turned)
         → MakesAll is.last.settings node (Some turned.rest.items) more
-        → MakesAll is.last.settings node rest (is.closed.calls ++ more) }
+        → MakesAll is.last.settings node rest (bare_calls is.closed.calls ++ more) }
 {}
 
 /// The file of a log that begins with a rest has this rest and this log.

@@ -2,15 +2,17 @@
 
 ghost use Rattle.std.specs.Prelude.{◌≡◌, ℕ, ◌++◌, List, take, Option, IfOk, OnOk};
 ghost use Rattle.std.specs.Option.{option_copied};
+ghost use Rattle.std.specs.List.{AllByRecursion};
 ghost use Rattle.sha2.specs.Sha256.{sha256};
 ghost use Rattle.world_setup.specs.Seen.{node_seen};
 ghost use Rattle.claim_model.specs.Node as model;
 ghost use Rattle.kept_logs.specs.Rests.{calls_before};
+ghost use Rattle.node_service.specs.Lines.{line_kept};
 ghost use Rattle.node_service.specs.Serving.{after_line};
-ghost use Rattle.log_turning.specs.Turned.{IsClosed, IsNew, IsStarted, IsTurned, Serves, ServesOn};
+ghost use Rattle.log_turning.specs.Turned.{IsClosed, IsEnd, IsNew, IsStarted, IsTurned, Serves, ServesOn};
 
 use crate::fault::TurnFault;
-use kept_logs::{Rest, read_rest, write_rest};
+use kept_logs::{Reference, Rest, read_rest, write_rest};
 use node_service::Service;
 use payer_book::HashKeys;
 use sha2::{Digest, Sha256};
@@ -34,7 +36,7 @@ pub struct Turned {
 
 /// Closes the log of a node, and begins the one in which it goes on. The node makes each call of the log that is closed, as at any
 /// start; it is stopped there, where it was up, and started again, and the new log begins with the node that stands there. A node
-/// that was at rest stops again as the first call of the new log.
+/// that was at rest stops again as the first call of the new log. Neither log gets any other call.
 ///
 /// # Errors
 /// `Refused` where the node is not served from the log, as `Service::open` says.
@@ -48,24 +50,32 @@ pub fn turn_log(
     ensures { IfOk result (λ turned.
         IsTurned text.now (node_seen node) (option_copied rest.entry) bytes.now turned) }
 {
-    let closed = close_log(alloc, text, node, rest, bytes)?;
-    let Some(calls) = calls_before(rest).checked_add(closed.calls) else {
+    let Closed {
+        kept,
+        closing,
+        calls,
+        references,
+        record,
+        was_up,
+    } = close_log(alloc, text, node, rest, bytes)?;
+    let Some(calls) = calls_before(alloc, rest)?.checked_add(calls) else {
         return Err(TurnFault::NoRecord);
     };
-    let digest = digest_of(front(bytes, closed.kept), closed.closing.as_slice());
+    let digest = digest_of(front(bytes, kept), closing.as_slice());
     let begins = write_rest(
         alloc,
         &Rest {
             node,
             calls,
             closed: &digest,
-            kept: closed.record.as_slice(),
+            references,
+            kept: record.as_slice(),
         },
     )?;
-    let log = begun(alloc, text, node, begins.as_slice(), closed.was_up)?;
+    let log = begun(alloc, text, node, begins.as_slice(), was_up)?;
     Ok(Turned {
-        kept: closed.kept,
-        closing: closed.closing,
+        kept,
+        closing,
         rest: begins,
         log,
         calls,
@@ -81,6 +91,8 @@ struct Closed {
     closing: Vec<u8>,
     /// How many calls it has then.
     calls: u64,
+    /// The references of the submissions of this log and of those before it.
+    references: Vec<Reference>,
     /// The record that its node left at rest, from which it was started.
     record: Vec<u8>,
     /// Whether the node was up.
@@ -97,23 +109,25 @@ fn close_log(
 ) -> Result<Closed, TurnFault>
     ensures { IfOk result (λ closed. IsClosed text.now (node_seen node) (option_copied rest.entry) bytes.now closed) }
 {
-    let (mut service, kept) = open(alloc, text, node, rest, bytes)?;
-    end_log(alloc, &mut service, kept)
+    let (service, kept) = open(alloc, text, node, rest, bytes)?;
+    end_log(alloc, service, kept)
 }
 
 /// Closes the log of the node that is served, of whose bytes so many stay.
-fn end_log(alloc: Global, service: &mut Service, kept: usize) -> Result<Closed, TurnFault>
+fn end_log(alloc: Global, service: Service, kept: usize) -> Result<Closed, TurnFault>
     ensures { (text : List ℕ) (node : model.Node) (rest : Option (List ℕ)) (bytes : List ℕ)
-        → Serves text node rest bytes kept service.old
+        → Serves text node rest bytes kept service
         → IfOk result (λ closed. IsClosed text node rest bytes closed) }
 {
-    let was_up = stop(alloc, service)?;
-    let record = start(alloc, service)?;
+    let mut service = service;
+    let was_up = stop(alloc, &mut service)?;
+    let record = start(alloc, &mut service)?;
     let closing = Vec::from_slice(alloc, service.records())?;
     Ok(Closed {
         kept,
         closing,
         calls: service.calls(),
+        references: service.into_references(),
         record,
         was_up,
     })
@@ -139,7 +153,8 @@ fn open(
 /// Does what a line asks of the node.
 fn ask(alloc: Global, service: &mut Service, line: &[u8]) -> Result<(), AllocError>
     ensures asked { OnOk result (service.new ≡ after_line service.old line.now) }
-    ensures on { OnOk result (ServesOn service.old service.new) }
+    ensures on { OnOk result (AllByRecursion IsEnd (line_kept service.old line.now)
+        → ServesOn service.old service.new) }
 {
     service.serve(alloc, line)
 }
@@ -194,15 +209,15 @@ fn records_of(alloc: Global, service: &mut Service, stays_up: bool) -> Result<Ve
 }
 
 /// How many calls were made before a log that begins with this rest.
-fn calls_before(rest: Option<&[u8]>) -> u64
-    ensures { result ≡ calls_before (option_copied rest.entry) }
+fn calls_before(alloc: Global, rest: Option<&[u8]>) -> Result<u64, AllocError>
+    ensures { IfOk result (λ calls. calls ≡ calls_before (option_copied rest.entry)) }
 {
-    match rest {
-        None => 0,
-        Some(bytes) => match read_rest(bytes) {
-            Some(rest) => rest.calls,
-            None => 0,
-        },
+    let Some(bytes) = rest else {
+        return Ok(0);
+    };
+    match read_rest(alloc, bytes)? {
+        Some(rest) => Ok(rest.calls),
+        None => Ok(0),
     }
 }
 

@@ -52,14 +52,10 @@ pub fn closed_name(alloc: Global, path: &str, calls: u64) -> Result<String, Allo
 /// # Errors
 /// A file could not be read, or the logs do not go on one behind another.
 pub fn whole_log(rt: &HostRuntime, text: &[u8], path: &str) -> Result<Vec<u8>, WholeFault> {
-    let file = read_log_file(rt, path)?;
-    match rest_of(file.as_slice()) {
-        None => Ok(file),
-        Some(rest) => {
-            let node = rest.node;
-            let files = log_files(rt, path)?;
-            join_files(rt.alloc(), text, node, files.as_slice())
-        }
+    let mut files = log_files(rt, path)?;
+    match node_of(rt.alloc(), files.as_slice())? {
+        Some(node) => join_files(rt.alloc(), text, node, files.as_slice()),
+        None => Ok(last_bytes(rt.alloc(), &mut files)),
     }
 }
 
@@ -76,7 +72,7 @@ pub fn log_files(rt: &HostRuntime, path: &str) -> Result<Vec<LogFile>, WholeFaul
             return Ok(files);
         };
         let bytes = read_log_file(rt, name.as_str())?;
-        wanted = match rest_of(bytes.as_slice()) {
+        wanted = match rest_of(alloc, bytes.as_slice())? {
             Some(rest) => Some(closed_name(alloc, path, rest.calls)?),
             None => None,
         };
@@ -106,6 +102,25 @@ pub fn join_files(
     }
 }
 
+/// The node that the first of these files names, where the log in it goes on behind closed ones.
+fn node_of(alloc: Global, files: &[LogFile]) -> Result<Option<Node>, AllocError> {
+    let Some(first) = files.first() else {
+        return Ok(None);
+    };
+    match rest_of(alloc, first.bytes.as_slice())? {
+        Some(rest) => Ok(Some(rest.node)),
+        None => Ok(None),
+    }
+}
+
+/// Takes the bytes of the last of these files.
+fn last_bytes(alloc: Global, files: &mut Vec<LogFile>) -> Vec<u8> {
+    match files.pop() {
+        Some(file) => file.bytes,
+        None => Vec::new(alloc),
+    }
+}
+
 /// Puts one more behind a list.
 fn put<T: Drop>(list: &mut Vec<T>, one: T) -> Result<(), AllocError> {
     Ok(list.push(one)?)
@@ -130,8 +145,11 @@ fn name_of(alloc: Global, files: &[LogFile], fault: JoinFault) -> Result<String,
 }
 
 /// What the log in a file begins with, where it goes on behind closed ones.
-fn rest_of(bytes: &[u8]) -> Option<Rest<'_>> {
-    read_rest(part_of(bytes).rest?)
+fn rest_of(alloc: Global, bytes: &[u8]) -> Result<Option<Rest<'_>>, AllocError> {
+    match part_of(bytes).rest {
+        Some(rest) => read_rest(alloc, rest),
+        None => Ok(None),
+    }
 }
 
 /// The bytes of a file.

@@ -1,23 +1,18 @@
 -- What the lines of requests and packets ask.
-use Rattle.std.proofs.Common.{◌≡◌, ℕ, ◌+◌, Bool, true, false, ◌&&◌, not, List, [], ◌∷◌, ◌++◌, length, take, drop, Some, None, Option, Ok, Err, IsSome, inr, codes, refl, sym, ap, ◌∙◌, subst, arith, nat_le, nat_lt, cond}
-use Rattle.std.specs.Prelude.{is_some, bytes_eq, if◌then◌else◌}
+use Rattle.std.proofs.Common.{◌≡◌, ℕ, ◌+◌, Bool, true, false, ◌&&◌, not, List, [], ◌∷◌, ◌++◌, length, take, drop, Some, None, Option, Ok, Err, IsSome, inr, codes, refl, ap, ◌∙◌, subst, arith, nat_lt, cond}
+use Rattle.std.specs.Prelude.{bytes_eq, if◌then◌else◌}
 use Rattle.std.specs.List.{list_all, position, position_or_len}
-use Rattle.std.specs.Option.{option_map, option_or}
-use Rattle.std.proofs.lemmas.Bool.{eqb-true, false≢true, lt-ltb}
-use Rattle.std.proofs.lemmas.List.{length-append, take-append-drop}
-use Rattle.std.proofs.lemmas.List.Folds.{list_all-append}
-use Rattle.std.proofs.lemmas.Slice.Eq.{bytes_eq-Decides}
+use Rattle.std.specs.Option.{option_map}
+use Rattle.std.proofs.lemmas.Bool.{false≢true, lt-ltb}
+use Rattle.std.proofs.lemmas.List.{length-append}
 use Rattle.std.proofs.Math.Seq.{take-append_seam, drop-append-add}
-use Rattle.input_text.specs.Options.{◌>>=◌}
 use Rattle.input_text.specs.Words.{is_space, split_word}
-use Rattle.input_text.specs.Decimals.{is_digit, decimal_value}
 use Rattle.input_text.specs.Printing.{printed, unprinted}
 use Rattle.world_setup.specs.declared.node.Node.{Node}
-use Rattle.world_setup.specs.declared.node.Node.TheVariants.{Pharmacy, Switch, Payer}
 use Rattle.world_setup.specs.declared.call.Call.TheVariants.{Submit, Take}
 use Rattle.schedule.specs.Nodes.{node_in}
 use Rattle.schedule.proofs.Names.{is_inner, name_inner}
-use Rattle.node_service.specs.Asking.{Calls, asked_of, call_of, taking}
+use Rattle.node_service.specs.Asking.{Call, Calls, asked_of, call_of, call_parted, call_with, named_of, named_parted, named_submission, noted_of, noted_parted, or_question, plain_call_of, taking, timed, unnoted}
 use Rattle.node_handle.specs.Saying.{Said}
 use Rattle.node_handle.specs.Hosting.{Hosting}
 use Rattle.node_handle.specs.Calls.{Serves}
@@ -44,14 +39,30 @@ parted word rest inner =
     ap (λ (place : Option ℕ). option_map cut place) found
     ∙ ap (λ (parts : List ℕ × List ℕ). Some parts) (rw (take-append_seam word (32 ∷ rest), drop-append-add word (32 ∷ rest) 1) refl)
 
-pub asks_request : (request : List ℕ) → unprinted (printed request) ≡ Ok request → asked_of (submit_line request) ≡ Some (Calls (Submit request))
-unfolding asked_of call_of
-asks_request request back = rw (parted (codes "submit") (printed request) refl) (rw back refl)
+-- a line of a word and what stands behind it asks for the call that they are
+asks_call : (line word rest : List ℕ) (call : Call) → split_word line ≡ Some (word, rest) → bytes_eq word (codes "at") ≡ false → bytes_eq word (codes "submit-as") ≡ false → call_with word rest ≡ Some call
+    → asked_of line ≡ Some (Calls (plain_call_of call))
+unfolding asked_of noted_of named_of call_of
+asks_call line word rest call parts untimed unnamed is =
+    let called : call_of line ≡ Some call = ap (call_parted line) parts ∙ is in
+    let named : named_of line ≡ Some (plain_call_of call) =
+    ap (named_parted line) parts ∙ (ap (λ (t : Bool). if t then named_submission rest else unnoted (call_of line)) unnamed ∙ ap unnoted called) in
+    let noted : noted_of line ≡ Some (plain_call_of call) =
+    ap (noted_parted line) parts ∙ (ap (λ (t : Bool). if t then timed rest else named_of line) untimed ∙ named) in
+    ap (or_question line) noted
 
-pub asks_packet : (from : List ℕ) (node : Node) (packet : List ℕ) → node_in from ≡ Some node → unprinted (printed packet) ≡ Ok packet → asked_of (take_line from packet) ≡ Some (Calls (Take node packet))
-unfolding asked_of call_of taking
+pub asks_request : (request : List ℕ) → unprinted (printed request) ≡ Ok request → asked_of (submit_line request) ≡ Some (Calls (plain_call_of (Submit request)))
+asks_request request back =
+    asks_call (submit_line request) (codes "submit") (printed request) (Submit request) (parted (codes "submit") (printed request) refl) refl refl (rw back refl)
+
+took : (from : List ℕ) (node : Node) (packet : List ℕ) → node_in from ≡ Some node → unprinted (printed packet) ≡ Ok packet → taking (from ++ 32 ∷ printed packet) ≡ Some (Take node packet)
+unfolding taking
+took from node packet named back = rw (parted from (printed packet) (name_inner from node named)) (rw (named, back) refl)
+
+pub asks_packet : (from : List ℕ) (node : Node) (packet : List ℕ) → node_in from ≡ Some node → unprinted (printed packet) ≡ Ok packet → asked_of (take_line from packet) ≡ Some (Calls (plain_call_of (Take node packet)))
 asks_packet from node packet named back =
-    rw (parted (codes "take") (from ++ 32 ∷ printed packet) refl) (rw (parted from (printed packet) (name_inner from node named)) (rw (named, back) refl))
+    let rest : List ℕ = from ++ 32 ∷ printed packet in
+    asks_call (take_line from packet) (codes "take") rest (Take node packet) (parted (codes "take") rest refl) refl refl (took from node packet named back)
 
 -- what a call on a packet says, where its name is a node's
 pub takes_named : (old : Option Hosting) (from packet : List ℕ) (said : Said) (new : Option Hosting) → IsSome (node_in from) → Serves old (take_line from packet) said new → Takes old from packet said new

@@ -12,7 +12,7 @@ pub record Hosting : Type 0 where
 
 -- the same node, with these records that are not on disk
 abbrev pub with_records : Serving → List ℕ → Serving
-with_records s records = record { settings = s.settings; node = s.node; version = s.version; state = s.state; calls = s.calls; records = records; out = s.out }
+with_records s records = record { settings = s.settings; node = s.node; version = s.version; state = s.state; calls = s.calls; references = s.references; records = records; out = s.out }
 
 -- a node that was just opened: nothing is known to be on disk
 abbrev pub just_opened : Serving → Hosting

@@ -5,7 +5,7 @@ ghost use Rattle.input_text.specs.Printing.{printed, unprinted};
 ghost use Rattle.world_setup.specs.declared.node.Node.{Node};
 ghost use Rattle.world_setup.specs.declared.call.Call.TheVariants.{Submit, Take};
 ghost use Rattle.schedule.specs.Nodes.{node_in};
-ghost use Rattle.node_service.specs.Asking.{Calls, asked_of};
+ghost use Rattle.node_service.specs.Asking.{Calls, asked_of, plain_call_of};
 ghost use Rattle.node_handle.specs.Calls.{Serves};
 ghost use Rattle.node_handle.specs.Typed.{Takes, submit_line, take_line};
 
@@ -83,12 +83,14 @@ fn line_of_packet(alloc: Global, from: &[u8], packet: &[u8]) -> Result<Vec<u8>, 
 #[tactic(auto, using(crate::proofs::Lines::asks_request))]
 pub fn requests_are_asked()
     ensures { (request : List ℕ)
-        → unprinted (printed request) ≡ Ok request → asked_of (submit_line request) ≡ Some (Calls (Submit request)) }
+        → unprinted (printed request) ≡ Ok request
+        → asked_of (submit_line request) ≡ Some (Calls (plain_call_of (Submit request))) }
 {}
 
 /// The line of a packet asks to take these very bytes from this node.
 #[tactic(auto, using(crate::proofs::Lines::asks_packet))]
 pub fn packets_are_asked()
     ensures { (from : List ℕ) (node : Node) (packet : List ℕ) → node_in from ≡ Some node
-        → unprinted (printed packet) ≡ Ok packet → asked_of (take_line from packet) ≡ Some (Calls (Take node packet)) }
+        → unprinted (printed packet) ≡ Ok packet
+        → asked_of (take_line from packet) ≡ Some (Calls (plain_call_of (Take node packet))) }
 {}

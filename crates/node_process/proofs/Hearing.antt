@@ -5,9 +5,9 @@ use Rattle.std.specs.List.{AllByRecursion}
 use Rattle.std.specs.Prelude.{position}
 use Rattle.std.specs.Str.Lines.{strip_carriage_return}
 use Rattle.claim_model.proofs.Lists.{all_append}
-use Rattle.kept_logs.specs.Fits.{FitsLogged}
+use Rattle.kept_logs.specs.Fits.{FitsStamped}
 use Rattle.node_service.specs.Serving.{Serving, after_line}
-use Rattle.node_service.specs.Lines.{after_lines, line_calls, lines_calls}
+use Rattle.node_service.specs.Lines.{after_lines, line_kept, lines_kept}
 use Rattle.node_process.specs.Heard.{is_newline, whole_lines, begun_line, NoNewline}
 use Rattle.node_process.proofs.Splitting.{whole_one, begun_one, whole_none, begun_all}
 
@@ -16,14 +16,14 @@ pub record IsTaken (before : Serving) (text : List ℕ) (s : Serving) (pending r
   pub none : NoNewline pending
   pub lines : after_lines before (whole_lines text) ≡ after_lines s (whole_lines (pending ++ rest))
   pub begun : begun_line text ≡ begun_line (pending ++ rest)
-  -- where the calls of the lines that are left fit into records, all do
-  pub fits : AllByRecursion FitsLogged (lines_calls s (whole_lines (pending ++ rest))) → AllByRecursion FitsLogged (lines_calls before (whole_lines text))
+  -- where the records of the lines that are left fit, all do
+  pub fits : AllByRecursion FitsStamped (lines_kept s (whole_lines (pending ++ rest))) → AllByRecursion FitsStamped (lines_kept before (whole_lines text))
 
 pub taken_first : (before : Serving) (pending bytes : List ℕ) → NoNewline pending → IsTaken before (pending ++ bytes) before pending bytes
 taken_first before pending bytes none = record { none = none; lines = refl; begun = refl; fits = λ f. f }
 
 pub taken_line : (before : Serving) (text : List ℕ) (s next : Serving) (pending empty rest left : List ℕ) (end : ℕ) → IsTaken before text s pending rest → position is_newline rest ≡ Some end → next ≡ after_line s (strip_carriage_return (pending ++ take end rest)) → empty ≡ []
-    → left ≡ drop (end + 1) rest → AllByRecursion FitsLogged (line_calls s (strip_carriage_return (pending ++ take end rest))) → IsTaken before text next empty left
+    → left ≡ drop (end + 1) rest → AllByRecursion FitsStamped (line_kept s (strip_carriage_return (pending ++ take end rest))) → IsTaken before text next empty left
 taken_line before text s next pending empty rest left end t found serves none behind one =
     let line = strip_carriage_return (pending ++ take end rest) in
     let gone : empty ++ left ≡ drop (end + 1) rest = ap (λ (x : List ℕ). x ++ left) none ∙ behind in
@@ -35,10 +35,10 @@ taken_line before text s next pending empty rest left end t found serves none be
           ∙ (ap (λ (x : Serving). after_lines x (whole_lines (drop (end + 1) rest))) (sym serves) ∙ ap (λ (x : List ℕ). after_lines next (whole_lines x)) (sym gone)));
       begun = t.begun ∙ (begun_one pending rest end t.none found ∙ ap begun_line (sym gone));
       fits = λ more.
-          t.fits (subst (λ (lines : List (List ℕ)). AllByRecursion FitsLogged (lines_calls s lines)) (sym (whole_one pending rest end t.none found))
-          (all_append FitsLogged (line_calls s line) (lines_calls (after_line s line) (whole_lines (drop (end + 1) rest))) one
-          (subst (λ (x : Serving). AllByRecursion FitsLogged (lines_calls x (whole_lines (drop (end + 1) rest)))) serves
-          (subst (λ (x : List ℕ). AllByRecursion FitsLogged (lines_calls next (whole_lines x))) gone more))));
+          t.fits (subst (λ (lines : List (List ℕ)). AllByRecursion FitsStamped (lines_kept s lines)) (sym (whole_one pending rest end t.none found))
+          (all_append FitsStamped (line_kept s line) (lines_kept (after_line s line) (whole_lines (drop (end + 1) rest))) one
+          (subst (λ (x : Serving). AllByRecursion FitsStamped (lines_kept x (whole_lines (drop (end + 1) rest)))) serves
+          (subst (λ (x : List ℕ). AllByRecursion FitsStamped (lines_kept next (whole_lines x))) gone more))));
     }
 
 -- where no line ends any more
@@ -47,10 +47,10 @@ taken_all before text s pending rest t none =
     let all : NoNewline (pending ++ rest) = all_append (λ (byte : ℕ). is_newline byte ≡ false) pending rest t.none none in
     (sym (t.lines ∙ ap (after_lines s) (whole_none (pending ++ rest) all)), (sym (t.begun ∙ begun_all (pending ++ rest) all), all))
 
-pub taken_fits : (before : Serving) (text : List ℕ) (s : Serving) (pending rest : List ℕ) → IsTaken before text s pending rest → NoNewline rest → AllByRecursion FitsLogged (lines_calls before (whole_lines text))
+pub taken_fits : (before : Serving) (text : List ℕ) (s : Serving) (pending rest : List ℕ) → IsTaken before text s pending rest → NoNewline rest → AllByRecursion FitsStamped (lines_kept before (whole_lines text))
 taken_fits before text s pending rest t none =
     let all : NoNewline (pending ++ rest) = all_append (λ (byte : ℕ). is_newline byte ≡ false) pending rest t.none none in
-    t.fits (subst (λ (lines : List (List ℕ)). AllByRecursion FitsLogged (lines_calls s lines)) (sym (whole_none (pending ++ rest) all)) tt)
+    t.fits (subst (λ (lines : List (List ℕ)). AllByRecursion FitsStamped (lines_kept s lines)) (sym (whole_none (pending ++ rest) all)) tt)
 
 pub nothing_ends : (rest : List ℕ) → length rest ≤ 0 → NoNewline rest
 nothing_ends [] h = tt

@@ -7,11 +7,11 @@ use Rattle.bin_routes.specs.Table.{routes_of}
 use Rattle.claim_model.specs.Bytes.{bytes_with}
 use Rattle.claim_model.specs.Context.{Context}
 use Rattle.claim_model.specs.Node.{Node, Call, Outcome, Done, Refused}
-use Rattle.claim_model.specs.Nodes.{AnyNode, node_at}
+use Rattle.claim_model.specs.Nodes.{AnyNode, node_at, node_step}
 use Rattle.claim_model.specs.Settings.{opening}
-use Rattle.claim_model.specs.Logs.{Logged, NodeLog, replay, Makes as MakesLog}
+use Rattle.claim_model.specs.Logs.{Logged, replay, Makes as MakesLog}
 use Rattle.claim_model.proofs.Options.{map_some, same_some}
-use Rattle.crash_safety.specs.Network.{Process, crashed}
+use Rattle.crash_safety.specs.Network.{Process}
 use Rattle.crash_safety.specs.Network.{file as model_file}
 use Rattle.crash_safety.specs.Steps.{Step, Crashes, Restarts, replayed_from, steps_from, at_first, process_after}
 use Rattle.world_setup.specs.Seen.{call_seen}
@@ -20,37 +20,51 @@ use Rattle.world_settings.specs.Document.{Document, document_seen}
 use Rattle.node_logged.specs.Setting.{context_of}
 use Rattle.kept_logs.specs.declared.fault.LogFault.TheVariants.{Short}
 use Rattle.kept_logs.specs.Digests.{version_of}
-use Rattle.kept_logs.specs.Logs.{Reading, log_text, log_in}
-use Rattle.kept_logs.specs.Fits.{FitsNode, FitsLog}
+use Rattle.kept_logs.specs.Stamps.{Stamp, Stamped, KeptLog, bare_calls}
+use Rattle.kept_logs.specs.Logs.{KeptReading, kept_text, kept_in}
+use Rattle.kept_logs.specs.Fits.{FitsNode, FitsKept}
 use Rattle.kept_logs.specs.Cuts.{calls_within}
 use Rattle.kept_logs.specs.Rests.{rest_in, begun_from, begins}
 use Rattle.kept_logs.proofs.LogsBack.{log_length, reads_back, reads_short}
 use Rattle.node_service.specs.Asking.{Asked, Calls, Tells as Asks, asked_of}
-use Rattle.node_service.specs.Serving.{Serving, after_call, after_asked, after_line}
-use Rattle.node_service.specs.Lines.{after_lines, lines_calls, IsServing}
+use Rattle.node_service.specs.Answering.{idle_line}
+use Rattle.node_service.specs.Serving.{Serving, saying, after_call, is_idle_call, known, making, making_once, after_asked, after_line}
+use Rattle.node_service.specs.Lines.{after_lines, lines_calls, lines_kept, IsServing}
 use Rattle.node_service.specs.Opened.{Spells, IsBegun, IsOpened}
 use Rattle.settings_digest.specs.Digests.{turned_in, turned_under}
 use Rattle.settings_digest.proofs.Keeping.{turned_in_length}
-use Rattle.node_service.proofs.Lines.{is_opened_serving, lines_serve}
+use Rattle.node_service.proofs.Lines.{bare_append, is_opened_serving, lines_bare, lines_serve}
 use Rattle.node_service.proofs.Crashes.{longer_text}
 use Rattle.node_process.specs.Acts.{Act, Found, Cut, Append, Sync, Say, Hear, found, file, has_failed, kept, said}
 use Rattle.node_process.specs.Heard.{whole_lines}
 use Rattle.node_process.specs.Safe.{IsStartOf, asked, log_of, FitsInput, IsCovered, IsRead, GoesWell, IsSafe, IsUnopened, IsRun, Whose}
 use Rattle.node_process.specs.Histories.{zeros, Happening, Does, Dies, acts_of, left_of, file_or, file_of, on_disk, IsLeft, IsHistory, HasCalls, ReadsCalls, IsAlive, IsToldBy, IsProcess, IsCourse}
+use Rattle.node_process.proofs.Bare.{HasKept, ReadsKept, bare_take, bare_has, bare_reads}
 use Rattle.node_process.proofs.Left.{IsTornOf, HasLeft, first_of, start_length, taken_length, untorn, torn_fits, torn_reads, zeros_read, text_cut, nothing_cut, begins_with, same_calls, left_reads, front_fits, same_reading, not_short, torn_second}
 use Rattle.node_process.proofs.Spoken.{told_by, told_nothing, told_still}
 use Rattle.node_process.proofs.Stepping.{steps_append, makes_of, makes_all, syncs_of, syncs_all}
 
 -- ---- the text of an input
 
-call_settings : (s : Serving) (call : Call) (o : Outcome AnyNode) → (after_call s call o).settings ≡ s.settings
+call_settings : (s : Serving) (stamp : Stamp) (call : Call) (o : Outcome AnyNode) → (after_call s stamp call o).settings ≡ s.settings
 unfolding after_call
-call_settings s call (Done next sent) = refl
-call_settings s call (Refused why) = refl
+call_settings s stamp call (Done next sent) = refl
+call_settings s stamp call (Refused why) = refl
+
+making_settings : (s : Serving) (stamp : Stamp) (call : Call) → (making s stamp call).settings ≡ s.settings
+making_settings s stamp call = by_idle (is_idle_call s.state call)
+  where
+    by_idle : (idle : Bool) → (cond idle (saying s idle_line) (after_call s stamp call (node_step (context_of s.settings) s.state call))).settings ≡ s.settings
+    by_idle true = refl
+    by_idle false = call_settings s stamp call (node_step (context_of s.settings) s.state call)
+
+once_settings : (s : Serving) (stamp : Stamp) (call : Call) (o : Option ℕ) → (making_once s stamp call o).settings ≡ s.settings
+once_settings s stamp call (Some number) = refl
+once_settings s stamp call None = making_settings s stamp call
 
 asked_settings : (s : Serving) (a : Option Asked) → (after_asked s a).settings ≡ s.settings
 asked_settings s None = refl
-asked_settings s (Some (Calls call)) = call_settings s (call_seen call) _
+asked_settings s (Some (Calls n)) = once_settings s n.stamp (call_seen n.call) (known s.references n.stamp.reference (call_seen n.call))
 asked_settings s (Some (Asks question)) = refl
 
 line_settings : (s : Serving) (line : List ℕ) → (after_line s line).settings ≡ s.settings
@@ -69,36 +83,36 @@ same_begin a b node (Some rest) same = ap (λ (d : Document). begun_from d.world
 same_context : (a b : Settings) → document_seen a ≡ document_seen b → context_of a ≡ context_of b
 same_context a b same = ap (λ (d : Document). bytes_with (routes_of d.routes)) same
 
--- bytes are the text of a log of these calls, which its node makes
-record IsTextOf (whose : Whose) (settings : Settings) (bytes : List ℕ) (calls : List Logged) : Type 0 where
-  text : bytes ≡ log_text (turned_in whose.settings whose.rest) (record { node = whose.node; calls = calls })
-  fits : FitsLog (record { node = whose.node; calls = calls })
+-- bytes are the text of a log of these records, whose calls its node makes
+record IsMadeText (whose : Whose) (settings : Settings) (bytes : List ℕ) (calls : List Stamped) : Type 0 where
+  text : bytes ≡ kept_text (turned_in whose.settings whose.rest) (record { node = whose.node; calls = calls })
+  fits : FitsKept (record { node = whose.node; calls = calls })
   before : AnyNode
   opens : begins settings whose.node whose.rest ≡ Some before
-  makes : MakesLog (context_of settings) before calls
+  makes : MakesLog (context_of settings) before (bare_calls calls)
 
 input_text : (whose : Whose) (settings : Settings) (bytes : List ℕ) (whole : ℕ) (start : Serving) (input : List ℕ) → Spells whose.settings settings → turned_under whose.settings whose.rest bytes ≡ turned_in whose.settings whose.rest → IsOpened whose.settings whose.node whose.rest bytes whole start → FitsInput start input
-    → (log : List Logged) × IsTextOf whose settings (log_of start (take whole bytes) input) (log ++ lines_calls start (whole_lines input))
+    → (log : List Stamped) × IsMadeText whose settings (log_of start (take whole bytes) input) (log ++ lines_kept start (whole_lines input))
 input_text whose settings bytes whole start input spells second o fits =
-    let opened = is_opened_serving whose.settings whose.node whose.rest bytes whole start o in
-    let log = opened.0 in
-    let calls = log.calls ++ lines_calls start (whole_lines input) in
+    let log = o.log in
+    let calls = log.calls ++ lines_kept start (whole_lines input) in
     let digest = turned_in whose.settings whose.rest in
-    let i = lines_serve whose.rest digest (take whole bytes) log start (whole_lines input) (subst (λ (x : List ℕ). IsServing whose.rest x (take whole bytes) log start) second opened.1) fits in
-    let own : log.node ≡ whose.node = sym opened.1.named ∙ o.named in
+    let opened = is_opened_serving whose.settings whose.node whose.rest bytes whole start o in
+    let i = lines_serve whose.rest digest (take whole bytes) log start (whole_lines input) (subst (λ (x : List ℕ). IsServing whose.rest x (take whole bytes) log start) second opened) fits in
+    let own : log.node ≡ whose.node = o.own in
     let there = (asked start input).settings in
     let same : document_seen there ≡ document_seen settings =
     ap document_seen (lines_settings start (whole_lines input)) ∙ same_some (document_seen start.settings) (document_seen settings) (sym o.spells.spelled ∙ spells.spelled) in
-    let first = map_some (λ (n : AnyNode). replay (context_of there) n calls) (begins there log.node whose.rest) (asked start input).state i.state in
+    let first = map_some (λ (n : AnyNode). replay (context_of there) n (bare_calls calls)) (begins there log.node whose.rest) (asked start input).state i.state in
     let opens : begins settings whose.node whose.rest ≡ Some first.0 =
     sym (same_begin there settings whose.node whose.rest same) ∙ (sym (ap (λ (n : Node). begins there n whose.rest) own) ∙ first.1) in (
       log.calls,
       record {
-        text = i.text ∙ ap (λ (n : Node). log_text digest (record { node = n; calls = calls })) own;
-        fits = subst (λ (n : Node). FitsLog (record { node = n; calls = calls })) own i.fits;
+        text = i.text ∙ ap (λ (n : Node). kept_text digest (record { node = n; calls = calls })) own;
+        fits = subst (λ (n : Node). FitsKept (record { node = n; calls = calls })) own i.fits;
         before = first.0;
         opens = opens;
-        makes = subst (λ (ctx : Context). MakesLog ctx first.0 calls) (same_context there settings same) (i.makes first.0 first.1);
+        makes = subst (λ (ctx : Context). MakesLog ctx first.0 (bare_calls calls)) (same_context there settings same) (i.makes first.0 first.1);
       },
     )
 
@@ -133,68 +147,87 @@ heads a b s t e = (cc, cc)
 
 -- ---- between two happenings
 
+-- what the process has is what stands in records; and how these stand in the file
 record IsInner (whose : Whose) (settings : Settings) (h : List Happening) (p : Process) : Type 0 where
-  disk : HasCalls (turned_in whose.settings whose.rest) whose.node (on_disk h) p.synced
+  synced : List Stamped
+  unsynced : List Stamped
+  synced_are : bare_calls synced ≡ p.synced
+  unsynced_are : bare_calls unsynced ≡ p.unsynced
+  disk : HasKept (turned_in whose.settings whose.rest) whose.node (on_disk h) synced
   under : IsStartOf (on_disk h) (file_of h)
-  lies : IsTornOf (turned_in whose.settings whose.rest) whose.node (file_of h) (model_file p)
-  -- what was found has the first of these calls
-  first : List Logged
-  more : List Logged
-  goes : model_file p ≡ first ++ more
+  lies : IsTornOf (turned_in whose.settings whose.rest) whose.node (file_of h) (synced ++ unsynced)
+  -- what was found has the first of these records
+  first : List Stamped
+  more : List Stamped
+  goes : synced ++ unsynced ≡ first ++ more
   was : IsTornOf (turned_in whose.settings whose.rest) whose.node (left_of h) first
   keeps : (kept (acts_of h) ≡ []) ⊎ (kept (acts_of h) ≡ on_disk h)
   memory : IsAlive (context_of settings) (begins settings whose.node whose.rest) (acts_of h) p
   told : IsToldBy whose.node p.synced (said (acts_of h))
 
-nothing_read : (digest : List ℕ) (node : Node) (bytes : List ℕ) (calls : List Logged) → length digest ≡ 33 → bytes ≡ [] → ReadsCalls digest node bytes calls → calls ≡ []
+-- the calls of all records
+recorded : (whose : Whose) (settings : Settings) (h : List Happening) (p : Process) (i : IsInner whose settings h p) → bare_calls (i.synced ++ i.unsynced) ≡ model_file p
+recorded whose settings h p i =
+    bare_append i.synced i.unsynced ∙ (ap (λ (x : List Logged). x ++ bare_calls i.unsynced) i.synced_are ∙ ap (λ (x : List Logged). p.synced ++ x) i.unsynced_are)
+
+nothing_read : (digest : List ℕ) (node : Node) (bytes : List ℕ) (calls : List Stamped) → length digest ≡ 33 → bytes ≡ [] → ReadsKept digest node bytes calls → calls ≡ []
 nothing_read digest node bytes calls d none (inr short) = short.1
 nothing_read digest node bytes calls d none (inl read) =
-    absurd (not_short (record { log = record { node = node; calls = calls }; whole = read.0 }) (sym read.1 ∙ (ap (log_in digest) none ∙ reads_short digest (record { node = node; calls = [] }) 0 d (omega arith))))
+    absurd (not_short (record { log = record { node = node; calls = calls }; whole = read.0 }) (sym read.1 ∙ (ap (kept_in digest) none ∙ reads_short digest (record { node = node; calls = [] }) 0 d (omega arith))))
 
-short_small : (digest : List ℕ) (node : Node) (bytes : List ℕ) (calls : List Logged) → length digest ≡ 33 → IsTornOf digest node bytes calls → log_in digest bytes ≡ Err Short → length bytes < 46
+short_small : (digest : List ℕ) (node : Node) (bytes : List ℕ) (calls : List Stamped) → length digest ≡ 33 → IsTornOf digest node bytes calls → kept_in digest bytes ≡ Err Short → length bytes < 46
 short_small digest node bytes calls d t short = by_end t.ends
   where
-    log : NodeLog
+    log : KeptLog
     log = record { node = node; calls = t.cut.all }
 
-    by_end : (t.lost ≡ 0) ⊎ (t.front ≡ log_text digest (record { node = node; calls = calls })) → length bytes < 46
+    by_end : (t.lost ≡ 0) ⊎ (t.front ≡ kept_text digest (record { node = node; calls = calls })) → length bytes < 46
     by_end (inr text) = absurd (not_short _ (sym (zeros_read digest node t.front bytes calls t.lost d (torn_fits digest node bytes calls t) t.is text) ∙ short))
     by_end (inl none) =
         let c = t.cut in
-        let same : bytes ≡ take c.size (log_text digest log) = t.is ∙ (ap (λ n. t.front ++ zeros n) none ∙ (append-nil t.front ∙ c.is)) in
+        let same : bytes ≡ take c.size (kept_text digest log) = t.is ∙ (ap (λ n. t.front ++ zeros n) none ∙ (append-nil t.front ∙ c.is)) in
         elim (cases_lt c.size 46) [
-          | inl small ↦ let a = ap length same in let b = taken_length c.size (log_text digest log) in omega (arith, small, a, b)
-          | inr large ↦ let back = reads_back digest log c.size d c.fits large in absurd (not_short _ (sym back.read ∙ (sym (ap (log_in digest) same) ∙ short)))
+          | inl small ↦ let a = ap length same in let b = taken_length c.size (kept_text digest log) in omega (arith, small, a, b)
+          | inr large ↦ let back = reads_back digest log c.size d c.fits large in absurd (not_short _ (sym back.read ∙ (sym (ap (kept_in digest) same) ∙ short)))
         ]
 
--- what was said is told by calls that are on the disk
-covered_told : (whose : Whose) (settings : Settings) (acts : List Act) (disk : List ℕ) (start : Serving) (whole : ℕ) (synced : List Logged) → Spells whose.settings settings → turned_under whose.settings whose.rest (found acts) ≡ turned_in whose.settings whose.rest → (o : IsOpened whose.settings whose.node whose.rest (found acts) whole start)
-    → FitsLog (record { node = whose.node; calls = synced }) → HasCalls (turned_in whose.settings whose.rest) whose.node disk synced → (kept acts ≡ []) ⊎ (kept acts ≡ disk) → (said acts ≡ []) ⊎ IsCovered start (take whole (found acts)) acts → IsToldBy whose.node synced (said acts)
-covered_told whose settings acts disk start whole synced spells second o fits has keeps (inl silent) = told_nothing whose.node synced (said acts) silent
+-- what was said is told by calls whose records are on the disk
+covered_told : (whose : Whose) (settings : Settings) (acts : List Act) (disk : List ℕ) (start : Serving) (whole : ℕ) (synced : List Stamped) → Spells whose.settings settings → turned_under whose.settings whose.rest (found acts) ≡ turned_in whose.settings whose.rest → (o : IsOpened whose.settings whose.node whose.rest (found acts) whole start)
+    → FitsKept (record { node = whose.node; calls = synced }) → HasKept (turned_in whose.settings whose.rest) whose.node disk synced → (kept acts ≡ []) ⊎ (kept acts ≡ disk) → (said acts ≡ []) ⊎ IsCovered start (take whole (found acts)) acts → IsToldBy whose.node (bare_calls synced) (said acts)
+covered_told whose settings acts disk start whole synced spells second o fits has keeps (inl silent) = told_nothing whose.node (bare_calls synced) (said acts) silent
 covered_told whose settings acts disk start whole synced spells second o fits has keeps (inr c) = by_disk has keeps
   where
-    d : length (turned_in whose.settings whose.rest) ≡ 33
+    digest : List ℕ
+    digest = turned_in whose.settings whose.rest
+
+    d : length digest ≡ 33
     d = turned_in_length whose.settings whose.rest
 
-    text : (log : List Logged) × IsTextOf whose settings (log_of start (take whole (found acts)) c.input) (log ++ lines_calls start (whole_lines c.input))
+    text : (log : List Stamped) × IsMadeText whose settings (log_of start (take whole (found acts)) c.input) (log ++ lines_kept start (whole_lines c.input))
     text = input_text whose settings (found acts) whole start c.input spells second o c.fits
+
+    calls : List Stamped
+    calls = text.0 ++ lines_kept start (whole_lines c.input)
 
     no_less : (bytes : List ℕ) → kept acts ≡ bytes → bytes ≡ [] → ⊥
     no_less bytes e none =
-        let long = log_length (turned_in whose.settings whose.rest) (record { node = whose.node; calls = text.0 ++ lines_calls start (whole_lines c.input) }) d in
+        let long = log_length digest (record { node = whose.node; calls = calls }) d in
         let a = ap length text.1.text in
         let b = start_length _ (kept acts) c.logged in
         let n = ap length (e ∙ none) in
         omega (arith, long, a, b, n)
 
-    by_disk : HasCalls (turned_in whose.settings whose.rest) whose.node disk synced → (kept acts ≡ []) ⊎ (kept acts ≡ disk) → IsToldBy whose.node synced (said acts)
+    by_disk : HasKept digest whose.node disk synced → (kept acts ≡ []) ⊎ (kept acts ≡ disk) → IsToldBy whose.node (bare_calls synced) (said acts)
     by_disk has (inl none) = absurd (no_less [] none refl)
     by_disk (inr none) (inr same) = absurd (no_less disk same none.0)
     by_disk (inl is) (inr same) =
-        let calls = text.0 ++ lines_calls start (whole_lines c.input) in
-        let own = log_text (turned_in whose.settings whose.rest) (record { node = whose.node; calls = calls }) in
-        let start_of : IsStartOf own (log_text (turned_in whose.settings whose.rest) (record { node = whose.node; calls = synced })) = subst (IsStartOf own) (same ∙ is) (subst (λ (x : List ℕ). IsStartOf x (kept acts)) text.1.text c.logged) in
-        told_by whose.node start c.input (said acts) text.0 synced _ o.silent (begins_with (turned_in whose.settings whose.rest) whose.node calls synced (length own) d text.1.fits fits refl (first_of own _ start_of)) c.sent
+        let own = kept_text digest (record { node = whose.node; calls = calls }) in
+        let start_of : IsStartOf own (kept_text digest (record { node = whose.node; calls = synced })) = subst (IsStartOf own) (same ∙ is) (subst (λ (x : List ℕ). IsStartOf x (kept acts)) text.1.text c.logged) in
+        let k = calls_within digest (length own) (record { node = whose.node; calls = synced }) in
+        let first : calls ≡ take k synced = begins_with digest whose.node calls synced (length own) d text.1.fits fits refl (first_of own _ start_of) in
+        let bare_are : bare_calls calls ≡ bare_calls text.0 ++ lines_calls start (whole_lines c.input) =
+        bare_append text.0 (lines_kept start (whole_lines c.input)) ∙ ap (λ (x : List Logged). bare_calls text.0 ++ x) (lines_bare start (whole_lines c.input)) in
+        told_by whose.node start c.input (said acts) (bare_calls text.0) (bare_calls synced) k o.silent (sym bare_are ∙ (ap bare_calls first ∙ bare_take k synced)) c.sent
 
 -- ---- what happens
 
@@ -219,23 +252,34 @@ module _ (whose : Whose) (settings : Settings) (spells : Spells whose.settings s
   abbrev t : List Act
   t = acts_of h
 
-  fits : FitsLog (record { node = node; calls = model_file p })
-  fits = torn_fits digest node (file_of h) (model_file p) i.lies
+  -- all records that the file has
+  abbrev all_kept : List Stamped
+  all_kept = i.synced ++ i.unsynced
 
-  fits_synced : FitsLog (record { node = node; calls = p.synced })
-  fits_synced = record { node = fits.node; calls = front_fits p.synced p.unsynced fits.calls }
+  all_are : bare_calls all_kept ≡ model_file p
+  all_are = recorded whose settings h p i
 
-  reads : ReadsCalls digest node (file_of h) (model_file p)
-  reads = torn_reads digest node (file_of h) (model_file p) d i.lies
+  fits : FitsKept (record { node = node; calls = all_kept })
+  fits = torn_fits digest node (file_of h) all_kept i.lies
+
+  fits_synced : FitsKept (record { node = node; calls = i.synced })
+  fits_synced = record { node = fits.node; calls = front_fits i.synced i.unsynced fits.calls }
+
+  reads : ReadsKept digest node (file_of h) all_kept
+  reads = torn_reads digest node (file_of h) all_kept d i.lies
 
   found_step : (bytes : List ℕ) → acts_of h ≡ [] → bytes ≡ left_of h → GoesOn whose settings (Does (Found bytes) ∷ h) p
   found_step bytes none is =
       let same : file_of h ≡ bytes = ap (file_or (left_of h)) none ∙ sym is in (
         Restarts ∷ [],
         record {
+          synced = i.synced;
+          unsynced = i.unsynced;
+          synced_are = i.synced_are;
+          unsynced_are = i.unsynced_are;
           disk = i.disk;
           under = subst (IsStartOf (on_disk h)) same i.under;
-          lies = subst (λ (b : List ℕ). IsTornOf digest node b (model_file p)) same i.lies;
+          lies = subst (λ (b : List ℕ). IsTornOf digest node b all_kept) same i.lies;
           first = i.first;
           more = i.more;
           goes = i.goes;
@@ -254,8 +298,8 @@ module _ (whose : Whose) (settings : Settings) (spells : Spells whose.settings s
       file_found : file t ≡ found t
       file_found = ap file only
 
-      lies_found : IsTornOf digest node (found t) (model_file p)
-      lies_found = subst (λ (b : List ℕ). IsTornOf digest node b (model_file p)) (ap (file_or (left_of h)) only) i.lies
+      lies_found : IsTornOf digest node (found t) all_kept
+      lies_found = subst (λ (b : List ℕ). IsTornOf digest node b all_kept) (ap (file_or (left_of h)) only) i.lies
 
       under_found : IsStartOf (on_disk h) (found t)
       under_found = subst (IsStartOf (on_disk h)) (ap (file_or (left_of h)) only) i.under
@@ -264,11 +308,15 @@ module _ (whose : Whose) (settings : Settings) (spells : Spells whose.settings s
       cut_file = ap (take size) file_found ∙ cuts
 
       -- where nothing that is synced is cut
-      with_file : take size (on_disk h) ≡ on_disk h → IsStartOf (on_disk h) (take size (file t)) → IsTornOf digest node (take size (file t)) (model_file p) → GoesOn whose settings (Does (Cut size done) ∷ h) p
+      with_file : take size (on_disk h) ≡ on_disk h → IsStartOf (on_disk h) (take size (file t)) → IsTornOf digest node (take size (file t)) all_kept → GoesOn whose settings (Does (Cut size done) ∷ h) p
       with_file same under lies = (
         [],
         record {
-          disk = subst (λ (b : List ℕ). HasCalls digest node b p.synced) (sym same) i.disk;
+          synced = i.synced;
+          unsynced = i.unsynced;
+          synced_are = i.synced_are;
+          unsynced_are = i.unsynced_are;
+          disk = subst (λ (b : List ℕ). HasKept digest node b i.synced) (sym same) i.disk;
           under = subst (λ (b : List ℕ). IsStartOf b (take size (file t))) (sym same) under;
           lies = lies;
           first = i.first;
@@ -282,18 +330,18 @@ module _ (whose : Whose) (settings : Settings) (spells : Spells whose.settings s
       )
 
       -- a log whose head is there
-      of_calls : take size (file t) ≡ log_text digest (record { node = node; calls = model_file p }) → GoesOn whose settings (Does (Cut size done) ∷ h) p
-      of_calls e = with_file same (subst (λ (b : List ℕ). IsStartOf (on_disk h) (take size b)) (sym file_found) (start_taken (on_disk h) (found t) size under_found short)) (subst (λ (b : List ℕ). IsTornOf digest node b (model_file p)) (sym e) (untorn digest node _ (model_file p) (text_cut digest node (model_file p) d fits)))
+      of_calls : take size (file t) ≡ kept_text digest (record { node = node; calls = all_kept }) → GoesOn whose settings (Does (Cut size done) ∷ h) p
+      of_calls e = with_file same (subst (λ (b : List ℕ). IsStartOf (on_disk h) (take size b)) (sym file_found) (start_taken (on_disk h) (found t) size under_found short)) (subst (λ (b : List ℕ). IsTornOf digest node b all_kept) (sym e) (untorn digest node _ all_kept (text_cut digest node all_kept d fits)))
         where
-          text_short : length (log_text digest (record { node = node; calls = model_file p })) ≤ size
+          text_short : length (kept_text digest (record { node = node; calls = all_kept })) ≤ size
           text_short = let a = ap length e in let b = taken_length size (file t) in omega (arith, a, b)
 
-          by_disk : HasCalls digest node (on_disk h) p.synced → length (on_disk h) ≤ size
+          by_disk : HasKept digest node (on_disk h) i.synced → length (on_disk h) ≤ size
           by_disk (inl is) =
               let a = ap length is in
-              let b = log_length digest (record { node = node; calls = p.synced }) d in
-              let c = log_length digest (record { node = node; calls = model_file p }) d in
-              let e = longer_text (version_of digest) 1 p.synced p.unsynced in
+              let b = log_length digest (record { node = node; calls = i.synced }) d in
+              let c = log_length digest (record { node = node; calls = all_kept }) d in
+              let e = longer_text (version_of digest) 1 i.synced i.unsynced in
               omega (arith, a, b, c, e, text_short)
           by_disk (inr none) = let a = ap length none.0 in omega (arith, a)
 
@@ -304,94 +352,101 @@ module _ (whose : Whose) (settings : Settings) (spells : Spells whose.settings s
           same = take_all size (on_disk h) short
 
       -- and one that has none
-      of_nothing : log_in digest (found t) ≡ Err Short → whole ≡ 0 → model_file p ≡ [] → GoesOn whose settings (Does (Cut size done) ∷ h) p
+      of_nothing : kept_in digest (found t) ≡ Err Short → whole ≡ 0 → all_kept ≡ [] → GoesOn whose settings (Does (Cut size done) ∷ h) p
       of_nothing short zero_kept none = by_disk i.disk
         where
           cut_none : take size (file t) ≡ []
           cut_none = cut_file ∙ ap (λ n. take n (found t)) zero_kept
 
-          lies : IsTornOf digest node (take size (file t)) (model_file p)
-          lies = subst (λ (b : List ℕ). IsTornOf digest node b (model_file p)) (sym cut_none) (subst (IsTornOf digest node []) (sym none) (untorn digest node [] [] (nothing_cut digest node fits_node)))
+          lies : IsTornOf digest node (take size (file t)) all_kept
+          lies = subst (λ (b : List ℕ). IsTornOf digest node b all_kept) (sym cut_none) (subst (IsTornOf digest node []) (sym none) (untorn digest node [] [] (nothing_cut digest node fits_node)))
 
-          by_disk : HasCalls digest node (on_disk h) p.synced → GoesOn whose settings (Does (Cut size done) ∷ h) p
+          by_disk : HasKept digest node (on_disk h) i.synced → GoesOn whose settings (Does (Cut size done) ∷ h) p
           by_disk (inl is) =
               let a = ap length is in
-              let b = log_length digest (record { node = node; calls = p.synced }) d in
-              let c = short_small digest node (found t) (model_file p) d lies_found short in
+              let b = log_length digest (record { node = node; calls = i.synced }) d in
+              let c = short_small digest node (found t) all_kept d lies_found short in
               let e = start_length (on_disk h) (found t) under_found in
               absurd (omega (arith, a, b, c, e))
           by_disk (inr nothing) =
               with_file (ap (take size) nothing.0 ∙ (take_none size ∙ sym nothing.0)) (subst (λ (b : List ℕ). IsStartOf b (take size (file t))) (sym nothing.0) (record { rest = take size (file t); is = refl })) lies
 
-      by_begun : IsBegun digest node (found t) o.log whole start.records → IsTornOf digest node (found t) (model_file p) → GoesOn whose settings (Does (Cut size done) ∷ h) p
-      by_begun (inl read) c = by_reading (torn_reads digest node (found t) (model_file p) d c)
+      by_begun : IsBegun digest node (found t) o.log whole start.records → IsTornOf digest node (found t) all_kept → GoesOn whose settings (Does (Cut size done) ∷ h) p
+      by_begun (inl read) c = by_reading (torn_reads digest node (found t) all_kept d c)
         where
-          by_reading : ReadsCalls digest node (found t) (model_file p) → GoesOn whose settings (Does (Cut size done) ∷ h) p
+          by_reading : ReadsKept digest node (found t) all_kept → GoesOn whose settings (Does (Cut size done) ∷ h) p
           by_reading (inl own) =
-              let r = same_reading (record { log = o.log; whole = whole }) (record { log = record { node = node; calls = model_file p }; whole = own.0 }) (sym read.0 ∙ own.1) in
-              of_calls (cut_file ∙ (sym (append-nil (take whole (found t))) ∙ (ap (λ (x : List ℕ). take whole (found t) ++ x) (sym read.1) ∙ (o.text ∙ (ap (λ (x : List ℕ). log_text x o.log) second ∙ ap (λ (x : Reading). log_text digest x.log) r)))))
+              let r = same_reading (record { log = o.log; whole = whole }) (record { log = record { node = node; calls = all_kept }; whole = own.0 }) (sym read.0 ∙ own.1) in
+              of_calls (cut_file ∙ (sym (append-nil (take whole (found t))) ∙ (ap (λ (x : List ℕ). take whole (found t) ++ x) (sym read.1) ∙ (o.text ∙ (ap (λ (x : List ℕ). kept_text x o.log) second ∙ ap (λ (x : KeptReading). kept_text digest x.log) r)))))
           by_reading (inr short) = absurd (not_short (record { log = o.log; whole = whole }) (sym read.0 ∙ short.0))
-      by_begun (inr begun) c = by_reading (torn_reads digest node (found t) (model_file p) d c)
+      by_begun (inr begun) c = by_reading (torn_reads digest node (found t) all_kept d c)
         where
-          by_reading : ReadsCalls digest node (found t) (model_file p) → GoesOn whose settings (Does (Cut size done) ∷ h) p
-          by_reading (inl own) = absurd (not_short (record { log = record { node = node; calls = model_file p }; whole = own.0 }) (sym own.1 ∙ begun.0))
+          by_reading : ReadsKept digest node (found t) all_kept → GoesOn whose settings (Does (Cut size done) ∷ h) p
+          by_reading (inl own) = absurd (not_short (record { log = record { node = node; calls = all_kept }; whole = own.0 }) (sym own.1 ∙ begun.0))
           by_reading (inr short) = of_nothing begun.0 begun.1.1.0 short.1
 
   file_there : IsRead t → file_of h ≡ file t
   file_there r = read_file (left_of h) t r
 
-  reads_file : IsRead t → ReadsCalls digest node (file t) (model_file p)
-  reads_file r = subst (λ (b : List ℕ). ReadsCalls digest node b (model_file p)) (file_there r) reads
+  reads_file : IsRead t → ReadsKept digest node (file t) all_kept
+  reads_file r = subst (λ (b : List ℕ). ReadsKept digest node b all_kept) (file_there r) reads
 
   -- calls are recorded
-  append_step : (bytes : List ℕ) (done : Bool) (calls : List Logged) → GoesWell t → kept t ≡ file t → IsTextOf whose settings (file t ++ bytes) calls → GoesOn whose settings (Does (Append bytes done) ∷ h) p
+  append_step : (bytes : List ℕ) (done : Bool) (calls : List Stamped) → GoesWell t → kept t ≡ file t → IsMadeText whose settings (file t ++ bytes) calls → GoesOn whose settings (Does (Append bytes done) ∷ h) p
   append_step bytes done calls well synced text = with_new grows
     where
       -- the file is the text of what the process has recorded
-      on_file : (file t ≡ log_text digest (record { node = node; calls = model_file p })) ⊎ ((file t ≡ []) × (model_file p ≡ []))
+      on_file : HasKept digest node (file t) all_kept
       on_file = by_kept i.keeps
         where
-          nothing : file t ≡ [] → (file t ≡ log_text digest (record { node = node; calls = model_file p })) ⊎ ((file t ≡ []) × (model_file p ≡ []))
-          nothing none = inr (none, nothing_read digest node (file t) (model_file p) d none (reads_file well.0))
+          nothing : file t ≡ [] → HasKept digest node (file t) all_kept
+          nothing none = inr (none, nothing_read digest node (file t) all_kept d none (reads_file well.0))
 
-          by_disk : file t ≡ on_disk h → HasCalls digest node (on_disk h) p.synced → (file t ≡ log_text digest (record { node = node; calls = model_file p })) ⊎ ((file t ≡ []) × (model_file p ≡ []))
+          by_disk : file t ≡ on_disk h → HasKept digest node (on_disk h) i.synced → HasKept digest node (file t) all_kept
           by_disk same (inl is) =
-              let e = same_calls digest node p.synced (model_file p) (file t) d fits_synced (same ∙ is) (reads_file well.0) in
-              inl (same ∙ (is ∙ ap (λ (cs : List Logged). log_text digest (record { node = node; calls = cs })) e))
+              let e = same_calls digest node i.synced all_kept (file t) d fits_synced (same ∙ is) (reads_file well.0) in
+              inl (same ∙ (is ∙ ap (λ (cs : List Stamped). kept_text digest (record { node = node; calls = cs })) e))
           by_disk same (inr none) = nothing (same ∙ none.0)
 
-          by_kept : (kept t ≡ []) ⊎ (kept t ≡ on_disk h) → (file t ≡ log_text digest (record { node = node; calls = model_file p })) ⊎ ((file t ≡ []) × (model_file p ≡ []))
+          by_kept : (kept t ≡ []) ⊎ (kept t ≡ on_disk h) → HasKept digest node (file t) all_kept
           by_kept (inl none) = nothing (sym synced ∙ none)
           by_kept (inr same) = by_disk (sym synced ∙ same) i.disk
 
-      grows : (new : List Logged) × (model_file p ++ new ≡ calls)
+      grows : (new : List Stamped) × (all_kept ++ new ≡ calls)
       grows = by_file on_file
         where
-          by_file : (file t ≡ log_text digest (record { node = node; calls = model_file p })) ⊎ ((file t ≡ []) × (model_file p ≡ [])) → (new : List Logged) × (model_file p ++ new ≡ calls)
-          by_file (inr none) = (calls, ap (λ (x : List Logged). x ++ calls) none.1)
+          by_file : HasKept digest node (file t) all_kept → (new : List Stamped) × (all_kept ++ new ≡ calls)
+          by_file (inr none) = (calls, ap (λ (x : List Stamped). x ++ calls) none.1)
           by_file (inl is) =
-              let own = log_text digest (record { node = node; calls = model_file p }) in
-              let e : own ≡ take (length own) (log_text digest (record { node = node; calls = calls })) = sym (ap (take (length own)) (sym text.text ∙ ap (λ (x : List ℕ). x ++ bytes) is) ∙ take_at own bytes (length own) refl) in
+              let own = kept_text digest (record { node = node; calls = all_kept }) in
+              let e : own ≡ take (length own) (kept_text digest (record { node = node; calls = calls })) = sym (ap (take (length own)) (sym text.text ∙ ap (λ (x : List ℕ). x ++ bytes) is) ∙ take_at own bytes (length own) refl) in
               let k = calls_within digest (length own) (record { node = node; calls = calls }) in
-              let first : model_file p ≡ take k calls = begins_with digest node (model_file p) calls (length own) d fits text.fits refl e in
-              (drop k calls, ap (λ (x : List Logged). x ++ drop k calls) first ∙ take-append-drop k calls)
+              let first : all_kept ≡ take k calls = begins_with digest node all_kept calls (length own) d fits text.fits refl e in
+              (drop k calls, ap (λ (x : List Stamped). x ++ drop k calls) first ∙ take-append-drop k calls)
 
-      with_new : (new : List Logged) × (model_file p ++ new ≡ calls) → GoesOn whose settings (Does (Append bytes done) ∷ h) p
+      with_new : (new : List Stamped) × (all_kept ++ new ≡ calls) → GoesOn whose settings (Does (Append bytes done) ∷ h) p
       with_new (new, all) =
           let ctx = context_of settings in
+          let made = bare_calls new in
           let alive : p.memory ≡ Some (replay ctx text.before (model_file p)) = lives ctx first_node t p well.0 i.memory ∙ ap (option_map (λ (before : AnyNode). replay ctx before (model_file p))) text.opens in
-          let q = steps_from ctx first_node p (makes_of new) in
-          let m = makes_all ctx first_node text.before p (model_file p) new alive (subst (MakesLog ctx text.before) (sym all) text.makes) in
-          let grown : model_file q ≡ model_file p ++ new = ap (λ (x : List Logged). x ++ q.unsynced) m.synced ∙ (ap (λ (x : List Logged). p.synced ++ x) m.unsynced ∙ sym (append_assoc p.synced p.unsynced new)) in
-          let is : model_file q ≡ calls = grown ∙ all in (
-            makes_of new,
+          let q = steps_from ctx first_node p (makes_of made) in
+          let calls_are : bare_calls calls ≡ model_file p ++ made = ap bare_calls (sym all) ∙ (bare_append all_kept new ∙ ap (λ (x : List Logged). x ++ made) all_are) in
+          let m = makes_all ctx first_node text.before p (model_file p) made alive (subst (MakesLog ctx text.before) calls_are text.makes) in
+          let grown : model_file q ≡ model_file p ++ made = ap (λ (x : List Logged). x ++ q.unsynced) m.synced ∙ (ap (λ (x : List Logged). p.synced ++ x) m.unsynced ∙ sym (append_assoc p.synced p.unsynced made)) in
+          let further : i.synced ++ (i.unsynced ++ new) ≡ all_kept ++ new = sym (append_assoc i.synced i.unsynced new) in
+          let is : i.synced ++ (i.unsynced ++ new) ≡ calls = further ∙ all in (
+            makes_of made,
             record {
-              disk = subst (HasCalls digest node (on_disk h)) (sym m.synced) i.disk;
+              synced = i.synced;
+              unsynced = i.unsynced ++ new;
+              synced_are = i.synced_are ∙ sym m.synced;
+              unsynced_are = bare_append i.unsynced new ∙ (ap (λ (x : List Logged). x ++ made) i.unsynced_are ∙ sym m.unsynced);
+              disk = i.disk;
               under = start_with (on_disk h) (file t) bytes (subst (IsStartOf (on_disk h)) (file_there well.0) i.under);
-              lies = subst (λ (b : List ℕ). IsTornOf digest node b (model_file q)) (sym text.text) (subst (IsTornOf digest node (log_text digest (record { node = node; calls = calls }))) (sym is) (untorn digest node _ calls (text_cut digest node calls d text.fits)));
+              lies = subst (λ (b : List ℕ). IsTornOf digest node b (i.synced ++ (i.unsynced ++ new))) (sym text.text) (subst (IsTornOf digest node (kept_text digest (record { node = node; calls = calls }))) (sym is) (untorn digest node _ calls (text_cut digest node calls d text.fits)));
               first = i.first;
               more = i.more ++ new;
-              goes = grown ∙ (ap (λ (x : List Logged). x ++ new) i.goes ∙ append_assoc i.first i.more new);
+              goes = further ∙ (ap (λ (x : List Stamped). x ++ new) i.goes ∙ append_assoc i.first i.more new);
               was = i.was;
               keeps = i.keeps;
               memory = m.memory ∙ (ap (λ (x : List Logged). Some (replay ctx text.before x)) (sym grown) ∙ sym (ap (option_map (λ (before : AnyNode). replay ctx before (model_file q))) text.opens));
@@ -400,13 +455,17 @@ module _ (whose : Whose) (settings : Settings) (spells : Spells whose.settings s
           )
 
   -- what is recorded is synced
-  sync_step : (done : Bool) (calls : List Logged) → GoesWell t → IsTextOf whose settings (file t) calls → GoesOn whose settings (Does (Sync done) ∷ h) p
+  sync_step : (done : Bool) (calls : List Stamped) → GoesWell t → IsMadeText whose settings (file t) calls → GoesOn whose settings (Does (Sync done) ∷ h) p
   sync_step false calls well text = (
     [],
     record {
+      synced = i.synced;
+      unsynced = i.unsynced;
+      synced_are = i.synced_are;
+      unsynced_are = i.unsynced_are;
       disk = i.disk;
       under = subst (IsStartOf (on_disk h)) (file_there well.0) i.under;
-      lies = subst (λ (b : List ℕ). IsTornOf digest node b (model_file p)) (file_there well.0) i.lies;
+      lies = subst (λ (b : List ℕ). IsTornOf digest node b all_kept) (file_there well.0) i.lies;
       first = i.first;
       more = i.more;
       goes = i.goes;
@@ -419,17 +478,21 @@ module _ (whose : Whose) (settings : Settings) (spells : Spells whose.settings s
   sync_step true calls well text =
       let ctx = context_of settings in
       let q : Process = record { memory = p.memory; synced = model_file p; unsynced = [] } in
-      let own : calls ≡ model_file p = same_calls digest node calls (model_file p) (file t) d text.fits text.text (reads_file well.0) in
+      let own : calls ≡ all_kept = same_calls digest node calls all_kept (file t) d text.fits text.text (reads_file well.0) in
       let disk : cond (true && not (has_failed t)) (file t) (on_disk h) ≡ file t = ap (λ b. cond (true && not b) (file t) (on_disk h)) well.1 in
       let keeps : cond (true && not (has_failed t)) (file t) (kept t) ≡ file t = ap (λ b. cond (true && not b) (file t) (kept t)) well.1 in
       let all : model_file q ≡ model_file p = append-nil (model_file p) in
       let after : IsInner whose settings (Does (Sync true) ∷ h) q = record {
-        disk = inl (disk ∙ (text.text ∙ ap (λ (cs : List Logged). log_text digest (record { node = node; calls = cs })) own));
+        synced = all_kept;
+        unsynced = [];
+        synced_are = all_are;
+        unsynced_are = refl;
+        disk = inl (disk ∙ (text.text ∙ ap (λ (cs : List Stamped). kept_text digest (record { node = node; calls = cs })) own));
         under = subst (λ (b : List ℕ). IsStartOf b (file t)) (sym disk) (all_of (file t));
-        lies = subst (λ (b : List ℕ). IsTornOf digest node b (model_file q)) (file_there well.0) (subst (IsTornOf digest node (file_of h)) (sym all) i.lies);
+        lies = subst (λ (b : List ℕ). IsTornOf digest node b (all_kept ++ [])) (file_there well.0) (subst (IsTornOf digest node (file_of h)) (sym (append-nil all_kept)) i.lies);
         first = i.first;
         more = i.more;
-        goes = all ∙ i.goes;
+        goes = append-nil all_kept ∙ i.goes;
         was = i.was;
         keeps = inr (keeps ∙ sym disk);
         memory = lives ctx first_node t p well.0 i.memory ∙ ap (replayed_from ctx first_node) (sym all);
@@ -442,9 +505,13 @@ module _ (whose : Whose) (settings : Settings) (spells : Spells whose.settings s
   say_step bytes done well told = (
     [],
     record {
+      synced = i.synced;
+      unsynced = i.unsynced;
+      synced_are = i.synced_are;
+      unsynced_are = i.unsynced_are;
       disk = i.disk;
       under = subst (IsStartOf (on_disk h)) (file_there well.0) i.under;
-      lies = subst (λ (b : List ℕ). IsTornOf digest node b (model_file p)) (file_there well.0) i.lies;
+      lies = subst (λ (b : List ℕ). IsTornOf digest node b all_kept) (file_there well.0) i.lies;
       first = i.first;
       more = i.more;
       goes = i.goes;
@@ -459,9 +526,13 @@ module _ (whose : Whose) (settings : Settings) (spells : Spells whose.settings s
   hear_step bytes well = (
     [],
     record {
+      synced = i.synced;
+      unsynced = i.unsynced;
+      synced_are = i.synced_are;
+      unsynced_are = i.unsynced_are;
       disk = i.disk;
       under = subst (IsStartOf (on_disk h)) (file_there well.0) i.under;
-      lies = subst (λ (b : List ℕ). IsTornOf digest node b (model_file p)) (file_there well.0) i.lies;
+      lies = subst (λ (b : List ℕ). IsTornOf digest node b all_kept) (file_there well.0) i.lies;
       first = i.first;
       more = i.more;
       goes = i.goes;
@@ -473,21 +544,25 @@ module _ (whose : Whose) (settings : Settings) (spells : Spells whose.settings s
   )
 
   -- the process dies
-  crash_step : (left : List ℕ) → IsStartOf (on_disk h) left → HasLeft digest node left (model_file p) p.synced → GoesOn whose settings (Dies left ∷ h) p
+  crash_step : (left : List ℕ) → IsStartOf (on_disk h) left → HasLeft digest node left all_kept i.synced → GoesOn whose settings (Dies left ∷ h) p
   crash_step left under l =
-      let k = l.count - length p.synced in
-      let q : Process = crashed p k in
-      let e : l.count ≡ length p.synced + k = let a = l.enough in omega (arith, a) in
-      let is : take l.count (model_file p) ≡ model_file q = ap (λ n. take n (model_file p)) e ∙ take-append-add p.synced p.unsynced k in
-      let lies : IsTornOf digest node left (model_file q) = subst (IsTornOf digest node left) is l.torn in (
+      let k = l.count - length i.synced in
+      let e : l.count ≡ length i.synced + k = let a = l.enough in omega (arith, a) in
+      let there : List Stamped = i.synced ++ take k i.unsynced in
+      let is : take l.count all_kept ≡ there = ap (λ n. take n all_kept) e ∙ take-append-add i.synced i.unsynced k in
+      let lies : IsTornOf digest node left there = subst (IsTornOf digest node left) is l.torn in (
         Crashes k ∷ [],
         record {
+          synced = i.synced;
+          unsynced = take k i.unsynced;
+          synced_are = i.synced_are;
+          unsynced_are = bare_take k i.unsynced ∙ ap (take k) i.unsynced_are;
           disk = i.disk;
           under = under;
           lies = lies;
-          first = model_file q;
+          first = there;
           more = [];
-          goes = sym (append-nil (model_file q));
+          goes = sym (append-nil there);
           was = lies;
           keeps = inl refl;
           memory = refl;
@@ -503,17 +578,17 @@ module _ (whose : Whose) (settings : Settings) (spells : Spells whose.settings s
 
       by_had : IsStartOf leaves.front (file_of h) ⊎ IsStartOf leaves.front (left_of h) → GoesOn whose settings (Dies left ∷ h) p
       by_had (inl start) =
-          crash_step left under (left_reads digest node (on_disk h) leaves.front left (file_of h) (model_file p) p.synced leaves.lost d fits_synced i.disk leaves.kept start leaves.is leaves.ends i.lies)
+          crash_step left under (left_reads digest node (on_disk h) leaves.front left (file_of h) all_kept i.synced leaves.lost d fits_synced i.disk leaves.kept start leaves.is leaves.ends i.lies)
       by_had (inr start) =
-          let l = left_reads digest node (on_disk h) leaves.front left (left_of h) i.first p.synced leaves.lost d fits_synced i.disk leaves.kept start leaves.is leaves.ends i.was in
-          let same : take l.count i.first ≡ take l.count (model_file p) = sym (ap (take l.count) i.goes ∙ take-append-le l.count i.first i.more l.most) in
-          let long : length (model_file p) ≡ length i.first + length i.more = ap length i.goes ∙ length-append i.first i.more in
+          let l = left_reads digest node (on_disk h) leaves.front left (left_of h) i.first i.synced leaves.lost d fits_synced i.disk leaves.kept start leaves.is leaves.ends i.was in
+          let same : take l.count i.first ≡ take l.count all_kept = sym (ap (take l.count) i.goes ∙ take-append-le l.count i.first i.more l.most) in
+          let long : length all_kept ≡ length i.first + length i.more = ap length i.goes ∙ length-append i.first i.more in
           crash_step left under (record {
             count = l.count;
             torn = subst (IsTornOf digest node left) same l.torn;
             enough = l.enough;
             most = let m = l.most in omega (arith, m, long);
-            begins = sym (take_at p.synced p.unsynced (length p.synced) refl);
+            begins = sym (take_at i.synced i.unsynced (length i.synced) refl);
           })
 
   -- each act of a run
@@ -529,13 +604,13 @@ module _ (whose : Whose) (settings : Settings) (spells : Spells whose.settings s
       by_act (Append bytes done) is start whole second o safe =
           let log = safe.order.1.1 in
           let text = input_text whose settings (found t) whole start log.input spells second o log.fits in
-          append_step bytes done (text.0 ++ lines_calls start (whole_lines log.input)) safe.order.0 safe.order.1.0 (subst (λ (b : List ℕ). IsTextOf whose settings b (text.0 ++ lines_calls start (whole_lines log.input))) (sym log.is) text.1)
+          append_step bytes done (text.0 ++ lines_kept start (whole_lines log.input)) safe.order.0 safe.order.1.0 (subst (λ (b : List ℕ). IsMadeText whose settings b (text.0 ++ lines_kept start (whole_lines log.input))) (sym log.is) text.1)
       by_act (Sync done) is start whole second o safe =
           let log = safe.order.1 in
           let text = input_text whose settings (found t) whole start log.input spells second o log.fits in
-          sync_step done (text.0 ++ lines_calls start (whole_lines log.input)) safe.order.0 (subst (λ (b : List ℕ). IsTextOf whose settings b (text.0 ++ lines_calls start (whole_lines log.input))) (sym log.is) text.1)
+          sync_step done (text.0 ++ lines_kept start (whole_lines log.input)) safe.order.0 (subst (λ (b : List ℕ). IsMadeText whose settings b (text.0 ++ lines_kept start (whole_lines log.input))) (sym log.is) text.1)
       by_act (Say bytes done) is start whole second o safe =
-          say_step bytes done safe.order (covered_told whose settings (Say bytes done ∷ t) (on_disk h) start whole p.synced spells second o fits_synced i.disk i.keeps safe.covered)
+          say_step bytes done safe.order (subst (λ (x : List Logged). IsToldBy node x (said t ++ bytes)) i.synced_are (covered_told whose settings (Say bytes done ∷ t) (on_disk h) start whole i.synced spells second o fits_synced i.disk i.keeps safe.covered))
       by_act (Hear bytes) is start whole second o safe = hear_step bytes safe.order
 
   unopened_step : (act : Act) → found (act ∷ t) ≡ left_of h → IsUnopened (act ∷ t) → GoesOn whose settings (Does act ∷ h) p
@@ -559,6 +634,10 @@ begun : (whose : Whose) (settings : Settings) → FitsNode whose.node → IsInne
 begun whose settings fits =
     let none = untorn (turned_in whose.settings whose.rest) whose.node [] [] (nothing_cut (turned_in whose.settings whose.rest) whose.node fits) in
     record {
+      synced = [];
+      unsynced = [];
+      synced_are = refl;
+      unsynced_are = refl;
       disk = inr (refl, refl);
       under = all_of [];
       lies = none;
@@ -584,9 +663,18 @@ before_is : (whose : Whose) (later h : List Happening) → IsHistory whose (late
 before_is whose [] h is = is
 before_is whose (one ∷ later) h is = before_is whose later h (earlier whose one (later ++ h) is)
 
+-- and without what was noted of the calls
 is_process : (whose : Whose) (settings : Settings) (h : List Happening) (p : Process) → IsInner whose settings h p → IsProcess whose settings h p
 is_process whose settings h p i =
-    record { disk = i.disk; lies = torn_reads (turned_in whose.settings whose.rest) whose.node (file_of h) (model_file p) (turned_in_length whose.settings whose.rest) i.lies; memory = i.memory; told = i.told }
+    let digest = turned_in whose.settings whose.rest in
+    let all = i.synced ++ i.unsynced in
+    let fits = torn_fits digest whose.node (file_of h) all i.lies in
+    record {
+      disk = subst (HasCalls digest whose.node (on_disk h)) i.synced_are (bare_has digest whose.node (on_disk h) i.synced (record { node = fits.node; calls = front_fits i.synced i.unsynced fits.calls }) i.disk);
+      lies = subst (ReadsCalls digest whose.node (file_of h)) (recorded whose settings h p i) (bare_reads digest whose.node (file_of h) all (torn_reads digest whose.node (file_of h) all (turned_in_length whose.settings whose.rest) i.lies));
+      memory = i.memory;
+      told = i.told;
+    }
 
 pub course : (whose : Whose) (settings : Settings) (later before : List Happening) → Spells whose.settings settings → FitsNode whose.node → IsHistory whose (later ++ before) → IsCourse whose settings before (later ++ before)
 course whose settings later before spells fits is =

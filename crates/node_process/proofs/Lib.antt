@@ -4,6 +4,7 @@ pub mod Asking
 pub mod Moments
 pub mod Hearing
 pub mod Turning
+pub mod Bare
 pub mod Zeros
 pub mod Left
 pub mod Spoken

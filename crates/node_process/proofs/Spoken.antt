@@ -1,10 +1,10 @@
 -- The lines that are written of an input, and the packets among them.
-use Rattle.std.proofs.Common.{◌≡◌, ℕ, zero, suc, ◌+◌, List, [], ◌∷◌, ◌++◌, length, map, take, drop, Option, Some, None, refl, sym, ap, ◌∙◌, subst, arith, append_assoc, append-nil}
+use Rattle.std.proofs.Common.{◌≡◌, ℕ, zero, suc, ◌+◌, Bool, true, false, cond, List, [], ◌∷◌, ◌++◌, length, map, take, drop, Option, Some, None, refl, sym, ap, ◌∙◌, subst, arith, append_assoc, append-nil}
 use Rattle.std.proofs.lemmas.List.{map-append, take-append-drop}
 use Rattle.std.proofs.lemmas.Grind.{flat_map-append}
-use Rattle.std.specs.Prelude.{codes, flat_map}
+use Rattle.std.specs.Prelude.{bytes_eq, codes, flat_map}
 use Rattle.std.specs.List.{AllByRecursion}
-use Rattle.claim_model.specs.Node.{Node, Call, Sent, Outcome, Done, Refused}
+use Rattle.claim_model.specs.Node.{Node, Call, Submit, Tick, Take, Stop, Start, Reprice, Sent, Outcome, Done, Refused}
 use Rattle.claim_model.specs.Nodes.{AnyNode, node_step}
 use Rattle.claim_model.specs.Numbered.{numbered}
 use Rattle.claim_model.specs.World.{Packet, packet_from}
@@ -14,13 +14,15 @@ use Rattle.crash_safety.specs.Runs.{IsAmong}
 use Rattle.claim_model.specs.Refusal.{refusal_name}
 use Rattle.world_setup.specs.Seen.{call_seen}
 use Rattle.node_logged.specs.Setting.{context_of}
+use Rattle.node_state.specs.Nodes.{request_of}
+use Rattle.kept_logs.specs.Stamps.{Stamp, bare_calls}
 use Rattle.node_service.specs.Asking.{Asked, Calls, Tells as Asks, asked_of}
-use Rattle.node_service.specs.Answering.{ready_line, refused_line, sent_line, sent_lines}
-use Rattle.node_service.specs.Serving.{Serving, after_call, after_asked, after_line, last_line, told_of}
-use Rattle.node_service.specs.Lines.{after_lines, logged_of, logged_asked, line_calls, lines_calls}
+use Rattle.node_service.specs.Answering.{idle_line, known_line, ready_line, refused_line, sent_line, sent_lines}
+use Rattle.node_service.specs.Serving.{Serving, saying, after_call, again, again_line, is_idle_call, known, making, making_once, after_asked, after_line, last_line, told_of}
+use Rattle.node_service.specs.Lines.{after_lines, kept_call, kept_making, kept_once, kept_asked, line_calls, lines_calls}
 use Rattle.node_process.specs.Heard.{whole_lines}
 use Rattle.node_process.specs.Safe.{IsStartOf, words_of}
-use Rattle.node_process.specs.Histories.{Word, Sends, Tells, word_text, SendsNothing, IsReady, IsRefused, IsNoLine, IsLast, IsTold, IsWordOf, IsToldBy}
+use Rattle.node_process.specs.Histories.{Word, Sends, Tells, word_text, SendsNothing, IsReady, IsRefused, IsNoLine, IsReused, IsLast, IsIdle, IsKnown, IsTold, IsWordOf, IsToldBy}
 
 -- ---- packets of more calls
 
@@ -90,9 +92,12 @@ pub record IsSpoken (node : Node) (calls : List Logged) (old new : List ℕ) : T
 one_word : (node : Node) (calls : List Logged) (old text : List ℕ) → SendsNothing text → IsSpoken node calls old (old ++ text)
 one_word node calls old text nothing = record { words = Tells text ∷ []; each = (nothing, tt); is = ap (λ (t : List ℕ). old ++ t) (sym (append-nil text)) }
 
-call_spoken : (node : Node) (s : Serving) (call : Call) (o : Outcome AnyNode) → IsSpoken node (logged_of call o) s.out (after_call s call o).out
+no_word : (node : Node) (calls : List Logged) (old : List ℕ) → IsSpoken node calls old (old ++ [])
+no_word node calls old = record { words = []; each = tt; is = refl }
+
+call_spoken : (node : Node) (s : Serving) (stamp : Stamp) (call : Call) (o : Outcome AnyNode) → IsSpoken node (bare_calls (kept_call stamp call o)) s.out (after_call s stamp call o).out
 unfolding after_call
-call_spoken node s call (Done next sent) =
+call_spoken node s stamp call (Done next sent) =
     let last = last_line call next in
     record {
       words = map Sends sent ++ Tells last ∷ [];
@@ -101,11 +106,43 @@ call_spoken node s call (Done next sent) =
           (sym (flat_map-append word_text (map Sends sent) (Tells last ∷ [])
           ∙ (ap (λ (t : List ℕ). t ++ flat_map word_text (Tells last ∷ [])) (sent_text sent) ∙ ap (λ (t : List ℕ). sent_lines sent ++ t) (append-nil last))));
     }
-call_spoken node s call (Refused why) = one_word node [] s.out (refused_line (refusal_name why)) (IsRefused why refl)
+call_spoken node s stamp call (Refused why) = one_word node [] s.out (refused_line (refusal_name why)) (IsRefused why refl)
 
-asked_spoken : (node : Node) (s : Serving) (a : Option Asked) → IsSpoken node (logged_asked s a) s.out (after_asked s a).out
+-- of a tick that changes nothing that is said
+making_spoken : (node : Node) (s : Serving) (stamp : Stamp) (call : Call) → IsSpoken node (bare_calls (kept_making s stamp call)) s.out (making s stamp call).out
+making_spoken node s stamp call = by_idle (is_idle_call s.state call)
+  where
+    outcome : Outcome AnyNode
+    outcome = node_step (context_of s.settings) s.state call
+
+    by_idle : (idle : Bool) → IsSpoken node (bare_calls (cond idle [] (kept_call stamp call outcome))) s.out (cond idle (saying s idle_line) (after_call s stamp call outcome)).out
+    by_idle true = one_word node [] s.out idle_line (IsIdle refl)
+    by_idle false = call_spoken node s stamp call outcome
+
+-- the number is told again, or that its reference has another request
+again_spoken : (node : Node) (old : List ℕ) (number : ℕ) (text : List ℕ) (request : Option (List ℕ)) → IsSpoken node [] old (old ++ again_line number text request)
+again_spoken node old number text None = one_word node [] old (refused_line (codes "ReferenceReused")) (IsReused refl)
+again_spoken node old number text (Some request) = by_request (bytes_eq request text)
+  where
+    by_request : (same : Bool) → IsSpoken node [] old (old ++ cond same (known_line number) (refused_line (codes "ReferenceReused")))
+    by_request true = one_word node [] old (known_line number) (IsKnown number refl)
+    by_request false = one_word node [] old (refused_line (codes "ReferenceReused")) (IsReused refl)
+
+known_spoken : (node : Node) (s : Serving) (call : Call) (number : ℕ) → IsSpoken node [] s.out (s.out ++ again s.state call number)
+known_spoken node s (Submit text) number = again_spoken node s.out number text (request_of s.state number)
+known_spoken node s Tick number = no_word node [] s.out
+known_spoken node s (Take from bytes) number = no_word node [] s.out
+known_spoken node s Stop number = no_word node [] s.out
+known_spoken node s Start number = no_word node [] s.out
+known_spoken node s (Reprice product price) number = no_word node [] s.out
+
+once_spoken : (node : Node) (s : Serving) (stamp : Stamp) (call : Call) (o : Option ℕ) → IsSpoken node (bare_calls (kept_once s stamp call o)) s.out (making_once s stamp call o).out
+once_spoken node s stamp call (Some number) = known_spoken node s call number
+once_spoken node s stamp call None = making_spoken node s stamp call
+
+asked_spoken : (node : Node) (s : Serving) (a : Option Asked) → IsSpoken node (bare_calls (kept_asked s a)) s.out (after_asked s a).out
 asked_spoken node s None = one_word node [] s.out (refused_line (codes "Line")) (IsNoLine refl)
-asked_spoken node s (Some (Calls call)) = call_spoken node s (call_seen call) (node_step (context_of s.settings) s.state (call_seen call))
+asked_spoken node s (Some (Calls n)) = once_spoken node s n.stamp (call_seen n.call) (known s.references n.stamp.reference (call_seen n.call))
 asked_spoken node s (Some (Asks question)) =
     let text = told_of (context_of s.settings) s.state s.node question in
     one_word node [] s.out text (IsTold (context_of s.settings) s.state s.node (Asks question) refl)

@@ -4,15 +4,14 @@ use Rattle.std.proofs.lemmas.Bool.{cases_lt}
 use Rattle.std.proofs.lemmas.Bool.Decides.{nat_tests}
 use Rattle.std.specs.Int.{w64, to_be_bytes}
 use Rattle.std.specs.List.{AllByRecursion}
-use Rattle.claim_model.specs.Logs.{Logged, NodeLog}
 use Rattle.kept_records.proofs.FieldsBack.{u64_at-put}
-use Rattle.kept_logs.specs.Records.{logged_text}
+use Rattle.kept_logs.specs.Stamps.{Stamped, KeptLog, stamped_text}
 use Rattle.kept_records.specs.Fields.{u64_at}
 use Rattle.kept_logs.specs.Digests.{version_of}
 use Rattle.kept_logs.specs.Frames.{frame_text, is_zeros, CutOff, Damaged, sized_frame, frame_at}
-use Rattle.kept_logs.specs.Logs.{head_text, calls_text, log_text, read_record, framed_record, record_in, behind, and_more, head_in, calls_in, log_in}
-use Rattle.kept_logs.specs.Fits.{FitsLogged, FitsLog}
-use Rattle.kept_logs.proofs.FieldsBack.{logged_in-put}
+use Rattle.kept_logs.specs.Logs.{head_text, calls_text, kept_text, read_record, framed_record, record_in, behind, and_more, head_in, calls_in, kept_in}
+use Rattle.kept_logs.specs.Fits.{FitsStamped, FitsKept}
+use Rattle.kept_logs.proofs.StampsBack.{stamped_in-put}
 use Rattle.kept_logs.proofs.FramesBack.{frame_length, frame_at-put}
 use Rattle.kept_logs.proofs.CallsBack.{one_call}
 use Rattle.kept_logs.proofs.LogsBack.{head_in-put}
@@ -62,43 +61,43 @@ unfolding calls_in
 zeros_stop version total number zero n = refl
 zeros_stop version total number (suc most) n = ap (and_more (zeros n) (λ rest. calls_in version total (number + 1) most rest)) (zeros_none version number (total - length (zeros n)) n)
 
-one_record : (version number place : ℕ) (r : Logged) (after : List ℕ) → FitsLogged r → record_in version number place (frame_text version number (logged_text r) ++ after) ≡ Ok (Some (r, after))
+one_record : (version number place : ℕ) (r : Stamped) (after : List ℕ) → FitsStamped r → record_in version number place (frame_text version number (stamped_text r) ++ after) ≡ Ok (Some (r, after))
 unfolding record_in
-one_record version number place r after fits = ap (framed_record place) (frame_at-put version number (logged_text r) after fits.body) ∙ ap (read_record place after) (logged_in-put r fits)
+one_record version number place r after fits = ap (framed_record place) (frame_at-put version number (stamped_text r) after fits.body) ∙ ap (read_record place after) (stamped_in-put r fits)
 
-one_more : (version total number most : ℕ) (r : Logged) (after : List ℕ) → FitsLogged r → calls_in version total number (suc most) (frame_text version number (logged_text r) ++ after) ≡ behind (r ∷ []) (calls_in version total (number + 1) most after)
+one_more : (version total number most : ℕ) (r : Stamped) (after : List ℕ) → FitsStamped r → calls_in version total number (suc most) (frame_text version number (stamped_text r) ++ after) ≡ behind (r ∷ []) (calls_in version total (number + 1) most after)
 unfolding calls_in
 one_more version total number most r after fits =
-    let bytes : List ℕ = frame_text version number (logged_text r) ++ after in
+    let bytes : List ℕ = frame_text version number (stamped_text r) ++ after in
     ap (and_more bytes (λ rest. calls_in version total (number + 1) most rest)) (one_record version number (total - length bytes) r after fits)
 
 no_calls : (version number : ℕ) → calls_text version number [] ≡ []
 unfolding calls_text
 no_calls version number = refl
 
-calls_then_zeros : (version total number most n : ℕ) (calls : List Logged) → AllByRecursion FitsLogged calls → length (calls_text version number calls) ≤ most
+calls_then_zeros : (version total number most n : ℕ) (calls : List Stamped) → AllByRecursion FitsStamped calls → length (calls_text version number calls) ≤ most
     → calls_in version total number most (calls_text version number calls ++ zeros n) ≡ Ok (calls, zeros n)
 calls_then_zeros version total number most n [] fits room = ap (λ (t : List ℕ). calls_in version total number most (t ++ zeros n)) (no_calls version number) ∙ zeros_stop version total number most n
 calls_then_zeros version total number zero n (r ∷ calls) fits room =
-    let front : List ℕ = frame_text version number (logged_text r) in
+    let front : List ℕ = frame_text version number (stamped_text r) in
     let size = ap length (one_call version number r calls) in
     let sum = length-append front (calls_text version (number + 1) calls) in
-    let long = frame_length version number (logged_text r) in
+    let long = frame_length version number (stamped_text r) in
     absurd (omega (arith, size, sum, long, room))
 calls_then_zeros version total number (suc most) n (r ∷ calls) fits room =
-    let front : List ℕ = frame_text version number (logged_text r) in
+    let front : List ℕ = frame_text version number (stamped_text r) in
     let text : List ℕ = calls_text version (number + 1) calls in
     let size = ap length (one_call version number r calls) in
     let sum = length-append front text in
-    let long = frame_length version number (logged_text r) in
+    let long = frame_length version number (stamped_text r) in
     ap (λ (t : List ℕ). calls_in version total number (suc most) (t ++ zeros n)) (one_call version number r calls)
     ∙ (ap (calls_in version total number (suc most)) (append_assoc front text (zeros n))
     ∙ (one_more version total number most r (text ++ zeros n) fits.0 ∙ ap (behind (r ∷ [])) (calls_then_zeros version total (number + 1) most n calls fits.1 (omega (arith, size, sum, long, room)))))
 
 -- ---- a log, and zeros behind it
 
-pub reads_zeros : (digest : List ℕ) (log : NodeLog) (n : ℕ) → length digest ≡ 33 → FitsLog log → log_in digest (log_text digest log ++ zeros n) ≡ Ok (record { log = log; whole = length (log_text digest log) })
-unfolding log_in log_text
+pub reads_zeros : (digest : List ℕ) (log : KeptLog) (n : ℕ) → length digest ≡ 33 → FitsKept log → kept_in digest (kept_text digest log ++ zeros n) ≡ Ok (record { log = log; whole = length (kept_text digest log) })
+unfolding kept_in kept_text
 reads_zeros digest log n d fits =
     let front : List ℕ = head_text digest log.node in
     let text : List ℕ = calls_text (version_of digest) 1 log.calls in

@@ -7,7 +7,7 @@ use Rattle.claim_model.specs.Refusal.{refusal_name}
 use Rattle.claim_model.specs.Node.{Node, Call, Sent}
 use Rattle.claim_model.specs.Nodes.{AnyNode}
 use Rattle.claim_model.specs.World.{packet_from}
-use Rattle.claim_model.specs.Logs.{Logged, NodeLog, posted_by}
+use Rattle.claim_model.specs.Logs.{Logged, posted_by}
 use Rattle.crash_safety.specs.Network.{Process}
 use Rattle.crash_safety.specs.Network as model
 use Rattle.crash_safety.specs.Runs.{IsAmong}
@@ -15,11 +15,13 @@ use Rattle.crash_safety.specs.Steps.{Step, process_after, replayed_from}
 use Rattle.world_setup.specs.declared.settings.WorldSettings.{WorldSettings as Settings}
 use Rattle.node_logged.specs.Setting.{context_of}
 use Rattle.kept_logs.specs.declared.fault.LogFault.TheVariants.{Short}
-use Rattle.kept_logs.specs.Logs.{log_text, log_in, ReadsAs}
+use Rattle.kept_logs.specs.Stamps.{KeptLog}
+use Rattle.kept_logs.specs.Logs.{log_in, KeptAs}
+use Rattle.kept_logs.specs.Cuts.{IsTextOf}
 use Rattle.kept_logs.specs.Rests.{begins}
 use Rattle.settings_digest.specs.Digests.{turned_in}
 use Rattle.node_service.specs.Asking.{Asked, Calls, Tells as Asks}
-use Rattle.node_service.specs.Answering.{ready_line, sent_line, refused_line}
+use Rattle.node_service.specs.Answering.{ready_line, sent_line, idle_line, known_line, refused_line}
 use Rattle.node_service.specs.Serving.{last_line, told_of}
 use Rattle.node_process.specs.Acts.{Act, Found, Cut, Append, Sync, Say, Hear, found, file, has_failed, said}
 use Rattle.node_process.specs.Safe.{IsStartOf, IsUnopened, IsRun, Whose}
@@ -68,7 +70,7 @@ zeros n = replicate n 0
 
 -- bytes are a log, which ends with its head or its last record
 abbrev pub IsWholeLog : List ℕ → List ℕ → Type 0
-IsWholeLog digest bytes = (log : NodeLog) × ReadsAs digest bytes log
+IsWholeLog digest bytes = (log : KeptLog) × KeptAs digest bytes log
 
 -- a death leaves what is on the disk for certain, and behind that a beginning of what the system had; or of what it had when the process began,
 -- since what was cut off may be there again. Where this ends with a record, zeros may stand behind it: some file systems leave them, however many,
@@ -98,9 +100,9 @@ BeginsWith left acts = (acts ≡ []) ⊎ (found acts ≡ left)
 
 -- ---- that they are the same
 
--- bytes are the text of a log of these calls; or there is no log yet
+-- bytes are the text of a log of these calls, whatever was noted of them; or there is no log yet
 abbrev pub HasCalls : List ℕ → Node → List ℕ → List Logged → Type 0
-HasCalls digest node bytes calls = (bytes ≡ log_text digest (record { node = node; calls = calls })) ⊎ ((bytes ≡ []) × (calls ≡ []))
+HasCalls digest node bytes calls = IsTextOf digest (record { node = node; calls = calls }) bytes ⊎ ((bytes ≡ []) × (calls ≡ []))
 
 -- bytes are read as a log of these calls; or there is no whole head of a log yet
 abbrev pub ReadsCalls : List ℕ → Node → List ℕ → List Logged → Type 0
@@ -124,15 +126,19 @@ word_text (Tells text) = text
 
 -- a text answers a question; to a call there is no answer
 abbrev pub IsAnswer : Context → AnyNode → Node → Asked → List ℕ → Type 0
-IsAnswer ctx state node (Calls call) text = ⊥
+IsAnswer ctx state node (Calls noted) text = ⊥
 IsAnswer ctx state node (Asks question) text = text ≡ told_of ctx state node question
 
--- the lines that send nothing: how many calls a log has, why a call was refused, that a line is none, how a call ended, and answers to questions
+-- the lines that send nothing: how many calls a log has, why a call was refused, that a line is none, that a reference has another request, how a call
+-- ended, that a tick changes nothing, the number that a submission has already, and answers to questions
 pub data SendsNothing (text : List ℕ) : Type 0 where
   IsReady : (calls : ℕ) → text ≡ ready_line calls → SendsNothing text
   IsRefused : (why : Refusal) → text ≡ refused_line (refusal_name why) → SendsNothing text
   IsNoLine : text ≡ refused_line (codes "Line") → SendsNothing text
+  IsReused : text ≡ refused_line (codes "ReferenceReused") → SendsNothing text
   IsLast : (call : Call) (next : AnyNode) → text ≡ last_line call next → SendsNothing text
+  IsIdle : text ≡ idle_line → SendsNothing text
+  IsKnown : (number : ℕ) → text ≡ known_line number → SendsNothing text
   IsTold : (ctx : Context) (state : AnyNode) (node : Node) (asked : Asked) → IsAnswer ctx state node asked text → SendsNothing text
 
 -- a packet is one that these calls of the node sent

@@ -4,11 +4,11 @@ use Rattle.std.specs.Option.{option_copied}
 use Rattle.std.specs.List.{AllByRecursion}
 use Rattle.claim_model.specs.Node.{Node}
 use Rattle.world_setup.specs.Seen.{node_seen}
-use Rattle.kept_logs.specs.Fits.{FitsLogged}
+use Rattle.kept_logs.specs.Fits.{FitsStamped}
 use Rattle.node_process.specs.declared.opening.Owner.{Owner}
 use Rattle.node_service.specs.Answering.{ready_line}
 use Rattle.node_service.specs.Serving.{Serving, cleared}
-use Rattle.node_service.specs.Lines.{after_lines, lines_calls}
+use Rattle.node_service.specs.Lines.{after_lines, lines_kept}
 use Rattle.node_service.specs.Opened.{IsOpened}
 use Rattle.node_process.specs.Acts.{Act, Found, Cut, Append, Sync, Say, Hear, found, file, has_failed, kept, said, heard, heard_last}
 use Rattle.node_process.specs.Heard.{whole_lines, begun_line, NoNewline}
@@ -30,9 +30,9 @@ log_of start base input = base ++ (asked start input).records
 abbrev pub words_of : Serving → List ℕ → List ℕ
 words_of start input = ready_line start.calls ++ (asked start input).out
 
--- the numbers of the calls that an input adds to the log are numbers of a machine, so their records read back
+-- the numbers of the records that an input adds to the log are numbers of a machine, so these read back
 abbrev pub FitsInput : Serving → List ℕ → Type 0
-FitsInput start input = AllByRecursion FitsLogged (lines_calls start (whole_lines input))
+FitsInput start input = AllByRecursion FitsStamped (lines_kept start (whole_lines input))
 
 -- what was said begins what some beginning of the input sends, and every record of that beginning is on the disk
 pub record IsCovered (start : Serving) (base : List ℕ) (acts : List Act) : Type 0 where

@@ -61,7 +61,7 @@ pub(crate) fn open<M: Machine>(
     }
 }
 
-/// Has on disk what stays of a log of so many bytes, and says how many calls it has.
+/// The node of a log of so many bytes, once what stays of these is on disk and how many calls it has was said.
 fn begin<M: Machine>(
     alloc: Global,
     owner: &Owner<'_>,
@@ -77,12 +77,33 @@ fn begin<M: Machine>(
     ensures deaf { OnOk result (heard (M.acts machine.new) ≡ []) }
     ensures quiet { IfOk result (λ s. (s.records ≡ []) × (s.out ≡ [])) }
 {
+    match lay_down(alloc, owner, machine, &service, whole, size) {
+        Ok(()) => Ok(ready_to_serve(service)),
+        Err(why) => Err(why),
+    }
+}
+
+/// Has on disk what stays of a log of so many bytes, and says how many calls it has.
+fn lay_down<M: Machine>(
+    alloc: Global,
+    owner: &Owner<'_>,
+    machine: &mut M,
+    service: &Service,
+    whole: usize,
+    size: usize,
+) -> Result<(), Unserved>
+    requires { Reads (owner_seen owner.now) (M.acts machine.old) whole size service.now }
+    ensures each { IsRun (owner_seen owner.now) (M.acts machine.new) }
+    ensures served { OnOk result
+        (Serves (owner_seen owner.now) (M.acts machine.new) (cleared service.now)) }
+    ensures deaf { OnOk result (heard (M.acts machine.new) ≡ []) }
+{
     let ready = ready_line(alloc, service.calls())?;
-    trim(owner, machine, &service, whole, size)?;
-    append_head(owner, machine, &service, whole)?;
-    settle(owner, machine, &service, whole)?;
-    greet(owner, machine, &service, whole, ready.as_slice())?;
-    Ok(ready_to_serve(service))
+    trim(owner, machine, service, whole, size)?;
+    append_head(owner, machine, service, whole)?;
+    settle(owner, machine, service, whole)?;
+    greet(owner, machine, service, whole, ready.as_slice())?;
+    Ok(())
 }
 
 /// Cuts off what stands behind the whole records of a log of so many bytes.

@@ -3,9 +3,9 @@
 ghost use Rattle.std.specs.Prelude.{◌≡◌, ◌<◌, ◌+◌, ◌++◌, [], length, drop, position, IfSome, OnOk};
 ghost use Rattle.std.specs.List.{AllByRecursion};
 ghost use Rattle.std.specs.Str.Lines.{strip_carriage_return};
-ghost use Rattle.kept_logs.specs.Fits.{FitsLogged};
+ghost use Rattle.kept_logs.specs.Fits.{FitsStamped};
 ghost use Rattle.node_service.specs.Serving.{after_line};
-ghost use Rattle.node_service.specs.Lines.{after_lines, line_calls, lines_calls};
+ghost use Rattle.node_service.specs.Lines.{after_lines, line_kept, lines_kept};
 ghost use Rattle.node_process.specs.Heard.{NoNewline, begun_line, is_newline, whole_lines};
 
 use crate::unserved::Unserved;
@@ -30,7 +30,7 @@ pub(crate) fn serve_heard(
     ensures served { OnOk result
         (service.new ≡ after_lines service.old (whole_lines (pending.old.items ++ bytes.now))) }
     ensures fits { OnOk result
-        (AllByRecursion FitsLogged (lines_calls service.old (whole_lines (pending.old.items ++ bytes.now)))) }
+        (AllByRecursion FitsStamped (lines_kept service.old (whole_lines (pending.old.items ++ bytes.now)))) }
     ensures kept { OnOk result (pending.new.items ≡ begun_line (pending.old.items ++ bytes.now)) }
     ensures begun { OnOk result (NoNewline pending.new.items) }
 {
@@ -83,8 +83,8 @@ fn serve_line(
 ) -> Result<(), AllocError>
     ensures served { OnOk result (service.new
         ≡ after_line service.old (strip_carriage_return (pending.old.items ++ end.now))) }
-    ensures fits { OnOk result (AllByRecursion FitsLogged
-        (line_calls service.old (strip_carriage_return (pending.old.items ++ end.now)))) }
+    ensures fits { OnOk result (AllByRecursion FitsStamped
+        (line_kept service.old (strip_carriage_return (pending.old.items ++ end.now)))) }
     ensures none { OnOk result (pending.new.items ≡ []) }
 {
     pending.extend_from_slice(end)?;

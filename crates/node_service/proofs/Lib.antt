@@ -2,6 +2,7 @@ pub mod Loops
 pub mod Caps
 pub mod MadeLogs
 pub mod Lines
+pub mod Numbers
 pub mod Crashes
 pub mod Refusals
 pub mod OpenEntries

@@ -1,5 +1,5 @@
 -- A node that made its log as it was read is opened as one whose log was read first.
-use Rattle.std.proofs.Common.{◌≡◌, ℕ, List, [], ◌∷◌, ◌++◌, length, take, Option, Some, None, option_map, Result, Ok, Err, inl, refl, sym, ap, ◌∙◌, subst, append-nil}
+use Rattle.std.proofs.Common.{◌≡◌, ℕ, List, [], ◌∷◌, ◌++◌, length, take, Option, Some, None, option_map, Result, Ok, Err, inl, inr, refl, sym, ap, ◌∙◌, subst, append-nil}
 use Rattle.claim_model.specs.Node.{Node}
 use Rattle.claim_model.specs.Nodes.{AnyNode}
 use Rattle.claim_model.specs.Logs.{Makes, replay}
@@ -9,12 +9,15 @@ use Rattle.kept_logs.specs.declared.fault.LogFault.{LogFault}
 use Rattle.kept_logs.specs.declared.making.MadeLog.{MadeLog}
 use Rattle.kept_logs.specs.Cuts.{IsLogOf}
 use Rattle.kept_logs.specs.Digests.{version_of}
-use Rattle.kept_logs.specs.Logs.{Reading, log_in, log_text}
+use Rattle.kept_logs.specs.Logs.{KeptReading, Reading, calls_alone, kept_in, kept_text, log_in}
+use Rattle.kept_logs.specs.Stamps.{bare_calls}
+use Rattle.kept_logs.specs.References.{Reference}
+use Rattle.kept_logs.specs.declared.fault.LogFault.TheVariants.{Short}
 use Rattle.kept_logs.specs.Making.{IsMadeIf, IsNotMade}
-use Rattle.kept_logs.specs.Rests.{begins}
+use Rattle.kept_logs.specs.Rests.{begins, references_before}
 use Rattle.settings_digest.specs.Digests.{turned_under}
 use Rattle.node_service.specs.Serving.{Serving}
-use Rattle.node_service.specs.Opened.{IsOpened, IsRead, IsServedAs, IsUnmade, Spells}
+use Rattle.node_service.specs.Opened.{IsBegunAs, IsOpened, IsRead, IsServedAs, IsUnmade, Spells, empty_log, referred_from}
 
 front_of : {A : Type 0} (xs ys : List A) → take (length xs) (xs ++ ys) ≡ xs
 front_of [] ys = refl
@@ -31,7 +34,7 @@ unmade_by settings rest node before (Err why) starts none = tt
 
 -- the log was read and made
 pub is_read : (settings : WorldSettings) (rest : Option (List ℕ)) (digest : List ℕ) (node : Node) (bytes : List ℕ) (before : AnyNode) (made : Option MadeLog) → begins settings node rest ≡ Some before
-    → IsMadeIf (context_of settings) before digest node bytes made → ((read : Reading) → log_in digest bytes ≡ Ok read → IsLogOf digest bytes read) → IsRead settings rest digest node bytes made
+    → IsMadeIf (context_of settings) before digest node bytes made → ((read : KeptReading) → kept_in digest bytes ≡ Ok read → IsLogOf digest bytes read) → IsRead settings rest digest node bytes made
 is_read settings rest digest node bytes before None starts is found = unmade_by settings rest node before (log_in digest bytes) starts is
 is_read settings rest digest node bytes before (Some made) starts is found =
     let log_is = found (record { log = is.log; whole = made.whole }) is.read in
@@ -39,17 +42,18 @@ is_read settings rest digest node bytes before (Some made) starts is found =
       log = is.log;
       own = is.own;
       read = is.read;
-      text = ap (λ bs. take made.whole bs) log_is.is ∙ ap (λ n. take n (log_text digest is.log ++ log_is.torn)) log_is.whole ∙ front_of (log_text digest is.log) log_is.torn;
+      text = ap (λ bs. take made.whole bs) log_is.is ∙ ap (λ n. take n (kept_text digest is.log ++ log_is.torn)) log_is.whole ∙ front_of (kept_text digest is.log) log_is.torn;
       fits = log_is.fits;
       calls = sym is.count;
-      makes = λ other starts_too. subst (λ b. Makes (context_of settings) b is.log.calls) (ap (in_some before) (sym starts ∙ starts_too)) is.makes;
-      state = ap (option_map (λ n. replay (context_of settings) n is.log.calls)) starts ∙ ap Some (sym is.leads);
+      makes = λ other starts_too. subst (λ b. Makes (context_of settings) b (bare_calls is.log.calls)) (ap (in_some before) (sym starts ∙ starts_too)) is.makes;
+      state = ap (option_map (λ n. replay (context_of settings) n (bare_calls is.log.calls))) starts ∙ ap Some (sym is.leads);
+      referred = is.referred ∙ ap (λ (b : Option AnyNode). referred_from (context_of settings) b is.log.calls) (sym starts);
     }
 
 -- the node that is served is opened
-pub is_opened : (text : List ℕ) (settings : WorldSettings) (node : Node) (rest : Option (List ℕ)) (bytes : List ℕ) (made : MadeLog) (stay : ℕ) (s : Serving)
-    → Spells text settings → IsRead settings rest (turned_under text rest bytes) node bytes (Some made) → IsServedAs settings node (version_of (turned_under text rest bytes)) made stay s → IsOpened text node rest bytes stay s
-is_opened text settings node rest bytes made stay s spells is served = record {
+pub is_opened : (text : List ℕ) (settings : WorldSettings) (node : Node) (rest : Option (List ℕ)) (bytes : List ℕ) (before : List Reference) (made : MadeLog) (stay : ℕ) (s : Serving)
+    → Spells text settings → before ≡ references_before rest → IsRead settings rest (turned_under text rest bytes) node bytes (Some made) → IsServedAs settings node (version_of (turned_under text rest bytes)) before made stay s → IsOpened text node rest bytes stay s
+is_opened text settings node rest bytes before made stay s spells known is served = record {
   spells = rw served.own spells;
   named = served.named;
   version = served.version;
@@ -61,5 +65,38 @@ is_opened text settings node rest bytes made stay s spells is served = record {
   calls = served.calls ∙ is.calls;
   makes = rw served.own is.makes;
   state = rw (served.own, served.state) is.state;
+  references = rw served.own (served.references ∙ (ap (λ rs. rs ++ made.references.items) known ∙ ap (λ rs. references_before rest ++ rs) is.referred));
   silent = served.silent;
 }
+
+-- too few bytes for a log, its times and references aside, are too few with them
+unread_short : (digest bytes : List ℕ) → log_in digest bytes ≡ Err Short → kept_in digest bytes ≡ Err Short
+unfolding log_in
+unread_short digest bytes h = by_reading (kept_in digest bytes) h
+  where
+    by_reading : (r : Result KeptReading LogFault) → calls_alone r ≡ Err Short → r ≡ Err Short
+    by_reading (Ok read) h = cc
+    by_reading (Err why) h = let e : why ≡ Short = cc in ap (λ (w : LogFault). Err w) e
+
+-- a log that begins is opened
+pub is_begun : (text : List ℕ) (settings : WorldSettings) (node : Node) (rest : Option (List ℕ)) (bytes : List ℕ) (stay : ℕ) (s : Serving)
+    → Spells text settings → IsBegunAs settings (turned_under text rest bytes) node rest bytes stay s → IsOpened text node rest bytes stay s
+is_begun text settings node rest bytes stay s spells is = record {
+  spells = rw is.new.own spells;
+  named = is.new.named;
+  version = is.new.version;
+  log = empty_log node;
+  own = refl;
+  begun = inr (unread_short (turned_under text rest bytes) bytes is.short, (refl, (is.none, is.new.append)));
+  text = rw (is.none) is.new.append;
+  fits = is.new.fits;
+  calls = is.new.calls;
+  makes = λ before starts. tt;
+  state = rw is.new.own (ap (option_map (λ (n : AnyNode). n)) is.new.state);
+  references = rw is.new.own (is.new.references ∙ sym (nothing_more (references_before rest) (begins settings node rest)));
+  silent = is.new.silent;
+}
+  where
+    nothing_more : (refs : List Reference) (b : Option AnyNode) → refs ++ referred_from (context_of settings) b [] ≡ refs
+    nothing_more refs None = append-nil refs
+    nothing_more refs (Some before) = append-nil refs

@@ -25,6 +25,14 @@ refused_line name = codes "refused " ++ (name ++ codes "\n")
 abbrev pub done_line : List ℕ
 done_line = codes "ok\n"
 
+-- a tick that changes nothing and is not recorded
+abbrev pub idle_line : List ℕ
+idle_line = codes "idle\n"
+
+-- a submission that was made before, under its reference: the number that its entry has
+abbrev pub known_line : ℕ → List ℕ
+known_line number = codes "known " ++ (decimal number ++ codes "\n")
+
 -- a submission that was made: the number of its entry
 abbrev pub number_line : ℕ → List ℕ
 number_line number = codes "number " ++ (decimal number ++ codes "\n")

@@ -1,5 +1,5 @@
 -- The call that a line asks of a node: words parted by exactly one space, and nothing is trimmed.
-use Rattle.std.specs.Prelude.{ℕ, List, codes, bytes_eq, Option, Some, None, if◌then◌else◌}
+use Rattle.std.specs.Prelude.{ℕ, ◌&&◌, List, length, codes, bytes_eq, nat_le, Option, Some, None, if◌then◌else◌}
 use Rattle.std.specs.Option.{option_map}
 use Rattle.std.specs.Result.{result_ok}
 use Rattle.input_text.specs.Options.{◌>>=◌}
@@ -12,6 +12,8 @@ use Rattle.world_setup.specs.declared.call.Call.TheVariants.{Submit, Tick, Take,
 use Rattle.schedule.specs.Nodes.{node_in}
 use Rattle.node_service.specs.declared.asking.Asked as value
 use Rattle.node_service.specs.declared.asking.Asked.TheVariants as asked
+use Rattle.kept_logs.specs.Stamps.{Stamp, no_stamp}
+use Rattle.node_service.specs.declared.asking.Noted as noted
 use Rattle.node_service.specs.declared.asking.Question.{Question}
 use Rattle.node_service.specs.declared.asking.Question.TheVariants.{Answer, Count, Open, Row, Payments}
 
@@ -61,14 +63,71 @@ call_parted line None = plain_call line
 unfoldable pub call_of : List ℕ → Option Call
 call_of line = call_parted line (split_word line)
 
--- what a line asks: a call on the node, or something to be told that changes nothing
+-- a call, and what is noted of it
+pub record Noted : Type 0 where
+  pub call : Call
+  pub stamp : Stamp
+
+abbrev pub noted_seen : noted.Noted → Noted
+noted_seen n = record { call = n.call; stamp = record { time = n.time; reference = n.reference } }
+
+-- what the caller calls a submission: printed bytes without a space, of 1 to 64 bytes
+abbrev pub reference_of : List ℕ → Option (List ℕ)
+reference_of name = if nat_le 1 (length name) && nat_le (length name) 64 then Some name else None
+
+unfoldable pub reference_in : List ℕ → Option (List ℕ)
+reference_in word = result_ok (unprinted word) >>= reference_of
+
+-- a submission under a reference, and behind one space the request
+unfoldable pub named_submission : List ℕ → Option Noted
+named_submission rest = do
+  parts ← split_word rest
+  name ← reference_in parts.0
+  call ← submission parts.1
+  Some (record { call = call; stamp = record { time = 0; reference = name } })
+
+-- a call of which nothing is noted
+abbrev pub plain_call_of : Call → Noted
+plain_call_of call = record { call = call; stamp = no_stamp }
+
+abbrev pub unnoted : Option Call → Option Noted
+unnoted call = option_map plain_call_of call
+
+abbrev pub named_parted : List ℕ → Option (List ℕ × List ℕ) → Option Noted
+named_parted line (Some parts) = if bytes_eq parts.0 (codes "submit-as") then named_submission parts.1 else unnoted (call_of line)
+named_parted line None = unnoted (call_of line)
+
+-- a call, or a submission under a reference
+unfoldable pub named_of : List ℕ → Option Noted
+named_of line = named_parted line (split_word line)
+
+-- the same, at this time
+abbrev pub at_time : ℕ → Option Noted → Option Noted
+at_time time o = option_map (λ n. record { call = n.call; stamp = record { time = time; reference = n.stamp.reference } }) o
+
+-- a time in 1 to 18 digits, and behind one space a call
+unfoldable pub timed : List ℕ → Option Noted
+timed rest = do
+  parts ← split_word rest
+  time ← decimal_number 18 parts.0
+  at_time time (named_of parts.1)
+
+abbrev pub noted_parted : List ℕ → Option (List ℕ × List ℕ) → Option Noted
+noted_parted line (Some parts) = if bytes_eq parts.0 (codes "at") then timed parts.1 else named_of line
+noted_parted line None = named_of line
+
+-- the call that a line spells, and what is noted of it
+unfoldable pub noted_of : List ℕ → Option Noted
+noted_of line = noted_parted line (split_word line)
+
+-- what a line asks: a call on the node, of which something may be noted, or something to be told that changes nothing
 pub data Asked : Type 0 where
-  Calls : Call → Asked
+  Calls : Noted → Asked
   Tells : Question → Asked
 
 -- what the code's value says
 abbrev pub asked_seen : value.Asked → Asked
-asked_seen (asked.Call call) = Calls call
+asked_seen (asked.Call n) = Calls (noted_seen n)
 asked_seen (asked.Tell question) = Tells question
 
 -- from which number on, and how many, each in 1 to 18 digits
@@ -104,10 +163,10 @@ question_parted line None = plain_question line
 unfoldable pub question_of : List ℕ → Option Question
 question_of line = question_parted line (split_word line)
 
-abbrev pub or_question : List ℕ → Option Call → Option Asked
-or_question line (Some call) = Some (Calls call)
+abbrev pub or_question : List ℕ → Option Noted → Option Asked
+or_question line (Some n) = Some (Calls n)
 or_question line None = option_map Tells (question_of line)
 
 -- what a line spells
 unfoldable pub asked_of : List ℕ → Option Asked
-asked_of line = or_question line (call_of line)
+asked_of line = or_question line (noted_of line)

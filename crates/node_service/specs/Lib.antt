@@ -5,6 +5,7 @@ pub mod Most
 pub mod BookRow
 pub mod Payments
 pub mod Serving
+pub mod Numbers
 pub mod Opened
 pub mod Lines
 pub mod Refused

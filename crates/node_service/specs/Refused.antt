@@ -2,7 +2,6 @@
 use Rattle.std.specs.Prelude.{◌≡◌, ◌≢◌, ◌⊎◌, ⊤, ℕ, true, false, List, length, Option, Some, None, IsSome, Ok, Err}
 use Rattle.claim_model.specs.Node.{Node}
 use Rattle.claim_model.specs.Nodes.{AnyNode, same_node}
-use Rattle.claim_model.specs.Logs.{NodeLog}
 use Rattle.world_setup.specs.Seen.{settings_seen}
 use Rattle.world_setup.specs.Taken.{world_fault}
 use Rattle.world_setup.specs.declared.settings.WorldSettings.{WorldSettings}
@@ -13,13 +12,14 @@ use Rattle.node_log.specs.There.{is_there}
 use Rattle.node_log.specs.Misfits.{BreaksAt}
 use Rattle.node_logged.specs.Setting.{context_of}
 use Rattle.kept_logs.specs.declared.fault.LogFault.TheVariants as log_fault
-use Rattle.kept_logs.specs.Logs.{Reading, log_text, log_in}
+use Rattle.kept_logs.specs.Logs.{Reading, kept_text, kept_in, log_in}
+use Rattle.kept_logs.specs.Stamps.{KeptLog, bare_calls}
 use Rattle.kept_logs.specs.Cuts.{first_calls}
 use Rattle.kept_logs.specs.Rests.{begins}
 use Rattle.settings_digest.specs.Digests.{turned_under}
 use Rattle.node_service.specs.declared.fault.ServiceFault.{ServiceFault}
 use Rattle.node_service.specs.declared.fault.ServiceFault.TheVariants.{OutOfMemory, Settings, NoSuchNode, Rest, Log, OtherNode, NotMade}
-use Rattle.node_service.specs.Opened.{Spells, IsBegun}
+use Rattle.node_service.specs.Opened.{Spells}
 
 -- a text spells settings that no world takes
 pub record SpellsNoWorld (text : List ℕ) : Type 0 where
@@ -46,49 +46,37 @@ NoSettings text (Log fault) = ⊥
 NoSettings text OtherNode = ⊥
 NoSettings text (NotMade place) = ⊥
 
--- a log is another node's
-abbrev pub IsAnothers : NodeLog → Node → ServiceFault → Type 0
-IsAnothers log node OutOfMemory = ⊥
-IsAnothers log node Settings = ⊥
-IsAnothers log node NoSuchNode = ⊥
-IsAnothers log node Rest = ⊥
-IsAnothers log node (Log fault) = ⊥
-IsAnothers log node OtherNode = same_node log.node node ≡ false
-IsAnothers log node (NotMade place) = ⊥
-
 -- bytes are the log of another node
 pub record ReadsAnothers (digest : List ℕ) (node : Node) (bytes : List ℕ) : Type 0 where
   pub read : Reading
   pub reads : log_in digest bytes ≡ Ok read
   pub other : same_node read.log.node node ≡ false
 
--- the log is refused: bytes are none, by the first fault that there is, or another node's
-abbrev pub NoLog : List ℕ → Node → List ℕ → ServiceFault → Type 0
-NoLog digest node bytes OutOfMemory = ⊤
-NoLog digest node bytes Settings = ⊥
-NoLog digest node bytes NoSuchNode = ⊥
-NoLog digest node bytes Rest = ⊥
-NoLog digest node bytes (Log fault) = (fault ≢ log_fault.Short) × (log_in digest bytes ≡ Err fault)
-NoLog digest node bytes OtherNode = ReadsAnothers digest node bytes
-NoLog digest node bytes (NotMade place) = ⊥
-
 -- the first call of a log that its node does not make has its record at this place
-pub record BreaksAtPlace (digest : List ℕ) (settings : WorldSettings) (rest : Option (List ℕ)) (log : NodeLog) (place : ℕ) : Type 0 where
+pub record BreaksAtPlace (digest : List ℕ) (settings : WorldSettings) (rest : Option (List ℕ)) (log : KeptLog) (place : ℕ) : Type 0 where
   pub before : AnyNode
   pub opens : begins settings log.node rest ≡ Some before
   pub count : ℕ
-  pub breaks : BreaksAt (context_of settings) before log.calls count
-  pub is : place ≡ length (log_text digest (first_calls count log))
+  pub breaks : BreaksAt (context_of settings) before (bare_calls log.calls) count
+  pub is : place ≡ length (kept_text digest (first_calls count log))
 
--- the node does not make its log
-abbrev pub IsNotMade : List ℕ → WorldSettings → Option (List ℕ) → NodeLog → ServiceFault → Type 0
-IsNotMade digest settings rest log OutOfMemory = ⊤
-IsNotMade digest settings rest log Settings = ⊥
-IsNotMade digest settings rest log NoSuchNode = ⊥
-IsNotMade digest settings rest log Rest = ⊥
-IsNotMade digest settings rest log (Log fault) = ⊥
-IsNotMade digest settings rest log OtherNode = ⊥
-IsNotMade digest settings rest log (NotMade place) = BreaksAtPlace digest settings rest log place
+-- bytes are the log of this node, which does not make it
+pub record BreaksOff (digest : List ℕ) (settings : WorldSettings) (node : Node) (rest : Option (List ℕ)) (bytes : List ℕ) (place : ℕ) : Type 0 where
+  pub log : KeptLog
+  pub whole : ℕ
+  pub own : log.node ≡ node
+  pub reads : kept_in digest bytes ≡ Ok (record { log = log; whole = whole })
+  pub breaks : BreaksAtPlace digest settings rest log place
+
+-- the log is refused: bytes are none, by the first fault that there is, or another node's, or its node does not make it
+abbrev pub IsUnserved : List ℕ → WorldSettings → Node → Option (List ℕ) → List ℕ → ServiceFault → Type 0
+IsUnserved digest settings node rest bytes OutOfMemory = ⊤
+IsUnserved digest settings node rest bytes Settings = ⊥
+IsUnserved digest settings node rest bytes NoSuchNode = ⊥
+IsUnserved digest settings node rest bytes Rest = ⊥
+IsUnserved digest settings node rest bytes (Log fault) = (fault ≢ log_fault.Short) × (log_in digest bytes ≡ Err fault)
+IsUnserved digest settings node rest bytes OtherNode = ReadsAnothers digest node bytes
+IsUnserved digest settings node rest bytes (NotMade place) = BreaksOff digest settings node rest bytes place
 
 -- the settings are taken, and have no such node
 pub record HasNoNode (text : List ℕ) (node : Node) : Type 0 where
@@ -109,19 +97,7 @@ pub record HasNoLog (text : List ℕ) (node : Node) (rest : Option (List ℕ)) (
   pub spells : Spells text settings
   pub there : is_there (settings_seen settings) node ≡ true
   pub some : IsSome (begins settings node rest)
-  pub refused : NoLog (turned_under text rest bytes) node bytes why
-
--- the settings are taken and have the node, its log is read, and the node does not make it
-pub record DoesNotMake (text : List ℕ) (node : Node) (rest : Option (List ℕ)) (bytes : List ℕ) (place : ℕ) : Type 0 where
-  pub settings : WorldSettings
-  pub spells : Spells text settings
-  pub there : is_there (settings_seen settings) node ≡ true
-  pub log : NodeLog
-  pub own : log.node ≡ node
-  pub kept : ℕ
-  pub records : List ℕ
-  pub begun : IsBegun (turned_under text rest bytes) node bytes log kept records
-  pub breaks : BreaksAtPlace (turned_under text rest bytes) settings rest log place
+  pub refused : IsUnserved (turned_under text rest bytes) settings node rest bytes why
 
 -- a node is refused for this cause, and for none before it
 abbrev pub IsRefused : List ℕ → Node → Option (List ℕ) → List ℕ → ServiceFault → Type 0
@@ -131,4 +107,4 @@ IsRefused text node rest bytes NoSuchNode = HasNoNode text node
 IsRefused text node rest bytes Rest = HasNoRest text node rest
 IsRefused text node rest bytes (Log fault) = HasNoLog text node rest bytes (Log fault)
 IsRefused text node rest bytes OtherNode = HasNoLog text node rest bytes OtherNode
-IsRefused text node rest bytes (NotMade place) = DoesNotMake text node rest bytes place
+IsRefused text node rest bytes (NotMade place) = HasNoLog text node rest bytes (NotMade place)

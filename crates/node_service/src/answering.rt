@@ -2,7 +2,7 @@
 
 ghost use Rattle.std.specs.Prelude.{◌≡◌, ◌++◌, map, IfOk, OnOk};
 ghost use Rattle.world_setup.specs.Seen.{sent_seen};
-ghost use Rattle.node_service.specs.Answering.{answer_line, done_line, number_line, ready_line, refused_line, sent_line, sent_lines};
+ghost use Rattle.node_service.specs.Answering.{answer_line, done_line, idle_line, known_line, number_line, ready_line, refused_line, sent_line, sent_lines};
 
 use input_text::{put_decimal, put_printed};
 use schedule::put_node;
@@ -67,6 +67,22 @@ pub(crate) fn put_done(out: &mut Vec<u8>) -> Result<(), AllocError>
     ensures { OnOk result (out.new.items ≡ out.old.items ++ done_line) }
 {
     out.extend_from_slice(b"ok\n")
+}
+
+/// Appends that a tick changes nothing, and was not recorded.
+pub(crate) fn put_idle(out: &mut Vec<u8>) -> Result<(), AllocError>
+    ensures { OnOk result (out.new.items ≡ out.old.items ++ idle_line) }
+{
+    out.extend_from_slice(b"idle\n")
+}
+
+/// Appends the number of the entry of a submission that was made before.
+pub(crate) fn put_known(out: &mut Vec<u8>, number: u64) -> Result<(), AllocError>
+    ensures { OnOk result (out.new.items ≡ out.old.items ++ known_line number) }
+{
+    out.extend_from_slice(b"known ")?;
+    put_decimal(out, number)?;
+    out.extend_from_slice(b"\n")
 }
 
 /// Appends the number of the entry that a submission made.

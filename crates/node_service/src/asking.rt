@@ -2,7 +2,7 @@
 
 ghost use Rattle.std.specs.Prelude.{◌≡◌, IfOk};
 ghost use Rattle.std.specs.Option.{option_map};
-ghost use Rattle.node_service.specs.Asking.{asked_of, asked_seen, call_of, call_with, plain_call, plain_question, plan_change, question_of, question_with, range_in, submission, taking};
+ghost use Rattle.node_service.specs.Asking.{asked_of, asked_seen, call_of, call_with, named_of, named_submission, noted_of, noted_seen, plain_call, plain_question, plan_change, question_of, question_with, range_in, reference_in, reference_of, submission, taking, timed, unnoted};
 
 use input_text::{PrintedFault, read_decimal, split_word, unprint};
 use octets::Octets;
@@ -13,11 +13,24 @@ use world_setup::Call;
 /// The most digits of an entry's number, or of a count (own).
 const MOST_NUMBER_DIGITS: usize = 18;
 
+/// The most bytes of what a caller calls a submission (own).
+const MOST_REFERENCE: usize = 64;
+
+/// A call on the node, and what is noted of it.
+#[derive(Drop)]
+pub(crate) struct Noted {
+    pub(crate) call: Call,
+    /// When it is made: milliseconds, as the host counts them; 0 where it does not say.
+    pub(crate) time: u64,
+    /// What the caller calls it; no byte where it has no name.
+    pub(crate) reference: Octets,
+}
+
 /// What a line asks of a node.
-#[derive(Drop, PartialEq, Eq)]
+#[derive(Drop)]
 pub(crate) enum Asked {
     /// A call on the node.
-    Call(Call),
+    Call(Noted),
     /// Something to be told, which changes nothing.
     Tell(Question),
 }
@@ -39,8 +52,9 @@ pub(crate) enum Question {
 
 /// What a line asks; `None` where it spells nothing.
 ///
-/// The lines: `submit TEXT`, `tick`, `take FROM TEXT`, `stop`, `start`, `plan PRODUCT PRICE`, and those that change nothing,
-/// `answer NUMBER`, `open NUMBER COUNT`, `count`, `row NUMBER`, `payments NUMBER COUNT`. Texts are printed bytes.
+/// The lines: `submit TEXT`, `submit-as REFERENCE TEXT`, `tick`, `take FROM TEXT`, `stop`, `start`, `plan PRODUCT PRICE`, each also
+/// behind `at TIME`, and those that change nothing, `answer NUMBER`, `open NUMBER COUNT`, `count`, `row NUMBER`, `payments NUMBER
+/// COUNT`. Texts and references are printed bytes.
 ///
 /// # Errors
 /// Memory was refused.
@@ -48,12 +62,117 @@ pub(crate) enum Question {
 pub(crate) fn asked_of(alloc: Global, line: &[u8]) -> Result<Option<Asked>, AllocError>
     ensures { IfOk result (λ asked. option_map asked_seen asked ≡ asked_of line.now) }
 {
-    if let Some(call) = call_of(alloc, line)? {
-        return Ok(Some(Asked::Call(call)));
+    if let Some(noted) = noted_of(alloc, line)? {
+        return Ok(Some(Asked::Call(noted)));
     }
     match question_of(line) {
         Some(question) => Ok(Some(Asked::Tell(question))),
         None => Ok(None),
+    }
+}
+
+/// The call that a line spells, and what is noted of it.
+#[tactic(auto, unfolding(crate::specs::Asking::noted_of))]
+fn noted_of(alloc: Global, line: &[u8]) -> Result<Option<Noted>, AllocError>
+    ensures { IfOk result (λ noted. option_map noted_seen noted ≡ noted_of line.now) }
+{
+    match split_word(line) {
+        Some((word, rest)) if word == b"at".as_slice() => timed(alloc, rest),
+        _ => named_of(alloc, line),
+    }
+}
+
+/// A call at a time.
+#[tactic(auto, unfolding(crate::specs::Asking::timed))]
+fn timed(alloc: Global, rest: &[u8]) -> Result<Option<Noted>, AllocError>
+    ensures { IfOk result (λ noted. option_map noted_seen noted ≡ timed rest.now) }
+{
+    let Some((first, line)) = split_word(rest) else {
+        return Ok(None);
+    };
+    let Some(time) = read_decimal(first, MOST_NUMBER_DIGITS) else {
+        return Ok(None);
+    };
+    match named_of(alloc, line)? {
+        Some(
+            Noted {
+                call,
+                reference,
+                ..
+            },
+        ) => Ok(Some(Noted {
+            call,
+            time,
+            reference,
+        })),
+        None => Ok(None),
+    }
+}
+
+/// A call, or a submission under a reference.
+#[tactic(auto, unfolding(crate::specs::Asking::named_of))]
+fn named_of(alloc: Global, line: &[u8]) -> Result<Option<Noted>, AllocError>
+    ensures { IfOk result (λ noted. option_map noted_seen noted ≡ named_of line.now) }
+{
+    match split_word(line) {
+        Some((word, rest)) if word == b"submit-as".as_slice() => named_submission(alloc, rest),
+        _ => Ok(unnoted(alloc, call_of(alloc, line)?)),
+    }
+}
+
+/// A call of which nothing is noted.
+fn unnoted(alloc: Global, call: Option<Call>) -> Option<Noted>
+    ensures { option_map noted_seen result ≡ unnoted call }
+{
+    let call = call?;
+    Some(Noted {
+        call,
+        time: 0,
+        reference: Octets::from_vec(Vec::new(alloc)),
+    })
+}
+
+/// A submission under a reference.
+#[tactic(auto, unfolding(crate::specs::Asking::named_submission))]
+fn named_submission(alloc: Global, rest: &[u8]) -> Result<Option<Noted>, AllocError>
+    ensures { IfOk result (λ noted. option_map noted_seen noted ≡ named_submission rest.now) }
+{
+    let Some((name, text)) = split_word(rest) else {
+        return Ok(None);
+    };
+    let Some(reference) = reference_in(alloc, name)? else {
+        return Ok(None);
+    };
+    match submission(alloc, text)? {
+        Some(call) => Ok(Some(Noted {
+            call,
+            time: 0,
+            reference,
+        })),
+        None => Ok(None),
+    }
+}
+
+/// What a caller calls a submission: printed bytes, of 1 to 64.
+#[tactic(auto, unfolding(crate::specs::Asking::reference_in))]
+fn reference_in(alloc: Global, word: &[u8]) -> Result<Option<Octets>, AllocError>
+    ensures { IfOk result (λ name. name ≡ reference_in word.now) }
+{
+    match unprint(alloc, word) {
+        Ok(name) => Ok(reference_of(name)),
+        Err(PrintedFault::BadByte(_)) => Ok(None),
+        Err(PrintedFault::OutOfMemory) => Err(AllocError),
+    }
+}
+
+/// A reference has 1 to 64 bytes.
+fn reference_of(name: Vec<u8>) -> Option<Octets>
+    ensures { result ≡ reference_of name.items }
+{
+    if 1 <= name.len() && name.len() <= MOST_REFERENCE {
+        Some(Octets::from_vec(name))
+    } else {
+        None
     }
 }
 

@@ -3,15 +3,16 @@
 ghost use Rattle.std.specs.Prelude.{◌≡◌, ℕ, ◌≤◌, ◌++◌, List, length, take, Option};
 ghost use Rattle.std.specs.List.{AllByRecursion};
 ghost use Rattle.claim_model.specs.Node.{Node};
-ghost use Rattle.claim_model.specs.Logs.{NodeLog};
 ghost use Rattle.world_settings.specs.Document.{document_seen};
 ghost use Rattle.crash_safety.specs.Network.{Process, file};
-ghost use Rattle.kept_logs.specs.Logs.{log_text};
-ghost use Rattle.kept_logs.specs.Fits.{FitsLog, FitsLogged};
+ghost use Rattle.kept_logs.specs.Stamps.{KeptLog, bare};
+ghost use Rattle.kept_logs.specs.Logs.{kept_text};
+ghost use Rattle.kept_logs.specs.Cuts.{first_calls};
+ghost use Rattle.kept_logs.specs.Fits.{FitsKept, FitsStamped};
 ghost use Rattle.settings_digest.specs.Digests.{turned_under};
 ghost use Rattle.node_service.specs.Opened.{IsOpened};
 ghost use Rattle.node_service.specs.Serving.{Serving, after_line, cleared};
-ghost use Rattle.node_service.specs.Lines.{IsRestart, IsSame, IsServing, after_lines, joined, line_calls, lines_calls, with_calls};
+ghost use Rattle.node_service.specs.Lines.{IsRestart, IsSame, IsServing, after_lines, joined, lines_kept, with_records};
 
 /// What a line adds hangs neither on the records that are to be appended nor on the words that are to be written.
 pub fn lines_add()
@@ -24,30 +25,29 @@ pub fn lines_add()
 pub fn served_logs_grow()
     ensures opened { (settings : List ℕ) (node : Node) (rest : Option (List ℕ)) (bytes : List ℕ) (kept : ℕ) (s : Serving)
         → IsOpened settings node rest bytes kept s
-        → (log : NodeLog) × IsServing rest (turned_under settings rest bytes) (take kept bytes) log s }
-    ensures lines { (rest : Option (List ℕ)) (digest bytes : List ℕ) (log : NodeLog) (s : Serving) (lines : List (List ℕ))
-        → IsServing rest digest bytes log s → AllByRecursion FitsLogged (lines_calls s lines)
-        → IsServing rest digest bytes (with_calls log (lines_calls s lines)) (after_lines s lines) }
-    ensures cleared { (rest : Option (List ℕ)) (digest bytes : List ℕ) (log : NodeLog) (s : Serving)
+        → (log : KeptLog) × IsServing rest (turned_under settings rest bytes) (take kept bytes) log s }
+    ensures lines { (rest : Option (List ℕ)) (digest bytes : List ℕ) (log : KeptLog) (s : Serving) (lines : List (List ℕ))
+        → IsServing rest digest bytes log s → AllByRecursion FitsStamped (lines_kept s lines)
+        → IsServing rest digest bytes (with_records log (lines_kept s lines)) (after_lines s lines) }
+    ensures cleared { (rest : Option (List ℕ)) (digest bytes : List ℕ) (log : KeptLog) (s : Serving)
         → IsServing rest digest bytes log s → IsServing rest digest (bytes ++ s.records) log (cleared s) }
 {}
 
 /// A node that was served, and whose file has all its records, is opened again as it was, under the same settings and with the
 /// same rest: nothing of the file is cut, nothing is to be appended.
 pub fn restarts_are_the_same()
-    ensures { (settings file : List ℕ) (rest : Option (List ℕ)) (bytes : List ℕ) (log : NodeLog) (s t : Serving) (kept : ℕ)
+    ensures { (settings file : List ℕ) (rest : Option (List ℕ)) (bytes : List ℕ) (log : KeptLog) (s t : Serving) (kept : ℕ)
         → IsServing rest (turned_under settings rest file) bytes log s → document_seen t.settings ≡ document_seen s.settings
         → IsOpened settings log.node rest (bytes ++ s.records) kept t
         → (kept ≡ length (bytes ++ s.records)) × IsSame s t }
 {}
 
-/// A crash leaves of a log's file a beginning that has the text of its synced calls; behind it a record may be cut off. Such
-/// a file is read as the log of the process after that crash, and opens as the process that is restarted: what the theorems
-/// on crashes say of processes is true of files.
+/// A crash leaves of a log's file a beginning that has the text of its synced calls, whatever was noted of them; behind it a
+/// record may be cut off. Such a file is read as the log of the process after that crash, and opens as the process that is
+/// restarted: what the theorems on crashes say of processes is true of files.
 pub fn crashed_files_restart()
-    ensures { (settings begun : List ℕ) (node : Node) (rest : Option (List ℕ)) (p : Process) (n : ℕ)
-        → FitsLog (record { node = node; calls = file p })
-        → length (log_text (turned_under settings rest begun) (record { node = node; calls = p.synced })) ≤ n
-        → IsRestart settings node rest p
-        (take n (log_text (turned_under settings rest begun) (record { node = node; calls = file p }))) }
+    ensures { (settings begun : List ℕ) (node : Node) (rest : Option (List ℕ)) (p : Process) (kept : KeptLog) (n : ℕ)
+        → bare kept ≡ record { node = node; calls = file p } → FitsKept kept
+        → length (kept_text (turned_under settings rest begun) (first_calls (length p.synced) kept)) ≤ n
+        → IsRestart settings node rest p (take n (kept_text (turned_under settings rest begun) kept)) }
 {}

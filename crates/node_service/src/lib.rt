@@ -9,12 +9,14 @@ mod answering;
 mod asking;
 mod book_row;
 mod fault;
+mod idle;
 mod laws;
 mod listing;
 mod most;
 mod opening;
 mod payment_lines;
 mod payments;
+mod references;
 mod service;
 mod telling;
 

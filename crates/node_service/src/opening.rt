@@ -1,26 +1,25 @@
 //! From the bytes of a log to the node that is served.
 
-ghost use Rattle.std.specs.Prelude.{◌≡◌, ℕ, List, [], ◌++◌, take, Option, Some, IfOk, IfErr, IsSome};
+ghost use Rattle.std.specs.Prelude.{◌≡◌, ℕ, List, Option, Some, Ok, IfOk, IfErr, IsSome};
 ghost use Rattle.std.specs.Option.{option_copied};
-ghost use Rattle.world_setup.specs.Seen.{node_seen};
+ghost use Rattle.claim_model.specs.Settings.{opening};
+ghost use Rattle.claim_model.specs.Nodes.{node_at};
+ghost use Rattle.world_setup.specs.Seen.{node_seen, settings_seen};
 ghost use Rattle.world_settings.specs.Document.{document_seen, living_in};
-ghost use Rattle.node_log.specs.LogSeen.{log_seen};
-ghost use Rattle.node_logged.specs.Setting.{opened};
-ghost use Rattle.kept_logs.specs.Digests.{version_of, version_seen};
-ghost use Rattle.kept_logs.specs.Logs.{log_text};
+ghost use Rattle.kept_logs.specs.Digests.{version_seen};
+ghost use Rattle.kept_logs.specs.Logs.{log_in};
 ghost use Rattle.kept_logs.specs.LogSeen.{reading_seen};
-ghost use Rattle.kept_logs.specs.Fits.{FitsLog};
 ghost use Rattle.kept_logs.specs.Rests.{begins};
 ghost use Rattle.settings_digest.specs.Digests.{turned_under};
-ghost use Rattle.node_service.specs.declared.fault.ServiceFault.TheVariants.{OutOfMemory};
-ghost use Rattle.node_service.specs.Opened.{IsBegun, IsMadeBy, IsOpened, IsRead, IsServed, IsServedAs, Spells, empty_log};
-ghost use Rattle.node_service.specs.Refused.{IsAnothers, IsNotMade, IsRefused, NoLog, NoSettings};
+ghost use Rattle.node_service.specs.Opened.{IsBegunAs, IsOpened, IsRead, IsServedAs, IsServedNew, IsUnmade, Spells};
+ghost use Rattle.node_service.specs.Refused.{IsRefused, IsUnserved, NoSettings};
 
 use crate::fault::ServiceFault;
+use crate::references::References;
 use crate::service::Service;
 use kept_logs::{
-    LogFault, LogVersion, MadeLog, ReadLog, SettingsDigest, begins, make_as_read, place_of,
-    read_log, write_log,
+    Beginning, LogFault, LogVersion, MadeLog, ReadLog, Reference, SettingsDigest, begins,
+    make_as_read, place_of, read_log, write_log,
 };
 use node_log::{NodeLog, is_there, make_log_from};
 use node_state::NodeState;
@@ -29,14 +28,6 @@ use settings_digest::Digests;
 use std::alloc::{AllocError, Global};
 use world_settings::{SettingsFault, read_living_settings};
 use world_setup::{CheckedSettings, Node, WorldSettings};
-
-/// A log that was read or begun: what it has, how many bytes of the file stay, and what is to be appended.
-#[derive(Drop)]
-struct Begun {
-    log: NodeLog,
-    kept: usize,
-    records: Vec<u8>,
-}
 
 impl Service {
     /// The node of this name under the settings that a text spells, from the bytes of its log, and where this goes on behind
@@ -70,12 +61,14 @@ impl Service {
             return Err(ServiceFault::Rest);
         };
         let digest = digest_of(alloc, text, &shared, rest, bytes)?;
-        if let Some(made) = made(alloc, &digest, &shared, before, node, bytes)? {
-            return Ok(served(alloc, shared, node, digest.version(), made));
+        let Beginning {
+            node: state,
+            references,
+        } = before;
+        match made(alloc, &digest, &shared, state, node, bytes)? {
+            Some(made) => Ok(served(alloc, shared, node, digest.version(), references, made)?),
+            None => unmade(alloc, &digest, shared, node, rest, bytes),
         }
-        // Why it was not made, or a log that begins.
-        let begun = begin(alloc, &digest, node, bytes)?;
-        serve_from(alloc, &digest, shared, rest, begun)
     }
 }
 
@@ -110,26 +103,31 @@ fn made(
     make_as_read(alloc, digest, shared.routes(), before, node, bytes)
 }
 
-/// A node that has made its log, of this version, is served.
+/// A node that has made its log, of this version, is served; these are the references from before it.
 fn served(
     alloc: Global,
     shared: CheckedSettings,
     node: Node,
     version: LogVersion,
+    before: Vec<Reference>,
     made: MadeLog,
-) -> (Service, usize)
-    ensures { IsServedAs shared (node_seen node) (version_seen version) made result.1 result.0 }
+) -> Result<(Service, usize), AllocError>
+    ensures { IfOk result (λ s. IsServedAs shared (node_seen node) (version_seen version) before.items made s.1 s.0) }
 {
+    let mut references = References::new(alloc);
+    references.add_all(alloc, before)?;
+    references.add_all(alloc, made.references)?;
     let service = Service {
         shared,
         name: node,
         version,
         state: made.node,
         calls: made.calls,
+        references,
         records: Vec::new(alloc),
         out: Vec::new(alloc),
     };
-    (service, made.whole)
+    Ok((service, made.whole))
 }
 
 /// The settings that a text spells, with these keys, where a world takes them.
@@ -156,115 +154,86 @@ fn settings_of(alloc: Global, keys: &HashKeys, text: &[u8]) -> Result<WorldSetti
     }
 }
 
-/// The log of this node that bytes are, or one that is begun where they end before its head does.
-fn begin(
+/// The node of a log that begins, where the bytes end before the head does; else why they are no log that it makes.
+fn unmade(
     alloc: Global,
     digest: &SettingsDigest,
+    shared: CheckedSettings,
     node: Node,
+    rest: Option<&[u8]>,
     bytes: &[u8],
-) -> Result<Begun, ServiceFault>
-    ensures own { IfOk result (λ begun. (log_seen begun.log).node ≡ node_seen node) }
-    ensures begun { IfOk result (λ begun.
-        IsBegun digest.now (node_seen node) bytes.now (log_seen begun.log) begun.kept begun.records.items) }
-    ensures text { IfOk result (λ begun.
-        take begun.kept bytes.now ++ begun.records.items ≡ log_text digest.now (log_seen begun.log)) }
-    ensures fits { IfOk result (λ begun. FitsLog (log_seen begun.log)) }
-    ensures refused { IfErr result (λ why. NoLog digest.now (node_seen node) bytes.now why) }
+) -> Result<(Service, usize), ServiceFault>
+    requires there { IsSome (node_at (opening (settings_seen shared)) (node_seen node)) }
+    requires some { IsSome (begins shared (node_seen node) (option_copied rest)) }
+    requires unmade { IsUnmade shared (node_seen node) (option_copied rest) (log_in digest.now bytes.now) }
+    ensures new { IfOk result (λ s.
+        IsBegunAs shared digest.now (node_seen node) (option_copied rest.entry) bytes.now s.1 s.0) }
+    ensures refused { IfErr result (λ why.
+        IsUnserved digest.now shared (node_seen node) (option_copied rest.entry) bytes.now why) }
 {
     match read_log(alloc, digest, bytes) {
-        Ok(read) => own(alloc, node, read),
-        Err(LogFault::Short) => new(alloc, digest, node),
+        Ok(read) => Err(why_unmade(alloc, digest, &shared, node, rest, bytes, read)?),
+        Err(LogFault::Short) => Ok((begun(alloc, digest, shared, node, rest)?, 0)),
         Err(LogFault::OutOfMemory) => Err(ServiceFault::OutOfMemory),
         Err(fault) => Err(ServiceFault::Log(fault)),
     }
 }
 
-/// A log that was read, where it is this node's.
-fn own(alloc: Global, node: Node, read: ReadLog) -> Result<Begun, ServiceFault>
-    ensures own { IfOk result (λ begun. (log_seen begun.log).node ≡ node_seen node) }
-    ensures read { IfOk result (λ begun. (log_seen begun.log ≡ (reading_seen read).log)
-        × ((begun.kept ≡ (reading_seen read).whole) × (begun.records.items ≡ []))) }
-    ensures refused { IfErr result (λ why. IsAnothers (reading_seen read).log (node_seen node) why) }
-{
-    let ReadLog { log, whole } = read;
-    if !log.is_of(node) {
-        return Err(ServiceFault::OtherNode);
-    }
-    Ok(Begun {
-        log,
-        kept: whole,
-        records: Vec::new(alloc),
-    })
-}
-
-/// A log that is begun.
-fn new(alloc: Global, digest: &SettingsDigest, node: Node) -> Result<Begun, ServiceFault>
-    ensures log { IfOk result (λ begun. log_seen begun.log ≡ empty_log (node_seen node)) }
-    ensures new { IfOk result (λ begun. (begun.kept ≡ 0)
-        × (begun.records.items ≡ log_text digest.now (empty_log (node_seen node)))) }
-    ensures fits { IfOk result (λ begun. FitsLog (log_seen begun.log)) }
-    ensures memory { IfErr result (λ why. why ≡ OutOfMemory) }
-{
-    let log = NodeLog::new(alloc, node);
-    let records = write_log(alloc, digest, &log)?;
-    Ok(Begun {
-        log,
-        kept: 0,
-        records,
-    })
-}
-
-/// The node that makes a log.
-fn serve_from(
+/// The node of a log that begins: its head is to be appended.
+fn begun(
     alloc: Global,
     digest: &SettingsDigest,
     shared: CheckedSettings,
+    node: Node,
     rest: Option<&[u8]>,
-    begun: Begun,
-) -> Result<(Service, usize), ServiceFault>
-    requires there { IsSome (opened shared (log_seen begun.log).node) }
-    requires begins { IsSome (begins shared (log_seen begun.log).node (option_copied rest)) }
-    ensures served { IfOk result (λ s. IsServed shared (option_copied rest.entry) (version_of digest.now)
-        (log_seen begun.log) begun.kept begun.records.items s.1 s.0) }
-    ensures refused { IfErr result (λ why.
-        IsNotMade digest.now shared (option_copied rest.entry) (log_seen begun.log) why) }
+) -> Result<Service, AllocError>
+    requires there { IsSome (node_at (opening (settings_seen shared)) (node_seen node)) }
+    requires some { IsSome (begins shared (node_seen node) (option_copied rest)) }
+    ensures { IfOk result (λ s. IsServedNew shared (node_seen node) digest.now (option_copied rest.entry) s) }
 {
-    let Begun { log, kept, records } = begun;
-    let state = state_of(alloc, digest, &shared, rest, &log)?;
-    let service = Service {
+    let Some(before) = begins(alloc, &shared, node, rest)? else {
+        unreachable!()
+    };
+    let mut references = References::new(alloc);
+    references.add_all(alloc, before.references)?;
+    let records = write_log(alloc, digest, &NodeLog::new(alloc, node))?;
+    Ok(Service {
         shared,
-        name: log.node(),
+        name: node,
         version: digest.version(),
-        state,
-        calls: log.records().len() as u64,
+        state: before.node,
+        calls: 0,
+        references,
         records,
         out: Vec::new(alloc),
-    };
-    Ok((service, kept))
+    })
 }
 
-/// The node that makes a log, from what it begins with.
-fn state_of(
+/// Why a log that was read is none that its node makes.
+fn why_unmade(
     alloc: Global,
     digest: &SettingsDigest,
     shared: &CheckedSettings,
+    node: Node,
     rest: Option<&[u8]>,
-    log: &NodeLog,
-) -> Result<NodeState, ServiceFault>
-    requires there { IsSome (opened shared.now (log_seen log.now).node) }
-    requires begins { IsSome (begins shared.now (log_seen log.now).node (option_copied rest)) }
-    ensures made { IfOk result (λ state. IsMadeBy shared.now (option_copied rest.entry) (log_seen log.now) state) }
-    ensures refused { IfErr result (λ why.
-        IsNotMade digest.now shared.now (option_copied rest.entry) (log_seen log.now) why) }
+    bytes: &[u8],
+    read: ReadLog,
+) -> Result<ServiceFault, AllocError>
+    requires there { IsSome (node_at (opening (settings_seen shared.now)) (node_seen node)) }
+    requires some { IsSome (begins shared.now (node_seen node) (option_copied rest)) }
+    requires reads { log_in digest.now bytes.now ≡ Ok (reading_seen read) }
+    requires unmade { IsUnmade shared.now (node_seen node) (option_copied rest) (Ok (reading_seen read)) }
+    ensures { IfOk result (λ why.
+        IsUnserved digest.now shared.now (node_seen node) (option_copied rest.entry) bytes.now why) }
 {
-    let Some(before) = begins(alloc, shared, log.node(), rest)? else {
+    if !read.log.is_of(node) {
+        return Ok(ServiceFault::OtherNode);
+    }
+    let Some(before) = begins(alloc, shared, node, rest)? else {
         unreachable!()
     };
-    match make_log_from(alloc, shared.routes(), before, log)? {
-        Ok(state) => Ok(state),
-        Err(first) => {
-            let place = place_of(alloc, digest, log, first.place)?;
-            Err(ServiceFault::NotMade(place))
-        }
+    match make_log_from(alloc, shared.routes(), before.node, &read.log)? {
+        Ok(_) => unreachable!(),
+        Err(first) => Ok(ServiceFault::NotMade(place_of(digest, bytes, first.place))),
     }
 }

@@ -1,26 +1,29 @@
 //! A node that is served.
 
-ghost use Rattle.std.specs.Prelude.{◌≡◌, codes, IfSome, OnOk};
+ghost use Rattle.std.specs.Prelude.{◌≡◌, codes, Some, IfSome, OnOk};
 ghost use Rattle.std.specs.Option.{option_copied};
 ghost use Rattle.std.specs.List.{AllByRecursion};
 ghost use Rattle.claim_model.specs.Node.{Done};
-ghost use Rattle.claim_model.specs.Nodes.{node_step};
 ghost use Rattle.world_setup.specs.Seen.{call_seen, node_seen, settings_seen};
 ghost use Rattle.node_state.specs.Resting.{IsRecord};
 ghost use Rattle.node_service.specs.Answering.{refused_line};
-ghost use Rattle.node_logged.specs.Setting.{context_of};
-ghost use Rattle.kept_logs.specs.Fits.{FitsLogged};
-ghost use Rattle.node_service.specs.Lines.{line_calls, logged_of};
+ghost use Rattle.kept_logs.specs.Fits.{FitsStamped};
+ghost use Rattle.node_service.specs.Lines.{kept_asked, kept_making, line_kept};
 ghost use Rattle.node_service.specs.Most.{most_of};
-ghost use Rattle.node_service.specs.Serving.{after_call, after_line, cleared, making, saying, telling};
+ghost use Rattle.node_service.specs.Serving.{after_asked, after_call, after_line, again_line, cleared, making, saying, telling};
+ghost use Rattle.node_service.specs.Asking.{Calls, noted_seen};
+ghost use Rattle.node_state.specs.Nodes.{request_of};
 
-use crate::answering::put_refused;
-use crate::asking::{Asked, Question, asked_of};
+use crate::answering::{put_idle, put_known, put_refused};
+use crate::asking::{Asked, Noted, Question, asked_of};
+use crate::idle::is_idle_call;
 use crate::most::most_of;
+use crate::references::References;
 use crate::telling::{put_made, put_told};
-use kept_logs::{LogVersion, record_bytes};
+use kept_logs::{LogVersion, Reference, Stamp, record_bytes};
 use node_log::Record;
 use node_state::NodeState;
+use octets::Octets;
 use std::alloc::{AllocError, Global};
 use std::marker::Model;
 use world_setup::{Call, CheckedSettings, Fault, Node};
@@ -33,6 +36,7 @@ pub struct Service {
     pub(crate) version: LogVersion,
     pub(crate) state: NodeState,
     pub(crate) calls: u64,
+    pub(crate) references: References,
     pub(crate) records: Vec<u8>,
     pub(crate) out: Vec<u8>,
 }
@@ -50,6 +54,7 @@ impl Model for Service {
       version = version_seen s.version;
       state = s.state;
       calls = s.calls;
+      references = s.references;
       records = s.records.items;
       out = s.out.items;
     } };
@@ -59,7 +64,9 @@ impl Service {
     /// Does what a line asks of the node, and adds what is to be appended to the log and what is to be written.
     ///
     /// The lines are those that `asked_of` reads. A line that spells nothing is `refused Line`; a call that the node refuses is
-    /// `refused` and the name of the refusal, and changes nothing.
+    /// `refused` and the name of the refusal, and changes nothing. A submission whose reference an earlier one has is `known` and that one's
+    /// number where it has the same request, else `refused ReferenceReused`; neither changes anything. A tick of a pharmacy
+    /// without an open entry is `idle`: it changes nothing and is not recorded.
     ///
     /// # Errors
     /// Memory was refused. The node may have made the call and has no record of it, so the process has to end: the log
@@ -67,10 +74,10 @@ impl Service {
     #[tactic(auto, unfolding(crate::specs::Serving::after_line))]
     pub fn serve(&mut self, alloc: Global, line: &[u8]) -> Result<(), AllocError>
         ensures served { OnOk result (self.new ≡ after_line self.old line.now) }
-        ensures fits { OnOk result (AllByRecursion FitsLogged (line_calls self.old line.now)) }
+        ensures fits { OnOk result (AllByRecursion FitsStamped (line_kept self.old line.now)) }
     {
         match asked_of(alloc, line)? {
-            Some(Asked::Call(call)) => self.make(alloc, call),
+            Some(Asked::Call(noted)) => self.ask(alloc, noted),
             Some(Asked::Tell(question)) => self.tell(alloc, question),
             None => self.refuse_line(),
         }
@@ -90,15 +97,51 @@ impl Service {
         put_refused(&mut self.out, b"Line")
     }
 
-    /// Makes a call, and records it where it was made.
-    #[tactic(auto, unfolding(crate::specs::Serving::after_call))]
-    fn make(&mut self, alloc: Global, call: Call) -> Result<(), AllocError>
-        ensures made { OnOk result (self.new ≡ making self.old (call_seen call)) }
-        ensures fits { OnOk result (AllByRecursion FitsLogged (logged_of (call_seen call)
-            (node_step (context_of self.old.settings) self.old.state (call_seen call)))) }
+    /// Makes a call, but for a submission that was made before, under its reference.
+    fn ask(&mut self, alloc: Global, noted: Noted) -> Result<(), AllocError>
+        ensures made { OnOk result (self.new ≡ after_asked self.old (Some (Calls (noted_seen noted)))) }
+        ensures fits { OnOk result (AllByRecursion FitsStamped (kept_asked self.old (Some (Calls (noted_seen noted))))) }
     {
+        if let Call::Submit(text) = &noted.call {
+            if let Some(number) = self.references.number_of(noted.reference.as_slice()) {
+                return self.tell_again(alloc, number, text);
+            }
+        }
+        self.make(alloc, noted)
+    }
+
+    /// Tells the number of a submission again, where it has this request.
+    fn tell_again(&mut self, alloc: Global, number: u64, text: &Octets) -> Result<(), AllocError>
+        ensures { OnOk result (self.new
+            ≡ saying self.old (again_line number text.now (request_of self.old.state number))) }
+    {
+        match self.state.request(alloc, number)? {
+            Some(request) if request.as_slice() == text.as_slice() => put_known(
+                &mut self.out,
+                number,
+            ),
+            _ => put_refused(&mut self.out, b"ReferenceReused"),
+        }
+    }
+
+    /// Makes a call, and records it where it was made and is no tick that changes nothing.
+    #[tactic(auto, unfolding(crate::specs::Serving::after_call))]
+    fn make(&mut self, alloc: Global, noted: Noted) -> Result<(), AllocError>
+        ensures made { OnOk result (self.new
+            ≡ making self.old (noted_seen noted).stamp (call_seen noted.call)) }
+        ensures fits { OnOk result (AllByRecursion FitsStamped
+            (kept_making self.old (noted_seen noted).stamp (call_seen noted.call))) }
+    {
+        if is_idle_call(&self.state, &noted.call) {
+            return put_idle(&mut self.out);
+        }
+        let Noted {
+            call,
+            time,
+            reference,
+        } = noted;
         match self.state.step(alloc, self.shared.routes(), &call) {
-            Ok(sent) => self.record(alloc, &Record::new(call, sent)),
+            Ok(sent) => self.record(alloc, time, reference.as_slice(), &Record::new(call, sent)),
             Err(Fault::OutOfMemory) => Err(AllocError),
             Err(fault) => put_refused(&mut self.out, fault.name().as_bytes()),
         }
@@ -106,16 +149,27 @@ impl Service {
 
     /// Records a call that was made.
     #[tactic(auto, unfolding(crate::specs::Serving::after_call))]
-    fn record(&mut self, alloc: Global, one: &Record) -> Result<(), AllocError>
-        ensures made { OnOk result (self.new ≡ after_call self.old one.now.call (Done self.old.state one.now.sent)) }
-        ensures fits { OnOk result (FitsLogged one.now) }
+    fn record(
+        &mut self,
+        alloc: Global,
+        time: u64,
+        reference: &[u8],
+        one: &Record,
+    ) -> Result<(), AllocError>
+        ensures made { OnOk result (self.new ≡ after_call self.old (record { time = time; reference = reference.now })
+            one.now.call (Done self.old.state one.now.sent)) }
+        ensures fits { OnOk result (FitsStamped
+            (record { logged = one.now; stamp = record { time = time; reference = reference.now } })) }
     {
         let Some(number) = self.calls.checked_add(1) else {
             return Err(AllocError);
         };
-        let bytes = record_bytes(alloc, self.version, number, one)?;
+        let stamp = Stamp { time, reference };
+        let bytes = record_bytes(alloc, self.version, number, one, &stamp)?;
         self.records.extend_from_slice(bytes.as_slice())?;
         put_made(alloc, &mut self.out, &self.state, one)?;
+        self.references
+            .note(alloc, reference, one.call(), &self.state)?;
         self.calls = number;
         Ok(())
     }
@@ -154,6 +208,14 @@ impl Service {
         ensures { result ≡ self.now.calls }
     {
         self.calls
+    }
+
+    /// The references of the node's submissions, in order, each with its number.
+    pub fn into_references(self) -> Vec<Reference>
+        ensures { result.items ≡ self.references }
+    {
+        let Service { references, .. } = self;
+        references.into_list()
     }
 
     /// What is to be appended to the log, and synced, before `written` may leave.

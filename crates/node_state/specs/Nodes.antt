@@ -3,7 +3,7 @@ use Rattle.std.specs.Prelude.{ℕ, Bool, true, false, not, nat_eq, List, length,
 use Rattle.claim_model.specs.Words.{TxnId}
 use Rattle.claim_model.specs.Context.{Context}
 use Rattle.claim_model.specs.Numbered.{numbered}
-use Rattle.claim_model.specs.Journal.{PharmacySettings, JournalAtRest, Kept}
+use Rattle.claim_model.specs.Journal.{PharmacySettings, Journal, JournalAtRest, Kept}
 use Rattle.claim_model.specs.Table.{Table}
 use Rattle.claim_model.specs.Rows.{Book}
 use Rattle.claim_model.specs.Book.{row_of}
@@ -11,6 +11,7 @@ use Rattle.claim_model.specs.Node.{Power, Up, AtRest}
 use Rattle.claim_model.specs.Held.{journal_in, book_in, held_in_table, row_answer}
 pub use Rattle.claim_model.specs.Nodes.{AnyNode, OfPharmacy, OfSwitch, OfPayer, as_node, node_step, node_at}
 use Rattle.claim_model.specs.Settings.{is_empty}
+use Rattle.pharmacy_journal.specs.Idle.{is_idle}
 
 -- how many entries a pharmacy has; 0 of another node
 abbrev pub entries_of : AnyNode → ℕ
@@ -28,6 +29,17 @@ abbrev pub size_of : AnyNode → ℕ
 size_of (OfPharmacy node) = length (journal_in node).entries
 size_of (OfSwitch node) = slots_in node
 size_of (OfPayer node) = length (book_in node).rows
+
+-- a pharmacy is up, and no entry of it is open
+abbrev pub is_idle_pharmacy : Power Journal JournalAtRest → Bool
+is_idle_pharmacy (Up j) = is_idle j
+is_idle_pharmacy (AtRest j) = false
+
+-- the same of any node: one at rest, a switch and a payer refuse a tick
+abbrev pub is_idle_node : AnyNode → Bool
+is_idle_node (OfPharmacy node) = is_idle_pharmacy node
+is_idle_node (OfSwitch node) = false
+is_idle_node (OfPayer node) = false
 
 -- the book of a payer; none of another node
 abbrev pub book_of : AnyNode → Option Book

@@ -7,6 +7,7 @@ mod book_reading;
 mod held;
 mod journal_bytes;
 mod journal_reading;
+mod laws;
 mod numbered;
 mod opened;
 mod opening;
@@ -21,6 +22,7 @@ mod switch;
 
 pub use book_reading::BookReading;
 pub use journal_reading::JournalReading;
+pub use laws::idle_node_ticks;
 pub use payer::PayerNode;
 pub use pharmacy::PharmacyNode;
 pub use powered::{Kind, Powered};

@@ -57,13 +57,9 @@ impl Kind for Book {
         routes: &Routes,
         from: Node,
         envelope: &Envelope<'_>,
-        _packet: &Octets,
+        packet: &Octets,
     ) -> Result<Vec<Sent>, Fault> {
-        if is_request(envelope) {
-            answer(alloc, self, routes, from, envelope)
-        } else {
-            Err(Fault::Refused(Refusal::Unreadable))
-        }
+        self.take(alloc, routes, from, envelope, packet)
     }
 
     /// Changes its plan.

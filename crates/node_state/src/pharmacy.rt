@@ -6,6 +6,7 @@ ghost use Rattle.claim_model.specs.Bytes.{bytes_with};
 ghost use Rattle.claim_model.specs.Node.{Up, Submit, Tick, pharmacy_step};
 ghost use Rattle.claim_model.specs.Held.{journal_in};
 ghost use Rattle.claim_model.specs.Refusal.{refusal_of};
+ghost use Rattle.node_state.specs.Nodes.{is_idle_pharmacy};
 ghost use Rattle.node_state.specs.Outcomes.{PharmacyMakes, PharmacyRefuses};
 ghost use Rattle.node_state.specs.Records.{journal_record};
 ghost use Rattle.node_state.specs.Sends.{most_due, most_sent};
@@ -145,6 +146,16 @@ impl PharmacyNode {
         match &self.state {
             State::Up(pharmacy) => pharmacy.entries(),
             State::AtRest(_) => 0,
+        }
+    }
+
+    /// Whether it is up and no entry is open: then a tick changes nothing and sends nothing.
+    pub fn is_idle(&self) -> bool
+        ensures { result ≡ is_idle_pharmacy self.now }
+    {
+        match &self.state {
+            State::Up(pharmacy) => pharmacy.is_idle(),
+            State::AtRest(_) => false,
         }
     }
 

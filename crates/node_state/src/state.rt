@@ -6,7 +6,7 @@ ghost use Rattle.claim_model.specs.Bytes.{bytes_with};
 ghost use Rattle.world_setup.specs.Seen.{call_seen};
 ghost use Rattle.node_state.specs.Any.{any_seen};
 ghost use Rattle.node_state.specs.Outcomes.{Makes, Refuses};
-ghost use Rattle.node_state.specs.Nodes.{OfPharmacy, OfSwitch, OfPayer, node_step, entries_of, size_of, journal_of, book_of, request_of, held_of};
+ghost use Rattle.node_state.specs.Nodes.{OfPharmacy, OfSwitch, OfPayer, node_step, entries_of, size_of, is_idle_node, journal_of, book_of, request_of, held_of};
 
 use crate::book_reading::BookReading;
 use crate::held::copied;
@@ -99,6 +99,17 @@ impl NodeState {
             StateKind::Pharmacy(node) => node.step(alloc, routes, call),
             StateKind::Switch(node) => node.step(alloc, routes, call),
             StateKind::Payer(node) => node.step(alloc, routes, call),
+        }
+    }
+
+    /// Whether the node is a pharmacy that is up and has no open entry: then a tick leaves it as it is and sends nothing.
+    pub fn is_idle(&self) -> bool
+        ensures { result ≡ is_idle_node self.now }
+    {
+        match &self.kind {
+            StateKind::Pharmacy(node) => node.is_idle(),
+            StateKind::Switch(_) => false,
+            StateKind::Payer(_) => false,
         }
     }
 

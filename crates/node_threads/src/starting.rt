@@ -1,44 +1,34 @@
 //! Why a system does not start.
 
 ghost use Rattle.std.specs.Prelude.{◌≡◌};
-ghost use Rattle.world_setup.specs.declared.world_fault.WorldFault.TheVariants.{OutOfMemory};
-ghost use Rattle.node_threads.specs.declared.starting.StartFault.TheVariants.{World};
+ghost use Rattle.node_threads.specs.declared.starting.StartFault.TheVariants.{OutOfMemory};
 
 use std::alloc::{AllocError, AllocFailed};
 use thiserror::Error;
-use world_setup::WorldFault;
 
-/// Why a system does not start, in the order in which the causes are judged.
+/// Why a system does not start.
 #[derive(Clone, Copy, Debug, PartialEq, Eq, Error)]
 pub enum StartFault {
-    /// No world is made of the settings, or memory was refused.
-    #[error("{0}")]
-    World(WorldFault),
+    /// Memory was refused.
+    #[error("out of memory")]
+    OutOfMemory,
     /// There is no thread for a worker.
     #[error("there is no thread for a worker")]
     NoThread,
 }
 
-impl From<WorldFault> for StartFault {
-    ghost from_gives = { λ cause fault. fault ≡ World cause };
-
-    fn from(cause: WorldFault) -> StartFault {
-        StartFault::World(cause)
-    }
-}
-
 impl From<AllocError> for StartFault {
-    ghost from_gives = { λ _ fault. fault ≡ World OutOfMemory };
+    ghost from_gives = { λ _ fault. fault ≡ OutOfMemory };
 
     fn from(_refused: AllocError) -> StartFault {
-        StartFault::World(WorldFault::OutOfMemory)
+        StartFault::OutOfMemory
     }
 }
 
 impl<T: Drop> From<AllocFailed<T>> for StartFault {
-    ghost from_gives = { λ _ fault. fault ≡ World OutOfMemory };
+    ghost from_gives = { λ _ fault. fault ≡ OutOfMemory };
 
     fn from(_refused: AllocFailed<T>) -> StartFault {
-        StartFault::World(WorldFault::OutOfMemory)
+        StartFault::OutOfMemory
     }
 }

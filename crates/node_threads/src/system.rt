@@ -1,11 +1,9 @@
 //! A running system: each node behind a lock of its own, with a thread that delivers what comes into its inbox.
 
-ghost use Rattle.std.specs.Prelude.{◌≡◌, ◌⊎◌, ◌↔◌, [], false, None, Some, Err, is_ok, IfOk, IfErr, OnOk, OnErr, option_map};
+ghost use Rattle.std.specs.Prelude.{◌≡◌, ◌⊎◌, ◌↔◌, [], false, Err, is_ok, IfOk, IfErr, OnErr};
 ghost use Rattle.claim_model.specs.Node.{Pharmacy, Payer};
 ghost use Rattle.node_log.specs.There.{is_there};
 ghost use Rattle.world_setup.specs.Seen.{node_seen, settings_seen};
-ghost use Rattle.world_setup.specs.Taken.{world_fault};
-ghost use Rattle.world_setup.specs.declared.world_fault.WorldFault.TheVariants.{OutOfMemory};
 ghost use Rattle.node_logged.specs.Tills.{has_receipt, with_receipt};
 ghost use Rattle.node_logged.specs.TillSeen.{till_seen};
 ghost use Rattle.node_logged.specs.Causes.{IsCause};
@@ -13,7 +11,6 @@ ghost use Rattle.node_logged.specs.LedgerSeen.{tills_seen};
 ghost use Rattle.node_logged.specs.Verdicts.{IsRun, logs_in};
 ghost use Rattle.node_threads.specs.Halls.{RefusesAbsent, absent};
 ghost use Rattle.node_threads.specs.Telling.{told, ToldAgain, after_telling};
-ghost use Rattle.node_threads.specs.declared.starting.StartFault.TheVariants.{World, NoThread};
 ghost use Rattle.node_threads.specs.declared.status.StatusFault.TheVariants.{NotThisTill};
 
 use crate::ending::{judged, last_owner};
@@ -29,7 +26,7 @@ use std::alloc::{AllocError, Global};
 use std::marker::Model;
 use std::sync::{Arc, Wait};
 use std::thread::Threads;
-use world_setup::{Call, CheckedSettings, Fault, LinkFault, Node, Refusal, WorldSettings};
+use world_setup::{Call, CheckedSettings, Fault, LinkFault, Node, Refusal};
 
 /// A running system. Threads share it by reference; who started it has its workers, and ends it by `finish`.
 #[derive(Drop)]
@@ -47,28 +44,24 @@ impl Model for System {
 }
 
 impl System {
-    /// Starts all nodes of the settings, with an inbox and a worker for each, and links that treat their packets as these
+    /// Starts all nodes of settings that a world takes, with an inbox and a worker for each, and links that treat their packets as these
     /// faults say.
     ///
     /// # Errors
-    /// Those of the settings, as of a world; then `NoThread`. The workers that were started have ended then.
+    /// `NoThread`, or memory was refused. The workers that were started have ended then.
     pub fn start<R, G>(
         rt: &R,
         alloc: Global,
-        settings: WorldSettings,
+        settings: CheckedSettings,
         gate: &Arc<G>,
         faults: &[LinkFault],
     ) -> Result<(System, Workers), StartFault>
     where
         R: Threads + Wait + Copy + Send + 'static,
         G: Gate + Send + Sync + Drop + 'static,
-        ensures settings { IfOk result (λ started. started.0 ≡ settings) }
-        ensures taken { OnOk result (world_fault settings ≡ None) }
-        ensures fault { IfErr result (λ fault. (fault ≡ NoThread)
-            ⊎ ((fault ≡ World OutOfMemory) ⊎ (option_map World (world_fault settings) ≡ Some fault))) }
-        ensures no_thread { IfErr result (λ fault. fault ≡ NoThread → world_fault settings ≡ None) }
+        ensures { IfOk result (λ started. started.0 ≡ settings) }
     {
-        let shared = Arc::new(alloc, CheckedSettings::new(alloc, settings)?)?;
+        let shared = Arc::new(alloc, settings)?;
         let hall = Arc::new(alloc, Hall::opening(rt, alloc, shared)?)?;
         hall.add_faults(rt, faults)?;
         let mut workers = Workers::new(alloc);

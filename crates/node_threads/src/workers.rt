@@ -1,9 +1,5 @@
 //! The workers of a running system: one thread for each node, which takes the packets from the node's inbox.
 
-ghost use Rattle.std.specs.Prelude.{◌≡◌, ◌⊎◌, IfErr};
-ghost use Rattle.world_setup.specs.declared.world_fault.WorldFault.TheVariants.{OutOfMemory};
-ghost use Rattle.node_threads.specs.declared.starting.StartFault.TheVariants.{World, NoThread};
-
 use crate::hall::Hall;
 use crate::inbox::{Mail, Pass};
 use crate::packets::packets;
@@ -49,7 +45,6 @@ impl Workers {
     where
         R: Threads + Wait + Copy + Send + 'static,
         G: Gate + Send + Sync + Drop + 'static,
-        ensures { IfErr result (λ fault. (fault ≡ NoThread) ⊎ (fault ≡ World OutOfMemory)) }
     {
         let all = self.start_all(rt, hall, gate, hall.pharmacies())?
             && self.start_all(rt, hall, gate, hall.switches())?

@@ -13,3 +13,4 @@ pub mod StopStart
 pub mod Payable
 mod Tellings
 pub mod Sends
+pub mod Idle

@@ -7,6 +7,7 @@ pub mod Transactions
 pub mod Refusing
 pub mod Entries
 pub mod Sendings
+pub mod Idle
 pub mod Hearing
 pub mod Steps
 pub mod Resting

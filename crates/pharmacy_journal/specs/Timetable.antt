@@ -1,6 +1,6 @@
 -- The phases of a journal's entries, and which entries a tick sends.
-use Rattle.std.specs.Prelude.{◌≡◌, ℕ, ◌%◌, ◌<◌, Bool, false, ◌==◌, List, [], ◌∷◌, ◌++◌, map, length, Option, Some, None, is_some, option_map, slice_index_or, slice_set}
-use Rattle.std.specs.List.{AllByRecursion, filter}
+use Rattle.std.specs.Prelude.{◌≡◌, ℕ, ◌%◌, ◌<◌, Bool, false, ◌==◌, List, [], ◌∷◌, ◌++◌, map, length, Option, Some, None, is_some, is_none, option_map, slice_index_or, slice_set}
+use Rattle.std.specs.List.{AllByRecursion, filter, list_all, list_any}
 use Rattle.pharmacy_journal.specs.Retry.{Rule, Dial, phases_of, next_phase, node_of, phase_at, is_due}
 use Rattle.pharmacy_journal.specs.Places.{places_from}
 
@@ -24,6 +24,10 @@ due_next t = places_from (is_due t.rule) 0 (ticked_phases t)
 abbrev pub next_node : Rounds → ℕ → Option ℕ
 next_node t place = option_map (node_of t.rule) (slice_index_or (ticked_phases t) place None)
 
+-- no entry has a phase
+abbrev pub is_quiet : Rounds → Bool
+is_quiet t = list_all is_none t.phases
+
 -- how a timetable keeps it: each open entry is ahead of one clock by so much, and stands in the bucket of that lead's remainder
 abbrev pub in_bucket : Rule → ℕ → Option ℕ → Bool
 in_bucket r bucket None = false
@@ -36,6 +40,13 @@ IsLead r (Some lead) = lead < phases_of r
 -- the entry of a place is open: it has a phase, or a lead
 abbrev pub is_open : List (Option ℕ) → ℕ → Bool
 is_open phases place = is_some (slice_index_or phases place None)
+
+-- one of these places is open, and one of these buckets has such a place
+abbrev pub has_open : List (Option ℕ) → List ℕ → Bool
+has_open phases places = list_any (is_open phases) places
+
+abbrev pub have_open : List (Option ℕ) → List (List ℕ) → Bool
+have_open phases buckets = list_any (has_open phases) buckets
 
 -- the places in a bucket, and those of them that are open
 abbrev pub bucket_at : List (List ℕ) → ℕ → List ℕ

@@ -2,7 +2,7 @@
 
 ghost use Rattle.std.specs.Prelude.{◌≡◌, ◌<◌, ◌++◌, ◌∷◌, [], ℕ, OnOk, OnErr};
 ghost use Rattle.std.specs.List.{AllByRecursion, filter};
-ghost use Rattle.pharmacy_journal.specs.Timetable.{is_open};
+ghost use Rattle.pharmacy_journal.specs.Timetable.{is_open, has_open};
 
 use std::alloc::{AllocError, Global};
 use std::marker::Model;
@@ -52,6 +52,13 @@ impl Bucket {
         ensures { result.now ≡ self.now }
     {
         self.places.as_slice()
+    }
+
+    /// Whether one of the places is of an open entry: a walk up to the first such place.
+    pub(crate) fn has_open(&self, leads: &[Option<u64>]) -> bool
+        ensures { result ≡ has_open leads.now self.now }
+    {
+        self.places.iter().any(|place| is_open(leads, *place))
     }
 
     /// One more place is a hole: its entry has no lead any more.

@@ -6,6 +6,7 @@ ghost use Rattle.claim_model.specs.Bytes.{bytes_with};
 ghost use Rattle.claim_model.specs.Limits.{most_entries};
 ghost use Rattle.claim_model.specs.Journal.{ticked, due, stopped};
 ghost use Rattle.claim_model.specs.Node.{to_switch};
+ghost use Rattle.pharmacy_journal.specs.Idle.{is_idle};
 ghost use Rattle.pharmacy_journal.specs.Resting.{added_all};
 ghost use Rattle.pharmacy_journal.specs.Sendings.{due_packets, sent_at};
 ghost use Rattle.pharmacy_journal.specs.Settings.{rule_of};
@@ -88,6 +89,13 @@ impl Pharmacy {
             (stopped self.now).entries ≡ Some (stopped self.now) }
     {
         self.slots.len()
+    }
+
+    /// Whether no entry is open: then a tick changes nothing and sends nothing.
+    pub fn is_idle(&self) -> bool
+        ensures { result ≡ is_idle self.now }
+    {
+        self.timetable.is_idle()
     }
 
     /// The allocator that the journal was opened with.

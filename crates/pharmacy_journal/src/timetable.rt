@@ -3,7 +3,7 @@
 ghost use Rattle.std.specs.Prelude.{◌≡◌, ◌<◌, ◌-◌, ◌++◌, ◌∷◌, [], ℕ, length, None, Some, OnOk, OnErr, IfOk, IfSome, slice_set};
 ghost use Rattle.std.specs.List.{filter};
 ghost use Rattle.pharmacy_journal.specs.Retry.{rule_with, IsRule, phases_of};
-ghost use Rattle.pharmacy_journal.specs.Timetable.{ticked_rounds, due_next, next_node, is_open, bucket_at, open_at, with_place, AreBelow};
+ghost use Rattle.pharmacy_journal.specs.Timetable.{ticked_rounds, due_next, next_node, is_quiet, is_open, have_open, bucket_at, open_at, with_place, AreBelow};
 
 use crate::bucket::Bucket;
 use crate::retry::Retry;
@@ -94,6 +94,13 @@ impl Timetable {
         }
     }
 
+    /// Whether no entry is open. Of each bucket the places are walked up to the first open one, as long as none was found.
+    pub(crate) fn is_idle(&self) -> bool
+        ensures { result ≡ is_quiet self.now }
+    {
+        !have_open(self.buckets.as_slice(), self.leads.as_slice())
+    }
+
     /// Places among which are those of the entries that the next tick sends, in order. The others are of settled
     /// entries, and no more than those.
     pub(crate) fn due_next(&self) -> &[usize]
@@ -144,6 +151,13 @@ fn put(buckets: &mut Vec<Bucket>, bucket: usize, place: usize) -> Result<(), All
 {
     buckets[bucket].push(place)?;
     Ok(())
+}
+
+/// Whether one of the buckets has the place of an open entry.
+fn have_open(buckets: &[Bucket], leads: &[Option<u64>]) -> bool
+    ensures { result ≡ have_open leads.now buckets.now }
+{
+    buckets.iter().any(|bucket| bucket.has_open(leads))
 }
 
 /// A place of a bucket has become a hole. Open entries stay where they are, in every bucket.

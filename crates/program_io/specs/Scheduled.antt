@@ -5,8 +5,9 @@ use Rattle.bin_routes.specs.Fault.{first_fault}
 use Rattle.bin_routes.specs.Table.{routes_of}
 use Rattle.claim_model.specs.Settings.{settings_fault, opening}
 use Rattle.world_setup.specs.declared.event.Event.{Event}
+use Rattle.world_setup.specs.declared.settings.WorldSettings.{WorldSettings}
 use Rattle.world_core.specs.Parts.{WorldParts}
-use Rattle.world_settings.specs.Document.{Document, settings_in}
+use Rattle.world_settings.specs.Document.{Document, document_seen, settings_in}
 use Rattle.world_settings.specs.declared.fault.SettingsFault.{SettingsFault}
 use Rattle.world_settings.specs.declared.fault.SettingsFault.TheVariants as settings
 use Rattle.schedule.specs.Division.{settings_text, schedule_lines}
@@ -32,6 +33,10 @@ opened_if (Some d) = opened_by d
 -- the opening world of the settings that a text spells
 unfoldable pub world_in : List ℕ → Option WorldParts
 world_in text = opened_if (settings_in text)
+
+-- a text spells these settings, and a world takes them
+abbrev pub Opens : List ℕ → WorldSettings → Type 0
+Opens text settings = world_in text ≡ Some (opened_world (document_seen settings))
 
 -- settings open no world for this cause; want of memory says nothing
 abbrev pub OpensNone : SettingsFault → Option WorldParts → Type 0

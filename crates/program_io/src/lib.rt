@@ -17,7 +17,7 @@ mod words;
 pub use fault::{CheckFault, InputFault, ProgramFault};
 pub use input::{MOST_CALLS, MOST_INPUT, read_all};
 pub use kept::KeptReader;
-pub use opening::opened;
+pub use opening::{opened, taken_settings};
 pub use output::write_output;
 pub use scheduled::{Scheduled, read_scheduled};
 pub use sink::{Sink, WriterSink};

@@ -1,18 +1,12 @@
 -- What the input of a run asks for.
-use Rattle.std.specs.Prelude.{◌≡◌, ℕ, List, Option, Some, None, Result, Ok, Err}
+use Rattle.std.specs.Prelude.{ℕ, List, Option, Some, None, Result, Ok, Err}
 use Rattle.std.specs.Str.Lines.{lines}
-use Rattle.world_setup.specs.declared.settings.WorldSettings.{WorldSettings}
-use Rattle.world_settings.specs.Document.{document_seen}
 use Rattle.world_core.specs.Parts.{WorldParts}
 use Rattle.schedule.specs.Division.{settings_text, schedule_lines}
 use Rattle.schedule.specs.Runs.{RunParts, run_of}
-use Rattle.program_io.specs.Scheduled.{world_in, opened_world}
+use Rattle.program_io.specs.Scheduled.{world_in}
 use Rattle.program_io.specs.declared.fault.InputFault.{InputFault}
 use Rattle.program_io.specs.declared.fault.InputFault.TheVariants.{Settings, Line}
-
--- a text spells these settings, and a world takes them
-abbrev pub Opens : List ℕ → WorldSettings → Type 0
-Opens text settings = world_in text ≡ Some (opened_world (document_seen settings))
 
 -- the settings come first
 abbrev pub asked_from : Option WorldParts → Result RunParts ℕ → Result RunParts InputFault

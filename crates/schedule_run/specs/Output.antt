@@ -1,7 +1,6 @@
 -- What a run writes, and why it stops.
 use Rattle.std.specs.Prelude.{◌≡◌, ℕ, ◌≤◌, Bool, true, false, not, ◌⊎◌, List, [], ◌++◌, length, take, Option, Result, Ok, IfErr, IfSome, OnOk, OnErr}
 use Rattle.std.specs.Io.KnownBytes.{Appends}
-use Rattle.world_setup.specs.declared.world_fault.WorldFault.TheVariants as world
 use Rattle.world_setup.specs.declared.settings.WorldSettings.{WorldSettings}
 use Rattle.world_core.specs.Parts.{WorldParts, context_of}
 use Rattle.schedule.specs.Division.{settings_text}
@@ -15,16 +14,16 @@ use Rattle.node_logged.specs.declared.judging.finish_fault.FinishFault.{FinishFa
 use Rattle.node_logged.specs.declared.judging.finish_fault.FinishFault.TheVariants as finish
 use Rattle.world_report.specs.Words.{Line, lines_text}
 use Rattle.world_report.specs.Nodes.{world_lines}
+use Rattle.program_io.specs.Scheduled.{Opens}
 use Rattle.program_io.specs.Stops.{IsTaken, StopsFor}
 use Rattle.program_io.specs.declared.input.TheConstants.{MOST_INPUT}
 use Rattle.program_io.specs.declared.fault.InputFault.{InputFault}
-use Rattle.program_io.specs.declared.fault.InputFault.TheVariants.{Settings}
 use Rattle.program_io.specs.declared.fault.ProgramFault.{ProgramFault}
 use Rattle.program_io.specs.declared.fault.ProgramFault.TheVariants.{OutOfMemory, Read, Input, Write}
 use Rattle.schedule_run.specs.declared.fault.RunFault.{RunFault}
 use Rattle.schedule_run.specs.declared.fault.RunFault.TheVariants.{Program, Finish, NoThread}
 use Rattle.schedule_run.specs.declared.fault.Unjudged.TheVariants as unjudged
-use Rattle.schedule_run.specs.Asked.{asked_in, Opens}
+use Rattle.schedule_run.specs.Asked.{asked_in}
 use Rattle.schedule_run.specs.Told.{RunCutOff, RunTold}
 
 -- the lines of the nodes of a world
@@ -108,11 +107,7 @@ pub record AllAreTold (old new : Option (List ℕ)) (run : RunParts) : Type 0 wh
 
 -- why the nodes do not start, as the run tells it
 abbrev pub start_told : StartFault → RunFault
-start_told (start.World world.OutOfMemory) = Program OutOfMemory
-start_told (start.World world.TooMany) = Program (Input Settings)
-start_told (start.World world.NoNode) = Program (Input Settings)
-start_told (start.World world.SameProvider) = Program (Input Settings)
-start_told (start.World (world.BadRoute fault)) = Program (Input Settings)
+start_told start.OutOfMemory = Program OutOfMemory
 start_told start.NoThread = NoThread
 
 -- why what the nodes did is no run, as the run tells it

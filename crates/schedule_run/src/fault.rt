@@ -7,10 +7,9 @@ ghost use Rattle.schedule_run.specs.declared.fault.RunFault.TheVariants.{Program
 ghost use Rattle.schedule_run.specs.Output.{start_told, finish_told};
 
 use node_threads::{FinishFault, StartFault};
-use program_io::{CheckFault, InputFault, ProgramFault};
+use program_io::{CheckFault, ProgramFault};
 use std::alloc::{AllocError, AllocFailed};
 use thiserror::Error;
-use world_setup::WorldFault;
 
 /// Why a run stopped. The text is that of the line on standard error.
 #[derive(Clone, Copy, Debug, PartialEq, Eq, Error)]
@@ -81,10 +80,7 @@ impl From<StartFault> for RunFault {
 
     fn from(fault: StartFault) -> RunFault {
         match fault {
-            StartFault::World(WorldFault::OutOfMemory) => {
-                RunFault::Program(ProgramFault::OutOfMemory)
-            }
-            StartFault::World(_) => RunFault::Program(ProgramFault::Input(InputFault::Settings)),
+            StartFault::OutOfMemory => RunFault::Program(ProgramFault::OutOfMemory),
             StartFault::NoThread => RunFault::NoThread,
         }
     }

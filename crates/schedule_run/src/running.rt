@@ -1,9 +1,8 @@
 //! A run from its input to its report.
 
-ghost use Rattle.std.specs.Prelude.{◌≡◌, ◌⊎◌, ◌+◌, ◌≤◌, true, false, None, [], length, replicate, IfOk, IfErr, OnOk, OnErr};
+ghost use Rattle.std.specs.Prelude.{◌≡◌, ◌⊎◌, ◌+◌, ◌≤◌, true, false, [], length, replicate, IfOk, IfErr, OnOk, OnErr};
 ghost use Rattle.std.specs.Io.KnownBytes.{Appends};
 ghost use Rattle.std.specs.List.{AllByRecursion};
-ghost use Rattle.world_setup.specs.Taken.{world_fault};
 ghost use Rattle.world_report.specs.Words.{lines_text};
 ghost use Rattle.schedule.specs.Runs.{run_seen};
 ghost use Rattle.node_logged.specs.LedgerSeen.{tills_seen};
@@ -95,7 +94,6 @@ where
 fn run_asked<T, K: Sink>(rt: &T, alloc: Global, asked: Asked, sink: &mut K) -> Result<(), RunFault>
 where
     T: Threads + Wait + Clock + Copy + Send + 'static,
-    requires taken { world_fault asked.settings ≡ None }
     ensures output { OnOk result (Writes K.contents sink.old sink.new
         (IsReported asked.settings (run_seen asked.run))) }
     ensures unwritten { IfErr result (λ fault. is_early fault ≡ true → sink.new ≡ sink.old) }
@@ -106,7 +104,7 @@ where
     ensures same_reference { K.loan sink.new ≡ K.loan sink.old }
 {
     let Asked { settings, run } = asked;
-    let pharmacies = settings.pharmacies.len();
+    let pharmacies = settings.settings().pharmacies.len();
     let gate = Arc::new(alloc, Open)?;
     let (system, workers) = System::start(rt, alloc, settings, &gate, run.faults.as_slice())?;
     let world = run_to_end(rt, alloc, system, workers, pharmacies, &run, sink)?;

@@ -1,11 +1,11 @@
 -- A log has the version of the digest that it was written under.
 use Rattle.std.proofs.Common.{◌≡◌, ℕ, zero, suc, ◌≤◌, Bool, true, false, cond, List, Option, None, length, take, Some, refl, sym, ap, ◌∙◌, arith}
 use Rattle.sha2.specs.Sha256.{sha256, digest_bytes}
-use Rattle.claim_model.specs.Logs.{NodeLog}
 use Rattle.world_settings.specs.Document.{Document, living_in}
 use Rattle.kept_logs.specs.Digests.{of_file, of_said, is_first}
 use Rattle.kept_logs.specs.Rests.{behind}
-use Rattle.kept_logs.specs.Logs.{head_text, log_text}
+use Rattle.kept_logs.specs.Stamps.{KeptLog}
+use Rattle.kept_logs.specs.Logs.{head_text, kept_text}
 use Rattle.settings_digest.specs.Said.{said}
 use Rattle.settings_digest.specs.Digests.{said_by, digest_in, digest_under, turned_in, turned_under, under, turned, AreOf}
 use Rattle.settings_digest.specs.declared.digests.Digests.{Digests}
@@ -14,21 +14,21 @@ use Rattle.settings_digest.specs.declared.digests.Digests.{Digests}
 abbrev of_version : List ℕ → Bool → List ℕ
 of_version file first = cond first (of_file file) (digest_in file)
 
-kept : (file : List ℕ) (log : NodeLog) (first : Bool) → digest_under file (log_text (of_version file first) log) ≡ of_version file first
-unfolding digest_under digest_in log_text head_text
+kept : (file : List ℕ) (log : KeptLog) (first : Bool) → digest_under file (kept_text (of_version file first) log) ≡ of_version file first
+unfolding digest_under digest_in kept_text head_text
 kept file log true = refl
 kept file log false = refl
 
-kept_cut : (file : List ℕ) (log : NodeLog) (m : ℕ) (first : Bool) → digest_under file (take (suc (suc (suc m))) (log_text (of_version file first) log)) ≡ of_version file first
-unfolding digest_under digest_in log_text head_text
+kept_cut : (file : List ℕ) (log : KeptLog) (m : ℕ) (first : Bool) → digest_under file (take (suc (suc (suc m))) (kept_text (of_version file first) log)) ≡ of_version file first
+unfolding digest_under digest_in kept_text head_text
 kept_cut file log m true = refl
 kept_cut file log m false = refl
 
-pub keeps : (file bytes : List ℕ) (log : NodeLog) → digest_under file (log_text (digest_under file bytes) log) ≡ digest_under file bytes
+pub keeps : (file bytes : List ℕ) (log : KeptLog) → digest_under file (kept_text (digest_under file bytes) log) ≡ digest_under file bytes
 unfolding digest_under
 keeps file bytes log = kept file log (is_first bytes)
 
-pub keeps_cut : (file bytes : List ℕ) (log : NodeLog) (n : ℕ) → 3 ≤ n → digest_under file (take n (log_text (digest_under file bytes) log)) ≡ digest_under file bytes
+pub keeps_cut : (file bytes : List ℕ) (log : KeptLog) (n : ℕ) → 3 ≤ n → digest_under file (take n (kept_text (digest_under file bytes) log)) ≡ digest_under file bytes
 unfolding digest_under
 keeps_cut file bytes log zero h = absurd (omega (arith, h))
 keeps_cut file bytes log (suc zero) h = absurd (omega (arith, h))
@@ -36,7 +36,7 @@ keeps_cut file bytes log (suc (suc zero)) h = absurd (omega (arith, h))
 keeps_cut file bytes log (suc (suc (suc m))) h = kept_cut file log m (is_first bytes)
 
 -- a log that begins is of version 2
-pub keeps_new : (file : List ℕ) (log : NodeLog) → digest_under file (log_text (digest_in file) log) ≡ digest_in file
+pub keeps_new : (file : List ℕ) (log : KeptLog) → digest_under file (kept_text (digest_in file) log) ≡ digest_in file
 keeps_new file log = kept file log false
 
 -- each digest has 33 bytes with its version
@@ -74,15 +74,15 @@ under_at file digests bytes are = ap (λ (digest : List ℕ → List ℕ). diges
 
 -- the same, whatever a log begins with
 
-pub turned_keeps : (file : List ℕ) (rest : Option (List ℕ)) (bytes : List ℕ) (log : NodeLog) → turned_under file rest (log_text (turned_under file rest bytes) log) ≡ turned_under file rest bytes
+pub turned_keeps : (file : List ℕ) (rest : Option (List ℕ)) (bytes : List ℕ) (log : KeptLog) → turned_under file rest (kept_text (turned_under file rest bytes) log) ≡ turned_under file rest bytes
 turned_keeps file None bytes log = keeps file bytes log
 turned_keeps file (Some rest) bytes log = refl
 
-pub turned_keeps_cut : (file : List ℕ) (rest : Option (List ℕ)) (bytes : List ℕ) (log : NodeLog) (n : ℕ) → 3 ≤ n → turned_under file rest (take n (log_text (turned_under file rest bytes) log)) ≡ turned_under file rest bytes
+pub turned_keeps_cut : (file : List ℕ) (rest : Option (List ℕ)) (bytes : List ℕ) (log : KeptLog) (n : ℕ) → 3 ≤ n → turned_under file rest (take n (kept_text (turned_under file rest bytes) log)) ≡ turned_under file rest bytes
 turned_keeps_cut file None bytes log n h = keeps_cut file bytes log n h
 turned_keeps_cut file (Some rest) bytes log n h = refl
 
-pub turned_keeps_new : (file : List ℕ) (rest : Option (List ℕ)) (log : NodeLog) → turned_under file rest (log_text (turned_in file rest) log) ≡ turned_in file rest
+pub turned_keeps_new : (file : List ℕ) (rest : Option (List ℕ)) (log : KeptLog) → turned_under file rest (kept_text (turned_in file rest) log) ≡ turned_in file rest
 turned_keeps_new file None log = keeps_new file log
 turned_keeps_new file (Some rest) log = refl
 

@@ -107,14 +107,14 @@ fn put_loaded(
 
 /// What a packet carries: the request or the answer of which transaction; nothing, where it is no envelope.
 #[derive(Clone, Copy)]
-struct Carried {
-    kind: &'static [u8],
-    pharmacy: Option<u64>,
-    number: Option<u64>,
+pub(crate) struct Carried {
+    pub(crate) kind: &'static [u8],
+    pub(crate) pharmacy: Option<u64>,
+    pub(crate) number: Option<u64>,
 }
 
 /// What a packet carries.
-fn carried_in(bytes: &[u8]) -> Carried
+pub(crate) fn carried_in(bytes: &[u8]) -> Carried
     ensures { (routes : RouteMaps) → carried_seen result ≡ load_of ((bytes_with routes).read_envelope bytes.now) }
 {
     match opened(bytes) {

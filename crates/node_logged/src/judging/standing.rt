@@ -8,22 +8,16 @@ ghost use Rattle.node_logged.specs.StandingSeen.{nodes_seen, StandsWhole};
 
 use crate::held::Held;
 use node_log::NodeLog;
-use node_state::{NodeState, PayerNode, PharmacyNode, StateKind, SwitchNode};
+use node_state::{NodeState, StateKind};
 use std::alloc::{AllocError, Global};
+use world_core::KnownParts;
 use world_setup::{CheckedSettings, Node};
-
-/// Nodes as they stand, each kind in the order of its numbers, from 1.
-#[derive(Drop)]
-pub(crate) struct Nodes {
-    pub(crate) pharmacies: Vec<PharmacyNode>,
-    pub(crate) switches: Vec<SwitchNode>,
-    pub(crate) payers: Vec<PayerNode>,
-}
 
 /// The nodes of a system and their logs.
 #[derive(Drop)]
 pub(crate) struct Standing {
-    pub(crate) nodes: Nodes,
+    /// The nodes as they stand, without packets.
+    pub(crate) nodes: KnownParts,
     pub(crate) logs: Vec<NodeLog>,
     /// Whether the nodes are those of the logs, under the settings. Where they are not, only the logs count.
     pub(crate) is_whole: bool,
@@ -39,7 +33,7 @@ pub(crate) fn taken_apart(
     ensures nodes { IfOk result (λ s. StandsWhole settings.now s) }
 {
     let mut standing = Standing {
-        nodes: Nodes::new(alloc),
+        nodes: no_nodes(alloc),
         logs: Vec::new(alloc),
         is_whole: true,
     };
@@ -57,7 +51,7 @@ impl Standing {
     {
         let is_under = held.is_under(settings);
         let (state, log) = held.into_parts();
-        let is_next = self.nodes.add(log.node(), state)?;
+        let is_next = add_next(&mut self.nodes, log.node(), state)?;
         self.is_whole = are_true(self.is_whole, is_under, is_next);
         self.logs.push(log)?;
         Ok(())
@@ -67,7 +61,7 @@ impl Standing {
     pub(crate) fn is_all(&self, settings: &CheckedSettings) -> bool
         ensures { IsTrue result → IsTrue self.now.is_whole × AreAll settings.now (nodes_seen self.now.nodes) }
     {
-        self.is_whole && self.nodes.are_all(settings)
+        self.is_whole && are_all(&self.nodes, settings)
     }
 }
 
@@ -78,49 +72,48 @@ fn are_true(first: bool, second: bool, third: bool) -> bool
     first && second && third
 }
 
-impl Nodes {
-    /// No nodes.
-    fn new(alloc: Global) -> Nodes
-        ensures { nodes_seen result ≡ record { pharmacies = []; switches = []; payers = [] } }
-    {
-        Nodes {
-            pharmacies: Vec::new(alloc),
-            switches: Vec::new(alloc),
-            payers: Vec::new(alloc),
-        }
+/// No nodes.
+fn no_nodes(alloc: Global) -> KnownParts
+    ensures { nodes_seen result ≡ record { pharmacies = []; switches = []; payers = [] } }
+{
+    KnownParts {
+        pharmacies: Vec::new(alloc),
+        switches: Vec::new(alloc),
+        payers: Vec::new(alloc),
+        packets: Vec::new(alloc),
     }
+}
 
-    /// Adds the node of this name, where it is the next of its kind, and tells whether it was.
-    fn add(&mut self, name: Node, node: NodeState) -> Result<bool, AllocError>
-        ensures { IfOk result (λ yes. IsTrue yes
-            → (node_seen name ≡ next_name (nodes_seen self.old) node)
-            × (nodes_seen self.new ≡ with_node (nodes_seen self.old) node)) }
-    {
-        match node.into_kind() {
-            StateKind::Pharmacy(node) => match name {
-                Node::Pharmacy(number) => push_next(&mut self.pharmacies, number, node),
-                _ => Ok(false),
-            },
-            StateKind::Switch(node) => match name {
-                Node::Switch(number) => push_next(&mut self.switches, number, node),
-                _ => Ok(false),
-            },
-            StateKind::Payer(node) => match name {
-                Node::Payer(number) => push_next(&mut self.payers, number, node),
-                _ => Ok(false),
-            },
-        }
+/// Adds the node of this name, where it is the next of its kind, and tells whether it was.
+fn add_next(nodes: &mut KnownParts, name: Node, node: NodeState) -> Result<bool, AllocError>
+    ensures { IfOk result (λ yes. IsTrue yes
+        → (node_seen name ≡ next_name (nodes_seen nodes.old) node)
+        × (nodes_seen nodes.new ≡ with_node (nodes_seen nodes.old) node)) }
+{
+    match node.into_kind() {
+        StateKind::Pharmacy(node) => match name {
+            Node::Pharmacy(number) => push_next(&mut nodes.pharmacies, number, node),
+            _ => Ok(false),
+        },
+        StateKind::Switch(node) => match name {
+            Node::Switch(number) => push_next(&mut nodes.switches, number, node),
+            _ => Ok(false),
+        },
+        StateKind::Payer(node) => match name {
+            Node::Payer(number) => push_next(&mut nodes.payers, number, node),
+            _ => Ok(false),
+        },
     }
+}
 
-    /// Whether there are as many of each kind as in these settings.
-    fn are_all(&self, settings: &CheckedSettings) -> bool
-        ensures { IsTrue result → AreAll settings.now (nodes_seen self.now) }
-    {
-        let settings = settings.settings();
-        self.pharmacies.len() == settings.pharmacies.len()
-            && self.switches.len() == settings.switches.len()
-            && self.payers.len() == settings.payers.len()
-    }
+/// Whether there are as many nodes of each kind as in these settings.
+fn are_all(nodes: &KnownParts, settings: &CheckedSettings) -> bool
+    ensures { IsTrue result → AreAll settings.now (nodes_seen nodes.now) }
+{
+    let settings = settings.settings();
+    nodes.pharmacies.len() == settings.pharmacies.len()
+        && nodes.switches.len() == settings.switches.len()
+        && nodes.payers.len() == settings.payers.len()
 }
 
 /// Adds a node to those of its kind, where its number is the next, and tells whether it was.

@@ -19,7 +19,7 @@ ghost use Rattle.node_logged.specs.Verdicts.{IsRun, logs_in, CarriesLogs};
 use crate::held::Held;
 use crate::judging::finish_fault::FinishFault;
 use crate::judging::objection::{Objection, objection_in, objection_to};
-use crate::judging::standing::{Nodes, Standing, taken_apart};
+use crate::judging::standing::{Standing, taken_apart};
 use crate::till::Till;
 use node_log::NodeLog;
 use run_merge::{MergeFault, MergedRun, merge, merge_fitting};
@@ -113,7 +113,7 @@ pub fn judge_nodes(
 fn judge_standing(
     alloc: Global,
     settings: &CheckedSettings,
-    nodes: Nodes,
+    nodes: KnownParts,
     logs: Vec<NodeLog>,
     tills: &[Till],
 ) -> Result<Finished, FinishFault>
@@ -137,7 +137,7 @@ fn judge_standing(
 fn standing_run(
     alloc: Global,
     settings: &CheckedSettings,
-    nodes: Nodes,
+    nodes: KnownParts,
     logs: Vec<NodeLog>,
     run: MergedRun,
 ) -> Result<Finished, AllocError>
@@ -151,17 +151,7 @@ fn standing_run(
     }) }
 {
     let MergedRun { events, packets } = run;
-    let Nodes {
-        pharmacies,
-        switches,
-        payers,
-    } = nodes;
-    let parts = KnownParts {
-        pharmacies,
-        switches,
-        payers,
-        packets,
-    };
+    let parts = KnownParts { packets, ..nodes };
     let world = opening_world(alloc, settings)?.led_to(&events, parts);
     Ok(Finished {
         events,

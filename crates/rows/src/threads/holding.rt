@@ -10,7 +10,7 @@ use std::alloc::Global;
 use std::sync::{Arc, Wait};
 use std::thread::Threads;
 use std::time::Clock;
-use world_setup::{Node, WorldSettings};
+use world_setup::{CheckedSettings, Node};
 
 /// A request goes to switch 1, which is held inside until another node is inside; a tick sends it to switch 2. Tells
 /// whether switch 1 was let go, the answer, and how the system ended.
@@ -18,7 +18,7 @@ pub(crate) fn held_switch<T>(
     rt: &T,
     told: &mut Told,
     alloc: Global,
-    settings: WorldSettings,
+    settings: CheckedSettings,
     until: Node,
     request: &[u8],
 ) -> Option<Ended>

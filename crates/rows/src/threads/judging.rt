@@ -3,7 +3,7 @@
 use crate::threads::commands::event_of;
 use crate::threads::held::tell_bytes;
 use crate::threads::logs::{Recorded, opened};
-use crate::threads::settings::settings_named;
+use crate::threads::settings::taken_named;
 use crate::threads::tills;
 use crate::threads::words::{place_of, read_count, read_number};
 use case_files::{CaseFile, Subject, Told};
@@ -12,7 +12,7 @@ use node_log::{NodeLog, is_there, replay_log};
 use node_state::NodeState;
 use node_threads::{FinishFault, Finished, Till, judge};
 use std::alloc::Global;
-use world_setup::{CheckedSettings, WorldSettings};
+use world_setup::CheckedSettings;
 
 /// Rows about logs and tills.
 #[derive(Drop)]
@@ -55,8 +55,8 @@ impl Subject for Judging<'_> {
 impl Judging<'_> {
     /// Opens all nodes of the settings of a name.
     fn open(&mut self, told: &mut Told, alloc: Global, name: &[u8]) {
-        self.recorded = match settings_named(alloc, self.files, name) {
-            Some(settings) => opened_with(alloc, settings),
+        self.recorded = match taken_named(alloc, self.files, name) {
+            Some(settings) => opened(alloc, settings),
             None => None,
         };
         self.tills.clear();
@@ -158,14 +158,6 @@ fn tell_state(told: &mut Told, alloc: Global, state: &NodeState) {
             Err(_) => told.refuse(),
         },
         None => told.refuse(),
-    }
-}
-
-/// All nodes of settings, where a world takes them.
-fn opened_with(alloc: Global, settings: WorldSettings) -> Option<Recorded> {
-    match CheckedSettings::new(alloc, settings) {
-        Ok(shared) => opened(alloc, shared),
-        Err(_) => None,
     }
 }
 

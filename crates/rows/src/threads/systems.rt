@@ -6,7 +6,7 @@ use crate::threads::ended::{Beside, Ended, tell_end};
 use crate::threads::gates::Counting;
 use crate::threads::holding::held_switch;
 use crate::threads::restarts::restarted;
-use crate::threads::settings::settings_named;
+use crate::threads::settings::taken_named;
 use crate::threads::waits::{settled, settled_by_itself};
 use crate::threads::words::{count_and_rest, place_of, read_count, read_node, read_number};
 use case_files::{CaseFile, Runner, Told};
@@ -18,7 +18,7 @@ use std::alloc::{AllocError, Global};
 use std::sync::{Arc, Wait};
 use std::thread::Threads;
 use std::time::Clock;
-use world_setup::{Fault, LinkFault, Refusal, WorldSettings};
+use world_setup::{CheckedSettings, Fault, LinkFault, Refusal};
 
 /// Runs rows about systems.
 pub(crate) fn run<T>(
@@ -117,7 +117,7 @@ impl Running<'_> {
     where
         T: Threads + Wait + Copy + Send + 'static,
     {
-        self.live = match settings_named(alloc, self.files, name) {
+        self.live = match taken_named(alloc, self.files, name) {
             Some(settings) => started(rt, alloc, settings, &self.faults),
             None => None,
         };
@@ -131,7 +131,7 @@ impl Running<'_> {
         T: Threads + Wait + Clock + Copy + Send + Sync + 'static,
     {
         let (name, request) = split_word(argument).unwrap_or((argument, b""));
-        match settings_named(alloc, self.files, b"two-switches") {
+        match taken_named(alloc, self.files, b"two-switches") {
             Some(settings) => {
                 let node = read_node(name);
                 self.ended = held_switch(rt, told, alloc, settings, node, request);
@@ -156,7 +156,12 @@ impl Running<'_> {
 }
 
 /// The nodes of settings on threads.
-fn started<T>(rt: &T, alloc: Global, settings: WorldSettings, faults: &[LinkFault]) -> Option<Live>
+fn started<T>(
+    rt: &T,
+    alloc: Global,
+    settings: CheckedSettings,
+    faults: &[LinkFault],
+) -> Option<Live>
 where
     T: Threads + Wait + Copy + Send + 'static,
 {

@@ -7,31 +7,31 @@ use Rattle.kept_logs.proofs.MadeSoFar.{all_made, cut_off_here, no_record_here, n
 use Rattle.kept_logs.proofs.making.make_calls.Goals as goal
 
 pub loop-place-init : goal.loop-place-init
-loop-place-init c = nothing_made (bytes_with c.args.routes.now) c.args.opening (version_seen c.args.version) c.args.total c.args.bytes.now
+loop-place-init c = nothing_made (bytes_with c.args.routes.now) c.args.opening (version_seen c.args.version) c.args.total c.args.bytes.now c.new-references.result.items c.new-references.ensures.items
 
 pub returns-in-Ok-None : goal.returns-in-Ok-None
 returns-in-Ok-None c =
-    cut_off_here (bytes_with c.args.routes.now) c.args.opening (version_seen c.args.version) c.args.total c.args.bytes.now c.loop-place.node c.loop-place.place c.loop-place.rest.now c.loop-place.invariant c.loop-place-test.true
+    cut_off_here (bytes_with c.args.routes.now) c.args.opening (version_seen c.args.version) c.args.total c.args.bytes.now c.loop-place.node c.loop-place.references.items c.loop-place.place c.loop-place.rest.now c.loop-place.invariant c.loop-place-test.true
     (stepped (version_seen c.args.version) _ (c.loop-place.place + 1) c.saturating_sub-start.result (c.args.total - length c.loop-place.rest.now) c.loop-place.rest.now c.in-Ok-None.field-0 _ c.saturating_sub-start.ensures c.in-Ok-None.ensures.ok c.in-Ok-None.field-0-is)
 
 pub loop-place-preserved : goal.loop-place-preserved
 loop-place-preserved c =
-    one_more_made (bytes_with c.args.routes.now) c.args.opening (version_seen c.args.version) c.args.total c.args.bytes.now c.loop-place.node c.makes.new.node c.loop-place.place c.loop-place.rest.now c.in-Ok-Some.after.now
-    _ _ (entry_seen c.in-Ok-Some.entry) c.loop-place.invariant c.loop-place-test.true
+    one_more_made (bytes_with c.args.routes.now) c.args.opening (version_seen c.args.version) c.args.total c.args.bytes.now c.loop-place.node c.makes.new.node c.loop-place.references.items c.note_reference.new.references.items c.loop-place.place c.loop-place.rest.now c.in-Ok-Some.after.now
+    _ _ _ (entry_seen c.in-Ok-Some.entry) c.loop-place.invariant c.loop-place-test.true
     (stepped (version_seen c.args.version) _ (c.loop-place.place + 1) c.saturating_sub-start.result (c.args.total - length c.loop-place.rest.now) c.loop-place.rest.now c.in-Ok-Some.field-0 _ c.saturating_sub-start.ensures c.in-Ok-Some.ensures.ok c.in-Ok-Some.field-0-is)
-    c.new.ensures c.if-not-branch.false c.in_ok-makes.ensures
+    c.new.ensures c.if-not-branch.false c.in_ok-makes.ensures c.call.ensures c.in_ok-note_reference.ensures
 
 pub returns : goal.returns
-returns c = all_made (bytes_with c.args.routes.now) c.args.opening (version_seen c.args.version) c.args.total c.args.bytes.now c.loop-place.node c.loop-place.place c.loop-place.rest.now c.loop-place.invariant (omega arith)
+returns c = all_made (bytes_with c.args.routes.now) c.args.opening (version_seen c.args.version) c.args.total c.args.bytes.now c.loop-place.node c.loop-place.references.items c.loop-place.place c.loop-place.rest.now c.loop-place.invariant (omega arith)
 
 pub returns-in-Err : goal.returns-in-Err
 returns-in-Err c =
-    no_record_here (bytes_with c.args.routes.now) c.args.opening (version_seen c.args.version) c.args.total c.args.bytes.now c.loop-place.node c.loop-place.place c.loop-place.rest.now c.in-Err.fault c.loop-place.invariant c.loop-place-test.true
+    no_record_here (bytes_with c.args.routes.now) c.args.opening (version_seen c.args.version) c.args.total c.args.bytes.now c.loop-place.node c.loop-place.references.items c.loop-place.place c.loop-place.rest.now c.in-Err.fault c.loop-place.invariant c.loop-place-test.true
     (grind (arith, c.in-Err.ensures.fault c.in_ok-no_record-in-Err.ensures, c.saturating_sub-start.ensures))
 
 pub returns-then-not-branch : goal.returns-then-not-branch
 returns-then-not-branch c =
-    not_made_here (bytes_with c.args.routes.now) c.args.opening (version_seen c.args.version) c.args.total c.args.bytes.now c.loop-place.node c.makes.new.node c.loop-place.place c.loop-place.rest.now c.in-Ok-Some.after.now
+    not_made_here (bytes_with c.args.routes.now) c.args.opening (version_seen c.args.version) c.args.total c.args.bytes.now c.loop-place.node c.makes.new.node c.loop-place.references.items c.loop-place.place c.loop-place.rest.now c.in-Ok-Some.after.now
     _ _ (entry_seen c.in-Ok-Some.entry) c.loop-place.invariant c.loop-place-test.true
     (stepped (version_seen c.args.version) _ (c.loop-place.place + 1) c.saturating_sub-start.result (c.args.total - length c.loop-place.rest.now) c.loop-place.rest.now c.in-Ok-Some.field-0 _ c.saturating_sub-start.ensures c.in-Ok-Some.ensures.ok c.in-Ok-Some.field-0-is)
     c.new.ensures c.if-not-branch.true c.in_ok-makes.ensures

@@ -9,4 +9,5 @@ returns c = λ text node rest bytes serves. record {
   started = c.in_ok-record.ensures.started;
   closing = c.in_ok-closing.ensures.items ∙ c.records.ensures;
   calls = c.calls.ensures;
+  referred = c.into_references.ensures;
 }

@@ -1,9 +1,12 @@
--- The node stands as its record says.
+-- A start alone is added, and the node stands as its record says.
 use Rattle.std.proofs.Common.{List, ℕ, sym, subst}
 use Rattle.node_service.specs.Serving.{Serving}
 use Rattle.log_turning.specs.Turned.{IsStarted}
-use Rattle.log_turning.proofs.Lines.{line_starts}
+use Rattle.log_turning.proofs.Lines.{line_starts, start_ends}
 use Rattle.log_turning.proofs.turning.start.Goals as goal
+
+pub returns-clause-on : goal.returns-clause-on
+returns-clause-on c = c.in_ok-ask.ensures.on (start_ends c.args.service.now)
 
 pub returns-clause-started : goal.returns-clause-started
 returns-clause-started c =

@@ -1,9 +1,11 @@
 -- The log is closed, and the new one begins with what names it.
-use Rattle.std.proofs.Common.{◌≡◌, ◌∙◌, ℕ, ◌++◌, List, take, ap, subst, arith}
+use Rattle.std.proofs.Common.{◌≡◌, ◌∙◌, ℕ, ◌<◌, ◌^◌, ◌++◌, List, length, take, ap, subst, arith}
+use Rattle.std.specs.List.{AllByRecursion}
 use Rattle.std.specs.Option.{option_copied}
 use Rattle.sha2.specs.Sha256.{sha256}
 use Rattle.world_setup.specs.Seen.{node_seen}
-use Rattle.kept_logs.specs.Rests.{rest_text}
+use Rattle.kept_logs.specs.Rests.{FitsReference, rest_text}
+use Rattle.kept_logs.specs.References.{Reference}
 use Rattle.log_turning.specs.declared.turning.Turned.{Turned}
 use Rattle.log_turning.specs.Turned.{IsNew}
 use Rattle.log_turning.proofs.Closing.{is_turned, rest_of}
@@ -15,17 +17,21 @@ returns c =
     let node = node_seen c.args.node in
     let rest = option_copied c.args.rest in
     let bytes = c.args.bytes.now in
-    let closed = c.in_ok-closed.closed in
-    let is = c.in_ok-closed.ensures in
+    let closed = c.in_ok-kept.field-0 in
+    let is = c.in_ok-kept.ensures in
     let turned : Turned = record { kept = closed.kept; closing = closed.closing; rest = c.in_ok-begins.begins; log = c.in_ok-log.log; calls = c.in-Some.calls } in
-    let digest : c.digest_of-digest.result ≡ sha256 (take closed.kept bytes ++ is.last.records) =
+    let front : List ℕ = take closed.kept bytes ++ is.last.records in
+    let digest : c.digest_of-digest.result ≡ sha256 front =
     c.digest_of-digest.ensures
-    ∙ (ap (λ (front : List ℕ). sha256 (front ++ c.as_slice.result.now)) c.front.ensures
+    ∙ (ap (λ (some : List ℕ). sha256 (some ++ c.as_slice.result.now)) c.front.ensures
     ∙ ap (λ (more : List ℕ). sha256 (take closed.kept bytes ++ more)) (c.as_slice.ensures.value ∙ is.closing)) in
-    let begins : turned.rest.items ≡ rest_text (rest_of node turned.calls (take closed.kept bytes ++ is.last.records) closed.record.items) =
+    let begins : turned.rest.items ≡ rest_text (rest_of node turned.calls front is.last.references closed.record.items) =
     c.in_ok-begins.ensures.text
-    ∙ (ap (λ (d : List ℕ). rest_text (record { node = node; calls = turned.calls; closed = d; kept = c.as_slice-2.result.now })) digest
-    ∙ ap (λ (kept : List ℕ). rest_text (rest_of node turned.calls (take closed.kept bytes ++ is.last.records) kept)) c.as_slice-2.ensures.value) in
-    is_turned text node rest bytes turned is.last closed.record.items is.serves is.started is.closing c.in_ok-begins.ensures.node (omega (arith, c.in-Some.ensures)) begins
-    (omega (arith, c.in-Some.ensures, c.calls_before.ensures, is.calls))
+    ∙ (ap (λ (d : List ℕ). rest_text (record { node = node; calls = turned.calls; closed = d; references = closed.references.items; kept = c.as_slice-2.result.now })) digest
+    ∙ (ap (λ (kept : List ℕ). rest_text (rest_of node turned.calls front closed.references.items kept)) c.as_slice-2.ensures.value
+    ∙ ap (λ (references : List Reference). rest_text (rest_of node turned.calls front references closed.record.items)) is.referred)) in
+    is_turned text node rest bytes turned is.last closed.record.items is.serves is.started is.closing c.in_ok-begins.ensures.node (omega (arith, c.in-Some.ensures))
+    (subst (λ (references : List Reference). length references < 2 ^ 64) is.referred c.in_ok-begins.ensures.count)
+    (subst (λ (references : List Reference). AllByRecursion FitsReference references) is.referred c.in_ok-begins.ensures.references) begins
+    (omega (arith, c.in-Some.ensures, c.in_ok-calls_before.ensures, is.calls))
     (subst (λ (named : List ℕ). IsNew text node named turned.log.items) c.as_slice-3.ensures.value c.in_ok-log.ensures)

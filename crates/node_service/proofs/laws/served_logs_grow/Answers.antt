@@ -3,7 +3,7 @@ use Rattle.node_service.proofs.Lines.{is_opened_serving, lines_serve, cleared_se
 use Rattle.node_service.proofs.laws.served_logs_grow.Goals as goal
 
 pub returns-clause-opened : goal.returns-clause-opened
-returns-clause-opened c = is_opened_serving
+returns-clause-opened c = λ settings node rest bytes kept s o. (o.log, is_opened_serving settings node rest bytes kept s o)
 
 pub returns-clause-lines : goal.returns-clause-lines
 returns-clause-lines c = lines_serve

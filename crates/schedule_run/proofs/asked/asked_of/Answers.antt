@@ -21,4 +21,4 @@ pub returns-clause-fault : goal.returns-clause-fault
 returns-clause-fault c =
     let opens = rw (c.as_slice.ensures.value, c.in_ok-parts.ensures.settings) at c.in_ok-settings.ensures.opens in
     let spells = rw c.in_ok-parts.ensures.schedule at (rw c.in-Err-Line.field-0-is at c.in-Err-Line.ensures.refused) in
-    asked_stops c.args.input.now (opened_world (document_seen c.in_ok-settings.settings)) c.in-Err-Line.number opens spells
+    rw c.in-Err-Line.field-0-is (asked_stops c.args.input.now (opened_world (document_seen c.in_ok-settings.settings)) c.in-Err-Line.number opens spells)

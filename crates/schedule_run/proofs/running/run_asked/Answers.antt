@@ -14,7 +14,7 @@ returns-clause-output g c =
       record {
         told = ended.0;
         world = c.in_ok-world.world;
-        ends = rw c.in_ok-system.ensures.settings at ended.2;
+        ends = rw c.in_ok-system.ensures at ended.2;
         whole = refl;
       },
       written_more _ _ _ ended.0 nodes ended.1 c.in_ok-write_nodes.ensures.all,
@@ -33,4 +33,4 @@ pub returns-in_err-write_nodes-clause-stopped : goal.returns-in_err-write_nodes-
 returns-in_err-write_nodes-clause-stopped g c =
     let ended = c.in_ok-world.ensures.ended in
     on_fault c.from_residual-in_err-write_nodes.result
-    (stopped_in_nodes _ _ _ c.args.asked.settings (run_seen c.args.asked.run) ended.0 c.in_ok-world.world (rw c.in_ok-system.ensures.settings at ended.2) ended.1 c.in_err-write_nodes.ensures.front)
+    (stopped_in_nodes _ _ _ c.args.asked.settings (run_seen c.args.asked.run) ended.0 c.in_ok-world.world (rw c.in_ok-system.ensures at ended.2) ended.1 c.in_err-write_nodes.ensures.front)

@@ -9,5 +9,5 @@ use Rattle.node_service.proofs.service.Service.tell.Goals as goal
 pub returns : goal.returns
 returns c =
     let s = c.self.inside in
-    let saying = λ (out : List ℕ). let it : Serving = record { settings = s.shared; node = node_seen s.name; version = version_seen s.version; state = s.state; calls = s.calls; records = s.records.items; out = out } in it in
+    let saying = λ (out : List ℕ). let it : Serving = record { settings = s.shared; node = node_seen s.name; version = version_seen s.version; state = s.state; calls = s.calls; references = s.references; records = s.records.items; out = out } in it in
     rw (← c.self.view_is) (on_ok_weaker c.put_told.result (λ said. ap saying said) (c.put_told.ensures (routes_of s.shared.routes.items)))

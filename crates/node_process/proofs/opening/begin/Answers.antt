@@ -1,6 +1,0 @@
-use Rattle.node_process.specs.Safe.{owner_seen}
-use Rattle.node_process.proofs.Moments.{reads_runs}
-use Rattle.node_process.proofs.opening.begin.Goals as goal
-
-pub returns-in_err-ready-clause-each : goal.returns-in_err-ready-clause-each
-returns-in_err-ready-clause-each g c = reads_runs (owner_seen c.args.owner.now) (g.M.Machine.acts c.args.machine.now) c.args.whole c.args.size c.args.service c.requires
