@@ -3,3 +3,5 @@ pub mod Snocs
 pub mod Ledgers
 pub mod Comparisons
 pub mod Continuing
+pub mod Firsts
+pub mod Lines

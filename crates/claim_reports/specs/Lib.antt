@@ -1,3 +1,5 @@
 pub mod Totals
 pub mod Ledger
 pub mod Comparing
+pub mod Ruled
+pub mod Wider

@@ -1,6 +1,8 @@
 -- Payments that are chosen, and their sums.
-use Rattle.std.specs.Prelude.{◌≡◌, ℕ, ◌+◌, ◌==◌, ◌&&◌, Bool, true, false, not, nat_le, cond, List, [], ◌∷◌, Option, Some, None, filter}
+use Rattle.std.specs.Prelude.{◌≡◌, ℕ, ◌+◌, ◌==◌, ◌&&◌, Bool, true, false, not, nat_le, cond, List, [], ◌∷◌, Option, Some, None, filter, nat_eq}
+use Rattle.std.specs.Option.{option_eq, option_cmp}
 use Rattle.std.specs.Ordering.{nat_cmp}
+use Rattle.std.specs.declared.cmp.Ordering.{Ordering}
 use Rattle.std.specs.List.{sum_by}
 use Rattle.std.specs.Map.{values_of}
 use Rattle.std.specs.BTreeMap.{BTreeMap, IsOrdered, Updates, get, insert_entry}
@@ -15,15 +17,31 @@ abbrev pub is_number : Option ℕ → ℕ → Bool
 is_number None number = true
 is_number (Some wanted) number = number == wanted
 
--- a payment is of the payer and of the pharmacy that are wanted, and its date of service is from the first to the last day
-abbrev pub is_chosen : Choice → Paid → Bool
-is_chosen c p = is_number c.payer p.payer && (is_number c.pharmacy p.pharmacy && (nat_le c.from p.day && nat_le p.day c.to))
+-- a day is the first that is wanted or a later one, where one is wanted; then what has no day is none
+abbrev pub is_from : Option ℕ → Option ℕ → Bool
+is_from None day = true
+is_from (Some first) None = false
+is_from (Some first) (Some day) = nat_le first day
 
--- the number of a payment that totals are made by
-abbrev pub key_of : By → Paid → ℕ
-key_of Payer p = p.payer
-key_of Pharmacy p = p.pharmacy
+-- a day is the last that is wanted or an earlier one, where one is wanted
+abbrev pub is_to : Option ℕ → Option ℕ → Bool
+is_to None day = true
+is_to (Some last) None = false
+is_to (Some last) (Some day) = nat_le day last
+
+-- a payment is of the payer and of the pharmacy that are wanted, and its day is from the first to the last one
+abbrev pub is_chosen : Choice → Paid → Bool
+is_chosen c p = is_number c.payer p.payer && (is_number c.pharmacy p.pharmacy && (is_from c.from p.day && is_to c.to p.day))
+
+-- the number of a payment that totals are made by, where it has one
+abbrev pub key_of : By → Paid → Option ℕ
+key_of Payer p = Some p.payer
+key_of Pharmacy p = Some p.pharmacy
 key_of Day p = p.day
+
+-- what has no number first, the others in its order
+abbrev pub key_cmp : Option ℕ → Option ℕ → Ordering
+key_cmp a b = option_cmp nat_cmp a b
 
 -- a payment counts as one, and by its cents, among those that are reversed or among those that are not
 abbrev pub is_alike : Bool → Bool → Bool
@@ -64,20 +82,20 @@ total_of [] = None
 total_of (p ∷ more) = Some (sums_of (p ∷ more))
 
 -- the payments of a number, and their sums
-abbrev pub is_at_key : By → ℕ → Paid → Bool
-is_at_key by key p = key_of by p == key
+abbrev pub is_at_key : By → Option ℕ → Paid → Bool
+is_at_key by key p = option_eq nat_eq (key_of by p) key
 
-abbrev pub total_at : By → ℕ → List Paid → Option Sums
+abbrev pub total_at : By → Option ℕ → List Paid → Option Sums
 total_at by key paid = total_of (filter (is_at_key by key) paid)
 
 -- a payment is added to the sums of a number
-pub record AddsPayment (old new : BTreeMap ℕ Sums) (key : ℕ) (p : Paid) : Type 0 where
-  pub updates : Updates nat_cmp old new key (Some (with_payment (sums_or_none (get nat_cmp old key)) p))
-  pub entries : new.entries ≡ insert_entry nat_cmp old.entries key (with_payment (sums_or_none (get nat_cmp old key)) p)
-  pub ordered : IsOrdered nat_cmp old
+pub record AddsPayment (old new : BTreeMap (Option ℕ) Sums) (key : Option ℕ) (p : Paid) : Type 0 where
+  pub updates : Updates key_cmp old new key (Some (with_payment (sums_or_none (get key_cmp old key)) p))
+  pub entries : new.entries ≡ insert_entry key_cmp old.entries key (with_payment (sums_or_none (get key_cmp old key)) p)
+  pub ordered : IsOrdered key_cmp old
 
 -- the sums of all numbers together are those of all payments
-pub record AddUp (totals : List (ℕ × Sums)) (paid : List Paid) : Type 0 where
+pub record AddUp (totals : List (Option ℕ × Sums)) (paid : List Paid) : Type 0 where
   pub counts : sum_by (λ (s : Sums). s.count) (values_of totals) ≡ (sums_of paid).count
   pub cents : sum_by (λ (s : Sums). s.cents) (values_of totals) ≡ (sums_of paid).cents
   pub reversed_counts : sum_by (λ (s : Sums). s.reversed_count) (values_of totals) ≡ (sums_of paid).reversed_count

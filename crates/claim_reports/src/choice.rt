@@ -1,7 +1,7 @@
 //! Payments, and which of them a report is about.
 
 ghost use Rattle.std.specs.Prelude.{◌≡◌, filter, IfOk};
-ghost use Rattle.claim_reports.specs.Totals.{is_number, is_chosen};
+ghost use Rattle.claim_reports.specs.Totals.{is_number, is_from, is_to, is_chosen};
 
 use crate::fault::ReportFault;
 use std::alloc::Global;
@@ -13,8 +13,9 @@ pub struct Paid {
     pub payer: u64,
     /// The pharmacy that asked for it.
     pub pharmacy: u64,
-    /// Its date of service (401-D1) as a number, CCYYMMDD.
-    pub day: u64,
+    /// The day that a report goes by as a number, CCYYMMDD, where there is one: its date of service (401-D1), or the day on
+    /// which it was ruled.
+    pub day: Option<u64>,
     /// Its total (509-F9) in cents.
     pub cents: u64,
     /// Whether it was reversed.
@@ -28,10 +29,10 @@ pub struct Choice {
     pub payer: Option<u64>,
     /// Those that this pharmacy asked for; or any.
     pub pharmacy: Option<u64>,
-    /// The first date of service, CCYYMMDD.
-    pub from: u64,
-    /// The last one.
-    pub to: u64,
+    /// Those of this day, CCYYMMDD, or a later one; or any.
+    pub from: Option<u64>,
+    /// Those of this day or an earlier one; or any.
+    pub to: Option<u64>,
 }
 
 /// The payments that are chosen, in their order.
@@ -57,8 +58,8 @@ impl Choice {
     {
         is_number(self.payer, payment.payer)
             && is_number(self.pharmacy, payment.pharmacy)
-            && self.from <= payment.day
-            && payment.day <= self.to
+            && is_from(self.from, payment.day)
+            && is_to(self.to, payment.day)
     }
 }
 
@@ -69,5 +70,31 @@ fn is_number(wanted: Option<u64>, number: u64) -> bool
     match wanted {
         Some(wanted) => number == wanted,
         None => true,
+    }
+}
+
+/// Whether a day is the first that is wanted or a later one, where one is wanted.
+fn is_from(first: Option<u64>, day: Option<u64>) -> bool
+    ensures { result ≡ is_from first day }
+{
+    let Some(first) = first else {
+        return true;
+    };
+    match day {
+        Some(day) => first <= day,
+        None => false,
+    }
+}
+
+/// Whether a day is the last that is wanted or an earlier one, where one is wanted.
+fn is_to(last: Option<u64>, day: Option<u64>) -> bool
+    ensures { result ≡ is_to last day }
+{
+    let Some(last) = last else {
+        return true;
+    };
+    match day {
+        Some(day) => day <= last,
+        None => false,
     }
 }

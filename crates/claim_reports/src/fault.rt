@@ -15,6 +15,9 @@ pub enum ReportFault {
     /// A table, counted from 1, has no column of this name.
     #[error("table {0} has no column {1}")]
     NoColumn(u64, &'static str),
+    /// A table, counted from 1, has a column of this name already.
+    #[error("table {0} has a column {1} already")]
+    HasColumn(u64, &'static str),
     /// In a table, counted from 1, the value of this column is none of its kind in this row, counted from 1.
     #[error("table {0} row {1} column {2}: no value of its kind")]
     BadValue(u64, u64, &'static str),

@@ -66,7 +66,10 @@ fn fault_of(number: u64, fault: &Error) -> ReportFault {
 
 impl Table {
     /// The table of this number among those that were given.
-    pub(crate) fn read(alloc: Global, number: u64, text: &[u8]) -> Result<Table, ReportFault> {
+    pub(crate) fn read(alloc: Global, number: u64, text: &[u8]) -> Result<Table, ReportFault>
+        ensures { IfOk result (λ table.
+            AreRecords default_config state.StartRecord (strip_bom text.now) (map fields_of table.records.items)) }
+    {
         let records = records_of(alloc, number, text)?;
         Ok(Table { number, records })
     }
@@ -81,6 +84,21 @@ impl Table {
             }
         }
         Err(ReportFault::NoColumn(self.number, name))
+    }
+
+    /// That it has no column of a name.
+    pub(crate) fn lacks(&self, name: &'static str) -> Result<(), ReportFault> {
+        match self.column(name) {
+            Ok(_) => Err(ReportFault::HasColumn(self.number, name)),
+            Err(_) => Ok(()),
+        }
+    }
+
+    /// Its records: the names of its columns, and its rows.
+    pub(crate) fn records(&self) -> &[ByteRecord]
+        ensures { result.now ≡ self.now.records.items }
+    {
+        self.records.as_slice()
     }
 
     /// How many rows it has behind the names.

@@ -1,9 +1,8 @@
 //! Totals of payments: by payer, by pharmacy or by day.
 
-ghost use Rattle.std.specs.Prelude.{◌≡◌, ℕ, IfOk, IfSome, OnOk};
-ghost use Rattle.std.specs.Ordering.{nat_cmp};
+ghost use Rattle.std.specs.Prelude.{◌≡◌, ℕ, Option, IfOk, IfSome, OnOk};
 ghost use Rattle.std.specs.BTreeMap.{get};
-ghost use Rattle.claim_reports.specs.Totals.{key_of, cents_if, one_if, with_payment, sums_or_none, total_at, AddsPayment, AddUp};
+ghost use Rattle.claim_reports.specs.Totals.{key_of, key_cmp, cents_if, one_if, with_payment, sums_or_none, total_at, AddsPayment, AddUp};
 
 use crate::choice::Paid;
 use crate::fault::ReportFault;
@@ -17,7 +16,7 @@ pub enum By {
     Payer,
     /// The pharmacy.
     Pharmacy,
-    /// The date of service.
+    /// The day that the report goes by.
     Day,
 }
 
@@ -34,13 +33,18 @@ pub struct Sums {
     pub reversed_cents: u64,
 }
 
-/// The sums of payments by payer, by pharmacy or by day, in order of its number.
+/// The sums of payments by payer, by pharmacy or by day: first those of payments without a day, the others in order of its
+/// number.
 ///
 /// # Errors
 /// `TooLarge` where a sum has more than 64 bits; want of memory.
-pub fn totals_of(alloc: Global, by: By, paid: &[Paid]) -> Result<BTreeMap<u64, Sums>, ReportFault>
+pub fn totals_of(
+    alloc: Global,
+    by: By,
+    paid: &[Paid],
+) -> Result<BTreeMap<Option<u64>, Sums>, ReportFault>
     // Each number has the sums of the payments that have it, and no other number is there.
-    ensures each { IfOk result (λ totals. (key : ℕ) → get nat_cmp totals key ≡ total_at by key paid.now) }
+    ensures each { IfOk result (λ totals. (key : Option ℕ) → get key_cmp totals key ≡ total_at by key paid.now) }
     // All of them together are the sums of all payments.
     ensures all { IfOk result (λ totals. AddUp totals.entries paid.now) }
 {
@@ -52,7 +56,11 @@ pub fn totals_of(alloc: Global, by: By, paid: &[Paid]) -> Result<BTreeMap<u64, S
 }
 
 /// Adds a payment to the sums of a number.
-fn add(totals: &mut BTreeMap<u64, Sums>, key: u64, payment: &Paid) -> Result<(), ReportFault>
+fn add(
+    totals: &mut BTreeMap<Option<u64>, Sums>,
+    key: Option<u64>,
+    payment: &Paid,
+) -> Result<(), ReportFault>
     ensures { OnOk result (AddsPayment totals.old totals.new key payment.now) }
 {
     let before = sums_at(totals, key);
@@ -64,8 +72,8 @@ fn add(totals: &mut BTreeMap<u64, Sums>, key: u64, payment: &Paid) -> Result<(),
 }
 
 /// The sums of a number; none where there are none yet.
-fn sums_at(totals: &BTreeMap<u64, Sums>, key: u64) -> Sums
-    ensures { result ≡ sums_or_none (get nat_cmp totals.now key) }
+fn sums_at(totals: &BTreeMap<Option<u64>, Sums>, key: Option<u64>) -> Sums
+    ensures { result ≡ sums_or_none (get key_cmp totals.now key) }
 {
     match totals.get(&key) {
         Some(sums) => *sums,
@@ -80,12 +88,12 @@ fn sums_at(totals: &BTreeMap<u64, Sums>, key: u64) -> Sums
 
 impl By {
     /// The number that a payment has.
-    fn key(self, payment: &Paid) -> u64
+    fn key(self, payment: &Paid) -> Option<u64>
         ensures { result ≡ key_of self payment.now }
     {
         match self {
-            By::Payer => payment.payer,
-            By::Pharmacy => payment.pharmacy,
+            By::Payer => Some(payment.payer),
+            By::Pharmacy => Some(payment.pharmacy),
             By::Day => payment.day,
         }
     }

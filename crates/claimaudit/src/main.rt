@@ -11,14 +11,14 @@ use crate::report_words::{Lines, Report};
 use crate::words::{Asked, Words, words_of};
 use claim_reports::{
     Comparison, ReportFault, compare_tables, receipts_beside, remittance_lines, remittance_sums,
-    totals_table,
+    ruled_table, totals_table,
 };
 use command_line::{End, given_words, read_file, read_settings_file};
 use log_audit::{
-    AuditFault, Form, LoneForm, Outgoing, WriterSink, calls_table, put_alone, put_report,
-    read_audited,
+    AuditFault, Form, GivenLog, LoneForm, Outgoing, WriterSink, calls_table, put_alone,
+    put_lone_prices, put_report, read_alone, read_audited,
 };
-use log_turning::{JoinFault, WholeFault, whole_log};
+use log_turning::{JoinFault, LogBehind, WholeFault, log_behind, whole_log};
 use std::alloc::Global;
 use std::io::{Stdout, Write};
 use std::process::ExitCode;
@@ -44,7 +44,8 @@ fn run(rt: &HostRuntime) -> Result<bool, Unjudged> {
     let good = match words.asked {
         Asked::Report(report) => write_told(rt, reported(rt, &words, report)?)?,
         Asked::Calls => write_told(rt, told_calls(rt, &words)?)?,
-        Asked::Together(_) | Asked::Alone(_) => audit(rt, &words)?,
+        Asked::Alone(form) => audit_alone(rt, &words, form)?,
+        Asked::Together(_) | Asked::AlonePrices => audit(rt, &words)?,
     };
     if !good {
         say_why_nothing(rt, words.asked);
@@ -66,7 +67,7 @@ fn say_why_nothing(rt: &HostRuntime, asked: Asked) {
         Asked::Together(Form::Csv(_) | Form::Prices) => {
             let _ = eprintln!(rt; "claimaudit: no legal run; without --csv it says why");
         }
-        Asked::Alone(LoneForm::Csv(_) | LoneForm::Prices) => {
+        Asked::Alone(LoneForm::Csv(_)) | Asked::AlonePrices => {
             let _ = eprintln!(rt;
                 "claimaudit: a node does not make its log; without --csv it says why"
             );
@@ -104,7 +105,8 @@ fn report_on_tables(
 ) -> Result<Told, ReportFault> {
     let first = table_at(tables, 0);
     let text = match report {
-        Report::Totals(by, choice) => totals_table(alloc, first, by, &choice)?,
+        Report::Totals(by, days, choice) => totals_table(alloc, first, by, days, &choice)?,
+        Report::Ruled => ruled_table(alloc, first, table_at(tables, 1))?,
         Report::Remittance(Lines::Each, asked) => remittance_lines(alloc, first, &asked)?,
         Report::Remittance(Lines::Sums, asked) => remittance_sums(alloc, first, &asked)?,
         Report::Compare(between) => {
@@ -151,6 +153,26 @@ fn audit(rt: &HostRuntime, words: &Words<'_>) -> Result<bool, Unjudged> {
     }
 }
 
+/// Reads the files, each with the closed logs before it as far back as they stand beside it, judges each log by itself, and
+/// writes what is told as it is made; whether each node makes its log.
+fn audit_alone(rt: &HostRuntime, words: &Words<'_>, form: LoneForm) -> Result<bool, Unjudged> {
+    let alloc = rt.alloc();
+    let text = read_settings_file(rt, words.settings)?;
+    let mut logs = Vec::new(alloc);
+    for name in &words.logs {
+        let LogBehind { rest, log } = had(rt, words, log_behind(rt, text.as_slice(), name))?;
+        logs.push(GivenLog { rest, log })?;
+    }
+    let mut out = Outgoing::new(alloc, WriterSink::new(rt.stdout()));
+    match judged_alone(alloc, text.as_slice(), logs, form, &mut out) {
+        Ok(good) => {
+            out.finish()?.end()?;
+            Ok(good)
+        }
+        Err(fault) => Err(why_unjudged(rt, words, fault)?),
+    }
+}
+
 /// Reads the files, and tells of the records of each log; nothing is judged.
 fn told_calls(rt: &HostRuntime, words: &Words<'_>) -> Result<Told, Unjudged> {
     let text = read_settings_file(rt, words.settings)?;
@@ -165,7 +187,7 @@ fn told_calls(rt: &HostRuntime, words: &Words<'_>) -> Result<Told, Unjudged> {
 fn read_logs(rt: &HostRuntime, words: &Words<'_>, text: &[u8]) -> Result<Vec<Vec<u8>>, Unjudged> {
     let mut logs = Vec::new(rt.alloc());
     for name in &words.logs {
-        logs.push(read_log(rt, words, text, name)?)?;
+        logs.push(had(rt, words, whole_log(rt, text, name))?)?;
     }
     Ok(logs)
 }
@@ -182,15 +204,14 @@ fn why_unjudged(
     }
 }
 
-/// The log of a node; where it goes on behind closed ones, which stand beside it, all of them as one.
-fn read_log(
+/// The log that was read, or why there is no verdict.
+fn had<T: Drop>(
     rt: &HostRuntime,
     words: &Words<'_>,
-    text: &[u8],
-    name: &str,
-) -> Result<Vec<u8>, Unjudged> {
-    match whole_log(rt, text, name) {
-        Ok(bytes) => Ok(bytes),
+    read: Result<T, WholeFault>,
+) -> Result<T, Unjudged> {
+    match read {
+        Ok(read) => Ok(read),
         Err(WholeFault::OutOfMemory) => Err(End::OutOfMemory),
         Err(WholeFault::File(name, error)) => Err(End::of_file(rt.alloc(), name.as_str(), error)),
         Err(WholeFault::Logs(_, JoinFault::Settings)) => Err(End::Own(why_refused(rt, words)?)),
@@ -218,9 +239,21 @@ fn judged(
     let audited = read_audited(alloc, text, logs)?;
     match asked {
         Asked::Together(form) => put_report(alloc, audited, form, out),
-        Asked::Alone(form) => put_alone(alloc, &audited, form, out),
-        Asked::Calls | Asked::Report(_) => Err(AuditFault::Settings),
+        Asked::AlonePrices => put_lone_prices(alloc, &audited, out),
+        Asked::Alone(_) | Asked::Calls | Asked::Report(_) => Err(AuditFault::Settings),
     }
+}
+
+/// Judges logs one by one under settings, and puts what is told of them.
+fn judged_alone(
+    alloc: Global,
+    text: &[u8],
+    logs: Vec<GivenLog>,
+    form: LoneForm,
+    out: &mut Outgoing<WriterSink<Stdout>>,
+) -> Result<bool, AuditFault> {
+    let audited = read_alone(alloc, text, logs)?;
+    put_alone(alloc, &audited, form, out)
 }
 
 /// What is wrong with the settings, or with a log of this name.

@@ -2,26 +2,25 @@
 
 use crate::Unjudged;
 use crate::finding::Finding;
-use claim_reports::{Between, By, Choice, Remittance};
+use claim_reports::{Between, By, Choice, Days, Remittance};
 use clap::{Arg, ArgAction, ArgMatches, Command};
 use command_line::End;
 use input_text::read_decimal;
 use std::alloc::Global;
 
-/// The last day that a date of service may be.
-const LAST_DAY: u64 = 99_999_999;
-
 /// A report on tables.
 #[derive(Clone, Copy)]
 pub(crate) enum Report {
     /// The totals of payments.
-    Totals(By, Choice),
+    Totals(By, Days, Choice),
     /// What a payer sends a pharmacy: each ruling, or the sums.
     Remittance(Lines, Remittance),
     /// What a pharmacy counts beside what a payer paid.
     Compare(Between),
     /// What the callers of a pharmacy were told beside a run.
     Receipts(u64),
+    /// A table of a payer with when each row was ruled.
+    Ruled,
 }
 
 /// What of a remittance.
@@ -38,7 +37,8 @@ impl Report {
     pub(crate) fn other_tables(&self) -> usize {
         match self {
             Report::Compare(_) | Report::Receipts(_) => 2,
-            Report::Totals(_, _) | Report::Remittance(_, _) => 0,
+            Report::Ruled => 1,
+            Report::Totals(_, _, _) | Report::Remittance(_, _) => 0,
         }
     }
 }
@@ -65,6 +65,11 @@ fn with_kinds<'a>(alloc: Global, command: Command<'a>) -> Result<Command<'a>, Un
         "receipts",
         "looks for what callers of a pharmacy were told in tables as CSV: receipts, and entries and packets of a run",
     ))?;
+    let command = command.arg(flag(
+        alloc,
+        "ruled",
+        "writes a table as CSV with when each row was ruled, in place of SETTINGS and LOG: rows or payments of payers, calls of their logs",
+    ))?;
     let command = command.arg(valued(
         alloc,
         "totals",
@@ -83,11 +88,16 @@ fn with_kinds<'a>(alloc: Global, command: Command<'a>) -> Result<Command<'a>, Un
 fn with_parties<'a>(alloc: Global, command: Command<'a>) -> Result<Command<'a>, Unjudged> {
     let command = command.arg(valued(alloc, "payer", "NUMBER", "the payer of a report"))?;
     let command = command.arg(valued(alloc, "pharmacy", "NUMBER", "the pharmacy of a report"))?;
+    let command = command.arg(flag(
+        alloc,
+        "by-ruling",
+        "the days of totals are those on which payments were ruled, in place of dates of service",
+    ))?;
     let command = command.arg(valued(
         alloc,
         "from",
         "DAY",
-        "the first date of service of totals, CCYYMMDD",
+        "the first day of totals, CCYYMMDD: a date of service, or a day of ruling",
     ))?;
     Ok(command.arg(valued(alloc, "to", "DAY", "the last one"))?)
 }
@@ -128,23 +138,36 @@ fn valued<'a>(alloc: Global, name: &'a str, value: &'a str, help: &'a str) -> Ar
 
 /// The report that is asked for, if one is; one at most is.
 pub(crate) fn report_of(matches: &ArgMatches<'_>) -> Result<Option<Report>, Unjudged> {
-    let flags = (matches.get_flag("compare"), matches.get_flag("receipts"));
-    match (
-        flags,
-        matches.get_str("totals"),
-        matches.get_str("remittance"),
-    ) {
-        ((false, false), None, None) => Ok(None),
-        ((true, false), None, None) => Ok(Some(Report::Compare(between_of(matches)?))),
-        ((false, true), None, None) => Ok(Some(Report::Receipts(wanted(matches, "pharmacy")?))),
-        ((false, false), Some(by), None) => {
+    let totals = matches.get_str("totals");
+    if totals.is_none() && matches.get_flag("by-ruling") {
+        return Err(End::Own(Finding::Usage));
+    }
+    match (flag_of(matches)?, totals, matches.get_str("remittance")) {
+        (flagged, None, None) => Ok(flagged),
+        (None, Some(by), None) => {
             let by = by_of(by)?;
-            Ok(Some(Report::Totals(by, choice_of(matches)?)))
+            let days = days_of(matches);
+            Ok(Some(Report::Totals(by, days, choice_of(matches)?)))
         }
-        ((false, false), None, Some(what)) => {
+        (None, None, Some(what)) => {
             let lines = lines_of(what)?;
             Ok(Some(Report::Remittance(lines, remittance_of(matches)?)))
         }
+        _ => Err(End::Own(Finding::Usage)),
+    }
+}
+
+/// The report that a word without a value asks for, if one does; one at most does.
+fn flag_of(matches: &ArgMatches<'_>) -> Result<Option<Report>, Unjudged> {
+    match (
+        matches.get_flag("compare"),
+        matches.get_flag("receipts"),
+        matches.get_flag("ruled"),
+    ) {
+        (false, false, false) => Ok(None),
+        (true, false, false) => Ok(Some(Report::Compare(between_of(matches)?))),
+        (false, true, false) => Ok(Some(Report::Receipts(wanted(matches, "pharmacy")?))),
+        (false, false, true) => Ok(Some(Report::Ruled)),
         _ => Err(End::Own(Finding::Usage)),
     }
 }
@@ -167,6 +190,15 @@ fn by_of(word: &str) -> Result<By, Unjudged> {
     }
 }
 
+/// Which days totals go by.
+fn days_of(matches: &ArgMatches<'_>) -> Days {
+    if matches.get_flag("by-ruling") {
+        Days::Ruling
+    } else {
+        Days::Service
+    }
+}
+
 /// What of a remittance.
 fn lines_of(word: &str) -> Result<Lines, Unjudged> {
     match word {
@@ -181,8 +213,8 @@ fn choice_of(matches: &ArgMatches<'_>) -> Result<Choice, Unjudged> {
     Ok(Choice {
         payer: number_of(matches, "payer")?,
         pharmacy: number_of(matches, "pharmacy")?,
-        from: number_of(matches, "from")?.unwrap_or(0),
-        to: number_of(matches, "to")?.unwrap_or(LAST_DAY),
+        from: number_of(matches, "from")?,
+        to: number_of(matches, "to")?,
     })
 }
 

@@ -26,6 +26,8 @@ pub(crate) enum Asked {
     Together(Form),
     /// Whether the node of each log makes it, with nothing judged of other nodes.
     Alone(LoneForm),
+    /// The price changes of the payers of logs, each of which its node makes.
+    AlonePrices,
     /// The records of logs as a table.
     Calls,
     /// A report on tables.
@@ -141,7 +143,7 @@ fn asked_for(
     match (schedule, json, csv) {
         (false, false, None) => Ok(Asked::Alone(LoneForm::Lines)),
         (false, true, None) => Ok(Asked::Alone(LoneForm::Json)),
-        (false, false, Some("prices")) => Ok(Asked::Alone(LoneForm::Prices)),
+        (false, false, Some("prices")) => Ok(Asked::AlonePrices),
         (false, false, Some(name)) => match lone_table_named(name) {
             Some(table) => Ok(Asked::Alone(LoneForm::Csv(table))),
             None => Err(End::Own(Finding::Usage)),

@@ -8,7 +8,7 @@ ghost use Rattle.claim_model.specs.Settings.{opening};
 ghost use Rattle.claim_model.specs.Nodes.{node_at};
 ghost use Rattle.kept_logs.specs.Fits.{FitsNode};
 ghost use Rattle.kept_logs.specs.Frames.{met};
-ghost use Rattle.kept_logs.specs.Rests.{FitsReference, begins, begun_from, behind_met, body_in, references_before, references_of, rest_behind, rest_body, rest_in, rest_text, rest_version};
+ghost use Rattle.kept_logs.specs.Rests.{FitsReference, begins, begun_from, behind_met, body_in, calls_before, references_before, references_of, rest_behind, rest_body, rest_in, rest_text, rest_version};
 ghost use Rattle.kept_logs.specs.RestSeen.{rest_seen};
 
 use crate::fields::{take_bytes, take_node};
@@ -184,6 +184,22 @@ pub struct Beginning {
     pub node: NodeState,
     /// The references of the submissions of closed logs, in order.
     pub references: Vec<Reference>,
+}
+
+/// How many calls were made before a log that begins with this rest; 0 where it begins with none, or these bytes are none.
+///
+/// # Errors
+/// Memory was refused.
+pub fn calls_before(alloc: Global, rest: Option<&[u8]>) -> Result<u64, AllocError>
+    ensures { IfOk result (λ calls. calls ≡ calls_before (option_copied rest.entry)) }
+{
+    let Some(bytes) = rest else {
+        return Ok(0);
+    };
+    match read_rest(alloc, bytes)? {
+        Some(rest) => Ok(rest.calls),
+        None => Ok(0),
+    }
 }
 
 /// The node that a log of this name begins with: as the settings open it, or where the log goes on behind closed ones, as it was

@@ -15,7 +15,7 @@ use Rattle.table_text.specs.Rows.{row_text, rows_text, head_text}
 use Rattle.table_text.specs.declared.layout.Style.TheVariants.{Csv}
 use Rattle.log_audit.specs.declared.fault.AuditFault.{AuditFault}
 use Rattle.log_audit.specs.declared.fault.AuditFault.TheVariants.{OutOfMemory, Settings, World, Log, NoLine}
-use Rattle.log_audit.specs.Given.{IsLog, AreLogs, bytes_of}
+use Rattle.log_audit.specs.Given.{IsLog, AreLogs, bytes_of, read_by}
 use Rattle.log_audit.specs.Refused.{AreNoLogs}
 use Rattle.log_audit.specs.Calls.{IsKept, AreKept, IsNotKept, TellsLog, TellsLogs, call_names, call_row, call_rows, calls_csv, log_rows, logs_rows, submissions_in}
 use Rattle.log_audit.proofs.Joining.{block_goes_on, block_ends, no_rows, one_row, rows_join}
@@ -27,11 +27,11 @@ unfolding log_in
 fails_alone digest bytes fault fails = ap calls_alone fails
 
 -- and a log with that is a log
-is_log : (digest : List ℕ → List ℕ) (bytes : List ℕ) (log : KeptLog) → IsKept digest bytes log → IsLog digest bytes (bare log)
+is_log : (digest : List ℕ → List ℕ) (bytes : List ℕ) (log : KeptLog) → IsKept digest bytes log → IsLog (read_by digest bytes) (bare log)
 unfolding log_in
 is_log digest bytes log is = record { whole = is.whole; reads = ap calls_alone is.reads }
 
-are_logs : (digest : List ℕ → List ℕ) (bytes : List (List ℕ)) (logs : List KeptLog) → AreKept digest bytes logs → AreLogs digest bytes (map bare logs)
+are_logs : (digest : List ℕ → List ℕ) (bytes : List (List ℕ)) (logs : List KeptLog) → AreKept digest bytes logs → AreLogs (read_by digest) bytes (map bare logs)
 are_logs digest [] [] are = tt
 are_logs digest [] (log ∷ logs) are = absurd are
 are_logs digest (b ∷ bytes) [] are = absurd are
@@ -64,7 +64,7 @@ logs_more digest xs x old between new so_far one =
 
 -- the logs so far were told, and the next is none
 pub no_log_told : (digest : List ℕ → List ℕ) (xs : List (Vec ℕ)) (x : Vec ℕ) (more all : List (Vec ℕ)) (old new : List ℕ) (place : ℕ) (why : AuditFault) → xs ++ x ∷ more ≡ all → place ≡ length xs
-    → TellsLogs digest (bytes_of xs) old new → IsNotKept digest x.items place why → AreNoLogs digest (bytes_of all) why
+    → TellsLogs digest (bytes_of xs) old new → IsNotKept digest x.items place why → AreNoLogs (read_by digest) (bytes_of all) why
 no_log_told digest xs x more all old new place OutOfMemory is at told none = tt
 no_log_told digest xs x more all old new place Settings is at told none = absurd none
 no_log_told digest xs x more all old new place (World why) is at told none = absurd none
@@ -75,7 +75,7 @@ no_log_told digest xs x more all old new place (Log here fault) is at told (same
   is = sym (map-append (λ (bytes : Vec ℕ). bytes.items) xs (x ∷ more)) ∙ ap bytes_of is;
   count = length-map xs (λ (bytes : Vec ℕ). bytes.items) ∙ (sym at ∙ sym same);
   logs = map bare told.logs;
-  read = are_logs digest (bytes_of xs) told.logs told.read;
+  are = are_logs digest (bytes_of xs) told.logs told.read;
   known = known;
   fails = fails_alone (digest x.items) x.items fault fails;
 }

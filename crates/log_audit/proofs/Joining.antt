@@ -97,6 +97,15 @@ pub seen_blocks_are_done : {A B : Type 0} (style : Style) (see : A → B) (told 
 seen_blocks_are_done {A} style see told a whole xs i le so_far =
     block_ends style a whole (sym (ap (λ (left : List A). a ++ rows_text style (flat_map told (map see left))) (drop_all i xs le)) ∙ so_far)
 
+-- loops with a text for each element, as it is seen
+pub seen_texts_go_on : {A B C : Type 0} (see : A → B) (told : B → List C) (a b whole : List C) (xs : List A) (i : ℕ) (x : A) → i < length xs → x ≡ get_or xs i x
+    → b ≡ a ++ told (see x) → a ++ flat_map told (map see (drop i xs)) ≡ whole → b ++ flat_map told (map see (drop (i + 1) xs)) ≡ whole
+seen_texts_go_on {A} {B} {C} see told a b whole xs i x lt is one so_far =
+    let text = λ (left : List A). a ++ flat_map told (map see left) in
+    let more = drop (i + 1) xs in
+    ap (λ (t : List C). t ++ flat_map told (map see more)) one ∙ (append_assoc a (told (see x)) (flat_map told (map see more))
+    ∙ (ap (λ (y : A). text (y ∷ more)) is ∙ (sym (at_drop_more text xs i x lt) ∙ so_far)))
+
 -- nothing is told of what is not there
 pub nothing_told : {A : Type 0} (style : Style) (told : A → List Row) (a : List ℕ) (found of : Option A) → found ≡ of → found ≡ None → a ≡ a ++ rows_text style (told_of told of)
 nothing_told {A} style told a found of is none = no_rows style a ∙ ap (λ (o : Option A). a ++ rows_text style (told_of told o)) (sym none ∙ is)

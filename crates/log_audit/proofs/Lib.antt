@@ -16,7 +16,8 @@ pub mod Writing
 pub mod Commas
 pub mod Taking
 pub mod Passing
-pub mod LoneMaking
+pub mod ReadingAlike
+pub mod LoneNodes
 mod LastReason
 mod Pricing
 mod Ends

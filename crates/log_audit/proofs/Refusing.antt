@@ -1,8 +1,9 @@
 -- Why nothing is read, from what one step says.
-use Rattle.std.proofs.Common.{◌≡◌, ℕ, List, ◌∷◌, ◌++◌, length, Some, None, sym, ap, ◌∙◌}
+use Rattle.std.proofs.Common.{◌≡◌, ℕ, List, ◌∷◌, ◌++◌, length, map, Some, None, sym, ap, ◌∙◌}
 use Rattle.std.proofs.lemmas.List.{length-map, map-append}
-use Rattle.std.specs.Global.{Vec}
-use Rattle.settings_digest.specs.Digests.{digest_under}
+use Rattle.std.specs.Prelude.{Result}
+use Rattle.kept_logs.specs.Logs.{Reading}
+use Rattle.kept_logs.specs.declared.fault.LogFault.{LogFault}
 use Rattle.world_setup.specs.Taken.{world_fault}
 use Rattle.world_setup.specs.declared.settings.WorldSettings.{WorldSettings}
 use Rattle.world_settings.specs.Document.{document_seen, living_in}
@@ -10,41 +11,43 @@ use Rattle.node_log.specs.LogSeen.{log_seen, logs_seen}
 use Rattle.node_log.specs.declared.log.NodeLog.{NodeLog as Kept}
 use Rattle.log_audit.specs.declared.fault.AuditFault.{AuditFault}
 use Rattle.log_audit.specs.declared.fault.AuditFault.TheVariants.{OutOfMemory, Settings, World, Log, NoLine}
-use Rattle.log_audit.specs.Given.{AreLogs, bytes_of}
-use Rattle.log_audit.specs.Refused.{IsRefused, TakesNone, IsNoLog, AreNoLogs}
+use Rattle.log_audit.specs.Given.{AreLogs}
+use Rattle.log_audit.specs.Refused.{IsUnread, TakesNone, IsNoLog, AreNoLogs}
 use Rattle.log_audit.proofs.LogReading.{as_many}
 
 -- no world takes the settings
-pub world_refused : (text : List ℕ) (bytes : List (List ℕ)) (s : WorldSettings) (why : AuditFault) → living_in text ≡ Some (document_seen s) → TakesNone s why → IsRefused text bytes why
-world_refused text bytes s OutOfMemory spelled none = tt
-world_refused text bytes s Settings spelled none = absurd none
-world_refused text bytes s (World why) spelled none = record { settings = s; spelled = spelled; refused = none }
-world_refused text bytes s (Log place fault) spelled none = absurd none
-world_refused text bytes s NoLine spelled none = absurd none
+pub world_refused : {A : Type 0} (text : List ℕ) (read : A → Result Reading LogFault) (given : List A) (s : WorldSettings) (why : AuditFault)
+    → living_in text ≡ Some (document_seen s) → TakesNone s why → IsUnread text read given why
+world_refused {A} text read given s OutOfMemory spelled none = tt
+world_refused {A} text read given s Settings spelled none = absurd none
+world_refused {A} text read given s (World why) spelled none = record { settings = s; spelled = spelled; refused = none }
+world_refused {A} text read given s (Log place fault) spelled none = absurd none
+world_refused {A} text read given s NoLine spelled none = absurd none
 
 -- a log is refused
-pub logs_refused : (text : List ℕ) (bytes : List (List ℕ)) (s : WorldSettings) (why : AuditFault) → living_in text ≡ Some (document_seen s) → world_fault s ≡ None → AreNoLogs (digest_under text) bytes why → IsRefused text bytes why
-logs_refused text bytes s OutOfMemory spelled taken none = tt
-logs_refused text bytes s Settings spelled taken none = absurd none
-logs_refused text bytes s (World why) spelled taken none = absurd none
-logs_refused text bytes s (Log place fault) spelled taken none = record { settings = s; spelled = spelled; taken = taken; first = none }
-logs_refused text bytes s NoLine spelled taken none = absurd none
+pub logs_refused : {A : Type 0} (text : List ℕ) (read : A → Result Reading LogFault) (given : List A) (s : WorldSettings) (why : AuditFault)
+    → living_in text ≡ Some (document_seen s) → world_fault s ≡ None → AreNoLogs read given why → IsUnread text read given why
+logs_refused {A} text read given s OutOfMemory spelled taken none = tt
+logs_refused {A} text read given s Settings spelled taken none = absurd none
+logs_refused {A} text read given s (World why) spelled taken none = absurd none
+logs_refused {A} text read given s (Log place fault) spelled taken none = record { settings = s; spelled = spelled; taken = taken; first = none }
+logs_refused {A} text read given s NoLine spelled taken none = absurd none
 
 -- the logs so far were read, and the next is none
-pub no_log_here : (digest : List ℕ → List ℕ) (xs : List (Vec ℕ)) (x : Vec ℕ) (more all : List (Vec ℕ)) (logs : List Kept) (why : AuditFault) → xs ++ x ∷ more ≡ all → AreLogs digest (bytes_of xs) (logs_seen logs)
-    → IsNoLog digest x.items (length logs) why → AreNoLogs digest (bytes_of all) why
-no_log_here digest xs x more all logs OutOfMemory is read none = tt
-no_log_here digest xs x more all logs Settings is read none = absurd none
-no_log_here digest xs x more all logs (World why) is read none = absurd none
-no_log_here digest xs x more all logs (Log place fault) is read (same, (known, fails)) = record {
-  before = bytes_of xs;
-  one = x.items;
-  behind = bytes_of more;
-  is = sym (map-append (λ (bytes : Vec ℕ). bytes.items) xs (x ∷ more)) ∙ ap bytes_of is;
-  count = as_many digest (bytes_of xs) (logs_seen logs) read ∙ (length-map logs log_seen ∙ sym same);
+pub no_log_here : {V A : Type 0} (see : V → A) (read : A → Result Reading LogFault) (xs : List V) (x : V) (more all : List V) (logs : List Kept) (why : AuditFault) → xs ++ x ∷ more ≡ all
+    → AreLogs read (map see xs) (logs_seen logs) → IsNoLog (read (see x)) (length logs) why → AreNoLogs read (map see all) why
+no_log_here {V} {A} see read xs x more all logs OutOfMemory is are none = tt
+no_log_here {V} {A} see read xs x more all logs Settings is are none = absurd none
+no_log_here {V} {A} see read xs x more all logs (World why) is are none = absurd none
+no_log_here {V} {A} see read xs x more all logs (Log place fault) is are (same, (known, fails)) = record {
+  before = map see xs;
+  one = see x;
+  behind = map see more;
+  is = sym (map-append see xs (x ∷ more)) ∙ ap (map see) is;
+  count = as_many read (map see xs) (logs_seen logs) are ∙ (length-map logs log_seen ∙ sym same);
   logs = logs_seen logs;
-  read = read;
+  are = are;
   known = known;
   fails = fails;
 }
-no_log_here digest xs x more all logs NoLine is read none = absurd none
+no_log_here {V} {A} see read xs x more all logs NoLine is are none = absurd none

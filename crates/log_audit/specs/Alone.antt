@@ -1,11 +1,13 @@
 -- One log by itself: whether its node makes it, and what the node has then.
-use Rattle.std.specs.Prelude.{ℕ, ◌+◌, ◌-◌, ◌^◌, Bool, true, false, min, List, [], ◌∷◌, ◌++◌, map, codes, Option, Some, None, Result, Ok, Err}
-use Rattle.std.specs.List.{list_all}
+use Rattle.std.specs.Prelude.{ℕ, ◌+◌, ◌-◌, ◌^◌, Bool, true, false, cond, min, nat_le, List, [], ◌∷◌, ◌++◌, length, slice_index, codes, Option, Some, None, Result, Ok, Err}
 use Rattle.claim_model.specs.Context.{Context}
-use Rattle.claim_model.specs.Settings.{WorldSettings, opening}
+use Rattle.claim_model.specs.Settings.{opening}
 use Rattle.claim_model.specs.Node.{Call, Submit, Tick, Take, Stop, Start, Reprice}
 use Rattle.claim_model.specs.Nodes.{AnyNode, node_at}
 use Rattle.claim_model.specs.Logs.{Logged, NodeLog}
+use Rattle.world_setup.specs.Seen.{settings_seen}
+use Rattle.world_setup.specs.declared.settings.WorldSettings.{WorldSettings}
+use Rattle.kept_logs.specs.Rests.{begins}
 use Rattle.log_audit.specs.Lacks.{node_line}
 use Rattle.log_audit.specs.Wrongs.{FirstWrong, calls_made, wrong_line}
 
@@ -14,25 +16,23 @@ abbrev pub ended : NodeLog → Result AnyNode FirstWrong → Result AnyNode (Lis
 ended log (Ok node) = Ok node
 ended log (Err first) = Err (wrong_line log.node first)
 
-abbrev pub made_at : Context → NodeLog → Option AnyNode → Result AnyNode (List ℕ)
-made_at ctx log None = Err (node_line log.node (codes " is no node of these settings"))
-made_at ctx log (Some node) = ended log (calls_made ctx node 1 log.calls)
+-- where it begins as this node; or with nothing that is a beginning of it
+abbrev pub made_from : Context → NodeLog → Option AnyNode → Result AnyNode (List ℕ)
+made_from ctx log None = Err (node_line log.node (codes " cannot begin with what its closed logs left"))
+made_from ctx log (Some node) = ended log (calls_made ctx node 1 log.calls)
 
--- the node of a log after its calls, from its opening state, or the line that says why it does not make them
-abbrev pub lone_node : Context → WorldSettings → NodeLog → Result AnyNode (List ℕ)
-lone_node ctx s log = made_at ctx log (node_at (opening s) log.node)
+-- and where its settings have it
+abbrev pub made_at : Context → NodeLog → Option AnyNode → Option AnyNode → Result AnyNode (List ℕ)
+made_at ctx log None begun = Err (node_line log.node (codes " is no node of these settings"))
+made_at ctx log (Some opened) begun = made_from ctx log begun
+
+-- the node of a log after its calls, from what the log begins with, or the line that says why it does not make them
+abbrev pub lone_node : Context → WorldSettings → Option (List ℕ) → NodeLog → Result AnyNode (List ℕ)
+lone_node ctx s rest log = made_at ctx log (node_at (opening (settings_seen s)) log.node) (begins s log.node rest)
 
 abbrev pub is_made : {A B : Type 0} → Result A B → Bool
 is_made (Ok node) = true
 is_made (Err line) = false
-
--- the same of each log
-abbrev pub lone_nodes : Context → WorldSettings → List NodeLog → List (Result AnyNode (List ℕ))
-lone_nodes ctx s logs = map (lone_node ctx s) logs
-
--- each log is made by its node
-abbrev pub all_made : Context → WorldSettings → List NodeLog → Bool
-all_made ctx s logs = list_all is_made (lone_nodes ctx s logs)
 
 -- how many ticks there were after a call, as far as 64 bits hold it
 abbrev pub ticked : ℕ → Call → ℕ
@@ -61,3 +61,11 @@ ticks_after ticks (r ∷ more) = ticks_after (ticked ticks r.call) more
 abbrev pub submitted_at : ℕ → List Logged → List ℕ
 submitted_at ticks [] = []
 submitted_at ticks (r ∷ more) = submitted ticks r.call ++ submitted_at (ticked ticks r.call) more
+
+-- how many ticks there were at the submission of a number, where so many submissions were made before these calls; none, where it is one of those
+abbrev pub ticks_then : List ℕ → ℕ → ℕ → ℕ
+ticks_then at before number = cond (nat_le number before) 0 (slice_index at (number - before - 1))
+
+-- how many ticks of a pharmacy that has so many entries came in these calls behind the submission of a number; in all of them, where it was submitted before them
+abbrev pub age : ℕ → List Logged → ℕ → ℕ
+age entries calls number = ticks_after 0 calls - ticks_then (submitted_at 0 calls) (entries - length (submitted_at 0 calls)) number

@@ -12,7 +12,7 @@ came_seen (Made node) = Ok node
 came_seen (NotMade line) = Err line.items
 
 abbrev pub lone_seen : Lone → seen.Lone
-lone_seen lone = record { log = log_seen lone.log.now; torn = lone.torn; came = came_seen lone.came }
+lone_seen lone = record { log = log_seen lone.log.now; before = lone.before; torn = lone.torn; came = came_seen lone.came }
 
 abbrev pub lones_seen : List Lone → List seen.Lone
 lones_seen lones = map lone_seen lones

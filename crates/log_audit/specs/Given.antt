@@ -1,33 +1,39 @@
 -- The settings and the logs that bytes are, before anything is judged.
-use Rattle.std.specs.Prelude.{◌≡◌, ℕ, ◌-◌, List, [], ◌∷◌, ◌++◌, length, map, Some, Result, Ok, Err, ⊤}
+use Rattle.std.specs.Prelude.{◌≡◌, ℕ, ◌-◌, List, [], ◌∷◌, ◌++◌, length, map, Option, Some, Result, Ok, Err, ⊤, option_map}
 use Rattle.std.specs.Global.{Vec}
 use Rattle.claim_model.specs.Logs.{NodeLog}
 use Rattle.world_setup.specs.declared.settings.WorldSettings.{WorldSettings}
 use Rattle.world_settings.specs.Document.{document_seen, living_in}
 use Rattle.kept_logs.specs.Logs.{Reading, log_in}
-use Rattle.settings_digest.specs.Digests.{digest_under}
+use Rattle.settings_digest.specs.Digests.{digest_under, turned, turned_under}
+use Rattle.settings_digest.specs.declared.digests.Digests.{Digests}
 use Rattle.kept_logs.specs.declared.fault.LogFault.{LogFault}
+use Rattle.log_audit.specs.declared.reading.GivenLog as value
 
 -- the bytes of each
 abbrev pub bytes_of : List (Vec ℕ) → List (List ℕ)
 bytes_of logs = map (λ (bytes : Vec ℕ). bytes.items) logs
 
--- bytes are a log under settings of the digest that such bytes have, up to a record that is cut off
-pub record IsLog (digest : List ℕ → List ℕ) (bytes : List ℕ) (log : NodeLog) : Type 0 where
-  pub whole : ℕ
-  pub reads : log_in (digest bytes) bytes ≡ Ok (record { log = log; whole = whole })
+-- how bytes read under settings of the digest that such bytes have
+abbrev pub read_by : (List ℕ → List ℕ) → List ℕ → Result Reading LogFault
+read_by digest bytes = log_in (digest bytes) bytes
 
--- each of some bytes is a log, in order
-abbrev pub AreLogs : (List ℕ → List ℕ) → List (List ℕ) → List NodeLog → Type 0
-AreLogs digest [] [] = ⊤
-AreLogs digest [] (log ∷ logs) = ⊥
-AreLogs digest (bytes ∷ more) [] = ⊥
-AreLogs digest (bytes ∷ more) (log ∷ logs) = IsLog digest bytes log × AreLogs digest more logs
+-- what was read is a log, up to a record that is cut off
+pub record IsLog (read : Result Reading LogFault) (log : NodeLog) : Type 0 where
+  pub whole : ℕ
+  pub reads : read ≡ Ok (record { log = log; whole = whole })
+
+-- what is handed in reads as logs, each and in order
+abbrev pub AreLogs : {A : Type 0} → (A → Result Reading LogFault) → List A → List NodeLog → Type 0
+AreLogs read [] [] = ⊤
+AreLogs read [] (log ∷ logs) = ⊥
+AreLogs read (one ∷ more) [] = ⊥
+AreLogs read (one ∷ more) (log ∷ logs) = IsLog (read one) log × AreLogs read more logs
 
 -- the settings are those that a text spells, and the logs are those that bytes are under its digests
 pub record IsRead (text : List ℕ) (bytes : List (List ℕ)) (settings : WorldSettings) (logs : List NodeLog) : Type 0 where
   pub spelled : living_in text ≡ Some (document_seen settings)
-  pub read : AreLogs (digest_under text) bytes logs
+  pub read : AreLogs (read_by (digest_under text)) bytes logs
 
 -- how many bytes stand behind the records of a log that stand whole
 abbrev pub left_behind : ℕ → Result Reading LogFault → ℕ
@@ -36,17 +42,54 @@ left_behind size (Err fault) = 0
 
 -- how many bytes the torn end of a log has under settings of the digest that such bytes have
 abbrev pub torn_end : (List ℕ → List ℕ) → List ℕ → ℕ
-torn_end digest bytes = left_behind (length bytes) (log_in (digest bytes) bytes)
+torn_end digest bytes = left_behind (length bytes) (read_by digest bytes)
 
 -- how many bytes the torn end of each log has
 abbrev pub torn_ends : (List ℕ → List ℕ) → List (List ℕ) → List ℕ
 torn_ends digest logs = map (torn_end digest) logs
 
+-- ---- logs that may go on behind closed ones
+
+-- a log, and what it begins with, where it goes on behind closed ones
+pub record Given : Type 0 where
+  pub rest : Option (List ℕ)
+  pub log : List ℕ
+
+abbrev pub given_seen : value.GivenLog → Given
+given_seen g = record { rest = option_map (λ (v : Vec ℕ). v.items) g.rest; log = g.log.items }
+
+abbrev pub rests_seen : List (Option (Vec ℕ)) → List (Option (List ℕ))
+rests_seen rests = map (λ (rest : Option (Vec ℕ)). option_map (λ (v : Vec ℕ). v.items) rest) rests
+
+abbrev pub given_of : List value.GivenLog → List Given
+given_of logs = map given_seen logs
+
+-- how such a log reads under settings that a text spells
+abbrev pub read_behind : List ℕ → Given → Result Reading LogFault
+read_behind text g = log_in (turned_under text g.rest g.log) g.log
+
+abbrev pub torn_behind : List ℕ → Given → ℕ
+torn_behind text g = left_behind (length g.log) (read_behind text g)
+
+-- the settings are those that a text spells, and the logs are those that are given, each with what it begins with and its torn end
+pub record IsReadAlone (text : List ℕ) (given : List Given) (settings : WorldSettings) (logs : List NodeLog) (rests : List (Option (List ℕ))) (torn : List ℕ) : Type 0 where
+  pub spelled : living_in text ≡ Some (document_seen settings)
+  pub read : AreLogs (read_behind text) given logs
+  pub begin : rests ≡ map (λ (g : Given). g.rest) given
+  pub ends : torn ≡ map (torn_behind text) given
+
 -- ---- on the way
 
--- bytes are one log more, and their torn end is one more
-pub record ReadsOne (digest : List ℕ → List ℕ) (bytes : List ℕ) (logs : List NodeLog) (torn : List ℕ) (after : List NodeLog) (ends : List ℕ) : Type 0 where
+-- what was read of so many bytes is one log more, and its torn end is one more
+pub record ReadsOne (read : Result Reading LogFault) (size : ℕ) (logs : List NodeLog) (torn : List ℕ) (after : List NodeLog) (ends : List ℕ) : Type 0 where
   pub log : NodeLog
-  pub is : IsLog digest bytes log
+  pub is : IsLog read log
   pub logs_are : after ≡ logs ++ log ∷ []
-  pub torn_are : ends ≡ torn ++ torn_end digest bytes ∷ []
+  pub torn_are : ends ≡ torn ++ left_behind size read ∷ []
+
+-- the same of a log as it is read by digests
+abbrev pub read_turned : Digests → Given → Result Reading LogFault
+read_turned digests g = log_in (turned digests g.rest g.log) g.log
+
+abbrev pub torn_turned : Digests → Given → ℕ
+torn_turned digests g = left_behind (length g.log) (read_turned digests g)

@@ -1,5 +1,6 @@
 -- What logs come to one by one, as texts and rows: each with nothing judged of other nodes.
-use Rattle.std.specs.Prelude.{ℕ, ◌+◌, ◌-◌, Bool, cond, List, [], ◌∷◌, ◌++◌, slice_index, codes, Option, Some, None, Result, Ok, Err}
+use Rattle.std.specs.Prelude.{ℕ, ◌+◌, ◌==◌, Bool, not, cond, List, [], ◌∷◌, ◌++◌, length, slice_get, slice_index, codes, Option, Some, None, option_map, Result, Ok, Err}
+use Rattle.std.specs.Global.{Vec}
 use Rattle.std.specs.List.{flat_map}
 use Rattle.claim_model.specs.Context.{Context}
 use Rattle.claim_model.specs.Counted.{Counted, counted}
@@ -7,13 +8,14 @@ use Rattle.claim_model.specs.Journal.{JournalAtRest}
 use Rattle.claim_model.specs.Logs.{Logged, NodeLog}
 use Rattle.claim_model.specs.Node.{Node}
 use Rattle.claim_model.specs.Nodes.{AnyNode}
-use Rattle.claim_model.specs.Settings.{WorldSettings}
 use Rattle.claim_model.specs.Words.{Auth}
 use Rattle.node_state.specs.Nodes.{book_of, journal_of}
 use Rattle.pharmacy_journal.specs.Listing.{Listed, listed}
 use Rattle.table_text.specs.Members.{Row}
-use Rattle.log_audit.specs.Alone.{is_made, lone_node, submitted_at, ticks_after}
-use Rattle.log_audit.specs.Kinds.{kind_word, number_of, number_member, text_member}
+use Rattle.kept_logs.specs.Rests.{calls_before}
+use Rattle.world_setup.specs.declared.settings.WorldSettings.{WorldSettings}
+use Rattle.log_audit.specs.Alone.{age, is_made, lone_node}
+use Rattle.log_audit.specs.Kinds.{kind_word, node_member, number_of, number_member, text_member}
 use Rattle.log_audit.specs.Ledger.{is_open, requests_pieces, book_text}
 use Rattle.log_audit.specs.Payments.{book_payments}
 use Rattle.log_audit.specs.Rulings.{book_rulings}
@@ -23,21 +25,36 @@ use Rattle.log_audit.specs.declared.lone_tables.LoneTable.{LoneTable}
 use Rattle.log_audit.specs.declared.lone_tables.LoneTable.TheVariants.{Payments, Entries, Rows, Open, Counted as CountedTable}
 use Rattle.log_audit.specs.declared.sentences.Manner.TheVariants.{Line}
 
--- a log, how many bytes its torn end has, and what it comes to by itself: its node after it, or the line that says why the node does not
--- make it
+-- a log, how many calls were made before it, how many bytes its torn end has, and what it comes to by itself: its node after it, or the line that says why
+-- the node does not make it
 pub record Lone : Type 0 where
   pub log : NodeLog
+  pub before : ℕ
   pub torn : ℕ
   pub came : Result AnyNode (List ℕ)
 
+-- what the log at a place begins with
+abbrev pub rest_or_none : Option (Option (Vec ℕ)) → Option (List ℕ)
+rest_or_none None = None
+rest_or_none (Some rest) = option_map (λ (bytes : Vec ℕ). bytes.items) rest
+
+abbrev pub rest_at : List (Option (Vec ℕ)) → ℕ → Option (List ℕ)
+rest_at rests place = rest_or_none (slice_get rests place)
+
+abbrev pub lone_of : Context → WorldSettings → Option (List ℕ) → ℕ → NodeLog → Lone
+lone_of ctx s rest torn log = record { log = log; before = calls_before rest; torn = torn; came = lone_node ctx s rest log }
+
 -- each log, from this place on
-abbrev pub lones_from : Context → WorldSettings → List ℕ → ℕ → List NodeLog → List Lone
-lones_from ctx s torn place [] = []
-lones_from ctx s torn place (log ∷ more) =
-    record { log = log; torn = slice_index torn place; came = lone_node ctx s log } ∷ lones_from ctx s torn (place + 1) more
+abbrev pub lones_from : Context → WorldSettings → List (Option (Vec ℕ)) → List ℕ → ℕ → List NodeLog → List Lone
+lones_from ctx s rests torn place [] = []
+lones_from ctx s rests torn place (log ∷ more) = lone_of ctx s (rest_at rests place) (slice_index torn place) log ∷ lones_from ctx s rests torn (place + 1) more
 
 abbrev pub makes : Lone → Bool
 makes lone = is_made lone.came
+
+-- calls were made before the log
+abbrev pub is_behind : Lone → Bool
+is_behind lone = not (lone.before == 0)
 
 -- what is told of something, where it is there
 abbrev pub told_of : {A B : Type 0} → (A → List B) → Option A → List B
@@ -45,10 +62,6 @@ told_of told None = []
 told_of told (Some a) = told a
 
 -- ---- lines
-
--- how many ticks of a pharmacy came behind the submission of a number
-abbrev pub age : List Logged → ℕ → ℕ
-age calls number = ticks_after 0 calls - slice_index (submitted_at 0 calls) (number - 1)
 
 abbrev pub open_pieces : ℕ → Listed → ℕ → List Piece
 open_pieces number e ticks =
@@ -59,13 +72,14 @@ open_pieces number e ticks =
 unfoldable pub open_line : ℕ → Listed → ℕ → List ℕ
 open_line number e ticks = sentence (open_pieces number e ticks)
 
-abbrev pub open_text : ℕ → List Logged → Listed → List ℕ
-open_text number calls e = cond (is_open e) (open_line number e (age calls e.number)) []
+-- of a journal of so many entries
+abbrev pub open_text : ℕ → ℕ → List Logged → Listed → List ℕ
+open_text entries number calls e = cond (is_open e) (open_line number e (age entries calls e.number)) []
 
 -- what a pharmacy of this number has after these calls: its counts, and a line for each entry without an answer
 unfoldable pub journal_lines : Context → ℕ → List Logged → JournalAtRest → List ℕ
 journal_lines ctx number calls j =
-    sentence (requests_pieces number (listed j) (counted ctx j)) ++ (codes "\n" ++ flat_map (open_text number calls) (listed j))
+    sentence (requests_pieces number (listed j) (counted ctx j)) ++ (codes "\n" ++ flat_map (open_text (length (listed j)) number calls) (listed j))
 
 abbrev pub makes_line : Node → List ℕ
 makes_line node = sentence (Named node ∷ Words (codes " makes these calls\n") ∷ [])
@@ -74,6 +88,13 @@ makes_line node = sentence (Named node ∷ Words (codes " makes these calls\n") 
 abbrev pub has_text : Context → ℕ → NodeLog → AnyNode → List ℕ
 has_text ctx pharmacies log node =
     told_of (journal_lines ctx (number_of log.node) log.calls) (journal_of node) ++ told_of (book_text ctx pharmacies (number_of log.node)) (book_of node)
+
+-- how many calls were made before the log of a node, where there are any
+abbrev pub before_line : Node → ℕ → List ℕ
+before_line node before = sentence (Named node ∷ Words (codes " begins behind ") ∷ Number before ∷ Words (codes " calls\n") ∷ [])
+
+abbrev pub before_text : Lone → List ℕ
+before_text lone = cond (is_behind lone) (before_line lone.log.node lone.before) []
 
 -- that a node makes its log, and what it has then; or why it does not
 abbrev pub came_text : Context → ℕ → NodeLog → Result AnyNode (List ℕ) → List ℕ
@@ -90,11 +111,18 @@ open_row number e ticks =
     text_member (codes "kind") (kind_word e.code) ∷
     number_member (codes "ticks") ticks ∷ []
 
-abbrev pub open_rows : ℕ → List Logged → Listed → List Row
-open_rows number calls e = cond (is_open e) (open_row number e (age calls e.number) ∷ []) []
+abbrev pub open_rows : ℕ → ℕ → List Logged → Listed → List Row
+open_rows entries number calls e = cond (is_open e) (open_row number e (age entries calls e.number) ∷ []) []
 
 abbrev pub journal_open : ℕ → List Logged → JournalAtRest → List Row
-journal_open number calls j = flat_map (open_rows number calls) (listed j)
+journal_open number calls j = flat_map (open_rows (length (listed j)) number calls) (listed j)
+
+-- how many calls were made before a log, as an object of JSON, where there are any
+unfoldable pub before_row : Node → ℕ → Row
+before_row node before = node_member (codes "node") node ∷ number_member (codes "calls") before ∷ []
+
+abbrev pub before_rows : Lone → List Row
+before_rows lone = cond (is_behind lone) (before_row lone.log.node lone.before ∷ []) []
 
 -- the rows of a table that a node has after its log; `counted` says which authorizations are counted
 abbrev pub node_rows : Context → (Auth → Bool) → LoneTable → NodeLog → AnyNode → List Row

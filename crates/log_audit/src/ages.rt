@@ -1,8 +1,8 @@
 //! How old the entries of a pharmacy are, in ticks of its own.
 
-ghost use Rattle.std.specs.Prelude.{◌≡◌, ◌++◌, ◌-◌, slice_index, IfOk, OnOk};
+ghost use Rattle.std.specs.Prelude.{◌≡◌, ◌++◌, ◌-◌, length, IfOk, OnOk};
 ghost use Rattle.world_setup.specs.Seen.{call_seen};
-ghost use Rattle.log_audit.specs.Alone.{ticked, submitted, ticks_after, submitted_at};
+ghost use Rattle.log_audit.specs.Alone.{ticked, ticks_then, submitted, ticks_after, submitted_at};
 
 use node_log::Record;
 use std::alloc::{AllocError, Global};
@@ -53,11 +53,22 @@ impl Ages {
         }
     }
 
-    /// How many ticks came behind the submission of the entry of a number, from 1.
-    pub(crate) fn age(&self, number: u64) -> u64
-        ensures { result ≡ self.now.ticks - slice_index self.now.at.items (number - 1) }
+    /// How many of so many entries of the pharmacy were submitted before these calls.
+    pub(crate) fn entries_before(&self, entries: usize) -> u64
+        ensures { result ≡ entries - length self.now.at.items }
     {
-        let place = (number as usize).saturating_sub(1);
+        entries.saturating_sub(self.at.len()) as u64
+    }
+
+    /// How many ticks came behind the submission of the entry of a number, from 1, where so many were submitted before these
+    /// calls; all of them for one of those.
+    pub(crate) fn age(&self, before: u64, number: u64) -> u64
+        ensures { result ≡ self.now.ticks - ticks_then self.now.at.items before number }
+    {
+        if number <= before {
+            return self.ticks;
+        }
+        let place = (number - before - 1) as usize;
         match self.at.get(place) {
             Some(then) => self.ticks.saturating_sub(*then),
             None => self.ticks,

@@ -1,19 +1,20 @@
 //! One log by itself: whether its node makes it, and what the node has then. Nothing is judged of other nodes.
 
-ghost use Rattle.std.specs.Prelude.{◌≡◌, None, codes, IfOk};
-ghost use Rattle.bin_routes.specs.Table.{routes_of};
-ghost use Rattle.claim_model.specs.Bytes.{bytes_with};
-ghost use Rattle.world_setup.specs.Seen.{settings_seen, node_seen};
+ghost use Rattle.std.specs.Prelude.{◌≡◌, IfOk};
+ghost use Rattle.std.specs.Option.{option_copied};
+ghost use Rattle.world_setup.specs.Seen.{node_seen};
 ghost use Rattle.node_log.specs.LogSeen.{log_seen};
 ghost use Rattle.log_audit.specs.Lacks.{node_line};
-ghost use Rattle.log_audit.specs.Wrongs.{wrong_line};
+ghost use Rattle.log_audit.specs.Wrongs.{calls_made, wrong_line};
 ghost use Rattle.log_audit.specs.WrongsSeen.{first_seen};
-ghost use Rattle.log_audit.specs.Alone.{is_made, lone_node};
-ghost use Rattle.log_audit.specs.Lones.{makes};
+ghost use Rattle.log_audit.specs.Alone.{ended, is_made, lone_node};
+ghost use Rattle.log_audit.specs.Lones.{is_behind, makes};
+ghost use Rattle.log_audit.specs.Telling.{context_for};
 ghost use Rattle.log_audit.specs.AloneSeen.{came_seen, lone_seen};
 
 use crate::sentences::{Piece, put_pieces};
 use crate::wrongs::{FirstWrong, make_calls, put_wrong_line};
+use kept_logs::begins;
 use node_log::{NodeLog, is_there};
 use node_state::NodeState;
 use std::alloc::{AllocError, Global};
@@ -40,10 +41,11 @@ impl Came {
     }
 }
 
-/// A log, how many bytes its torn end has, and what it comes to by itself.
+/// A log, how many calls were made before it, how many bytes its torn end has, and what it comes to by itself.
 #[derive(Drop)]
 pub(crate) struct Lone<'a> {
     pub(crate) log: &'a NodeLog,
+    pub(crate) before: u64,
     pub(crate) torn: u64,
     pub(crate) came: Came,
 }
@@ -55,39 +57,63 @@ impl<'a> Lone<'a> {
     {
         self.came.is_made()
     }
+
+    /// Whether calls were made before the log.
+    pub(crate) fn is_behind(&self) -> bool
+        ensures { result ≡ is_behind (lone_seen self.now) }
+    {
+        self.before != 0
+    }
 }
 
-/// What a log comes to by itself.
+/// What a log comes to by itself, which begins with this rest, where it goes on behind closed ones.
 pub(crate) fn lone_node(
     alloc: Global,
     settings: &CheckedSettings,
+    rest: Option<&[u8]>,
     log: &NodeLog,
 ) -> Result<Came, AllocError>
     ensures { IfOk result (λ came. came_seen came
-        ≡ lone_node (bytes_with (routes_of settings.now.routes.items)) (settings_seen settings.now) (log_seen log.now)) }
+        ≡ lone_node (context_for settings.now) settings.now (option_copied rest.entry) (log_seen log.now)) }
 {
     if !is_there(settings.settings(), log.node()) {
-        return Ok(Came::NotMade(stranger_line(alloc, log.node())?));
+        let line = line_on(alloc, log.node(), b" is no node of these settings")?;
+        return Ok(Came::NotMade(line));
     }
-    let mut node = NodeState::opening(alloc, settings, log.node())?;
+    let Some(before) = begins(alloc, settings, log.node(), rest)? else {
+        let line = line_on(
+            alloc,
+            log.node(),
+            b" cannot begin with what its closed logs left",
+        )?;
+        return Ok(Came::NotMade(line));
+    };
+    node_behind(alloc, settings, before.node, log)
+}
+
+/// What the calls of a log come to, from this state of its node.
+fn node_behind(
+    alloc: Global,
+    settings: &CheckedSettings,
+    before: NodeState,
+    log: &NodeLog,
+) -> Result<Came, AllocError>
+    ensures { IfOk result (λ came. came_seen came ≡ ended (log_seen log.now)
+        (calls_made (context_for settings.now) before 1 log.now.calls.items)) }
+{
+    let mut node = before;
     match make_calls(alloc, settings.routes(), &mut node, log.records())? {
         None => Ok(Came::Made(node)),
         Some(first) => Ok(Came::NotMade(wrong_line(alloc, log.node(), first)?)),
     }
 }
 
-/// The line on a node that is not there.
-fn stranger_line(alloc: Global, node: Node) -> Result<Vec<u8>, AllocError>
-    ensures { IfOk result (λ line. line.items ≡ node_line (node_seen node) (codes " is no node of these settings")) }
+/// The line that says this of a node.
+fn line_on(alloc: Global, node: Node, says: &'static [u8]) -> Result<Vec<u8>, AllocError>
+    ensures { IfOk result (λ line. line.items ≡ node_line (node_seen node) says.now) }
 {
     let mut line = Vec::new(alloc);
-    put_pieces(
-        &mut line,
-        &[
-            Piece::Named(node),
-            Piece::Words(b" is no node of these settings"),
-        ],
-    )?;
+    put_pieces(&mut line, &[Piece::Named(node), Piece::Words(says)])?;
     Ok(line)
 }
 

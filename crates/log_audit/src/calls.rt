@@ -12,7 +12,7 @@ ghost use Rattle.table_text.specs.Rows.{head_text};
 ghost use Rattle.table_text.specs.Seen.{field_seen};
 ghost use Rattle.table_text.specs.declared.layout.Style.TheVariants.{Csv};
 ghost use Rattle.log_audit.specs.Adding.{TellsRow, TellsRows};
-ghost use Rattle.log_audit.specs.Given.{bytes_of};
+ghost use Rattle.log_audit.specs.Given.{bytes_of, read_by};
 ghost use Rattle.log_audit.specs.Packets.{carried_seen};
 ghost use Rattle.log_audit.specs.Refused.{AreNoLogs, IsRefused};
 ghost use Rattle.log_audit.specs.Calls.{IsCallsTable, IsNotKept, TellsLog, TellsLogs, call_load, call_names, call_row, call_rows, call_word, noted_row, sender_member, submissions_in, time_said};
@@ -75,7 +75,7 @@ fn put_logs(
     logs: Vec<Vec<u8>>,
 ) -> Result<(), AuditFault>
     ensures told { OnOk result (TellsLogs (under digests.now) (bytes_of logs.items) out.old.items out.new.items) }
-    ensures refused { IfErr result (λ why. AreNoLogs (under digests.now) (bytes_of logs.items) why) }
+    ensures refused { IfErr result (λ why. AreNoLogs (read_by (under digests.now)) (bytes_of logs.items) why) }
 {
     let mut place = 0;
     for bytes in logs {

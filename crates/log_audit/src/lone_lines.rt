@@ -1,6 +1,6 @@
 //! The lines of logs one by one.
 
-ghost use Rattle.std.specs.Prelude.{◌≡◌, ◌++◌, [], cond, IfOk, OnOk};
+ghost use Rattle.std.specs.Prelude.{◌≡◌, ◌++◌, [], cond, length, IfOk, OnOk};
 ghost use Rattle.std.specs.List.{flat_map};
 ghost use Rattle.bin_routes.specs.Table.{RouteMaps};
 ghost use Rattle.claim_model.specs.Bytes.{bytes_with};
@@ -12,7 +12,7 @@ ghost use Rattle.log_audit.specs.Adding.{Tells};
 ghost use Rattle.log_audit.specs.AloneSeen.{lone_seen, lones_seen};
 ghost use Rattle.log_audit.specs.Kinds.{number_of};
 ghost use Rattle.log_audit.specs.Ledger.{book_text, is_open};
-ghost use Rattle.log_audit.specs.Lones.{told_of, open_line, open_text, journal_lines, makes_line, has_text};
+ghost use Rattle.log_audit.specs.Lones.{before_line, before_text, told_of, open_line, open_text, journal_lines, makes_line, has_text};
 ghost use Rattle.log_audit.specs.LoneTelling.{lone_text, lone_lines};
 
 use crate::ages::Ages;
@@ -59,7 +59,7 @@ fn put_lones(
     Ok(())
 }
 
-/// Appends the line of a log, and what it comes to.
+/// Appends the line of a log, how many calls were made before it, and what it comes to.
 fn put_lone(
     alloc: Global,
     out: &mut Vec<u8>,
@@ -69,10 +69,35 @@ fn put_lone(
     ensures { Tells out.old out.new (λ ctx. lone_text ctx pharmacies (lone_seen lone.now)) result }
 {
     put_log(out, lone.log, lone.torn)?;
+    put_before(out, lone)?;
     match &lone.came {
         Came::Made(node) => put_made(alloc, out, pharmacies, lone.log, node),
         Came::NotMade(line) => put_told(out, Manner::Line, line.as_slice()),
     }
+}
+
+/// Appends how many calls were made before a log, where there are any.
+fn put_before(out: &mut Vec<u8>, lone: &Lone<'_>) -> Result<(), AllocError>
+    ensures { OnOk result (Adds out.old out.new (before_text (lone_seen lone.now))) }
+{
+    if lone.is_behind() {
+        put_behind(out, lone.log.node(), lone.before)
+    } else {
+        Ok(())
+    }
+}
+
+/// Appends behind how many calls the log of a node begins.
+fn put_behind(out: &mut Vec<u8>, node: Node, before: u64) -> Result<(), AllocError>
+    ensures { OnOk result (Adds out.old out.new (before_line (node_seen node) before)) }
+{
+    let pieces = [
+        Piece::Named(node),
+        Piece::Words(b" begins behind "),
+        Piece::Number(before),
+        Piece::Words(b" calls\n"),
+    ];
+    put_pieces(out, &pieces)
 }
 
 /// Appends that a node makes its log, and what it has then.
@@ -156,11 +181,13 @@ fn put_open_of(
     log: &NodeLog,
     entries: &[EntryView],
 ) -> Result<(), AllocError>
-    ensures { OnOk result (Adds out.old out.new (flat_map (open_text number log.now.calls.items) entries.now)) }
+    ensures { OnOk result (Adds out.old out.new
+        (flat_map (open_text (length entries.now) number log.now.calls.items) entries.now)) }
 {
     let ages = Ages::of(alloc, log.records())?;
+    let before = ages.entries_before(entries.len());
     for entry in entries {
-        put_if_open(out, number, entry, ages.age(entry.number()))?;
+        put_if_open(out, number, entry, ages.age(before, entry.number()))?;
     }
     Ok(())
 }

@@ -2,15 +2,14 @@
 
 ghost use Rattle.std.specs.Prelude.{◌≡◌, [], cond, IfOk, OnOk};
 ghost use Rattle.std.specs.List.{list_all};
+ghost use Rattle.std.specs.Option.{option_copied};
 ghost use Rattle.bin_routes.specs.Table.{routes_of};
 ghost use Rattle.claim_model.specs.Bytes.{bytes_with};
-ghost use Rattle.world_setup.specs.Seen.{settings_seen};
-ghost use Rattle.node_log.specs.LogSeen.{logs_seen};
-ghost use Rattle.log_audit.specs.Alone.{all_made};
-ghost use Rattle.log_audit.specs.Lones.{lones_from, makes};
+ghost use Rattle.node_log.specs.LogSeen.{log_seen, logs_seen};
+ghost use Rattle.log_audit.specs.Lones.{lone_of, lones_from, makes, rest_at};
 ghost use Rattle.log_audit.specs.Prices.{log_prices};
 ghost use Rattle.log_audit.specs.AloneSeen.{lone_seen, lones_seen};
-ghost use Rattle.log_audit.specs.LoneTelling.{lone_csv, lone_lines, lones_of, lones_text, alone_text};
+ghost use Rattle.log_audit.specs.LoneTelling.{all_make, lone_csv, lone_lines, lone_prices, lones_of, lones_text, alone_text, whole_lones};
 ghost use Rattle.log_audit.specs.Outgoing.{Puts, TellsText};
 
 use crate::alone::{Lone, lone_node};
@@ -21,7 +20,8 @@ use crate::lone_tables::{LoneTable, put_csv};
 use crate::object::torn_at;
 use crate::outgoing::{Outgoing, TextSink};
 use crate::prices::log_prices;
-use crate::reading::Audited;
+use crate::reading::{Audited, AuditedAlone, bytes_in};
+use kept_logs::calls_before;
 use node_log::NodeLog;
 use std::alloc::{AllocError, Global};
 use world_setup::CheckedSettings;
@@ -35,8 +35,6 @@ pub enum LoneForm {
     Json,
     /// A table of what the nodes have, as CSV; nothing where a node does not make its log.
     Csv(LoneTable),
-    /// The price changes of payers, as CSV; nothing where a node does not make its log.
-    Prices,
 }
 
 /// Judges each log by itself, and puts what its node has after it; whether each node makes its own log. The rows of tables go
@@ -46,14 +44,13 @@ pub enum LoneForm {
 /// `OutOfMemory`.
 pub fn put_alone<K: TextSink + Drop>(
     alloc: Global,
-    audited: &Audited,
+    audited: &AuditedAlone,
     form: LoneForm,
     out: &mut Outgoing<K>,
 ) -> Result<bool, AuditFault>
-    // Whether each node makes its log: it accepts each call from its opening, and sends with it each byte that the log has.
-    ensures made { IfOk result (λ made. made
-        ≡ all_made (bytes_with (routes_of audited.now.settings.routes.items)) (settings_seen audited.now.settings)
-        (logs_seen audited.now.logs.items)) }
+    // Whether each node makes its log: it accepts each call from what the log begins with, and sends with it each byte that the
+    // log has.
+    ensures made { IfOk result (λ made. made ≡ all_make (lones_of audited.now)) }
     // What is put is told of these logs, each by itself, and of what their nodes have then.
     ensures text { OnOk result (Puts out.old out.new (alone_text audited.now form)) }
 {
@@ -65,41 +62,107 @@ pub fn put_alone<K: TextSink + Drop>(
     }
 }
 
-/// What each log comes to by itself.
-fn lones_of(alloc: Global, audited: &Audited) -> Result<Vec<Lone<'_>>, AuditFault>
-    ensures { IfOk result (λ lones. lones_seen lones.items ≡ lones_of audited.now) }
+/// Puts the price changes of payers, as CSV, where each node makes its log, which begins with the opening of its node; whether
+/// each does.
+///
+/// # Errors
+/// `OutOfMemory`.
+pub fn put_lone_prices<K: TextSink + Drop>(
+    alloc: Global,
+    audited: &Audited,
+    out: &mut Outgoing<K>,
+) -> Result<bool, AuditFault>
+    ensures made { IfOk result (λ made. made ≡ all_make (whole_lones audited.now)) }
+    ensures text { OnOk result (Puts out.old out.new (lone_prices audited.now)) }
 {
-    match lones_by(
-        alloc,
-        &audited.settings,
-        audited.logs.as_slice(),
-        audited.torn.as_slice(),
-    ) {
-        Ok(lones) => Ok(lones),
+    let lones = whole_lones(alloc, audited)?;
+    let made = all_made(lones.as_slice());
+    match put_prices_of(alloc, audited, made, out) {
+        Ok(()) => Ok(made),
         Err(_) => Err(AuditFault::OutOfMemory),
     }
 }
 
-/// What each of these logs comes to by itself.
+/// What each log comes to by itself.
+fn lones_of(alloc: Global, audited: &AuditedAlone) -> Result<Vec<Lone<'_>>, AuditFault>
+    ensures { IfOk result (λ lones. lones_seen lones.items ≡ lones_of audited.now) }
+{
+    lones_by(
+        alloc,
+        &audited.settings,
+        audited.rests.as_slice(),
+        audited.torn.as_slice(),
+        audited.logs.as_slice(),
+    )
+}
+
+/// What each log comes to by itself, which begins with the opening of its node.
+fn whole_lones(alloc: Global, audited: &Audited) -> Result<Vec<Lone<'_>>, AuditFault>
+    ensures { IfOk result (λ lones. lones_seen lones.items ≡ whole_lones audited.now) }
+{
+    lones_by(
+        alloc,
+        &audited.settings,
+        &[],
+        audited.torn.as_slice(),
+        audited.logs.as_slice(),
+    )
+}
+
+/// What each of these logs comes to by itself, with what it begins with.
 fn lones_by<'a>(
     alloc: Global,
     settings: &CheckedSettings,
-    logs: &'a [NodeLog],
+    rests: &[Option<Vec<u8>>],
     torn: &[usize],
-) -> Result<Vec<Lone<'a>>, AllocError>
+    logs: &'a [NodeLog],
+) -> Result<Vec<Lone<'a>>, AuditFault>
     ensures { IfOk result (λ lones. lones_seen lones.items ≡ lones_from (bytes_with (routes_of settings.now.routes.items))
-        (settings_seen settings.now) torn.now 0 (logs_seen logs.now)) }
+        settings.now rests.now torn.now 0 (logs_seen logs.now)) }
 {
     let mut lones = Vec::new(alloc);
     for (place, log) in logs.iter().enumerate() {
-        let came = lone_node(alloc, settings, log)?;
-        lones.push(Lone {
+        let lone = lone_of(
+            alloc,
+            settings,
+            rest_at(rests, place),
+            torn_at(torn, place),
             log,
-            torn: torn_at(torn, place),
-            came,
-        })?;
+        )?;
+        lones.push(lone)?;
     }
     Ok(lones)
+}
+
+/// What a log comes to by itself, which begins with this rest, where it goes on behind closed ones.
+fn lone_of<'a>(
+    alloc: Global,
+    settings: &CheckedSettings,
+    rest: Option<&[u8]>,
+    torn: u64,
+    log: &'a NodeLog,
+) -> Result<Lone<'a>, AllocError>
+    ensures { IfOk result (λ lone. lone_seen lone ≡ lone_of (bytes_with (routes_of settings.now.routes.items))
+        settings.now (option_copied rest.entry) torn (log_seen log.now)) }
+{
+    let before = calls_before(alloc, rest)?;
+    let came = lone_node(alloc, settings, rest, log)?;
+    Ok(Lone {
+        log,
+        before,
+        torn,
+        came,
+    })
+}
+
+/// What the log at a place begins with.
+fn rest_at(rests: &[Option<Vec<u8>>], place: usize) -> Option<&[u8]>
+    ensures { option_copied result ≡ rest_at rests.now place }
+{
+    match rests.get(place) {
+        Some(rest) => bytes_in(rest),
+        None => None,
+    }
 }
 
 /// Whether each log is made by its node.
@@ -112,7 +175,7 @@ fn all_made(lones: &[Lone<'_>]) -> bool
 /// Puts what is told of logs that come to this.
 fn put_lones_text<K: TextSink + Drop>(
     alloc: Global,
-    audited: &Audited,
+    audited: &AuditedAlone,
     lones: &[Lone<'_>],
     made: bool,
     form: LoneForm,
@@ -130,7 +193,6 @@ fn put_lones_text<K: TextSink + Drop>(
         ),
         LoneForm::Json => put_object(alloc, out, audited, lones, made),
         LoneForm::Csv(table) => put_table_of(alloc, lones, made, table, out),
-        LoneForm::Prices => put_prices_of(alloc, audited, made, out),
     }
 }
 

@@ -1,6 +1,6 @@
 //! The tables of logs one by one.
 
-ghost use Rattle.std.specs.Prelude.{◌≡◌, [], ◌∷◌, cond, IfOk, OnOk};
+ghost use Rattle.std.specs.Prelude.{◌≡◌, [], ◌∷◌, cond, length, IfOk, OnOk};
 ghost use Rattle.std.specs.List.{flat_map};
 ghost use Rattle.bin_routes.specs.Table.{RouteMaps};
 ghost use Rattle.claim_model.specs.Bytes.{bytes_with};
@@ -311,14 +311,21 @@ fn put_open_entries<K: TextSink + Drop>(
     entries: &[EntryView],
 ) -> Result<(), AllocError>
     ensures { OnOk result (PutsRows style out.old out.new
-        (flat_map (open_rows (number_of (node_seen log.now.node)) log.now.calls.items) entries.now)) }
+        (flat_map (open_rows (length entries.now) (number_of (node_seen log.now.node)) log.now.calls.items) entries.now)) }
 {
     let ages = Ages::of(alloc, log.records())?;
+    let before = ages.entries_before(entries.len());
     let number = number_of(log.node());
     let mut row = out.piece();
     for entry in entries {
         row.clear();
-        put_if_open(&mut row, style, number, entry, ages.age(entry.number()))?;
+        put_if_open(
+            &mut row,
+            style,
+            number,
+            entry,
+            ages.age(before, entry.number()),
+        )?;
         out.put(row.as_slice())?;
     }
     Ok(())

@@ -1,17 +1,18 @@
 //! What is read before anything is judged: the settings, and the logs.
 
-ghost use Rattle.std.specs.Prelude.{◌≡◌, ◌++◌, ◌∷◌, [], length, Some, None, Ok, IfOk, IfErr, OnOk};
+ghost use Rattle.std.specs.Prelude.{◌≡◌, ◌++◌, ◌∷◌, [], length, map, Some, None, Ok, IfOk, IfErr, OnOk};
+ghost use Rattle.std.specs.Option.{option_copied, option_map};
 ghost use Rattle.world_setup.specs.Taken.{world_fault};
 ghost use Rattle.world_settings.specs.Document.{document_seen, living_in};
 ghost use Rattle.node_log.specs.LogSeen.{logs_seen};
 ghost use Rattle.kept_logs.specs.Logs.{log_in};
 ghost use Rattle.kept_logs.specs.LogSeen.{reading_seen};
 ghost use Rattle.settings_digest.specs.Digests.{digest_under, under};
-ghost use Rattle.log_audit.specs.Given.{AreLogs, IsRead, ReadsOne, bytes_of, torn_ends};
-ghost use Rattle.log_audit.specs.Refused.{AreNoLogs, IsNoLog, IsRefused, SpellsNone, TakesNone};
+ghost use Rattle.log_audit.specs.Given.{AreLogs, Given, IsRead, IsReadAlone, ReadsOne, bytes_of, given_of, read_by, read_turned, rests_seen, torn_ends, torn_turned};
+ghost use Rattle.log_audit.specs.Refused.{AreNoLogs, IsNoLog, IsRefused, IsRefusedAlone, SpellsNone, TakesNone};
 
 use crate::fault::AuditFault;
-use kept_logs::{LogFault, ReadLog, read_log};
+use kept_logs::{LogFault, ReadLog, SettingsDigest, read_log};
 use node_log::NodeLog;
 use settings_digest::Digests;
 use std::alloc::{AllocError, Global};
@@ -57,6 +58,54 @@ pub fn read_audited(alloc: Global, text: Vec<u8>, logs: Vec<Vec<u8>>) -> Result<
     })
 }
 
+/// A log, and what it begins with, where it goes on behind closed ones.
+#[derive(Drop)]
+pub struct GivenLog {
+    /// What it begins with.
+    pub rest: Option<Vec<u8>>,
+    /// The log.
+    pub log: Vec<u8>,
+}
+
+/// The settings of nodes, logs that are judged one by one, how many bytes of a torn end each has, and what each begins with.
+#[derive(Drop)]
+pub struct AuditedAlone {
+    pub(crate) settings: CheckedSettings,
+    pub(crate) logs: Vec<NodeLog>,
+    pub(crate) torn: Vec<usize>,
+    pub(crate) rests: Vec<Option<Vec<u8>>>,
+}
+
+/// Reads the settings, a TOML document, and logs of which each may go on behind closed ones that are not read.
+/// The bytes of a log are let go once it is read.
+///
+/// # Errors
+/// Those of `read_audited`.
+pub fn read_alone(
+    alloc: Global,
+    text: &[u8],
+    logs: Vec<GivenLog>,
+) -> Result<AuditedAlone, AuditFault>
+    // What is judged is what the text spells and the logs are.
+    ensures given { IfOk result (λ a. IsReadAlone text.now (given_of logs.items) a.settings
+        (logs_seen a.logs.items) (rests_seen a.rests.items) a.torn.items) }
+    // A world takes the settings.
+    ensures taken { IfOk result (λ a. world_fault a.settings ≡ None) }
+    // The cause is true, and those before it do not stand.
+    ensures refused { IfErr result (λ why. IsRefusedAlone text.now (given_of logs.items) why) }
+{
+    let settings = checked(alloc, settings_of(alloc, text)?)?;
+    let digests = Digests::of(alloc, settings.settings(), text)?;
+    let (read, rests) = read_each(alloc, &digests, logs)?;
+    let ReadLogs { logs, torn } = read;
+    Ok(AuditedAlone {
+        settings,
+        logs,
+        torn,
+        rests,
+    })
+}
+
 /// Logs that were read, and how many bytes of a torn end each has.
 #[derive(Drop)]
 struct ReadLogs {
@@ -65,19 +114,30 @@ struct ReadLogs {
 }
 
 impl ReadLogs {
-    /// Reads the next log, and lets its bytes go.
+    /// None yet.
+    fn new(alloc: Global) -> ReadLogs
+        ensures logs { result.logs.items ≡ [] }
+        ensures torn { result.torn.items ≡ [] }
+    {
+        ReadLogs {
+            logs: Vec::new(alloc),
+            torn: Vec::new(alloc),
+        }
+    }
+
+    /// Reads the next log, under settings of this digest.
     fn read_next(
         &mut self,
         alloc: Global,
-        digests: &Digests,
-        bytes: Vec<u8>,
+        digest: &SettingsDigest,
+        bytes: &[u8],
     ) -> Result<(), AuditFault>
-        ensures read { OnOk result (ReadsOne (under digests.now) bytes.items
+        ensures read { OnOk result (ReadsOne (log_in digest.now bytes.now) (length bytes.now)
             (logs_seen self.old.logs.items) self.old.torn.items (logs_seen self.new.logs.items) self.new.torn.items) }
-        ensures refused { IfErr result (λ why. IsNoLog (under digests.now) bytes.items (length self.old.logs.items) why) }
+        ensures refused { IfErr result (λ why. IsNoLog (log_in digest.now bytes.now) (length self.old.logs.items) why) }
     {
         let place = self.logs.len();
-        let ReadLog { log, whole } = read_one(alloc, digests, place, bytes.as_slice())?;
+        let ReadLog { log, whole } = read_one(alloc, digest, place, bytes)?;
         self.push(log, bytes.len().saturating_sub(whole))?;
         Ok(())
     }
@@ -95,31 +155,62 @@ impl ReadLogs {
 
 /// Reads each of the logs, in order.
 fn read_logs(alloc: Global, digests: &Digests, logs: Vec<Vec<u8>>) -> Result<ReadLogs, AuditFault>
-    ensures logs { IfOk result (λ read. AreLogs (under digests.now) (bytes_of logs.items) (logs_seen read.logs.items)) }
+    ensures logs { IfOk result (λ read.
+        AreLogs (read_by (under digests.now)) (bytes_of logs.items) (logs_seen read.logs.items)) }
     ensures torn { IfOk result (λ read. read.torn.items ≡ torn_ends (under digests.now) (bytes_of logs.items)) }
-    ensures refused { IfErr result (λ why. AreNoLogs (under digests.now) (bytes_of logs.items) why) }
+    ensures refused { IfErr result (λ why. AreNoLogs (read_by (under digests.now)) (bytes_of logs.items) why) }
 {
-    let mut read = ReadLogs {
-        logs: Vec::new(alloc),
-        torn: Vec::new(alloc),
-    };
+    let mut read = ReadLogs::new(alloc);
     for bytes in logs {
-        read.read_next(alloc, digests, bytes)?;
+        let bytes = bytes.as_slice();
+        read.read_next(alloc, &digests.under(bytes), bytes)?;
     }
     Ok(read)
+}
+
+/// Reads each of the logs, in order; and what each begins with.
+fn read_each(
+    alloc: Global,
+    digests: &Digests,
+    logs: Vec<GivenLog>,
+) -> Result<(ReadLogs, Vec<Option<Vec<u8>>>), AuditFault>
+    ensures logs { IfOk result (λ r. AreLogs (read_turned digests.now) (given_of logs.items) (logs_seen r.0.logs.items)) }
+    ensures torn { IfOk result (λ r. r.0.torn.items ≡ map (torn_turned digests.now) (given_of logs.items)) }
+    ensures rests { IfOk result (λ r. rests_seen r.1.items ≡ map (λ (g : Given). g.rest) (given_of logs.items)) }
+    ensures refused { IfErr result (λ why. AreNoLogs (read_turned digests.now) (given_of logs.items) why) }
+{
+    let mut read = ReadLogs::new(alloc);
+    let mut rests = Vec::new(alloc);
+    for given in logs {
+        let GivenLog { rest, log } = given;
+        let bytes = log.as_slice();
+        read.read_next(alloc, &digests.turned(bytes_in(&rest), bytes), bytes)?;
+        rests.push(rest)?;
+    }
+    Ok((read, rests))
+}
+
+/// The bytes, where there are some.
+pub(crate) fn bytes_in(rest: &Option<Vec<u8>>) -> Option<&[u8]>
+    ensures { option_copied result ≡ option_map (λ bytes. bytes.items) rest.now }
+{
+    match rest {
+        Some(bytes) => Some(bytes.as_slice()),
+        None => None,
+    }
 }
 
 /// Reads one log, which stands at this place among those handed in.
 fn read_one(
     alloc: Global,
-    digests: &Digests,
+    digest: &SettingsDigest,
     place: usize,
     bytes: &[u8],
 ) -> Result<ReadLog, AuditFault>
-    ensures read { IfOk result (λ read. log_in (under digests.now bytes.now) bytes.now ≡ Ok (reading_seen read)) }
-    ensures refused { IfErr result (λ why. IsNoLog (under digests.now) bytes.now place why) }
+    ensures read { IfOk result (λ read. log_in digest.now bytes.now ≡ Ok (reading_seen read)) }
+    ensures refused { IfErr result (λ why. IsNoLog (log_in digest.now bytes.now) place why) }
 {
-    match read_log(alloc, &digests.under(bytes), bytes) {
+    match read_log(alloc, digest, bytes) {
         Ok(read) => Ok(read),
         Err(LogFault::OutOfMemory) => Err(AuditFault::OutOfMemory),
         Err(fault) => Err(AuditFault::Log { place, fault }),

@@ -1,12 +1,13 @@
 -- Logs that go on one behind another, as one log.
-use Rattle.std.specs.Prelude.{◌≡◌, ⊤, ℕ, ◌+◌, List, [], ◌∷◌, ◌++◌, length, Option, Some, None, Ok}
+use Rattle.std.specs.Prelude.{◌≡◌, ℕ, ◌+◌, ◌==◌, ◌&&◌, Bool, bytes_eq, List, [], ◌∷◌, ◌++◌, length, Option, Some, None, Ok}
 use Rattle.std.specs.Option.{option_copied}
 use Rattle.sha2.specs.Sha256.{sha256}
 use Rattle.claim_model.specs.Node.{Node}
+use Rattle.claim_model.specs.Nodes.{same_node}
 use Rattle.kept_logs.specs.Stamps.{Stamped}
 use Rattle.kept_logs.specs.Logs.{calls_text, kept_text, kept_in}
-use Rattle.kept_logs.specs.Rests.{Rest, rest_in}
-use Rattle.settings_digest.specs.Digests.{digest_in, turned_under}
+use Rattle.kept_logs.specs.Rests.{Rest, calls_before, rest_in}
+use Rattle.settings_digest.specs.Digests.{turned_in, turned_under}
 use Rattle.log_turning.specs.declared.joining.Part as value
 
 -- a log, and the rest that it begins with
@@ -17,6 +18,10 @@ pub record Part : Type 0 where
 abbrev pub part_seen : value.Part → Part
 part_seen p = record { rest = option_copied p.rest; log = p.log.now }
 
+-- what a log begins with is of these calls of the node, of which the last stand in these bytes
+abbrev pub are_these : Node → ℕ → List ℕ → Rest → Bool
+are_these node calls closed r = same_node r.node node && ((r.calls == calls) && bytes_eq r.closed (sha256 closed))
+
 -- a rest names these calls of the node, of which the last stand in these bytes
 pub record Names (node : Node) (calls : ℕ) (closed rest : List ℕ) : Type 0 where
   pub names : Rest
@@ -25,15 +30,14 @@ pub record Names (node : Node) (calls : ℕ) (closed rest : List ℕ) : Type 0 w
   pub count : names.calls ≡ calls
   pub digest : names.closed ≡ sha256 closed
 
--- a log goes on behind so many calls, of which the last stand in these bytes; the first log goes on behind none
-abbrev pub Follows : Node → ℕ → Option (List ℕ) → Option (List ℕ) → Type 0
-Follows node calls None None = ⊤
-Follows node calls None (Some rest) = ⊥
-Follows node calls (Some closed) None = ⊥
-Follows node calls (Some closed) (Some rest) = Names node calls closed rest
+-- a log goes on behind so many calls, of which the last stand in these bytes; the first log begins as all of them do
+abbrev pub Follows : Node → Option (List ℕ) → ℕ → Option (List ℕ) → Option (List ℕ) → Type 0
+Follows node begins calls None rest = rest ≡ begins
+Follows node begins calls (Some closed) None = ⊥
+Follows node begins calls (Some closed) (Some rest) = Names node calls closed rest
 
-abbrev pub GoesOn : Node → ℕ → Option (List ℕ) → Part → Type 0
-GoesOn node calls last p = Follows node calls last p.rest
+abbrev pub GoesOn : Node → Option (List ℕ) → ℕ → Option (List ℕ) → Part → Type 0
+GoesOn node begins calls last p = Follows node begins calls last p.rest
 
 -- a part is read as a log of this node with these records
 pub record IsPart (text : List ℕ) (node : Node) (p : Part) (calls : List Stamped) : Type 0 where
@@ -48,13 +52,13 @@ pub record IsPartBehind (text : List ℕ) (node : Node) (p : Part) (before : ℕ
   pub is : new ≡ old ++ calls_text 2 (before + 1) calls
 
 -- parts go on one behind another, behind so many calls, and have these records
-abbrev pub AreParts : List ℕ → Node → ℕ → Option (List ℕ) → List Part → List Stamped → Type 0
-AreParts text node before last [] calls = calls ≡ []
-AreParts text node before last (p ∷ more) calls =
-    GoesOn node before last p × ((own : List Stamped) × (behind : List Stamped) × (IsPart text node p own × (AreParts text node (before + length own) (Some p.log) more behind × (calls ≡ own ++ behind))))
+abbrev pub AreParts : List ℕ → Node → Option (List ℕ) → ℕ → Option (List ℕ) → List Part → List Stamped → Type 0
+AreParts text node begins before last [] calls = calls ≡ []
+AreParts text node begins before last (p ∷ more) calls =
+    GoesOn node begins before last p × ((own : List Stamped) × (behind : List Stamped) × (IsPart text node p own × (AreParts text node begins (before + length own) (Some p.log) more behind × (calls ≡ own ++ behind))))
 
--- bytes are the text of one log with all records of the parts, and what was noted in them
-pub record IsJoined (text : List ℕ) (node : Node) (parts : List Part) (joined : List ℕ) : Type 0 where
+-- bytes are the text of one log that begins so, with all records of the parts, and what was noted in them
+pub record IsJoined (text : List ℕ) (node : Node) (begins : Option (List ℕ)) (parts : List Part) (joined : List ℕ) : Type 0 where
   pub calls : List Stamped
-  pub parted : AreParts text node 0 None parts calls
-  pub is : joined ≡ kept_text (digest_in text) (record { node = node; calls = calls })
+  pub parted : AreParts text node begins (calls_before begins) None parts calls
+  pub is : joined ≡ kept_text (turned_in text begins) (record { node = node; calls = calls })

@@ -1,4 +1,5 @@
 -- In the order in which one explains them.
 pub mod Turned
 pub mod Joined
+pub mod Unjoined
 pub mod Files

@@ -1,14 +1,19 @@
 //! Logs that go on one behind another, joined as if none had been closed.
 
-ghost use Rattle.std.specs.Prelude.{◌≡◌, ℕ, List, IfOk, IsTrue, map};
+ghost use Rattle.std.specs.Prelude.{◌≡◌, ◌≢◌, ◌⊎◌, ◌↔◌, ℕ, List, IfErr, IfOk, IsTrue, map};
 ghost use Rattle.std.specs.Option.{option_copied};
-ghost use Rattle.sha2.specs.Sha256.{sha256};
 ghost use Rattle.world_setup.specs.Seen.{node_seen};
-ghost use Rattle.settings_digest.specs.Digests.{AreOf};
-ghost use Rattle.log_turning.specs.Joined.{GoesOn, IsJoined, IsPartBehind, Names, part_seen};
+ghost use Rattle.kept_logs.specs.RestSeen.{rest_seen};
+ghost use Rattle.kept_logs.specs.declared.fault.LogFault.TheVariants as LogFault;
+ghost use Rattle.settings_digest.specs.Digests.{AreOf, turned_in};
+ghost use Rattle.log_turning.specs.declared.fault.JoinFault.TheVariants as JoinFault;
+ghost use Rattle.log_turning.specs.Joined.{GoesOn, IsJoined, IsPartBehind, Names, are_these, part_seen};
+ghost use Rattle.log_turning.specs.Unjoined.{IsNoPart, IsUnjoined, SpellsNone};
 
 use crate::fault::JoinFault;
-use kept_logs::{LogFault, Rest, append_records, read_rest, write_log};
+use kept_logs::{
+    LogFault, Rest, SettingsDigest, append_records, calls_before, read_rest, write_log,
+};
 use node_log::{NodeLog, is_same_node};
 use settings_digest::Digests;
 use sha2::{Digest, Sha256};
@@ -25,8 +30,9 @@ pub struct Part<'a> {
     pub log: &'a [u8],
 }
 
-/// The logs of a node, in the order in which it made them, as one log that begins with the opening of the settings: all their calls.
-/// Each but the first begins with a rest that names the digest of the one before it, and how many calls there were.
+/// The logs of a node, in the order in which it made them, as one log, which begins as the first of them does: with this rest, or as
+/// the settings open the node. Each but the first begins with a rest that names the digest of the one before it, and how many calls
+/// there were.
 ///
 /// # Errors
 /// `Settings`, or of the first log that is refused why.
@@ -34,16 +40,26 @@ pub fn join_logs(
     alloc: Global,
     text: &[u8],
     node: Node,
+    begins: Option<&[u8]>,
     parts: &[Part<'_>],
 ) -> Result<Vec<u8>, JoinFault>
-    ensures { IfOk result (λ joined. IsJoined text.now (node_seen node) (map part_seen parts.now) joined.items) }
+    ensures joined { IfOk result (λ joined. IsJoined text.now (node_seen node) (option_copied begins.entry)
+        (map part_seen parts.now) joined.items) }
+    // The cause is true, and those before it do not stand.
+    ensures refused { IfErr result (λ why. IsUnjoined text.now (node_seen node) (option_copied begins.entry)
+        (map part_seen parts.now) why) }
 {
     let digests = digests_of(alloc, text)?;
-    let mut joined = write_log(alloc, &digests.said, &NodeLog::new(alloc, node))?;
+    let digest = digest_behind(&digests, begins);
+    let before = calls_before(alloc, begins)?;
+    let mut joined = write_log(alloc, &digest, &NodeLog::new(alloc, node))?;
     let mut calls: u64 = 0;
     let mut last: Option<&[u8]> = None;
     for (place, part) in parts.iter().enumerate() {
-        if !goes_on(alloc, node, calls, last, part)? {
+        let Some(all) = before.checked_add(calls) else {
+            return Err(JoinFault::OutOfMemory);
+        };
+        if !goes_on(alloc, node, begins, all, last, part)? {
             return Err(JoinFault::NotNext(place));
         }
         calls = append_part(alloc, &digests, node, part, place, calls, &mut joined)?;
@@ -54,7 +70,8 @@ pub fn join_logs(
 
 /// The digests of the settings that a text spells.
 fn digests_of(alloc: Global, text: &[u8]) -> Result<Digests, JoinFault>
-    ensures { IfOk result (λ digests. AreOf text.now digests) }
+    ensures of { IfOk result (λ digests. AreOf text.now digests) }
+    ensures refused { IfErr result (λ why. SpellsNone text.now why) }
 {
     match read_living_settings(alloc, text) {
         Ok(settings) => Ok(Digests::of(alloc, &settings, text)?),
@@ -63,23 +80,50 @@ fn digests_of(alloc: Global, text: &[u8]) -> Result<Digests, JoinFault>
     }
 }
 
-/// Whether a log goes on behind so many calls of a node, of which the last stand in these bytes: the first begins with no rest, and
-/// each later one with one that names the calls, and the digest of those bytes.
+/// The digest under which a log is written that begins so.
+fn digest_behind(digests: &Digests, begins: Option<&[u8]>) -> SettingsDigest
+    ensures { (text : List ℕ) → AreOf text digests.now → result ≡ turned_in text (option_copied begins.entry) }
+{
+    match begins {
+        None => digests.said,
+        Some(rest) => digests.said.behind(rest),
+    }
+}
+
+/// Whether a log goes on behind so many calls of a node, of which the last stand in these bytes: the first begins as all of them do,
+/// and each later one with a rest that names the calls, and the digest of those bytes.
 fn goes_on(
     alloc: Global,
     node: Node,
+    begins: Option<&[u8]>,
     calls: u64,
     last: Option<&[u8]>,
     part: &Part<'_>,
 ) -> Result<bool, AllocError>
-    ensures { IfOk result (λ yes. IsTrue yes
-        → GoesOn (node_seen node) calls (option_copied last.entry) (part_seen part.now)) }
+    ensures yes { IfOk result (λ yes. IsTrue yes
+        → GoesOn (node_seen node) (option_copied begins.entry) calls (option_copied last.entry) (part_seen part.now)) }
+    ensures no { IfOk result (λ yes.
+        GoesOn (node_seen node) (option_copied begins.entry) calls (option_copied last.entry) (part_seen part.now)
+        → IsTrue yes) }
 {
     match last {
-        None => Ok(part.rest.is_none()),
+        None => Ok(is_same_rest(part.rest, begins)),
         Some(closed) => match part.rest {
             Some(rest) => names(alloc, node, calls, closed, rest),
             None => Ok(false),
+        },
+    }
+}
+
+/// Whether a log begins with the same rest, or with none as well.
+fn is_same_rest(rest: Option<&[u8]>, begins: Option<&[u8]>) -> bool
+    ensures { IsTrue result ↔ (option_copied rest.entry ≡ option_copied begins.entry) }
+{
+    match rest {
+        None => begins.is_none(),
+        Some(rest) => match begins {
+            Some(begins) => rest == begins,
+            None => false,
         },
     }
 }
@@ -92,7 +136,8 @@ fn names(
     closed: &[u8],
     rest: &[u8],
 ) -> Result<bool, AllocError>
-    ensures { IfOk result (λ yes. IsTrue yes → Names (node_seen node) calls closed.now rest.now) }
+    ensures yes { IfOk result (λ yes. IsTrue yes → Names (node_seen node) calls closed.now rest.now) }
+    ensures no { IfOk result (λ yes. Names (node_seen node) calls closed.now rest.now → IsTrue yes) }
 {
     match read_rest(alloc, rest)? {
         Some(rest) => Ok(are_these(node, calls, closed, &rest)),
@@ -102,9 +147,7 @@ fn names(
 
 /// Whether what a log begins with is of these calls of the node, of which the last stand in these bytes.
 fn are_these(node: Node, calls: u64, closed: &[u8], rest: &Rest<'_>) -> bool
-    ensures own { IsTrue result → node_seen rest.now.node ≡ node_seen node }
-    ensures count { IsTrue result → rest.now.calls ≡ calls }
-    ensures digest { IsTrue result → rest.now.closed.now ≡ sha256 closed.now }
+    ensures { result ≡ are_these (node_seen node) calls closed.now (rest_seen rest.now) }
 {
     is_same_node(rest.node, node)
         && rest.calls == calls
@@ -121,8 +164,10 @@ fn append_part(
     before: u64,
     joined: &mut Vec<u8>,
 ) -> Result<u64, JoinFault>
-    ensures { (text : List ℕ) → AreOf text digests.now → IfOk result (λ calls.
+    ensures appended { (text : List ℕ) → AreOf text digests.now → IfOk result (λ calls.
         IsPartBehind text (node_seen node) (part_seen part.now) before joined.old.items joined.new.items calls) }
+    ensures refused { (text : List ℕ) → AreOf text digests.now → IfErr result (λ why.
+        IsNoPart text (node_seen node) (part_seen part.now) place why) }
 {
     let digest = digests.turned(part.rest, part.log);
     match append_records(alloc, &digest, part.log, before, joined) {
@@ -135,7 +180,16 @@ fn append_part(
                 None => Err(JoinFault::OutOfMemory),
             }
         }
-        Err(LogFault::OutOfMemory) => Err(JoinFault::OutOfMemory),
-        Err(fault) => Err(JoinFault::Log(place, fault)),
+        Err(fault) => Err(fault_at(place, fault)),
+    }
+}
+
+/// Why logs are not joined of which the one at this place is none by this fault.
+fn fault_at(place: usize, fault: LogFault) -> JoinFault
+    ensures { (result ≡ JoinFault.OutOfMemory) ⊎ ((fault ≢ LogFault.OutOfMemory) × (result ≡ JoinFault.Log place fault)) }
+{
+    match fault {
+        LogFault::OutOfMemory => JoinFault::OutOfMemory,
+        fault => JoinFault::Log(place, fault),
     }
 }

@@ -14,4 +14,6 @@ pub use files::{BEFORE_REST, part_of, rest_size, write_file};
 pub use joining::{Part, join_logs};
 pub use laws::{files_have_their_parts, turned_logs_go_on};
 pub use turning::{Turned, turn_log};
-pub use whole::{LogFile, WholeFault, closed_name, join_files, log_files, whole_log};
+pub use whole::{
+    LogBehind, LogFile, WholeFault, closed_name, join_files, log_behind, log_files, whole_log,
+};

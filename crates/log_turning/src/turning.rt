@@ -6,13 +6,12 @@ ghost use Rattle.std.specs.List.{AllByRecursion};
 ghost use Rattle.sha2.specs.Sha256.{sha256};
 ghost use Rattle.world_setup.specs.Seen.{node_seen};
 ghost use Rattle.claim_model.specs.Node as model;
-ghost use Rattle.kept_logs.specs.Rests.{calls_before};
 ghost use Rattle.node_service.specs.Lines.{line_kept};
 ghost use Rattle.node_service.specs.Serving.{after_line};
 ghost use Rattle.log_turning.specs.Turned.{IsClosed, IsEnd, IsNew, IsStarted, IsTurned, Serves, ServesOn};
 
 use crate::fault::TurnFault;
-use kept_logs::{Reference, Rest, read_rest, write_rest};
+use kept_logs::{Reference, Rest, calls_before, write_rest};
 use node_service::Service;
 use payer_book::HashKeys;
 use sha2::{Digest, Sha256};
@@ -206,19 +205,6 @@ fn records_of(alloc: Global, service: &mut Service, stays_up: bool) -> Result<Ve
         ask(alloc, service, b"stop")?;
     }
     Ok(Vec::from_slice(alloc, service.records())?)
-}
-
-/// How many calls were made before a log that begins with this rest.
-fn calls_before(alloc: Global, rest: Option<&[u8]>) -> Result<u64, AllocError>
-    ensures { IfOk result (λ calls. calls ≡ calls_before (option_copied rest.entry)) }
-{
-    let Some(bytes) = rest else {
-        return Ok(0);
-    };
-    match read_rest(alloc, bytes)? {
-        Some(rest) => Ok(rest.calls),
-        None => Ok(0),
-    }
 }
 
 /// The first bytes, so many where there are as many.

@@ -59,11 +59,55 @@ pub fn whole_log(rt: &HostRuntime, text: &[u8], path: &str) -> Result<Vec<u8>, W
     }
 }
 
+/// A log, and what it begins with, where it goes on behind closed ones.
+#[derive(Drop)]
+pub struct LogBehind {
+    /// What it begins with.
+    pub rest: Option<Vec<u8>>,
+    /// The log.
+    pub log: Vec<u8>,
+}
+
+/// The log in a file, and those that were closed before it as far back as they stand beside it, as one log, under the settings
+/// that the text spells; and what the first of them begins with.
+///
+/// # Errors
+/// A file could not be read, or the logs do not go on one behind another.
+pub fn log_behind(rt: &HostRuntime, text: &[u8], path: &str) -> Result<LogBehind, WholeFault> {
+    let alloc = rt.alloc();
+    let mut files = files_back(rt, path, Reach::There)?;
+    let rest = first_rest(alloc, files.as_slice())?;
+    let node = if files.len() > 1 {
+        node_of(alloc, files.as_slice())?
+    } else {
+        None
+    };
+    let log = match node {
+        Some(node) => join_behind(alloc, text, node, rest.as_deref(), files.as_slice())?,
+        None => last_log(alloc, &mut files)?,
+    };
+    Ok(LogBehind { rest, log })
+}
+
 /// The files of a node's logs, the newest first: each but the last begins with what the one behind it was closed with.
 ///
 /// # Errors
 /// A file could not be read.
 pub fn log_files(rt: &HostRuntime, path: &str) -> Result<Vec<LogFile>, WholeFault> {
+    files_back(rt, path, Reach::All)
+}
+
+/// How far back the logs of a node are read.
+#[derive(Clone, Copy, PartialEq, Eq)]
+enum Reach {
+    /// To the first.
+    All,
+    /// As far as their files are there.
+    There,
+}
+
+/// The files of a node's logs, the newest first, so far back.
+fn files_back(rt: &HostRuntime, path: &str, reach: Reach) -> Result<Vec<LogFile>, WholeFault> {
     let alloc = rt.alloc();
     let mut files = Vec::new(alloc);
     let mut wanted = Some(format!(in alloc; "{path}")?);
@@ -73,12 +117,30 @@ pub fn log_files(rt: &HostRuntime, path: &str) -> Result<Vec<LogFile>, WholeFaul
         };
         let bytes = read_log_file(rt, name.as_str())?;
         wanted = match rest_of(alloc, bytes.as_slice())? {
-            Some(rest) => Some(closed_name(alloc, path, rest.calls)?),
+            Some(rest) => file_before(rt, path, rest.calls, reach)?,
             None => None,
         };
         put(&mut files, LogFile { name, bytes })?;
     }
     Ok(files)
+}
+
+/// The file of the log that was closed with so many calls, where it is read.
+fn file_before(
+    rt: &HostRuntime,
+    path: &str,
+    calls: u64,
+    reach: Reach,
+) -> Result<Option<String>, WholeFault> {
+    let name = closed_name(rt.alloc(), path, calls)?;
+    if reach == Reach::All {
+        return Ok(Some(name));
+    }
+    match fs::exists(rt, name.as_str()) {
+        Ok(true) => Ok(Some(name)),
+        Ok(false) => Ok(None),
+        Err(error) => Err(WholeFault::File(name, error)),
+    }
 }
 
 /// The logs of a node in these files, the newest first, as one log.
@@ -91,15 +153,47 @@ pub fn join_files(
     node: Node,
     files: &[LogFile],
 ) -> Result<Vec<u8>, WholeFault> {
+    join_behind(alloc, text, node, None, files)
+}
+
+/// The same, where the first of them begins so.
+fn join_behind(
+    alloc: Global,
+    text: &[u8],
+    node: Node,
+    begins: Option<&[u8]>,
+    files: &[LogFile],
+) -> Result<Vec<u8>, WholeFault> {
     let mut parts: Vec<Part<'_>> = Vec::new(alloc);
     for file in files.iter().rev() {
         put(&mut parts, part_of(file.bytes.as_slice()))?;
     }
-    match join_logs(alloc, text, node, parts.as_slice()) {
+    match join_logs(alloc, text, node, begins, parts.as_slice()) {
         Ok(joined) => Ok(joined),
         Err(JoinFault::OutOfMemory) => Err(WholeFault::OutOfMemory),
         Err(fault) => Err(WholeFault::Logs(name_of(alloc, files, fault)?, fault)),
     }
+}
+
+/// A copy of what the last of these files begins with.
+fn first_rest(alloc: Global, files: &[LogFile]) -> Result<Option<Vec<u8>>, AllocError> {
+    let Some(file) = files.last() else {
+        return Ok(None);
+    };
+    match part_of(file.bytes.as_slice()).rest {
+        Some(rest) => Ok(Some(Vec::from_slice(alloc, rest)?)),
+        None => Ok(None),
+    }
+}
+
+/// The log in the last of these files, whose bytes are taken.
+fn last_log(alloc: Global, files: &mut Vec<LogFile>) -> Result<Vec<u8>, AllocError> {
+    let bytes = last_bytes(alloc, files);
+    let part = part_of(bytes.as_slice());
+    if part.rest.is_none() {
+        return Ok(bytes);
+    }
+    Ok(Vec::from_slice(alloc, part.log)?)
 }
 
 /// The node that the first of these files names, where the log in it goes on behind closed ones.

@@ -8,7 +8,8 @@ use Rattle.world_setup.specs.declared.world_fault.WorldFault.{WorldFault}
 use Rattle.world_settings.specs.Document.{living_in}
 use Rattle.log_audit.specs.Judged.{IsTold}
 use Rattle.log_audit.specs.Given.{IsRead}
-use Rattle.log_audit.specs.Refused.{SpellsNoWorld, RefusesLog}
+use Rattle.log_audit.specs.Refused.{SpellsNoWorld, IsRefused}
+use Rattle.log_audit.specs.declared.fault.AuditFault.TheVariants.{Log}
 use Rattle.kept_logs.specs.declared.fault.LogFault.{LogFault}
 use Rattle.node_handle.specs.declared.refusal.Refusal.{Refusal}
 use Rattle.node_handle.specs.declared.refusal.Refusal.TheVariants.{OutOfMemory, Settings, NotALog, NoRun, ShortBuffer}
@@ -57,7 +58,7 @@ HasNoSettings text = (living_in text ≡ None) ⊎ ((why : WorldFault) × Spells
 pub record HasNoLog (text : List ℕ) (pieces : List (List ℕ)) (why : Refusal) (place : ℕ) : Type 0 where
   pub fault : LogFault
   pub is : why ≡ refusal_of_log fault
-  pub first : RefusesLog text pieces place fault
+  pub first : IsRefused text pieces (Log place fault)
 
 -- pieces of bytes are not judged: memory is refused, then the settings, then the first piece that is no log
 abbrev pub RefusesRead : List ℕ → List (List ℕ) → Refusal → ℕ → ℕ → Type 0

@@ -1,6 +1,6 @@
 -- Calls that a node makes one after another, up to the first that it does not.
 use Rattle.std.proofs.Common.{◌≡◌, ℕ, suc, ◌+◌, List, [], ◌∷◌, refl, sym, ap, ◌∙◌, subst, arith}
-use Rattle.std.specs.Prelude.{Option, Some, None, MatchOption, Ok}
+use Rattle.std.specs.Prelude.{Option, None, Ok}
 use Rattle.claim_model.specs.Context.{Context}
 use Rattle.claim_model.specs.Node.{Outcome, Done, Refused}
 use Rattle.claim_model.specs.Nodes.{AnyNode, node_step}
@@ -24,11 +24,6 @@ leads_step ctx s after t r calls all passed e f = record {
 
 pub breaks_here : (ctx : Context) (s t : AnyNode) (r : Logged) (calls all : List Logged) (passed : ℕ) → DoesNot ctx s r → Leads ctx s (r ∷ calls) t all passed → BreaksAt ctx t all passed
 breaks_here ctx s t r calls all passed n f = f.breaks 0 passed (omega arith) n
-
--- what is said of no misfit, where there is none
-pub does_it : {A : Type 0} (found : Option A) (P : Type 0) (Q : A → Type 0) → ((x : A) → found ≡ Some x → ⊥) → MatchOption found P Q → P
-does_it None P Q n h = h
-does_it (Some x) P Q n h = absurd (n x refl)
 
 -- calls that fit are made
 made_by : (ctx : Context) (s : AnyNode) (r : Logged) (more : List Logged) (o : Outcome AnyNode) → node_step ctx s r.call ≡ o → ((after : AnyNode) → Fits ctx after more → Makes ctx after more) → FitsBy (λ after. Fits ctx after more) r.sent o → Makes ctx s (r ∷ more)

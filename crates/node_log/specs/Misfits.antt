@@ -1,5 +1,5 @@
 -- The first call of a log that its node does not make.
-use Rattle.std.specs.Prelude.{◌≡◌, ℕ, zero, suc, List, [], ◌∷◌, map, Option, Some, None, Result, Ok, Err}
+use Rattle.std.specs.Prelude.{◌≡◌, ℕ, zero, suc, List, [], ◌∷◌, Option, Some, None, Result, Ok, Err}
 use Rattle.bin_routes.specs.Table.{routes_of}
 use Rattle.claim_model.specs.Context.{Context}
 use Rattle.claim_model.specs.Bytes.{bytes_with}
@@ -7,15 +7,10 @@ use Rattle.claim_model.specs.Settings.{opening}
 use Rattle.claim_model.specs.Node.{Node, Done}
 use Rattle.claim_model.specs.Nodes.{AnyNode, node_step, node_at}
 use Rattle.claim_model.specs.Logs.{Logged, replay, Makes}
-use Rattle.world_setup.specs.declared.call.Sent.{Sent}
-use Rattle.world_setup.specs.Seen.{sent_seen, settings_seen}
+use Rattle.world_setup.specs.Seen.{settings_seen}
 use Rattle.world_setup.specs.declared.settings.WorldSettings.{WorldSettings}
 use Rattle.node_log.specs.Fits.{FitsBy, Fits}
 use Rattle.node_log.specs.declared.misfit.FirstMisfit.{FirstMisfit}
-
--- the same was sent: to the same nodes in the same order, with the same bytes
-abbrev pub SentAlike : List Sent → List Sent → Type 0
-SentAlike made kept = map sent_seen made ≡ map sent_seen kept
 
 -- a node makes a call as the log has it, and is then in this state
 abbrev pub Does : Context → AnyNode → Logged → AnyNode → Type 0
@@ -35,11 +30,6 @@ BreaksAt ctx s (r ∷ more) (suc place) = FitsBy (λ after. BreaksAt ctx after m
 abbrev pub IsFirst : Context → AnyNode → List Logged → Option FirstMisfit → Type 0
 IsFirst ctx s calls None = Fits ctx s calls
 IsFirst ctx s calls (Some first) = BreaksAt ctx s calls first.place
-
--- the same of a node that may not be there: it has none then
-abbrev pub IsFirstOf : Context → Option AnyNode → List Logged → Option FirstMisfit → Type 0
-IsFirstOf ctx None calls found = found ≡ None
-IsFirstOf ctx (Some s) calls found = IsFirst ctx s calls found
 
 -- from this state a node makes all calls and is then this one; or it breaks at the first that it does not make
 abbrev pub IsMadeFrom : Context → AnyNode → List Logged → Result AnyNode FirstMisfit → Type 0

@@ -12,9 +12,9 @@ mod same;
 mod there;
 
 pub use log::NodeLog;
-pub use made::{fits, makes};
+pub use made::makes;
 pub use making::{make_log, make_log_from};
-pub use misfit::{FirstMisfit, Misfit, first_misfit};
+pub use misfit::{FirstMisfit, fits};
 pub use record::Record;
 pub use replay::replay_log;
 pub use same::is_same_node;

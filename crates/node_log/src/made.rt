@@ -1,8 +1,8 @@
-//! Whether a log fits its node.
+//! Whether a node makes a call.
 
 ghost use Rattle.std.specs.Prelude.{IfOk};
 ghost use Rattle.claim_model.specs.Bytes.{bytes_with};
-ghost use Rattle.node_log.specs.Fits.{Fits, Tells, TellsMade};
+ghost use Rattle.node_log.specs.Fits.{TellsMade};
 
 use crate::record::Record;
 use crate::same::is_same_sent;
@@ -10,23 +10,6 @@ use bin_routes::Routes;
 use node_state::NodeState;
 use std::alloc::{AllocError, Global};
 use world_setup::Fault;
-
-/// Whether a node accepts these calls, one after another, and sends with each what its record has.
-pub fn fits(
-    alloc: Global,
-    routes: &Routes,
-    node: &mut NodeState,
-    records: &[Record],
-) -> Result<bool, AllocError>
-    ensures { IfOk result (λ yes. Tells yes (Fits (bytes_with routes.now) node.old records.now)) }
-{
-    for record in records {
-        if !makes(alloc, routes, node, record)? {
-            return Ok(false);
-        }
-    }
-    Ok(true)
-}
 
 /// Whether a node accepts the call of a record, and sends what the record has. Where it does not, the node may have changed.
 ///

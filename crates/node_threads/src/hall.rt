@@ -1,9 +1,10 @@
 //! All nodes of a running system.
 
-ghost use Rattle.std.specs.Prelude.{◌≡◌, length, vec_len, is_some, IfOk};
+ghost use Rattle.std.specs.Prelude.{◌≡◌, ◌≤◌, length, vec_len, is_some, IfOk};
 ghost use Rattle.std.specs.Arc.{arc_value};
 ghost use Rattle.node_log.specs.There.{is_there, is_numbered};
 ghost use Rattle.world_setup.specs.Seen.{node_seen, settings_seen};
+ghost use Rattle.node_threads.specs.Halls.{kind_count, kind_node};
 
 use crate::station::Station;
 use node_logged::Held;
@@ -45,9 +46,9 @@ impl Hall {
     ) -> Result<Hall, AllocError>
         ensures { IfOk result (λ hall. hall ≡ arc_value shared) }
     {
-        let pharmacies = pharmacies(rt, alloc, &shared)?;
-        let switches = switches(rt, alloc, &shared)?;
-        let payers = payers(rt, alloc, &shared)?;
+        let pharmacies = stations(rt, alloc, &shared, NodeKind::Pharmacy)?;
+        let switches = stations(rt, alloc, &shared, NodeKind::Switch)?;
+        let payers = stations(rt, alloc, &shared, NodeKind::Payer)?;
         Ok(Hall {
             alloc,
             shared,
@@ -183,56 +184,54 @@ fn add_nodes(nodes: &mut Vec<Held>, stations: Vec<Station>) -> Result<(), AllocE
     Ok(())
 }
 
-/// The pharmacies of the settings.
-#[tactic(auto, using(crate::proofs::Opening::pharmacy_opens))]
-fn pharmacies<R: Wait>(
+/// The stations of all nodes of a kind.
+#[tactic(auto, using(crate::proofs::Opening::kind_opens))]
+fn stations<R: Wait>(
     rt: &R,
     alloc: Global,
     shared: &Arc<CheckedSettings>,
+    kind: NodeKind,
 ) -> Result<Vec<Station>, AllocError>
-    ensures { IfOk result (λ stations. vec_len stations ≡ vec_len (arc_value shared.now).pharmacies) }
+    ensures { IfOk result (λ stations. vec_len stations ≡ kind_count (arc_value shared.now) kind) }
 {
     let mut stations = Vec::new(alloc);
-    let count = shared.settings().pharmacies.len();
-    for place in 0..count {
-        let node = Node::Pharmacy(place as u16 + 1);
+    for place in 0..kind.count(shared) {
+        let node = kind.node(place as u16 + 1);
         stations.push(Station::opening(rt, alloc, shared, node)?)?;
     }
     Ok(stations)
 }
 
-/// The switches of the settings.
-#[tactic(auto, using(crate::proofs::Opening::switch_opens))]
-fn switches<R: Wait>(
-    rt: &R,
-    alloc: Global,
-    shared: &Arc<CheckedSettings>,
-) -> Result<Vec<Station>, AllocError>
-    ensures { IfOk result (λ stations. vec_len stations ≡ vec_len (arc_value shared.now).switches) }
-{
-    let mut stations = Vec::new(alloc);
-    let count = shared.settings().switches.len();
-    for place in 0..count {
-        let node = Node::Switch(place as u16 + 1);
-        stations.push(Station::opening(rt, alloc, shared, node)?)?;
-    }
-    Ok(stations)
+/// A kind of nodes.
+#[derive(Clone, Copy)]
+enum NodeKind {
+    Pharmacy,
+    Switch,
+    Payer,
 }
 
-/// The payers of the settings.
-#[tactic(auto, using(crate::proofs::Opening::payer_opens))]
-fn payers<R: Wait>(
-    rt: &R,
-    alloc: Global,
-    shared: &Arc<CheckedSettings>,
-) -> Result<Vec<Station>, AllocError>
-    ensures { IfOk result (λ stations. vec_len stations ≡ vec_len (arc_value shared.now).payers) }
-{
-    let mut stations = Vec::new(alloc);
-    let count = shared.settings().payers.len();
-    for place in 0..count {
-        let node = Node::Payer(place as u16 + 1);
-        stations.push(Station::opening(rt, alloc, shared, node)?)?;
+impl NodeKind {
+    /// How many nodes of this kind there are.
+    fn count(self, settings: &CheckedSettings) -> usize
+        ensures is { result ≡ kind_count settings.now self }
+        ensures few { result ≤ 65535 }
+    {
+        let settings = settings.settings();
+        match self {
+            NodeKind::Pharmacy => settings.pharmacies.len(),
+            NodeKind::Switch => settings.switches.len(),
+            NodeKind::Payer => settings.payers.len(),
+        }
     }
-    Ok(stations)
+
+    /// The node of this kind and number.
+    fn node(self, number: u16) -> Node
+        ensures { node_seen result ≡ kind_node self number }
+    {
+        match self {
+            NodeKind::Pharmacy => Node::Pharmacy(number),
+            NodeKind::Switch => Node::Switch(number),
+            NodeKind::Payer => Node::Payer(number),
+        }
+    }
 }

@@ -1,24 +1,17 @@
 use Rattle.std.proofs.Common.{◌≡◌, ◌++◌, Bool, List, ap, ◌∙◌}
 use Rattle.std.specs.List.{list_all}
 use Rattle.bin_routes.specs.Table.{routes_of}
-use Rattle.claim_model.specs.Bytes.{bytes_with}
-use Rattle.world_setup.specs.Seen.{settings_seen}
-use Rattle.node_log.specs.LogSeen.{logs_seen}
 use Rattle.log_audit.specs.AloneSeen.{lone_seen}
 use Rattle.log_audit.specs.Lones.{Lone, makes}
 use Rattle.log_audit.specs.LoneTelling.{lones_of, lones_text, all_make}
 use Rattle.log_audit.specs.Telling.{context_for}
 use Rattle.log_audit.proofs.Listing.{all_seen}
-use Rattle.log_audit.proofs.LoneMaking.{made_is}
 use Rattle.log_audit.proofs.lone_report.put_alone.Goals as goal
 
 pub returns-in-Ok-clause-made : goal.returns-in-Ok-clause-made
 returns-in-Ok-clause-made g c =
-    let a = c.args.audited.now in
     (rw c.as_slice.ensures.value at c.all_made-made.ensures)
-    ∙ (all_seen lone_seen makes c.in_ok-lones.lones.items
-    ∙ (ap (λ (lones : List Lone). list_all makes lones) c.in_ok-lones.ensures
-    ∙ made_is (bytes_with (routes_of a.settings.routes.items)) (settings_seen a.settings) a.torn.items 0 (logs_seen a.logs.items)))
+    ∙ (all_seen lone_seen makes c.in_ok-lones.lones.items ∙ ap (λ (lones : List Lone). list_all makes lones) c.in_ok-lones.ensures)
 
 pub returns-in-Ok-clause-text : goal.returns-in-Ok-clause-text
 returns-in-Ok-clause-text g c =

@@ -4,7 +4,7 @@ use Rattle.std.specs.Global.{Vec}
 use Rattle.std.specs.Vec.Iter.{into_iter_items}
 use Rattle.node_log.specs.LogSeen.{logs_seen}
 use Rattle.settings_digest.specs.Digests.{under}
-use Rattle.log_audit.specs.Given.{AreLogs, bytes_of, torn_ends}
+use Rattle.log_audit.specs.Given.{AreLogs, bytes_of, read_by, torn_end, torn_ends}
 use Rattle.log_audit.proofs.Refusing.{no_log_here}
 use Rattle.log_audit.proofs.LogReading.{logs_on, torn_on}
 use Rattle.log_audit.proofs.reading.read_logs.Goals as goal
@@ -18,6 +18,9 @@ loop-bytes-preserved c =
     let at = c.loop-bytes in
     let x = c.in-Some.bytes in
     let steps : into_iter_items at.bytes-iterator ≡ x ∷ into_iter_items c.next.new.self = c.in-Some.ensures.steps.0 in
+    let seen = λ (bytes : Vec ℕ). bytes.items in
+    let read = read_by (under c.args.digests.now) in
+    let one = rw (c.under.ensures, c.as_slice-bytes.ensures.value) at c.in_ok-read_next.ensures.read in
     record {
       all = append_assoc at.yielded (x ∷ []) _ ∙ rw (← steps) at.invariant.all;
       left =
@@ -25,8 +28,8 @@ loop-bytes-preserved c =
           let gone = c.in-Some.ensures.steps.1 in
           let short = ap length steps in
           omega arith;
-      logs = logs_on (under c.args.digests.now) at.yielded x _ _ _ _ c.in_ok-read_next.ensures.read at.invariant.logs;
-      torn = torn_on (under c.args.digests.now) at.yielded x _ _ _ _ c.in_ok-read_next.ensures.read at.invariant.torn;
+      logs = logs_on seen read at.yielded x _ _ _ _ _ one at.invariant.logs;
+      torn = torn_on seen (torn_end (under c.args.digests.now)) at.yielded x _ _ _ _ _ _ one refl at.invariant.torn;
     }
 
 pub returns-clause-logs : goal.returns-clause-logs
@@ -35,7 +38,7 @@ returns-clause-logs c =
     let none = c.in-None.ensures.steps in
     let empty : into_iter_items at.bytes-iterator ≡ [] = nothing_left _ (sym at.invariant.left ∙ none.0) in
     let all = sym (append-nil at.yielded) ∙ rw empty at at.invariant.all ∙ c.into_iter-bytes-iterator.ensures.into_iter_gives.0 in
-    subst (λ (xs : List (Vec ℕ)). AreLogs (under c.args.digests.now) (bytes_of xs) (logs_seen at.read.logs.items)) all at.invariant.logs
+    subst (λ (xs : List (Vec ℕ)). AreLogs (read_by (under c.args.digests.now)) (bytes_of xs) (logs_seen at.read.logs.items)) all at.invariant.logs
 
 pub returns-clause-torn : goal.returns-clause-torn
 returns-clause-torn c =
@@ -51,5 +54,5 @@ returns-in_err-read_next-clause-refused c =
     let x = c.in-Some.bytes in
     let steps : into_iter_items at.bytes-iterator ≡ x ∷ into_iter_items c.next.new.self = c.in-Some.ensures.steps.0 in
     let p = err_from_is_err_and c.from_residual.result c.from_residual.ensures.1 in
-    rw (p.1, p.2) (no_log_here (under c.args.digests.now) at.yielded x (into_iter_items c.next.new.self) c.args.logs.items at.read.logs.items c.in_err-read_next.field-0.0
-    (rw (← steps) at.invariant.all ∙ c.into_iter-bytes-iterator.ensures.into_iter_gives.0) at.invariant.logs c.in_err-read_next.ensures.refused)
+    rw (p.1, p.2) (no_log_here (λ (bytes : Vec ℕ). bytes.items) (read_by (under c.args.digests.now)) at.yielded x (into_iter_items c.next.new.self) c.args.logs.items at.read.logs.items c.in_err-read_next.field-0.0
+    (rw (← steps) at.invariant.all ∙ c.into_iter-bytes-iterator.ensures.into_iter_gives.0) at.invariant.logs (rw (c.under.ensures, c.as_slice-bytes.ensures.value) at c.in_err-read_next.ensures.refused))

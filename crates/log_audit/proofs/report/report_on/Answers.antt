@@ -1,4 +1,3 @@
-use Rattle.std.proofs.Common.{[], refl}
 use Rattle.log_audit.specs.Telling.{IsWritten}
 use Rattle.log_audit.proofs.Writing.{put_whole}
 use Rattle.log_audit.proofs.report.report_on.Goals as goal
