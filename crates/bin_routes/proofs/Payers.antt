@@ -1,16 +1,22 @@
 -- The payers of rows without a fault are within the number of payers.
-use Rattle.std.proofs.Common.{◌≡◌, ℕ, ◌≤◌, Bool, true, false, not, ◌&&◌, cond, leb, List, [], ◌∷◌, ◌++◌, map, length, Option, Some, None, IfSome, is_none, option_map, refl}
+use Rattle.std.proofs.Common.{◌≡◌, ℕ, ◌≤◌, Bool, true, false, not, ◌&&◌, cond, leb, List, [], ◌∷◌, ◌++◌, map, filter, length, Option, Some, None, IfSome, is_none, option_map, refl, ap, ◌∙◌, append-nil}
 use Rattle.std.specs.declared.cmp.Ordering.{Ordering}
 use Rattle.std.specs.Ordering.{eq_by_cmp}
 use Rattle.std.specs.Option.{option_or}
-use Rattle.std.specs.List.{filter_map, cons_option}
+use Rattle.std.specs.Prelude.{find as first}
+use Rattle.std.specs.Str.{bytes_eq}
+use Rattle.std.specs.List.{filter_map, cons_option, AllByRecursion}
+use Rattle.std.proofs.lemmas.List.{map-append}
+use Rattle.std.proofs.lemmas.List.Elements.{filter_map-append, filter-append}
+use Rattle.bin_routes.specs.Key.{RouteKey}
+use Rattle.bin_routes.specs.Providers.{has_provider}
 use Rattle.std.specs.FinMap.{find, get, from_entries, get-from_entries}
 use Rattle.std.proofs.lemmas.Bool.{and_parts, leb-true}
 use Rattle.bin_routes.specs.declared.fault.RoutesFault.{RoutesFault}
 use Rattle.bin_routes.specs.declared.fault.RoutesFault.TheVariants.{BadBin, NoSuchPayer, BadPcn}
-use Rattle.bin_routes.specs.Row.{Row, is_bin, has_pcn, filled_row}
+use Rattle.bin_routes.specs.Row.{Row, is_bin, has_pcn, filled_row, same_pcn}
 use Rattle.bin_routes.specs.Fault.{is_payer, text_fault, row_fault, is_taken, fault_behind, first_fault}
-use Rattle.bin_routes.specs.Table.{bin_cmp, processor_cmp, exact_entry, other_entry, routes_of, payer_at}
+use Rattle.bin_routes.specs.Table.{RouteMaps, bin_cmp, processor_cmp, is_ranged, exact_entry, other_entry, routes_of, payer_at, fits, ranged_payer, payer_of, IsForOthers}
 use Rattle.bin_routes.proofs.Maps.{processors_total, bins_total}
 
 abbrev pub IsAmong : ℕ → ℕ → Type 0
@@ -51,21 +57,23 @@ have_payers payers earlier (row ∷ rows) e =
     let text = first_none (text_fault payers (length earlier) row) _ here.0 in
     (payer_passed payers (length earlier) row text.0, have_payers payers (earlier ++ row ∷ []) rows here.1)
 
-exact_put : (payers : ℕ) (bin : List ℕ) (payer : ℕ) (pcn : Option (List ℕ)) (rest : List ((List ℕ × List ℕ) × ℕ)) → IsAmong payers payer → LeadTo payers rest → LeadTo payers (cons_option (option_map (λ p. ((bin, p), payer)) pcn) rest)
-exact_put payers bin payer None rest h g = g
-exact_put payers bin payer (Some p) rest h g = (h, g)
+exact_put : (payers : ℕ) (bin : List ℕ) (payer : ℕ) (pcn : Option (List ℕ)) (ranged : Bool) (rest : List ((List ℕ × List ℕ) × ℕ)) → IsAmong payers payer → LeadTo payers rest → LeadTo payers (cons_option (cond ranged None (option_map (λ p. ((bin, p), payer)) pcn)) rest)
+exact_put payers bin payer pcn true rest h g = g
+exact_put payers bin payer None false rest h g = g
+exact_put payers bin payer (Some p) false rest h g = (h, g)
 
 exact_lead : (payers : ℕ) (rows : List Row) → HavePayers payers rows → LeadTo payers (filter_map exact_entry (map filled_row rows))
 exact_lead payers [] h = tt
-exact_lead payers (row ∷ rows) h = exact_put payers row.bin row.payer (filled_row row).pcn (filter_map exact_entry (map filled_row rows)) h.0 (exact_lead payers rows h.1)
+exact_lead payers (row ∷ rows) h = exact_put payers row.bin row.payer (filled_row row).pcn (is_ranged row) (filter_map exact_entry (map filled_row rows)) h.0 (exact_lead payers rows h.1)
 
-other_put : (payers : ℕ) (bin : List ℕ) (payer : ℕ) (pcn : Option (List ℕ)) (rest : List (List ℕ × ℕ)) → IsAmong payers payer → LeadTo payers rest → LeadTo payers (cons_option (cond (is_none pcn) (Some (bin, payer)) None) rest)
-other_put payers bin payer None rest h g = (h, g)
-other_put payers bin payer (Some p) rest h g = g
+other_put : (payers : ℕ) (bin : List ℕ) (payer : ℕ) (pcn : Option (List ℕ)) (ranged : Bool) (rest : List (List ℕ × ℕ)) → IsAmong payers payer → LeadTo payers rest → LeadTo payers (cons_option (cond ranged None (cond (is_none pcn) (Some (bin, payer)) None)) rest)
+other_put payers bin payer pcn true rest h g = g
+other_put payers bin payer None false rest h g = (h, g)
+other_put payers bin payer (Some p) false rest h g = g
 
 other_lead : (payers : ℕ) (rows : List Row) → HavePayers payers rows → LeadTo payers (filter_map other_entry (map filled_row rows))
 other_lead payers [] h = tt
-other_lead payers (row ∷ rows) h = other_put payers row.bin row.payer (filled_row row).pcn (filter_map other_entry (map filled_row rows)) h.0 (other_lead payers rows h.1)
+other_lead payers (row ∷ rows) h = other_put payers row.bin row.payer (filled_row row).pcn (is_ranged row) (filter_map other_entry (map filled_row rows)) h.0 (other_lead payers rows h.1)
 
 found_leads : {K : Type 0} (R : K → K → Ordering) (payers : ℕ) (q : K) (es : List (K × ℕ)) → LeadTo payers es → IfSome (find R q es) (IsAmong payers)
 found_leads R payers q [] h = tt
@@ -79,10 +87,92 @@ either : (payers : ℕ) (a b : Option ℕ) → IfSome a (IsAmong payers) → IfS
 either payers None b h g = g
 either payers (Some x) b h g = h
 
+exact_leads : (payers : ℕ) (rows : List Row) (bin pcn : List ℕ) → HavePayers payers rows → IfSome (get (from_entries {R = processor_cmp} (filter_map exact_entry (map filled_row rows))) (bin, pcn)) (IsAmong payers)
+exact_leads payers rows bin pcn have =
+    rw (get-from_entries processors_total (filter_map exact_entry (map filled_row rows)) (bin, pcn)) (found_leads processor_cmp payers (bin, pcn) (filter_map exact_entry (map filled_row rows)) (exact_lead payers rows have))
+
+other_leads : (payers : ℕ) (rows : List Row) (bin : List ℕ) → HavePayers payers rows → IfSome (get (from_entries {R = bin_cmp} (filter_map other_entry (map filled_row rows))) bin) (IsAmong payers)
+other_leads payers rows bin have =
+    rw (get-from_entries bins_total (filter_map other_entry (map filled_row rows)) bin) (found_leads bin_cmp payers bin (filter_map other_entry (map filled_row rows)) (other_lead payers rows have))
+
+-- rows for some providers alone
+
+first_leads : (payers : ℕ) (test : Row → Bool) (b : Bool) (r : Row) (rest : List Row) → IsAmong payers r.payer → IfSome (option_map (λ (row : Row). row.payer) (first test rest)) (IsAmong payers)
+    → IfSome (option_map (λ (row : Row). row.payer) (cond b (Some r) (first test rest))) (IsAmong payers)
+first_leads payers test true r rest h g = h
+first_leads payers test false r rest h g = g
+
+kept_leads : (payers : ℕ) (test : Row → Bool) (b : Bool) (r : Row) (rest : List Row) → IsAmong payers r.payer → IfSome (option_map (λ (row : Row). row.payer) (first test rest)) (IsAmong payers)
+    → IfSome (option_map (λ (row : Row). row.payer) (first test (cond b (r ∷ rest) rest))) (IsAmong payers)
+kept_leads payers test true r rest h g = first_leads payers test (test r) r rest h g
+kept_leads payers test false r rest h g = g
+
+ranged_leads : (payers : ℕ) (test : Row → Bool) (rows : List Row) → HavePayers payers rows → IfSome (option_map (λ (row : Row). row.payer) (first test (filter is_ranged (map filled_row rows)))) (IsAmong payers)
+ranged_leads payers test [] h = tt
+ranged_leads payers test (r ∷ rs) h = kept_leads payers test (is_ranged (filled_row r)) (filled_row r) (filter is_ranged (map filled_row rs)) h.0 (ranged_leads payers test rs h.1)
+
+pub ranged_within : (payers : ℕ) (rows : List Row) (key : RouteKey) → first_fault payers rows ≡ None → IfSome (payer_of (routes_of rows) key) (IsAmong payers)
+unfolding first_fault payer_of routes_of
+ranged_within payers rows key none =
+    let have = have_payers payers [] rows none in
+    either payers (ranged_payer (filter is_ranged (map filled_row rows)) (Some key.pcn) key) _ (ranged_leads payers (fits (Some key.pcn) key) rows have)
+    (either payers (get (from_entries {R = processor_cmp} (filter_map exact_entry (map filled_row rows))) (key.bin, key.pcn)) _ (exact_leads payers rows key.bin key.pcn have)
+    (either payers (ranged_payer (filter is_ranged (map filled_row rows)) None key) _ (ranged_leads payers (fits None key) rows have) (other_leads payers rows key.bin have)))
+
+pub ranged_without : (maps : RouteMaps) (key : RouteKey) → maps.ranged ≡ [] → payer_of maps key ≡ payer_at maps key.bin key.pcn
+unfolding payer_of payer_at
+ranged_without maps key e =
+    ap (λ (rows : List Row). option_or (ranged_payer rows (Some key.pcn) key) (option_or (get maps.exact (key.bin, key.pcn)) (option_or (ranged_payer rows None key) (get maps.others key.bin)))) e
+
+-- rows for other providers, behind the others
+
+not_fit : (pcn : Option (List ℕ)) (key : RouteKey) (row : Row) → has_provider row.providers key.qualifier key.provider ≡ false → fits pcn key row ≡ false
+unfolding fits
+not_fit pcn key row e = ap (λ (b : Bool). (bytes_eq row.bin key.bin && same_pcn row.pcn pcn) && b) e ∙ never (bytes_eq row.bin key.bin && same_pcn row.pcn pcn)
+  where
+    never : (b : Bool) → (b && false) ≡ false
+    never true = refl
+    never false = refl
+
+none_fit : (pcn : Option (List ℕ)) (key : RouteKey) (more : List Row) → AllByRecursion (λ (row : Row). IsForOthers row key.qualifier key.provider) more → first (fits pcn key) (filter is_ranged (map filled_row more)) ≡ None
+none_fit pcn key [] all = refl
+none_fit pcn key (r ∷ more) all =
+    ap (λ (b : Bool). first (fits pcn key) (cond b (filled_row r ∷ filter is_ranged (map filled_row more)) (filter is_ranged (map filled_row more)))) all.0.ranged
+    ∙ (ap (λ (b : Bool). cond b (Some (filled_row r)) (first (fits pcn key) (filter is_ranged (map filled_row more)))) (not_fit pcn key (filled_row r) all.0.not_it) ∙ none_fit pcn key more all.1)
+
+first_behind : (test : Row → Bool) (xs ys : List Row) → first test ys ≡ None → first test (xs ++ ys) ≡ first test xs
+first_behind test [] ys e = e
+first_behind test (x ∷ xs) ys e = ap (cond (test x) (Some x)) (first_behind test xs ys e)
+
+no_exact : (qualifier provider : List ℕ) (more : List Row) → AllByRecursion (λ (row : Row). IsForOthers row qualifier provider) more → filter_map exact_entry (map filled_row more) ≡ []
+no_exact qualifier provider [] all = refl
+no_exact qualifier provider (r ∷ more) all =
+    ap (λ (b : Bool). cons_option (cond b None (option_map (λ p. ((r.bin, p), r.payer)) (filled_row r).pcn)) (filter_map exact_entry (map filled_row more))) all.0.ranged ∙ no_exact qualifier provider more all.1
+
+no_other : (qualifier provider : List ℕ) (more : List Row) → AllByRecursion (λ (row : Row). IsForOthers row qualifier provider) more → filter_map other_entry (map filled_row more) ≡ []
+no_other qualifier provider [] all = refl
+no_other qualifier provider (r ∷ more) all =
+    ap (λ (b : Bool). cons_option (cond b None (cond (is_none (filled_row r).pcn) (Some (r.bin, r.payer)) None)) (filter_map other_entry (map filled_row more))) all.0.ranged ∙ no_other qualifier provider more all.1
+
+pub ranged_added : (rows more : List Row) (key : RouteKey) → AllByRecursion (λ (row : Row). IsForOthers row key.qualifier key.provider) more → payer_of (routes_of (rows ++ more)) key ≡ payer_of (routes_of rows) key
+unfolding payer_of routes_of
+ranged_added rows more key all =
+    let filled : map filled_row (rows ++ more) ≡ map filled_row rows ++ map filled_row more = map-append filled_row rows more in
+    let exact : filter_map exact_entry (map filled_row (rows ++ more)) ≡ filter_map exact_entry (map filled_row rows) =
+    ap (filter_map exact_entry) filled ∙ (filter_map-append exact_entry (map filled_row rows) (map filled_row more)
+    ∙ (ap (λ (es : List ((List ℕ × List ℕ) × ℕ)). filter_map exact_entry (map filled_row rows) ++ es) (no_exact key.qualifier key.provider more all) ∙ append-nil (filter_map exact_entry (map filled_row rows)))) in
+    let others : filter_map other_entry (map filled_row (rows ++ more)) ≡ filter_map other_entry (map filled_row rows) =
+    ap (filter_map other_entry) filled ∙ (filter_map-append other_entry (map filled_row rows) (map filled_row more)
+    ∙ (ap (λ (es : List (List ℕ × ℕ)). filter_map other_entry (map filled_row rows) ++ es) (no_other key.qualifier key.provider more all) ∙ append-nil (filter_map other_entry (map filled_row rows)))) in
+    let ranged : filter is_ranged (map filled_row (rows ++ more)) ≡ filter is_ranged (map filled_row rows) ++ filter is_ranged (map filled_row more) =
+    ap (filter is_ranged) filled ∙ filter-append is_ranged (map filled_row rows) (map filled_row more) in
+    let asked : (pcn : Option (List ℕ)) → ranged_payer (filter is_ranged (map filled_row (rows ++ more))) pcn key ≡ ranged_payer (filter is_ranged (map filled_row rows)) pcn key =
+    λ pcn. ap (option_map (λ (row : Row). row.payer)) (ap (first (fits pcn key)) ranged ∙ first_behind (fits pcn key) (filter is_ranged (map filled_row rows)) (filter is_ranged (map filled_row more)) (none_fit pcn key more all)) in
+    rw (exact, others, asked (Some key.pcn), asked None) refl
+
 pub routed_payer : (payers : ℕ) (rows : List Row) (bin pcn : List ℕ) → first_fault payers rows ≡ None → IfSome (payer_at (routes_of rows) bin pcn) (IsAmong payers)
 unfolding first_fault payer_at routes_of
 routed_payer payers rows bin pcn none =
     let have = have_payers payers [] rows none in
     either payers (get (from_entries {R = processor_cmp} (filter_map exact_entry (map filled_row rows))) (bin, pcn)) (get (from_entries {R = bin_cmp} (filter_map other_entry (map filled_row rows))) bin)
-    (rw (get-from_entries processors_total (filter_map exact_entry (map filled_row rows)) (bin, pcn)) (found_leads processor_cmp payers (bin, pcn) (filter_map exact_entry (map filled_row rows)) (exact_lead payers rows have)))
-    (rw (get-from_entries bins_total (filter_map other_entry (map filled_row rows)) bin) (found_leads bin_cmp payers bin (filter_map other_entry (map filled_row rows)) (other_lead payers rows have)))
+    (exact_leads payers rows bin pcn have) (other_leads payers rows bin have)

@@ -1,5 +1,5 @@
 -- The maps of rows have the keys of the rows, and a further row is one further entry.
-use Rattle.std.proofs.Common.{◌≡◌, ℕ, suc, ◌+◌, ◌<◌, Bool, true, false, ◌&&◌, ◌||◌, cond, List, [], ◌∷◌, ◌++◌, map, length, get_or, take, drop, Option, Some, None, is_some, is_none, option_map, refl, sym, ap, ◌∙◌, arith, append-nil}
+use Rattle.std.proofs.Common.{◌≡◌, ℕ, suc, ◌+◌, ◌<◌, Bool, true, false, ◌&&◌, ◌||◌, cond, List, [], ◌∷◌, ◌++◌, map, filter, length, get_or, take, drop, Option, Some, None, is_some, is_none, option_map, refl, sym, ap, ◌∙◌, arith, append-nil}
 use Rattle.std.specs.Option.{option_or}
 use Rattle.std.specs.List.{list_any, filter_map, cons_option}
 use Rattle.std.specs.Str.{bytes_eq}
@@ -8,13 +8,14 @@ use Rattle.std.specs.Cmp.{both_tied}
 use Rattle.std.specs.Cmp.Lexicographic.{slice_cmp, texts_ties}
 use Rattle.std.specs.FinMap.{FinMap, find, from_entries, from_entries_push, get-from_entries}
 use Rattle.std.proofs.lemmas.List.{map-append, take_more, length-take}
-use Rattle.std.proofs.lemmas.List.Elements.{filter_map-append}
+use Rattle.std.proofs.lemmas.List.Elements.{filter_map-append, filter-append}
 use Rattle.std.proofs.Math.Seq.{drop-cons}
 use Rattle.bin_routes.specs.declared.fault.RoutesFault.{RoutesFault}
 use Rattle.bin_routes.specs.declared.fault.RoutesFault.TheVariants.{SameRow}
+use Rattle.bin_routes.specs.Providers.{Providers, meet}
 use Rattle.bin_routes.specs.Row.{Row, filled_row, same_pcn, same_key}
 use Rattle.bin_routes.specs.Fault.{row_fault, text_fault, is_taken, fault_behind}
-use Rattle.bin_routes.specs.Table.{RouteMaps, bin_cmp, processor_cmp, exact_entry, other_entry, routes_of, has_key, with_row}
+use Rattle.bin_routes.specs.Table.{RouteMaps, bin_cmp, processor_cmp, is_ranged, exact_entry, other_entry, routes_of, has_key, with_row}
 use Rattle.bin_routes.proofs.Maps.{processors_total, exact_processors, bins_total, exact_bins}
 
 bin_tied : (a b : List ℕ) → bytes_eq a b ≡ eq_by_cmp bin_cmp a b
@@ -36,71 +37,89 @@ always true = refl
 always false = refl
 
 -- one row, for a key without a processor control number
-other_step : (bin other : List ℕ) (payer : ℕ) (pcn : Option (List ℕ)) (rest : List (List ℕ × ℕ)) (any : Bool) → is_some (find bin_cmp bin rest) ≡ any
-    → is_some (find bin_cmp bin (cons_option (cond (is_none pcn) (Some (other, payer)) None) rest)) ≡ ((bytes_eq bin other && same_pcn None pcn) || any)
-other_step bin other payer None rest any e =
-    found_first (eq_by_cmp bin_cmp bin other) (bytes_eq bin other && true) payer (find bin_cmp bin rest) any (always (bytes_eq bin other) ∙ bin_tied bin other) e
-other_step bin other payer (Some pcn) rest any e = e ∙ sym (ap (λ (b : Bool). b || any) (never (bytes_eq bin other)))
+other_step : (bin other : List ℕ) (payer : ℕ) (pcn : Option (List ℕ)) (providers : Option Providers) (rest : List (List ℕ × ℕ)) (any : Bool) → is_some (find bin_cmp bin rest) ≡ any
+    → is_some (find bin_cmp bin (cons_option (cond (is_some providers) None (cond (is_none pcn) (Some (other, payer)) None)) rest)) ≡ (((bytes_eq bin other && same_pcn None pcn) && meet None providers) || any)
+other_step bin other payer None None rest any e =
+    found_first (eq_by_cmp bin_cmp bin other) ((bytes_eq bin other && true) && true) payer (find bin_cmp bin rest) any (always (bytes_eq bin other && true) ∙ (always (bytes_eq bin other) ∙ bin_tied bin other)) e
+other_step bin other payer (Some pcn) None rest any e = e ∙ sym (ap (λ (b : Bool). b || any) (always (bytes_eq bin other && false) ∙ never (bytes_eq bin other)))
+other_step bin other payer pcn (Some p) rest any e = e ∙ sym (ap (λ (b : Bool). b || any) (never (bytes_eq bin other && same_pcn None pcn)))
 
-other_found : (bin : List ℕ) (payer : ℕ) (rows : List Row) → is_some (find bin_cmp bin (filter_map other_entry rows)) ≡ list_any (same_key (record { bin = bin; pcn = None; payer = payer })) rows
+other_found : (bin : List ℕ) (payer : ℕ) (rows : List Row) → is_some (find bin_cmp bin (filter_map other_entry rows)) ≡ list_any (same_key (record { bin = bin; pcn = None; providers = None; payer = payer })) rows
 other_found bin payer [] = refl
-other_found bin payer (r ∷ rs) = other_step bin r.bin r.payer r.pcn (filter_map other_entry rs) _ (other_found bin payer rs)
+other_found bin payer (r ∷ rs) = other_step bin r.bin r.payer r.pcn r.providers (filter_map other_entry rs) _ (other_found bin payer rs)
 
 -- one row, for a key with one
-exact_step : (bin other key : List ℕ) (payer : ℕ) (pcn : Option (List ℕ)) (rest : List ((List ℕ × List ℕ) × ℕ)) (any : Bool) → is_some (find processor_cmp (bin, key) rest) ≡ any
-    → is_some (find processor_cmp (bin, key) (cons_option (option_map (λ p. ((other, p), payer)) pcn) rest)) ≡ ((bytes_eq bin other && same_pcn (Some key) pcn) || any)
-exact_step bin other key payer None rest any e = e ∙ sym (ap (λ (b : Bool). b || any) (never (bytes_eq bin other)))
-exact_step bin other key payer (Some pcn) rest any e =
-    found_first (eq_by_cmp processor_cmp (bin, key) (other, pcn)) (bytes_eq bin other && bytes_eq key pcn) payer (find processor_cmp (bin, key) rest) any (processor_tied (bin, key) (other, pcn)) e
+exact_step : (bin other key : List ℕ) (payer : ℕ) (pcn : Option (List ℕ)) (providers : Option Providers) (rest : List ((List ℕ × List ℕ) × ℕ)) (any : Bool) → is_some (find processor_cmp (bin, key) rest) ≡ any
+    → is_some (find processor_cmp (bin, key) (cons_option (cond (is_some providers) None (option_map (λ p. ((other, p), payer)) pcn)) rest)) ≡ (((bytes_eq bin other && same_pcn (Some key) pcn) && meet None providers) || any)
+exact_step bin other key payer None None rest any e = e ∙ sym (ap (λ (b : Bool). b || any) (always (bytes_eq bin other && false) ∙ never (bytes_eq bin other)))
+exact_step bin other key payer (Some pcn) None rest any e =
+    found_first (eq_by_cmp processor_cmp (bin, key) (other, pcn)) ((bytes_eq bin other && bytes_eq key pcn) && true) payer (find processor_cmp (bin, key) rest) any (always (bytes_eq bin other && bytes_eq key pcn) ∙ processor_tied (bin, key) (other, pcn)) e
+exact_step bin other key payer pcn (Some p) rest any e = e ∙ sym (ap (λ (b : Bool). b || any) (never (bytes_eq bin other && same_pcn (Some key) pcn)))
 
-exact_found : (bin key : List ℕ) (payer : ℕ) (rows : List Row) → is_some (find processor_cmp (bin, key) (filter_map exact_entry rows)) ≡ list_any (same_key (record { bin = bin; pcn = Some key; payer = payer })) rows
+exact_found : (bin key : List ℕ) (payer : ℕ) (rows : List Row) → is_some (find processor_cmp (bin, key) (filter_map exact_entry rows)) ≡ list_any (same_key (record { bin = bin; pcn = Some key; providers = None; payer = payer })) rows
 exact_found bin key payer [] = refl
-exact_found bin key payer (r ∷ rs) = exact_step bin r.bin key r.payer r.pcn (filter_map exact_entry rs) _ (exact_found bin key payer rs)
+exact_found bin key payer (r ∷ rs) = exact_step bin r.bin key r.payer r.pcn r.providers (filter_map exact_entry rs) _ (exact_found bin key payer rs)
 
-key_is : (bin : List ℕ) (pcn : Option (List ℕ)) (payer : ℕ) (earlier : List Row) → list_any (same_key (record { bin = bin; pcn = pcn; payer = payer })) (map filled_row earlier) ≡ has_key (routes_of earlier) (record { bin = bin; pcn = pcn; payer = payer })
+-- the key of a row for some providers alone is that of such a row
+ranged_step : (same : Bool) (providers : Providers) (r : Row) (rest : List Row) (test : Row → Bool) (o : Option Providers) (is : r.providers ≡ o) (any : Bool) → list_any test (filter is_ranged rest) ≡ any
+    → test r ≡ (same && meet (Some providers) o) → (test r || any) ≡ list_any test (cond (is_some o) (r ∷ filter is_ranged rest) (filter is_ranged rest))
+ranged_step same providers r rest test None is any e t = ap (λ (b : Bool). b || any) (t ∙ never same) ∙ sym e
+ranged_step same providers r rest test (Some p) is any e t = ap (λ (b : Bool). test r || b) (sym e)
+
+ranged_found : (row : Row) (providers : Providers) (rows : List Row) → row.providers ≡ Some providers → list_any (same_key row) rows ≡ list_any (same_key row) (filter is_ranged rows)
+ranged_found row providers [] is = refl
+ranged_found row providers (r ∷ rs) is =
+    ap (λ (b : Bool). same_key row r || b) (ranged_found row providers rs is)
+    ∙ ranged_step (bytes_eq row.bin r.bin && same_pcn row.pcn r.pcn) providers r rs (same_key row) r.providers refl (list_any (same_key row) (filter is_ranged rs)) refl
+    (ap (λ (o : Option Providers). (bytes_eq row.bin r.bin && same_pcn row.pcn r.pcn) && meet o r.providers) is)
+
+key_is : (bin : List ℕ) (pcn : Option (List ℕ)) (providers : Option Providers) (payer : ℕ) (earlier : List Row) → list_any (same_key (record { bin = bin; pcn = pcn; providers = providers; payer = payer })) (map filled_row earlier) ≡ has_key (routes_of earlier) (record { bin = bin; pcn = pcn; providers = providers; payer = payer })
 unfolding routes_of
-key_is bin None payer earlier =
+key_is bin pcn (Some p) payer earlier = ranged_found (record { bin = bin; pcn = pcn; providers = Some p; payer = payer }) p (map filled_row earlier) refl
+key_is bin None None payer earlier =
     sym (ap is_some (get-from_entries bins_total (filter_map other_entry (map filled_row earlier)) bin) ∙ other_found bin payer (map filled_row earlier))
-key_is bin (Some pcn) payer earlier =
+key_is bin (Some pcn) None payer earlier =
     sym (ap is_some (get-from_entries processors_total (filter_map exact_entry (map filled_row earlier)) (bin, pcn)) ∙ exact_found bin pcn payer (map filled_row earlier))
 
 -- the maps of the earlier rows have the key of a row where an earlier row has it
 pub taken_is : (earlier : List Row) (row : Row) → is_taken earlier row ≡ has_key (routes_of earlier) (filled_row row)
-taken_is earlier row = key_is (filled_row row).bin (filled_row row).pcn (filled_row row).payer earlier
+taken_is earlier row = key_is (filled_row row).bin (filled_row row).pcn (filled_row row).providers (filled_row row).payer earlier
 
 none_of : (o : Option ℕ) → is_some o ≡ false → o ≡ None
 none_of None e = refl
 none_of (Some x) e = absurd cc
 
-abbrev maps : FinMap processor_cmp ℕ → FinMap bin_cmp ℕ → RouteMaps
-maps exact others = record { exact = exact; others = others }
+abbrev maps : FinMap processor_cmp ℕ → FinMap bin_cmp ℕ → List Row → RouteMaps
+maps exact others ranged = record { exact = exact; others = others; ranged = ranged }
 
 rows_more : (earlier : List Row) (row : Row) → map filled_row (earlier ++ row ∷ []) ≡ map filled_row earlier ++ filled_row row ∷ []
 rows_more earlier row = map-append filled_row earlier (row ∷ [])
 
 -- the maps of filled rows
 abbrev maps_of : List Row → RouteMaps
-maps_of rows = maps (from_entries (filter_map exact_entry rows)) (from_entries (filter_map other_entry rows))
+maps_of rows = maps (from_entries (filter_map exact_entry rows)) (from_entries (filter_map other_entry rows)) (filter is_ranged rows)
 
-pushed : (bin : List ℕ) (pcn : Option (List ℕ)) (payer : ℕ) (rows : List Row) → has_key (maps_of rows) (record { bin = bin; pcn = pcn; payer = payer }) ≡ false
-    → with_row (maps_of rows) (record { bin = bin; pcn = pcn; payer = payer }) ≡ maps_of (rows ++ record { bin = bin; pcn = pcn; payer = payer } ∷ [])
-pushed bin None payer rows free =
-    let row : Row = record { bin = bin; pcn = None; payer = payer } in
-    let es = filter_map other_entry rows in
+pushed : (bin : List ℕ) (pcn : Option (List ℕ)) (providers : Option Providers) (payer : ℕ) (rows : List Row) → has_key (maps_of rows) (record { bin = bin; pcn = pcn; providers = providers; payer = payer }) ≡ false
+    → with_row (maps_of rows) (record { bin = bin; pcn = pcn; providers = providers; payer = payer }) ≡ maps_of (rows ++ record { bin = bin; pcn = pcn; providers = providers; payer = payer } ∷ [])
+pushed bin pcn (Some p) payer rows free =
+    let row : Row = record { bin = bin; pcn = pcn; providers = Some p; payer = payer } in
+    rw (filter_map-append exact_entry rows (row ∷ []), filter_map-append other_entry rows (row ∷ []), filter-append is_ranged rows (row ∷ []), append-nil (filter_map exact_entry rows), append-nil (filter_map other_entry rows)) refl
+pushed bin None None payer rows free =
+    let row : Row = record { bin = bin; pcn = None; providers = None; payer = payer } in
     let absent : find bin_cmp bin (filter_map other_entry rows) ≡ None = none_of _ (ap is_some (sym (get-from_entries bins_total (filter_map other_entry rows) bin)) ∙ free) in
-    rw (filter_map-append exact_entry rows (row ∷ []), filter_map-append other_entry rows (row ∷ []), append-nil (filter_map exact_entry rows))
-    (ap (maps (from_entries (filter_map exact_entry rows))) (sym (from_entries_push bins_total exact_bins (filter_map other_entry rows) bin payer absent)))
-pushed bin (Some pcn) payer rows free =
-    let row : Row = record { bin = bin; pcn = Some pcn; payer = payer } in
+    rw (filter_map-append exact_entry rows (row ∷ []), filter_map-append other_entry rows (row ∷ []), filter-append is_ranged rows (row ∷ []), append-nil (filter_map exact_entry rows), append-nil (filter is_ranged rows))
+    (ap (λ (m : FinMap bin_cmp ℕ). maps (from_entries (filter_map exact_entry rows)) m (filter is_ranged rows)) (sym (from_entries_push bins_total exact_bins (filter_map other_entry rows) bin payer absent)))
+pushed bin (Some pcn) None payer rows free =
+    let row : Row = record { bin = bin; pcn = Some pcn; providers = None; payer = payer } in
     let absent : find processor_cmp (bin, pcn) (filter_map exact_entry rows) ≡ None = none_of _ (ap is_some (sym (get-from_entries processors_total (filter_map exact_entry rows) (bin, pcn))) ∙ free) in
-    rw (filter_map-append exact_entry rows (row ∷ []), filter_map-append other_entry rows (row ∷ []), append-nil (filter_map other_entry rows))
-    (ap (λ (m : FinMap processor_cmp ℕ). maps m (from_entries (filter_map other_entry rows))) (sym (from_entries_push processors_total exact_processors (filter_map exact_entry rows) (bin, pcn) payer absent)))
+    rw (filter_map-append exact_entry rows (row ∷ []), filter_map-append other_entry rows (row ∷ []), filter-append is_ranged rows (row ∷ []), append-nil (filter_map other_entry rows), append-nil (filter is_ranged rows))
+    (ap (λ (m : FinMap processor_cmp ℕ). maps m (from_entries (filter_map other_entry rows)) (filter is_ranged rows)) (sym (from_entries_push processors_total exact_processors (filter_map exact_entry rows) (bin, pcn) payer absent)))
 
 -- a row whose key is free is one further entry
 pub row_added : (earlier : List Row) (row : Row) → has_key (routes_of earlier) (filled_row row) ≡ false → with_row (routes_of earlier) (filled_row row) ≡ routes_of (earlier ++ row ∷ [])
 unfolding routes_of
 row_added earlier row free =
-    pushed (filled_row row).bin (filled_row row).pcn (filled_row row).payer (map filled_row earlier) free ∙ ap maps_of (sym (rows_more earlier row))
+    pushed (filled_row row).bin (filled_row row).pcn (filled_row row).providers (filled_row row).payer (map filled_row earlier) free ∙ ap maps_of (sym (rows_more earlier row))
 
 abbrev fault_if : Bool → ℕ → Option RoutesFault
 fault_if same place = cond same (Some (SameRow place)) None

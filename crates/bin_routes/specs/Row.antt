@@ -3,11 +3,13 @@ use Rattle.std.specs.Prelude.{ℕ, ◌-◌, Bool, true, false, not, ◌&&◌, �
 use Rattle.std.specs.Option.{option_map}
 use Rattle.std.specs.List.{list_all}
 use Rattle.std.specs.Str.{bytes_eq}
+use Rattle.bin_routes.specs.Providers.{Providers, meet}
 
--- the texts of a row and the number of its payer
+-- the texts of a row, the providers that it is for, where it is not for all, and the number of its payer
 pub record Row : Type 0 where
   pub bin : List ℕ
   pub pcn : Option (List ℕ)
+  pub providers : Option Providers
   pub payer : ℕ
 
 -- an ASCII digit
@@ -41,7 +43,7 @@ filled text = text ++ replicate (10 - length text) 32
 
 -- the row with its processor control number as a header has it
 abbrev pub filled_row : Row → Row
-filled_row row = record { bin = row.bin; pcn = option_map filled row.pcn; payer = row.payer }
+filled_row row = record { bin = row.bin; pcn = option_map filled row.pcn; providers = row.providers; payer = row.payer }
 
 -- whether the two have the same processor control number, or both have none
 abbrev pub same_pcn : Option (List ℕ) → Option (List ℕ) → Bool
@@ -50,6 +52,6 @@ same_pcn None (Some b) = false
 same_pcn (Some a) None = false
 same_pcn (Some a) (Some b) = bytes_eq a b
 
--- whether the two rows are for the same BIN and the same processor control number
+-- whether the two rows are for the same BIN and the same processor control number, and some provider for both, or both for all
 abbrev pub same_key : Row → Row → Bool
-same_key a b = bytes_eq a.bin b.bin && same_pcn a.pcn b.pcn
+same_key a b = (bytes_eq a.bin b.bin && same_pcn a.pcn b.pcn) && meet a.providers b.providers

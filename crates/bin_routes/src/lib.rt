@@ -1,17 +1,22 @@
 //! Routes from the BIN number and processor control number of a claim to the processor that pays it.
 //! A table is made from the rows of a settings document, each tested, and asked by the fields of a header.
-//! The row of a BIN and its processor control number comes before the row of the BIN alone.
+//! The row of a BIN and its processor control number comes before the row of the BIN alone. A row may be for a range
+//! of providers alone, so that a payer that is too large for one book has several.
 #![tactic(auto)]
 
 mod fault;
+mod key;
 mod laws;
 mod payer;
+mod providers;
 mod route;
 mod row;
 mod table;
 
 pub use fault::RoutesFault;
-pub use laws::route_laws;
+pub use key::RouteKey;
+pub use laws::{range_laws, route_laws};
 pub use payer::PayerNo;
+pub use providers::Providers;
 pub use row::RouteRow;
 pub use table::Routes;

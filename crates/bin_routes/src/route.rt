@@ -1,12 +1,15 @@
 //! A row whose texts passed.
 
 ghost use Rattle.std.specs.Prelude.{◌≡◌, ◌&&◌, ◌==◌, if◌then◌else◌, not, nat_le, None, Some, IfOk, IfErr, length, ◌≤◌};
-ghost use Rattle.std.specs.List.{list_all};
-ghost use Rattle.bin_routes.specs.Row.{is_bin, is_pcn, is_plain, is_digit, ends_in_space, filled, filled_row};
+ghost use Rattle.std.specs.List.{list_all, list_any};
+ghost use Rattle.bin_routes.specs.Row.{is_bin, is_pcn, is_plain, is_digit, ends_in_space, filled, filled_row, same_pcn, same_key};
+ghost use Rattle.bin_routes.specs.Table.{fits, ranged_payer};
 ghost use Rattle.bin_routes.specs.Fault.{is_payer, text_fault};
 
 use crate::fault::RoutesFault;
+use crate::key::RouteKey;
 use crate::payer::PayerNo;
+use crate::providers::{Providers, has_provider, meet};
 use crate::row::RouteRow;
 use std::marker::Model;
 
@@ -21,6 +24,7 @@ pub type Pcn = [u8; 10];
 pub struct Route {
     pub bin: Bin,
     pub pcn: Option<Pcn>,
+    pub providers: Option<Providers>,
     pub payer: PayerNo,
 }
 
@@ -29,9 +33,9 @@ impl Model for Route {
 
     ghost Value = { Row };
 
-    ghost view = { λ a. record { bin = a.bin; pcn = a.pcn; payer = a.payer } };
+    ghost view = { λ a. record { bin = a.bin; pcn = a.pcn; providers = a.providers; payer = a.payer } };
 
-    ghost inverse = { λ a. record { bin = a.bin; pcn = a.pcn; payer = a.payer } };
+    ghost inverse = { λ a. record { bin = a.bin; pcn = a.pcn; providers = a.providers; payer = a.payer } };
 }
 
 impl Route {
@@ -50,6 +54,7 @@ impl Route {
                 Some(payer) => Ok(Route {
                     bin,
                     pcn: None,
+                    providers: row.providers(),
                     payer,
                 }),
             },
@@ -60,12 +65,64 @@ impl Route {
                     Some(payer) => Ok(Route {
                         bin,
                         pcn: Some(pcn),
+                        providers: row.providers(),
                         payer,
                     }),
                 },
             },
         }
     }
+}
+
+impl Route {
+    /// Whether some header is for both, as far as their texts and providers tell.
+    fn is_same(&self, other: &Route) -> bool
+        ensures { result ≡ same_key self.now other.now }
+    {
+        self.bin == other.bin
+            && is_same_pcn(&self.pcn, &other.pcn)
+            && meet(&self.providers, &other.providers)
+    }
+
+    /// Whether the route is for this BIN number and processor control number, or none, and for the provider of a header.
+    #[tactic(auto, unfolding(crate::specs::Table::fits))]
+    fn fits(&self, pcn: &Option<Pcn>, key: &RouteKey) -> bool
+        ensures { result ≡ fits pcn.now key.now self.now }
+    {
+        self.bin == key.bin && is_same_pcn(&self.pcn, pcn) && has_provider(&self.providers, key)
+    }
+}
+
+/// Whether the two are the same processor control number, or both none.
+fn is_same_pcn(a: &Option<Pcn>, b: &Option<Pcn>) -> bool
+    ensures { result ≡ same_pcn a.now b.now }
+{
+    match a {
+        None => b.is_none(),
+        Some(a) => match b {
+            None => false,
+            Some(b) => *a == *b,
+        },
+    }
+}
+
+/// Whether some header is for a route and for one of these.
+pub(crate) fn is_among(routes: &[Route], route: &Route) -> bool
+    ensures { result ≡ list_any (same_key route.now) routes.now }
+{
+    routes.iter().any(|other| route.is_same(other))
+}
+
+/// The payer of the first route for this BIN number and processor control number, or none, and for the provider of a header.
+pub(crate) fn payer_among(routes: &[Route], pcn: &Option<Pcn>, key: &RouteKey) -> Option<PayerNo>
+    ensures { result ≡ ranged_payer routes.now pcn.now key.now }
+{
+    for route in routes {
+        if route.fits(pcn, key) {
+            return Some(route.payer);
+        }
+    }
+    None
 }
 
 /// The BIN number that a text is.

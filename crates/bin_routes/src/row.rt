@@ -1,9 +1,10 @@
 //! The rows that a table is made of.
 
-ghost use Rattle.std.specs.Prelude.{◌≡◌, IfOk};
+ghost use Rattle.std.specs.Prelude.{◌≡◌, None, Some, IfOk};
 ghost use Rattle.std.specs.Option.{option_map};
 ghost use Rattle.bin_routes.specs.Row.{Row};
 
+use crate::providers::Providers;
 use octets::Octets;
 use std::alloc::AllocError;
 use std::marker::Model;
@@ -13,6 +14,7 @@ use std::marker::Model;
 pub struct RouteRow {
     bin: Octets,
     pcn: Option<Octets>,
+    providers: Option<Providers>,
     payer: u16,
 }
 
@@ -21,9 +23,9 @@ impl Model for RouteRow {
 
     ghost Value = { Row };
 
-    ghost view = { λ a. record { bin = a.bin; pcn = a.pcn; payer = a.payer } };
+    ghost view = { λ a. record { bin = a.bin; pcn = a.pcn; providers = a.providers; payer = a.payer } };
 
-    ghost inverse = { λ a. record { bin = a.bin; pcn = a.pcn; payer = a.payer } };
+    ghost inverse = { λ a. record { bin = a.bin; pcn = a.pcn; providers = a.providers; payer = a.payer } };
 }
 
 impl RouteRow {
@@ -31,9 +33,32 @@ impl RouteRow {
     /// padding, and the payer's number. Without a processor control number the row is for every one that no other
     /// row of the BIN names; an empty one is a field of ten spaces.
     pub fn new(bin: Octets, pcn: Option<Octets>, payer: u16) -> RouteRow
-        ensures { result ≡ record { bin = bin; pcn = pcn; payer = payer } }
+        ensures { result ≡ record { bin = bin; pcn = pcn; providers = None; payer = payer } }
     {
-        RouteRow { bin, pcn, payer }
+        RouteRow {
+            bin,
+            pcn,
+            providers: None,
+            payer,
+        }
+    }
+
+    /// The same row for these providers alone.
+    pub fn for_providers(self, providers: Providers) -> RouteRow
+        ensures { result ≡ record { bin = self.bin; pcn = self.pcn; providers = Some providers; payer = self.payer } }
+    {
+        let RouteRow {
+            bin,
+            pcn,
+            payer,
+            ..
+        } = self;
+        RouteRow {
+            bin,
+            pcn,
+            providers: Some(providers),
+            payer,
+        }
     }
 
     /// The text of the BIN number (101-A1).
@@ -51,6 +76,13 @@ impl RouteRow {
             Some(pcn) => Some(pcn.as_slice()),
             None => None,
         }
+    }
+
+    /// The providers that the row is for, where it is not for all.
+    pub fn providers(&self) -> Option<Providers>
+        ensures { result ≡ self.now.providers }
+    {
+        self.providers
     }
 
     /// The payer's number.
@@ -72,6 +104,7 @@ impl RouteRow {
         Ok(RouteRow {
             bin,
             pcn,
+            providers: self.providers,
             payer: self.payer,
         })
     }

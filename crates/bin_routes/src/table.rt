@@ -2,13 +2,15 @@
 
 ghost use Rattle.std.specs.Prelude.{◌≡◌, ◌⊎◌, [], None, Some, IfOk, IfErr, OnOk};
 ghost use Rattle.bin_routes.specs.declared.fault.RoutesFault.TheVariants.{OutOfMemory};
+ghost use Rattle.std.specs.FinMap.{get};
 ghost use Rattle.bin_routes.specs.Row.{filled_row};
 ghost use Rattle.bin_routes.specs.Fault.{first_fault, fault_beside};
-ghost use Rattle.bin_routes.specs.Table.{RouteMaps, routes_of, payer_at, has_key, with_row};
+ghost use Rattle.bin_routes.specs.Table.{RouteMaps, routes_of, payer_at, payer_of, has_key, has_for_all, with_row, with_row_for_all};
 
 use crate::fault::RoutesFault;
+use crate::key::RouteKey;
 use crate::payer::PayerNo;
-use crate::route::{Bin, Pcn, Route};
+use crate::route::{Bin, Pcn, Route, is_among, payer_among};
 use crate::row::RouteRow;
 use std::alloc::Global;
 use std::collections::BTreeMap;
@@ -19,6 +21,7 @@ use std::marker::Model;
 pub struct Routes {
     exact: BTreeMap<(Bin, Pcn), PayerNo>,
     others: BTreeMap<Bin, PayerNo>,
+    ranged: Vec<Route>,
 }
 
 impl Model for Routes {
@@ -29,7 +32,7 @@ impl Model for Routes {
 
     ghost coded = { coded_maps };
 
-    ghost view = { λ a. record { exact = from_entries a.exact.entries; others = from_entries a.others.entries } };
+    ghost view = { λ a. record { exact = from_entries a.exact.entries; others = from_entries a.others.entries; ranged = a.ranged.items } };
 }
 
 impl Routes {
@@ -53,10 +56,53 @@ impl Routes {
     pub fn route(&self, bin: &[u8; 6], pcn: &[u8; 10]) -> Option<PayerNo>
         ensures { result ≡ payer_at self.now bin.now pcn.now }
     {
-        match self.exact.get(&(*bin, *pcn)) {
-            Some(payer) => Some(*payer),
-            None => self.others.get(bin).copied(),
+        match self.exact_payer(bin, pcn) {
+            Some(payer) => Some(payer),
+            None => self.other_payer(bin),
         }
+    }
+
+    /// The payer of the fields of a header: of the rows of its BIN number and processor control number first the one that has
+    /// its provider, then the one for all providers; else the same of the rows of the BIN alone. Where no row is for some
+    /// providers alone it costs what [`Routes::route`] costs.
+    pub fn payer(&self, key: &RouteKey) -> Option<PayerNo>
+        ensures { result ≡ payer_of self.now key.now }
+    {
+        if self.ranged.as_slice().is_empty() {
+            return self.route(&key.bin, &key.pcn);
+        }
+        self.payer_by_range(key)
+    }
+
+    /// The same, where some rows are.
+    #[tactic(auto, unfolding(crate::specs::Table::payer_of))]
+    fn payer_by_range(&self, key: &RouteKey) -> Option<PayerNo>
+        ensures { result ≡ payer_of self.now key.now }
+    {
+        match payer_among(&self.ranged, &Some(key.pcn), key) {
+            Some(payer) => Some(payer),
+            None => match self.exact_payer(&key.bin, &key.pcn) {
+                Some(payer) => Some(payer),
+                None => match payer_among(&self.ranged, &None, key) {
+                    Some(payer) => Some(payer),
+                    None => self.other_payer(&key.bin),
+                },
+            },
+        }
+    }
+
+    /// The payer of the row of a BIN number and processor control number for all providers.
+    fn exact_payer(&self, bin: &[u8; 6], pcn: &[u8; 10]) -> Option<PayerNo>
+        ensures { result ≡ get self.now.exact (bin.now, pcn.now) }
+    {
+        self.exact.get(&(*bin, *pcn)).copied()
+    }
+
+    /// The payer of the row of a BIN number for all.
+    fn other_payer(&self, bin: &[u8; 6]) -> Option<PayerNo>
+        ensures { result ≡ get self.now.others bin.now }
+    {
+        self.others.get(bin).copied()
     }
 
     /// The table of no rows.
@@ -66,6 +112,7 @@ impl Routes {
         Routes {
             exact: BTreeMap::new(alloc),
             others: BTreeMap::new(alloc),
+            ranged: Vec::new(alloc),
         }
     }
 
@@ -86,6 +133,16 @@ impl Routes {
     fn has(&self, route: &Route) -> bool
         ensures { result ≡ has_key self.now route.now }
     {
+        if route.providers.is_some() {
+            return is_among(&self.ranged, route);
+        }
+        self.has_for_all(route)
+    }
+
+    /// Whether there is one for the same and all providers.
+    fn has_for_all(&self, route: &Route) -> bool
+        ensures { result ≡ has_for_all self.now route.now }
+    {
         match route.pcn {
             Some(pcn) => self.exact.contains_key(&(route.bin, pcn)),
             None => self.others.contains_key(&route.bin),
@@ -95,6 +152,18 @@ impl Routes {
     /// Adds a route.
     fn put(&mut self, route: Route) -> Result<(), RoutesFault>
         ensures ok { OnOk result (self.new ≡ with_row self.old route) }
+        ensures fault { IfErr result (λ fault. fault ≡ OutOfMemory) }
+    {
+        if route.providers.is_some() {
+            self.ranged.push(route)?;
+            return Ok(());
+        }
+        self.put_for_all(route)
+    }
+
+    /// Adds a route for all providers.
+    fn put_for_all(&mut self, route: Route) -> Result<(), RoutesFault>
+        ensures ok { OnOk result (self.new ≡ with_row_for_all self.old route) }
         ensures fault { IfErr result (λ fault. fault ≡ OutOfMemory) }
     {
         let bin = route.bin;

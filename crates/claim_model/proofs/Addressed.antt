@@ -2,16 +2,16 @@
 use Rattle.std.proofs.Common.{◌≡◌, ℕ, Bool, true, false, cond, List, [], ◌∷◌, map, length, Option, Some, None, Result, Ok, Err, refl, sym, ap, ◌∙◌, subst}
 use Rattle.std.specs.Prelude.{bytes_eq, ⊤}
 use Rattle.std.specs.List.{AllByRecursion}
-use Rattle.claim_model.specs.Words.{TxnId, RequestHeader, Envelope, EnvelopeFault, Answer, Plan, PlanFault}
+use Rattle.claim_model.specs.Words.{TxnId, RequestHeader, Envelope, EnvelopeFault, Answer, Plan, PlanFault, Ruling}
 use Rattle.claim_model.specs.Context.{Context}
 use Rattle.claim_model.specs.Laws.{Laws}
 use Rattle.claim_model.specs.Readable.{readable, payer_for, rejection, answer_envelope, is_request}
 use Rattle.claim_model.specs.Refusal.{Refusal}
 use Rattle.claim_model.specs.Rows.{Book}
-use Rattle.claim_model.specs.Book.{answered}
+use Rattle.claim_model.specs.Book.{answered, unadvised}
 use Rattle.claim_model.specs.Journal.{Journal, JournalAtRest, Sending, submitted, ticked, due, heard, stopped, started}
 use Rattle.claim_model.specs.Table.{Slot, Table, Back, Requested, slot_of, routed_by, requested_again, requested_by, requested_readable, requested, Responded, responded_with, responded_by, responded_readable, responded}
-use Rattle.claim_model.specs.Node.{Node, Pharmacy, Switch, Payer, Power, Up, AtRest, Sent, Call, Submit, Tick, Take, Stop, Start, Reprice, Done, to_switch, pharmacy_takes, pharmacy_step, to_payer_or_back, after_request, after_response, switch_takes, switch_step, after_answer, payer_takes, after_reprice, payer_step}
+use Rattle.claim_model.specs.Node.{Node, Pharmacy, Switch, Payer, Power, Up, AtRest, Sent, Call, Submit, Tick, Take, Stop, Start, Reprice, Adjudicate, Done, to_switch, pharmacy_takes, pharmacy_step, to_payer_or_back, after_request, after_response, switch_takes, switch_step, after_answer, payer_takes, advice_in, after_reprice, payer_step}
 use Rattle.claim_model.specs.World.{World, Packet}
 use Rattle.claim_model.specs.Settings.{WorldSettings}
 use Rattle.claim_model.specs.Held.{journal_in, asked, decided}
@@ -22,7 +22,7 @@ use Rattle.claim_model.proofs.Sound.{SoundSlot, SoundSwitch, Carries, Sound}
 use Rattle.claim_model.proofs.Decided.{origin, decided_unrouted}
 use Rattle.claim_model.proofs.PharmacyStep.{carries_reads, Kept_sound, done_same, after_submit_done, after_hearing_done}
 use Rattle.claim_model.proofs.SwitchStep.{request_says, slot_found}
-use Rattle.claim_model.proofs.PayerStep.{after_answer_done, takes_parts}
+use Rattle.claim_model.proofs.PayerStep.{after_answer_done, takes_parts, asked_first}
 use Rattle.claim_model.proofs.Phases.{IsThere, Phases, HasSwitches, first_fits, switch_at_there, due_there, ticked_phases, started_phases, entered_phases, settled_phases}
 
 -- from a switch that is there
@@ -65,6 +65,7 @@ CallIsFor ctx given node Tick = ⊤
 CallIsFor ctx given node Stop = ⊤
 CallIsFor ctx given node Start = ⊤
 CallIsFor ctx given node (Reprice product price) = ⊤
+CallIsFor ctx given node (Adjudicate from bytes advice) = IsForAll ctx given from node bytes
 
 -- pharmacies send to switches of their lists
 
@@ -113,11 +114,13 @@ pharmacy_sends ctx given n (AtRest j) next Start out h p e =
     sends_at ctx given n (Up (started j)) next [] out d.0 d.1 (record { phases = started_phases j h.some; sends = tt })
 pharmacy_sends ctx given n (Up j) next Start out h p e = absurd cc
 pharmacy_sends ctx given n (Up j) next (Reprice product price) out h p e = absurd cc
+pharmacy_sends ctx given n (Up j) next (Adjudicate from bytes advice) out h p e = absurd cc
 pharmacy_sends ctx given n (AtRest j) next (Submit text) out h p e = absurd cc
 pharmacy_sends ctx given n (AtRest j) next Tick out h p e = absurd cc
 pharmacy_sends ctx given n (AtRest j) next (Take from bytes) out h p e = absurd cc
 pharmacy_sends ctx given n (AtRest j) next Stop out h p e = absurd cc
 pharmacy_sends ctx given n (AtRest j) next (Reprice product price) out h p e = absurd cc
+pharmacy_sends ctx given n (AtRest j) next (Adjudicate from bytes advice) out h p e = absurd cc
 
 -- switches send to the routed payer, or to the pharmacy of the id
 
@@ -226,11 +229,13 @@ switch_sends ctx given w m (Up t) next (Submit text) out laws x there all c e = 
 switch_sends ctx given w m (Up t) next Tick out laws x there all c e = absurd cc
 switch_sends ctx given w m (Up t) next Start out laws x there all c e = absurd cc
 switch_sends ctx given w m (Up t) next (Reprice product price) out laws x there all c e = absurd cc
+switch_sends ctx given w m (Up t) next (Adjudicate from bytes advice) out laws x there all c e = absurd cc
 switch_sends ctx given w m (AtRest cap) next (Submit text) out laws x there all c e = absurd cc
 switch_sends ctx given w m (AtRest cap) next Tick out laws x there all c e = absurd cc
 switch_sends ctx given w m (AtRest cap) next (Take from bytes) out laws x there all c e = absurd cc
 switch_sends ctx given w m (AtRest cap) next Stop out laws x there all c e = absurd cc
 switch_sends ctx given w m (AtRest cap) next (Reprice product price) out laws x there all c e = absurd cc
+switch_sends ctx given w m (AtRest cap) next (Adjudicate from bytes advice) out laws x there all c e = absurd cc
 
 -- payers answer the switch that asked
 
@@ -244,13 +249,19 @@ repriced_out ctx given n b (Err f) next out e = absurd cc
 repriced_out ctx given n b (Ok plan) next out e =
     subst (AllByRecursion (SentWell ctx given (Payer n))) (done_same (Up (record { payer = b.payer; settings = b.settings; plan = plan; rows = b.rows })) next [] out e).1 tt
 
+adjudicated_out : (ctx : Context) (given : WorldSettings) (w : World) (n : ℕ) (b : Book) (advice : List Ruling) (from : Node) (bytes : List ℕ) (next : Power Book Book) (out : List Sent) → Laws ctx → Carries ctx w bytes
+    → IsForAll ctx given from (Payer n) bytes → payer_takes ctx b advice from (ctx.read_envelope bytes) ≡ Done next out → AllByRecursion (SentWell ctx given (Payer n)) out
+adjudicated_out ctx given w n b advice from bytes next out laws c for_it e =
+    let r = carries_reads ctx w bytes laws c in
+    let t = takes_parts (is_request c.envelope) (after_answer ctx from c.envelope.id (answered ctx b advice c.envelope.id c.envelope.payload)) next out (ap (payer_takes ctx b advice from) (sym r) ∙ e) in
+    let d = after_answer_done ctx from c.envelope.id (answered ctx b advice c.envelope.id c.envelope.payload) next out t.1 in
+    subst (AllByRecursion (SentWell ctx given (Payer n))) d.3 (from_switch ctx given n from (ctx.envelope (answer_envelope c.envelope.id d.0.bytes)) (for_it c.envelope r).1, tt)
+
 pub payer_sends : (ctx : Context) (given : WorldSettings) (w : World) (n : ℕ) (s next : Power Book Book) (call : Call) (out : List Sent) → Laws ctx → Rattle.claim_model.proofs.PharmacyStep.SoundCall ctx w call → CallIsFor ctx given (Payer n) call
     → payer_step ctx s call ≡ Done next out → AllByRecursion (SentWell ctx given (Payer n)) out
-payer_sends ctx given w n (Up b) next (Take from bytes) out laws c for_it e =
-    let r = carries_reads ctx w bytes laws c in
-    let t = takes_parts (is_request c.envelope) (after_answer ctx from c.envelope.id (answered ctx b c.envelope.id c.envelope.payload)) next out (ap (payer_takes ctx b from) (sym r) ∙ e) in
-    let d = after_answer_done ctx from c.envelope.id (answered ctx b c.envelope.id c.envelope.payload) next out t.1 in
-    subst (AllByRecursion (SentWell ctx given (Payer n))) d.3 (from_switch ctx given n from (ctx.envelope (answer_envelope c.envelope.id d.0.bytes)) (for_it c.envelope r).1, tt)
+payer_sends ctx given w n (Up b) next (Take from bytes) out laws c for_it e = adjudicated_out ctx given w n b unadvised from bytes next out laws c for_it e
+payer_sends ctx given w n (Up b) next (Adjudicate from bytes advice) out laws c for_it e =
+    adjudicated_out ctx given w n b (advice_in ctx advice) from bytes next out laws c for_it (asked_first b.settings.asks _ next out e).1
 payer_sends ctx given w n (Up b) next Stop out laws c for_it e = subst (AllByRecursion (SentWell ctx given (Payer n))) (done_same (AtRest b) next [] out e).1 tt
 payer_sends ctx given w n (Up b) next (Reprice product price) out laws c for_it e = repriced_out ctx given n b (ctx.reprice b.plan product price) next out e
 payer_sends ctx given w n (AtRest b) next Start out laws c for_it e = subst (AllByRecursion (SentWell ctx given (Payer n))) (done_same (Up b) next [] out e).1 tt
@@ -262,3 +273,4 @@ payer_sends ctx given w n (AtRest b) next Tick out laws c for_it e = absurd cc
 payer_sends ctx given w n (AtRest b) next (Take from bytes) out laws c for_it e = absurd cc
 payer_sends ctx given w n (AtRest b) next Stop out laws c for_it e = absurd cc
 payer_sends ctx given w n (AtRest b) next (Reprice product price) out laws c for_it e = absurd cc
+payer_sends ctx given w n (AtRest b) next (Adjudicate from bytes advice) out laws c for_it e = absurd cc

@@ -1,41 +1,41 @@
 -- The books of every world that events lead to keep their ledgers.
 use Rattle.std.proofs.Common.{◌≡◌, ℕ, zero, suc, ◌+◌, List, [], ◌∷◌, Some, Result, Ok, Err, refl, sym, ap, subst}
-use Rattle.claim_model.specs.Words.{TxnId, Envelope, EnvelopeFault, Plan, PlanFault}
+use Rattle.claim_model.specs.Words.{TxnId, Envelope, EnvelopeFault, Plan, PlanFault, Ruling}
 use Rattle.claim_model.specs.Context.{Context}
 use Rattle.claim_model.specs.Readable.{is_request}
 use Rattle.claim_model.specs.Numbered.{numbered}
 use Rattle.claim_model.specs.Rows.{Row, BookSettings, Book, ruled_rows}
-use Rattle.claim_model.specs.Book.{new_row, Answered, answered}
-use Rattle.claim_model.specs.Node.{Node, Power, Up, AtRest, Sent, Call, Submit, Tick, Take, Stop, Start, Reprice, Outcome, Done, Refused, after_answer, payer_takes, after_reprice, payer_step}
+use Rattle.claim_model.specs.Book.{new_row, unadvised, Answered, answered}
+use Rattle.claim_model.specs.Node.{Node, Power, Up, AtRest, Sent, Call, Submit, Tick, Take, Stop, Start, Reprice, Adjudicate, Outcome, Done, Refused, after_answer, payer_takes, advice_in, after_reprice, payer_step}
 use Rattle.claim_model.specs.World.{World, Event, step, world_after, run}
 use Rattle.claim_model.specs.Settings.{WorldSettings, opening}
 use Rattle.claim_model.specs.Held.{book_in}
 use Rattle.claim_model.specs.Promises.{Reached}
 use Rattle.claim_model.proofs.Sound.{with_payer, each_put}
 use Rattle.claim_model.proofs.PharmacyStep.{done_same}
-use Rattle.claim_model.proofs.PayerStep.{with_row, Rows, Known, New, Ruled_on, answered_ruled, after_answer_done, takes_parts}
+use Rattle.claim_model.proofs.PayerStep.{with_row, Rows, Known, New, Ruled_on, answered_ruled, after_answer_done, takes_parts, asked_first}
 use Rattle.claim_model.proofs.Runs.{payer_opens, Step, At_pharmacy, At_switch, At_payer, event_made}
 use Rattle.claim_model.proofs.Ledger.{Ledger, empty_ledger, ledger_row}
 
 -- what a call makes of a book: its rows stay, or a new request is entered
 pub data BookMoves (ctx : Context) (b after : Book) : Type 0 where
   Same : after.rows ≡ b.rows → after.payer ≡ b.payer → after.settings ≡ b.settings → BookMoves ctx b after
-  Adds : (id : TxnId) → (request : List ℕ) → after ≡ with_row b (new_row ctx b id request) → BookMoves ctx b after
+  Adds : (advice : List Ruling) → (id : TxnId) → (request : List ℕ) → after ≡ with_row b (new_row ctx b advice id request) → BookMoves ctx b after
 
 same_book : (ctx : Context) (b after : Book) → after ≡ b → BookMoves ctx b after
 same_book ctx b after e = Same (ap (λ (q : Book). q.rows) e) (ap (λ (q : Book). q.payer) e) (ap (λ (q : Book). q.settings) e)
 
-rows_move : (ctx : Context) (b : Book) (a : Answered) (e : Envelope) (r : Ruled_on ctx b e.id e.payload a) → Rows ctx b e.id e.payload r.header a → BookMoves ctx b a.book
-rows_move ctx b a e r (Known row found same book text) = same_book ctx b a.book book
-rows_move ctx b a e r (New fresh fits book text) = Adds e.id e.payload book
+rows_move : (ctx : Context) (b : Book) (advice : List Ruling) (a : Answered) (e : Envelope) (r : Ruled_on ctx b advice e.id e.payload a) → Rows ctx b advice e.id e.payload r.header a → BookMoves ctx b a.book
+rows_move ctx b advice a e r (Known row found same book text) = same_book ctx b a.book book
+rows_move ctx b advice a e r (New fresh fits advised book text) = Adds advice e.id e.payload book
 
-takes_move : (ctx : Context) (b : Book) (from : Node) (r : Result Envelope EnvelopeFault) (next : Power Book Book) (sent : List Sent) → payer_takes ctx b from r ≡ Done next sent → BookMoves ctx b (book_in next)
-takes_move ctx b from (Err f) next sent e = absurd cc
-takes_move ctx b from (Ok env) next sent e =
-    let t = takes_parts (is_request env) (after_answer ctx from env.id (answered ctx b env.id env.payload)) next sent e in
-    let d = after_answer_done ctx from env.id (answered ctx b env.id env.payload) next sent t.1 in
-    let r = answered_ruled ctx b env.id env.payload d.0 d.1 in
-    subst (λ y. BookMoves ctx b (book_in y)) d.2 (rows_move ctx b d.0 env r r.rows)
+takes_move : (ctx : Context) (b : Book) (advice : List Ruling) (from : Node) (r : Result Envelope EnvelopeFault) (next : Power Book Book) (sent : List Sent) → payer_takes ctx b advice from r ≡ Done next sent → BookMoves ctx b (book_in next)
+takes_move ctx b advice from (Err f) next sent e = absurd cc
+takes_move ctx b advice from (Ok env) next sent e =
+    let t = takes_parts (is_request env) (after_answer ctx from env.id (answered ctx b advice env.id env.payload)) next sent e in
+    let d = after_answer_done ctx from env.id (answered ctx b advice env.id env.payload) next sent t.1 in
+    let r = answered_ruled ctx b advice env.id env.payload d.0 d.1 in
+    subst (λ y. BookMoves ctx b (book_in y)) d.2 (rows_move ctx b advice d.0 env r r.rows)
 
 reprice_move : (ctx : Context) (b : Book) (r : Result Plan PlanFault) (next : Power Book Book) (sent : List Sent) → after_reprice b r ≡ Done next sent → BookMoves ctx b (book_in next)
 reprice_move ctx b (Err f) next sent e = absurd cc
@@ -44,7 +44,9 @@ reprice_move ctx b (Ok plan) next sent e =
     subst (λ y. BookMoves ctx b (book_in y)) (done_same (Up after) next [] sent e).0 (Same refl refl refl)
 
 pub payer_moves : (ctx : Context) (s next : Power Book Book) (call : Call) (sent : List Sent) → payer_step ctx s call ≡ Done next sent → BookMoves ctx (book_in s) (book_in next)
-payer_moves ctx (Up b) next (Take from bytes) sent e = takes_move ctx b from (ctx.read_envelope bytes) next sent e
+payer_moves ctx (Up b) next (Take from bytes) sent e = takes_move ctx b unadvised from (ctx.read_envelope bytes) next sent e
+payer_moves ctx (Up b) next (Adjudicate from bytes advice) sent e =
+    takes_move ctx b (advice_in ctx advice) from (ctx.read_envelope bytes) next sent (asked_first b.settings.asks _ next sent e).1
 payer_moves ctx (Up b) next Stop sent e = same_book ctx b (book_in next) (ap book_in (sym (done_same (AtRest b) next [] sent e).0))
 payer_moves ctx (Up b) next (Reprice product price) sent e = reprice_move ctx b (ctx.reprice b.plan product price) next sent e
 payer_moves ctx (AtRest b) next Start sent e = same_book ctx b (book_in next) (ap book_in (sym (done_same (Up b) next [] sent e).0))
@@ -56,6 +58,7 @@ payer_moves ctx (AtRest b) next Tick sent e = absurd cc
 payer_moves ctx (AtRest b) next (Take from bytes) sent e = absurd cc
 payer_moves ctx (AtRest b) next Stop sent e = absurd cc
 payer_moves ctx (AtRest b) next (Reprice product price) sent e = absurd cc
+payer_moves ctx (AtRest b) next (Adjudicate from bytes advice) sent e = absurd cc
 
 -- the ledger of a book
 abbrev pub BookLedger : Context → Book → Type 0
@@ -65,7 +68,7 @@ moved_ledger : (ctx : Context) (b after : Book) → BookMoves ctx b after → Bo
 moved_ledger ctx b after (Same rows payer settings) l =
     subst (λ (n : ℕ). Ledger n after.settings.serial (ruled_rows ctx after.rows)) (sym payer)
     (subst (λ (s : BookSettings). Ledger b.payer s.serial (ruled_rows ctx after.rows)) (sym settings) (subst (λ (rs : List Row). Ledger b.payer b.settings.serial (ruled_rows ctx rs)) (sym rows) l))
-moved_ledger ctx b after (Adds id request is) l = subst (BookLedger ctx) (sym is) (ledger_row ctx b id request l)
+moved_ledger ctx b after (Adds advice id request is) l = subst (BookLedger ctx) (sym is) (ledger_row ctx b advice id request l)
 
 abbrev pub Ledgers : Context → World → Type 0
 Ledgers ctx w = (n : ℕ) (s : Power Book Book) → numbered w.payers n ≡ Some s → BookLedger ctx (book_in s)

@@ -27,9 +27,9 @@ use Rattle.claim_profile.specs.Transaction.{transaction_code}
 use Rattle.claim_profile.proofs.TransactionLemmas.{only}
 use Rattle.plan_rules.specs.Prices.{price_of}
 use Rattle.plan_rules.specs.Pricing.{amounts_at, paid, worth}
-use Rattle.claim_model.specs.Words.{Amounts, Claim, Reversal, Bills, Reverses, Code, RequestHeader, Kind, Envelope, Plan}
+use Rattle.claim_model.specs.Words.{Amounts, Claim, Reversal, Bills, Reverses, Code, RequestHeader, Kind, Envelope, Plan, Answer}
 use Rattle.claim_model.specs.Readable.{readable, billing_code, reversal_code}
-use Rattle.claim_model.specs.Laws.{IsEnvelope, IsPrescription, IsClaimOf, IsReversalOf, IsRejects, IsOrderOf, IsAmounts, AnswersReadBack, Laws}
+use Rattle.claim_model.specs.Laws.{IsEnvelope, IsPrescription, IsClaimOf, IsReversalOf, IsRejects, IsOrderOf, IsAmounts, AdvisesWell, AnswersReadBack, Laws}
 use Rattle.claim_model.specs.Bytes.{order_in, orders_in, envelope_in, bytes_with}
 use Rattle.claim_model.proofs.Options.{map_some, then_some, same_some}
 use Rattle.claim_model.proofs.Tests.{readable_parts}
@@ -259,14 +259,16 @@ prices_fit plan h c amounts of_it e =
     let f = amounts_fit c.fee plan.fee c.cost (worth c.quantity p.0) plan.copay of_it.fee in
     subst IsAmounts p.2 (record { cost = f.0; fee = f.1; copay = f.2; total = f.3; sum = f.4 })
 
-pub bytes_laws : EnvelopesReadBack → NumbersInRange → AmountsInRange → (routes : RouteMaps) → AnswersReadBack (bytes_with routes) → Laws (bytes_with routes)
-bytes_laws envelopes numbers amounts routes answers =
+pub bytes_laws : EnvelopesReadBack → NumbersInRange → AmountsInRange → (routes : RouteMaps) → AnswersReadBack (bytes_with routes)
+    → ((bytes : List ℕ) (a : Answer) → (bytes_with routes).read_answer bytes ≡ Some a → AdvisesWell a.rulings) → Laws (bytes_with routes)
+bytes_laws envelopes numbers amounts routes answers sayings =
     record {
       envelopes = envelopes_read envelopes routes;
       groups = groups_counted routes;
       orders = orders_are numbers amounts routes;
       prices = prices_fit;
       answers = answers;
+      sayings = sayings;
     }
 
 pub readable_alike : (routes : RouteMaps) (text : List ℕ) → readable (bytes_with routes) text ≡ readable_header text

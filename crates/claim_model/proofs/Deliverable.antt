@@ -1,23 +1,25 @@
 -- Which refusals a delivery can meet.
-use Rattle.std.proofs.Common.{◌≡◌, ℕ, Bool, true, false, not, ◌&&◌, ◌==◌, cond, List, map, length, Option, Some, None, Result, Ok, Err, refl, sym, ap, ◌∙◌, subst, arith}
-use Rattle.std.specs.Prelude.{bytes_eq, nat_lt, option_map}
+use Rattle.std.proofs.Common.{◌≡◌, ℕ, Bool, true, false, not, ◌&&◌, ◌==◌, ◌+◌, cond, List, [], ◌∷◌, ◌++◌, map, length, Option, Some, None, Result, Ok, Err, refl, sym, ap, ◌∙◌, subst, arith, inl, inr}
+use Rattle.std.specs.Prelude.{bytes_eq, nat_lt, option_map, is_some}
 use Rattle.std.specs.List.{AllByRecursion, list_all}
 use Rattle.std.proofs.lemmas.Bool.{and_from, not_from_false, both_ways}
-use Rattle.claim_model.specs.Words.{TxnId, RequestHeader, Envelope, Answer}
+use Rattle.claim_model.specs.Words.{TxnId, RequestHeader, Envelope, Answer, Order, Code, Ruling}
 use Rattle.claim_model.specs.Context.{Context}
 use Rattle.claim_model.specs.Laws.{Laws}
-use Rattle.claim_model.specs.Readable.{readable, payer_for, is_payer, fits, settles, is_request}
-use Rattle.claim_model.specs.Refusal.{Refusal, NoSuchPacket, Down, Unreadable, AlreadySettled, Differs, NumberReused, NotWaiting, NotOurs, BookFull, SerialsUsedUp}
+use Rattle.claim_model.specs.Readable.{readable, payer_for, is_payer, fits, settles, is_request, route_key}
+use Rattle.claim_model.specs.Refusal.{Refusal, NoSuchPacket, Down, Unreadable, AlreadySettled, Differs, NumberReused, NotWaiting, NotOurs, BookFull, SerialsUsedUp, NotAdvised, NotAsked}
 use Rattle.claim_model.specs.Numbered.{numbered}
-use Rattle.claim_model.specs.Rows.{Row, Book}
-use Rattle.claim_model.specs.Book.{serial_fits, row_of, new_row, Answered, entered_row, answered_by, answered_readable, answered}
+use Rattle.claim_model.specs.Ruled.{Ruled, ruled}
+use Rattle.claim_model.specs.Judgement.{Judged, Unpriced, ToPrice, judged, planned, verdict_in, ruling, is_advised, all_advised}
+use Rattle.claim_model.specs.Rows.{Row, Book, ruled_rows}
+use Rattle.claim_model.specs.Book.{serial_fits, row_of, new_row, has_verdicts, unadvised, Answered, entered_row, answered_by, answered_readable, answered}
 use Rattle.claim_model.specs.Journal.{State, Waits, Has, Entry, Journal, JournalAtRest, Kept, settle_by, settle_with, heard_at, heard, answer_in, kept_entry, stopped}
 use Rattle.claim_model.specs.Table.{Slot, Table, Requested, slot_of, requested_again, requested_by, requested_readable, requested, Responded, responded_with, responded_by, responded_readable, responded}
-use Rattle.claim_model.specs.Node.{Node, Pharmacy, Switch, Payer, Power, Up, AtRest, Take, Outcome, Done, Refused, after_hearing, pharmacy_takes, pharmacy_step, after_request, after_response, switch_takes, switch_step, after_answer, payer_takes, payer_step}
-use Rattle.claim_model.specs.World.{World, Packet, pharmacy_stepped, on_pharmacy, switch_stepped, on_switch, payer_stepped, on_payer, on_node, delivered, step}
+use Rattle.claim_model.specs.Node.{Node, Pharmacy, Switch, Payer, Power, Up, AtRest, Take, Adjudicate, Outcome, Done, Refused, after_hearing, pharmacy_takes, pharmacy_step, after_request, after_response, switch_takes, switch_step, after_answer, payer_takes, advice_in, payer_step}
+use Rattle.claim_model.specs.World.{World, Packet, pharmacy_stepped, on_pharmacy, switch_stepped, on_switch, payer_stepped, on_payer, on_node, delivered, adjudicated, step}
 use Rattle.claim_model.specs.Settings.{WorldSettings}
-use Rattle.claim_model.specs.Held.{journal_in, journal_at, entry_of, asked, decided}
-use Rattle.claim_model.specs.Promises.{Reached, MayMeet, DeliveriesMeet}
+use Rattle.claim_model.specs.Held.{journal_in, book_in, journal_at, entry_of, asked, decided}
+use Rattle.claim_model.specs.Promises.{Reached, asks_in, asks_at, is_asking, MayMeet, MayMeetAt, DeliveriesMeet, AdjudicationsMeet}
 use Rattle.claim_model.proofs.Lists.{all_at, find_all, find_passes, numbered_map, numbered_exists}
 use Rattle.claim_model.proofs.Options.{map_some, then_some, same_some}
 use Rattle.claim_model.proofs.Tests.{readable_parts, bytes_self, nat_self, id_same, payer_self}
@@ -213,20 +215,45 @@ switch_refusal ctx given w (AtRest cap) from bytes c why laws x all e = subst Ma
 
 -- at a payer
 
-row_refusal : (b : Book) (r : Result Answered Refusal) (t : Bool) (why : Refusal) → (a : Answered) → r ≡ Ok a → cond t r (Err SerialsUsedUp) ≡ Err why → MayMeet why
-row_refusal b r true why a is e = absurd (ok_err a why (sym is ∙ e))
+-- a payer that does not ask has a verdict on everything
+
+judged_unasked : (ctx : Context) (b : Book) (advice : List Ruling) (place : ℕ) (j : Judged) → b.settings.asks ≡ false → is_advised ctx b advice place j ≡ true
+judged_unasked ctx b advice place (Unpriced ruling) e = refl
+judged_unasked ctx b advice place (ToPrice c) e = by_asks b.settings.asks e
+  where
+    by_asks : (t : Bool) → t ≡ false → is_some (cond t (verdict_in c.fill.prescription (numbered advice place)) (Some (planned (ctx.price b.plan c)))) ≡ true
+    by_asks true h = absurd (Rattle.std.proofs.lemmas.Bool.true≢false h)
+    by_asks false h = refl
+
+pub unasked_advised : (ctx : Context) (b : Book) (advice : List Ruling) (before : List Ruled) (id : TxnId) (place : ℕ) (orders : List (Result Order (List Code))) → b.settings.asks ≡ false → all_advised ctx b advice before id place orders ≡ true
+unasked_advised ctx b advice before id place [] e = refl
+unasked_advised ctx b advice before id place (order ∷ orders) e =
+    and_from (is_advised ctx b advice place (judged before order)) (all_advised ctx b advice (before ++ ruled id place order (ruling ctx b advice before place order) ∷ []) id (place + 1) orders)
+    (judged_unasked ctx b advice place (judged before order) e) (unasked_advised ctx b advice (before ++ ruled id place order (ruling ctx b advice before place order) ∷ []) id (place + 1) orders e)
+
+-- so what lacks a verdict is at a payer that asks
+asks_where_not : (ctx : Context) (b : Book) (advice : List Ruling) (id : TxnId) (request : List ℕ) → has_verdicts ctx b advice id request ≡ false → b.settings.asks ≡ true
+asks_where_not ctx b advice id request e = by_asks b.settings.asks refl
+  where
+    by_asks : (t : Bool) → b.settings.asks ≡ t → t ≡ true
+    by_asks true is = refl
+    by_asks false is = absurd (both_ways (has_verdicts ctx b advice id request) e (unasked_advised ctx b advice (ruled_rows ctx b.rows) id 1 (ctx.orders request) is))
+
+row_refusal : (asks : Bool) (a : Answered) (t advised : Bool) (why : Refusal) → (advised ≡ false → asks ≡ true) → cond t (cond advised (Ok a) (Err NotAdvised)) (Err SerialsUsedUp) ≡ Err why → MayMeetAt asks why
+row_refusal asks a true true why f e = absurd (ok_err a why e)
   where
     ok_err : (q : Answered) (f : Refusal) → ◌≡◌ {A = Result Answered Refusal} (Ok q) (Err f) → ⊥
     ok_err q f k = cc
-row_refusal b r false why a is e = subst MayMeet (err_same SerialsUsedUp why e) tt
+row_refusal asks a true false why f e = inr (f refl, sym (err_same NotAdvised why e))
+row_refusal asks a false advised why f e = inl (subst MayMeet (err_same SerialsUsedUp why e) tt)
 
-room_refusal : (r : Result Answered Refusal) (t : Bool) (why : Refusal) → (r ≡ Err why → MayMeet why) → cond t r (Err BookFull) ≡ Err why → MayMeet why
-room_refusal r true why f e = f e
-room_refusal r false why f e = subst MayMeet (err_same BookFull why e) tt
+room_refusal : (asks : Bool) (r : Result Answered Refusal) (t : Bool) (why : Refusal) → (r ≡ Err why → MayMeetAt asks why) → cond t r (Err BookFull) ≡ Err why → MayMeetAt asks why
+room_refusal asks r true why f e = f e
+room_refusal asks r false why f e = inl (subst MayMeet (err_same BookFull why e) tt)
 
-by_row_refusal : (ctx : Context) (w : World) (n : ℕ) (b : Book) (bytes : List ℕ) (c : Carries ctx w bytes) (h : RequestHeader) (o : Option Row) (why : Refusal) → asked w c.envelope.id ≡ Some c.envelope.payload
-    → AllByRecursion (SoundRow ctx w n b.rows) b.rows → row_of c.envelope.id b.rows ≡ o → answered_by ctx b c.envelope.id c.envelope.payload h o ≡ Err why → MayMeet why
-by_row_refusal ctx w n b bytes c h (Some row) why asks rows is e =
+by_row_refusal : (ctx : Context) (w : World) (n : ℕ) (b : Book) (advice : List Ruling) (bytes : List ℕ) (c : Carries ctx w bytes) (h : RequestHeader) (o : Option Row) (why : Refusal) → asked w c.envelope.id ≡ Some c.envelope.payload
+    → AllByRecursion (SoundRow ctx w n b.rows) b.rows → row_of c.envelope.id b.rows ≡ o → answered_by ctx b advice c.envelope.id c.envelope.payload h o ≡ Err why → MayMeetAt b.settings.asks why
+by_row_refusal ctx w n b advice bytes c h (Some row) why asks rows is e =
     let s : SoundRow ctx w n b.rows row = find_all (SoundRow ctx w n b.rows) _ b.rows row rows is in
     let id : row.id ≡ c.envelope.id = id_same row.id c.envelope.id (find_passes _ b.rows row is) in
     let same : row.request ≡ c.envelope.payload = same_some _ _ (sym s.asks ∙ (ap (asked w) id ∙ asks)) in
@@ -235,19 +262,20 @@ by_row_refusal ctx w n b bytes c h (Some row) why asks rows is e =
   where
     ok_err : (q : Answered) (f : Refusal) → ◌≡◌ {A = Result Answered Refusal} (Ok q) (Err f) → ⊥
     ok_err q f k = cc
-by_row_refusal ctx w n b bytes c h None why asks rows is e =
-    room_refusal (entered_row ctx b h (new_row ctx b c.envelope.id c.envelope.payload)) (nat_lt (length b.rows) b.settings.cap) why
-    (λ k. row_refusal b _ (list_all serial_fits (new_row ctx b c.envelope.id c.envelope.payload).rulings) why _ refl k) e
+by_row_refusal ctx w n b advice bytes c h None why asks rows is e =
+    room_refusal b.settings.asks (entered_row ctx b h (has_verdicts ctx b advice c.envelope.id c.envelope.payload) (new_row ctx b advice c.envelope.id c.envelope.payload)) (nat_lt (length b.rows) b.settings.cap) why
+    (λ k. row_refusal b.settings.asks _ (list_all serial_fits (new_row ctx b advice c.envelope.id c.envelope.payload).rulings) (has_verdicts ctx b advice c.envelope.id c.envelope.payload) why
+    (asks_where_not ctx b advice c.envelope.id c.envelope.payload) k) e
 
-answered_refusal : (ctx : Context) (given : WorldSettings) (w : World) (n : ℕ) (b : Book) (bytes : List ℕ) (c : Carries ctx w bytes) (o : Option RequestHeader) (why : Refusal) → SoundBook ctx given w n b → asked w c.envelope.id ≡ Some c.envelope.payload
-    → (r : RoutedTo ctx n c.envelope) → o ≡ Some r.header → answered_readable ctx b c.envelope.id c.envelope.payload o ≡ Err why → MayMeet why
-answered_refusal ctx given w n b bytes c None why sb asks r is e = absurd cc
-answered_refusal ctx given w n b bytes c (Some h) why sb asks r is e =
+answered_refusal : (ctx : Context) (given : WorldSettings) (w : World) (n : ℕ) (b : Book) (advice : List Ruling) (bytes : List ℕ) (c : Carries ctx w bytes) (o : Option RequestHeader) (why : Refusal) → SoundBook ctx given w n b → asked w c.envelope.id ≡ Some c.envelope.payload
+    → (r : RoutedTo ctx n c.envelope) → o ≡ Some r.header → answered_readable ctx b advice c.envelope.id c.envelope.payload o ≡ Err why → MayMeetAt b.settings.asks why
+answered_refusal ctx given w n b advice bytes c None why sb asks r is e = absurd cc
+answered_refusal ctx given w n b advice bytes c (Some h) why sb asks r is e =
     let same : h ≡ r.header = same_some h r.header is in
     let routed : payer_for ctx h ≡ Some b.payer = ap (payer_for ctx) same ∙ (r.routed ∙ ap (λ (m : ℕ). Some m) (sym sb.payer)) in
     let test : is_payer b.payer (payer_for ctx h) ≡ true = subst (λ (q : Option ℕ). is_payer b.payer q ≡ true) (sym routed) (payer_self b.payer) in
-    by_row_refusal ctx w n b bytes c h (row_of c.envelope.id b.rows) why asks sb.rows refl
-    (cond_err (is_payer b.payer (payer_for ctx h)) (answered_by ctx b c.envelope.id c.envelope.payload h (row_of c.envelope.id b.rows)) NotOurs why test e)
+    by_row_refusal ctx w n b advice bytes c h (row_of c.envelope.id b.rows) why asks sb.rows refl
+    (cond_err (is_payer b.payer (payer_for ctx h)) (answered_by ctx b advice c.envelope.id c.envelope.payload h (row_of c.envelope.id b.rows)) NotOurs why test e)
 
 after_answer_refused : (ctx : Context) (from : Node) (id : TxnId) (r : Result Answered Refusal) (why : Refusal) → after_answer ctx from id r ≡ Refused why → r ≡ Err why
 after_answer_refused ctx from id (Err f) why e = ap (λ (x : Refusal). Err x) (refused_same f why e)
@@ -257,15 +285,26 @@ cond_refused : {A : Type 0} (b : Bool) (o : Outcome A) (f why : Refusal) → b �
 cond_refused true o f why is e = e
 cond_refused false o f why is e = absurd (Rattle.std.proofs.lemmas.Bool.false≢true is)
 
-payer_refusal : (ctx : Context) (given : WorldSettings) (w : World) (n : ℕ) (s : Power Book Book) (from : Node) (bytes : List ℕ) (c : Carries ctx w bytes) (why : Refusal) → Laws ctx → Sound ctx given w → numbered w.payers n ≡ Some s
-    → RoutedTo ctx n c.envelope → payer_step ctx s (Take from bytes) ≡ Refused why → MayMeet why
+takes_refusal : (ctx : Context) (given : WorldSettings) (w : World) (n : ℕ) (b : Book) (advice : List Ruling) (from : Node) (bytes : List ℕ) (c : Carries ctx w bytes) (why : Refusal) → Laws ctx → Sound ctx given w → numbered w.payers n ≡ Some (Up b)
+    → RoutedTo ctx n c.envelope → payer_takes ctx b advice from (ctx.read_envelope bytes) ≡ Refused why → MayMeetAt b.settings.asks why
 unfolding answered
-payer_refusal ctx given w n (Up b) from bytes c why laws x is r e =
-    let e' = cond_refused (is_request c.envelope) (after_answer ctx from c.envelope.id (answered ctx b c.envelope.id c.envelope.payload)) Unreadable why r.is_request_is
-    (ap (payer_takes ctx b from) (sym (carries_reads ctx w bytes laws c)) ∙ e) in
-    answered_refusal ctx given w n b bytes c (readable ctx c.envelope.payload) why (x.payers n (Up b) is) (request_says ctx w bytes c r.is_request_is) r r.reads
-    (after_answer_refused ctx from c.envelope.id (answered ctx b c.envelope.id c.envelope.payload) why e')
-payer_refusal ctx given w n (AtRest b) from bytes c why laws x is r e = subst MayMeet (refused_same Down why e) tt
+takes_refusal ctx given w n b advice from bytes c why laws x is r e =
+    let e' = cond_refused (is_request c.envelope) (after_answer ctx from c.envelope.id (answered ctx b advice c.envelope.id c.envelope.payload)) Unreadable why r.is_request_is
+    (ap (payer_takes ctx b advice from) (sym (carries_reads ctx w bytes laws c)) ∙ e) in
+    answered_refusal ctx given w n b advice bytes c (readable ctx c.envelope.payload) why (x.payers n (Up b) is) (request_says ctx w bytes c r.is_request_is) r r.reads
+    (after_answer_refused ctx from c.envelope.id (answered ctx b advice c.envelope.id c.envelope.payload) why e')
+
+payer_refusal : (ctx : Context) (given : WorldSettings) (w : World) (n : ℕ) (s : Power Book Book) (from : Node) (bytes : List ℕ) (c : Carries ctx w bytes) (why : Refusal) → Laws ctx → Sound ctx given w → numbered w.payers n ≡ Some s
+    → RoutedTo ctx n c.envelope → payer_step ctx s (Take from bytes) ≡ Refused why → MayMeetAt (book_in s).settings.asks why
+payer_refusal ctx given w n (Up b) from bytes c why laws x is r e = takes_refusal ctx given w n b unadvised from bytes c why laws x is r e
+payer_refusal ctx given w n (AtRest b) from bytes c why laws x is r e = inl (subst MayMeet (refused_same Down why e) tt)
+
+advised_refusal : (ctx : Context) (given : WorldSettings) (w : World) (n : ℕ) (s : Power Book Book) (from : Node) (bytes advice : List ℕ) (c : Carries ctx w bytes) (why : Refusal) → Laws ctx → Sound ctx given w → numbered w.payers n ≡ Some s
+    → RoutedTo ctx n c.envelope → (book_in s).settings.asks ≡ true → payer_step ctx s (Adjudicate from bytes advice) ≡ Refused why → MayMeetAt true why
+advised_refusal ctx given w n (Up b) from bytes advice c why laws x is r asks e =
+    subst (λ (t : Bool). MayMeetAt t why) asks
+    (takes_refusal ctx given w n b (advice_in ctx advice) from bytes c why laws x is r (cond_refused b.settings.asks (payer_takes ctx b (advice_in ctx advice) from (ctx.read_envelope bytes)) NotAsked why asks e))
+advised_refusal ctx given w n (AtRest b) from bytes advice c why laws x is r asks e = inl (subst MayMeet (refused_same Down why e) tt)
 
 -- in the world
 
@@ -294,33 +333,60 @@ on_switch_refusal ctx given w n from bytes c why (Some t) s laws x is there e =
     switch_refusal ctx given w t from bytes c why laws x (x.switches n t is) (switch_stepped_refused w n (switch_step ctx t (Take from bytes)) why e)
 
 on_payer_refusal : (ctx : Context) (given : WorldSettings) (w : World) (n : ℕ) (from : Node) (bytes : List ℕ) (c : Carries ctx w bytes) (why : Refusal) (o : Option (Power Book Book)) (s : Power Book Book) → Laws ctx → Sound ctx given w
-    → RoutedTo ctx n c.envelope → numbered w.payers n ≡ o → o ≡ Some s → on_payer ctx w n (Take from bytes) o ≡ Refused why → MayMeet why
+    → RoutedTo ctx n c.envelope → numbered w.payers n ≡ o → o ≡ Some s → on_payer ctx w n (Take from bytes) o ≡ Refused why → MayMeetAt (asks_in (option_map book_in o)) why
 on_payer_refusal ctx given w n from bytes c why None s laws x f is there e = absurd cc
 on_payer_refusal ctx given w n from bytes c why (Some t) s laws x f is there e =
     payer_refusal ctx given w n t from bytes c why laws x is f (payer_stepped_refused w n (payer_step ctx t (Take from bytes)) why e)
 
+on_payer_advised : (ctx : Context) (given : WorldSettings) (w : World) (n : ℕ) (from : Node) (bytes advice : List ℕ) (c : Carries ctx w bytes) (why : Refusal) (o : Option (Power Book Book)) (s : Power Book Book) → Laws ctx → Sound ctx given w
+    → RoutedTo ctx n c.envelope → numbered w.payers n ≡ o → o ≡ Some s → asks_in (option_map book_in o) ≡ true → on_payer ctx w n (Adjudicate from bytes advice) o ≡ Refused why → MayMeetAt true why
+on_payer_advised ctx given w n from bytes advice c why None s laws x f is there asks e = absurd cc
+on_payer_advised ctx given w n from bytes advice c why (Some t) s laws x f is there asks e =
+    advised_refusal ctx given w n t from bytes advice c why laws x is f asks (payer_stepped_refused w n (payer_step ctx t (Adjudicate from bytes advice)) why e)
+
 node_refusal : (ctx : Context) (given : WorldSettings) (w : World) (from to : Node) (bytes : List ℕ) (c : Carries ctx w bytes) (why : Refusal) → Reached ctx given w → Posted ctx given w → IsFor ctx given from to c.envelope
-    → on_node ctx w to (Take from bytes) ≡ Refused why → MayMeet why
+    → on_node ctx w to (Take from bytes) ≡ Refused why → MayMeetAt (asks_at w to) why
 node_refusal ctx given w from (Pharmacy n) bytes c why r p f e =
     let d = response_says ctx w bytes c f.is_answer in
     let o = origin ctx given w c.envelope.id c.envelope.payload r.laws p.sound d in
     let a = asked_well ctx given w c.envelope.id o.0.request p.sound o.0.asks in
     let s = map_some journal_in (numbered w.pharmacies c.envelope.id.pharmacy) a.journal a.there in
-    on_pharmacy_refusal ctx given w n from bytes c why (numbered w.pharmacies n) s.0 r.laws p.sound f refl (ap (numbered w.pharmacies) (sym f.own) ∙ s.1) e
+    inl (on_pharmacy_refusal ctx given w n from bytes c why (numbered w.pharmacies n) s.0 r.laws p.sound f refl (ap (numbered w.pharmacies) (sym f.own) ∙ s.1) e)
 node_refusal ctx given w from (Switch m) bytes c why r p f e =
     let s = numbered_exists w.switches m f.above (omega (arith, f.within, p.switches)) in
-    on_switch_refusal ctx given w m from bytes c why (numbered w.switches m) s.0 r.laws p.sound refl s.1 e
+    inl (on_switch_refusal ctx given w m from bytes c why (numbered w.switches m) s.0 r.laws p.sound refl s.1 e)
 node_refusal ctx given w from (Payer n) bytes c why r p f e =
-    let in' = r.accepts.routes f.0.header.bin f.0.header.pcn n f.0.routed in
+    let in' = r.accepts.routes (route_key f.0.header) n f.0.routed in
     let s = numbered_exists w.payers n in'.0 (omega (arith, in'.1, p.payers)) in
     on_payer_refusal ctx given w n from bytes c why (numbered w.payers n) s.0 r.laws p.sound f.0 refl s.1 e
 
-delivered_refusal : (ctx : Context) (given : WorldSettings) (w : World) (k : ℕ) (o : Option Packet) (why : Refusal) → Reached ctx given w → Posted ctx given w → numbered w.packets k ≡ o → delivered ctx w o ≡ Refused why → MayMeet why
-delivered_refusal ctx given w k None why r p is e = subst MayMeet (refused_same NoSuchPacket why e) tt
+node_advised : (ctx : Context) (given : WorldSettings) (w : World) (from to : Node) (bytes advice : List ℕ) (c : Carries ctx w bytes) (why : Refusal) → Reached ctx given w → Posted ctx given w → IsFor ctx given from to c.envelope
+    → asks_at w to ≡ true → on_node ctx w to (Adjudicate from bytes advice) ≡ Refused why → MayMeetAt true why
+node_advised ctx given w from (Pharmacy n) bytes advice c why r p f asks e = absurd (Rattle.std.proofs.lemmas.Bool.false≢true asks)
+node_advised ctx given w from (Switch m) bytes advice c why r p f asks e = absurd (Rattle.std.proofs.lemmas.Bool.false≢true asks)
+node_advised ctx given w from (Payer n) bytes advice c why r p f asks e =
+    let in' = r.accepts.routes (route_key f.0.header) n f.0.routed in
+    let s = numbered_exists w.payers n in'.0 (omega (arith, in'.1, p.payers)) in
+    on_payer_advised ctx given w n from bytes advice c why (numbered w.payers n) s.0 r.laws p.sound f.0 refl s.1 asks e
+
+delivered_refusal : (ctx : Context) (given : WorldSettings) (w : World) (k : ℕ) (o : Option Packet) (why : Refusal) → Reached ctx given w → Posted ctx given w → numbered w.packets k ≡ o → delivered ctx w o ≡ Refused why → MayMeetAt (is_asking w o) why
+delivered_refusal ctx given w k None why r p is e = inl (subst MayMeet (refused_same NoSuchPacket why e) tt)
 delivered_refusal ctx given w k (Some q) why r p is e =
     let c : Carries ctx w q.bytes = all_at (SoundPacket ctx w) w.packets k q p.sound.packets is in
     let a : Addressed ctx given q = all_at (Addressed ctx given) w.packets k q p.packets is in
     node_refusal ctx given w q.from q.to q.bytes c why r p (a c.envelope (carries_reads ctx w q.bytes r.laws c)) e
+
+adjudicated_refusal : (ctx : Context) (given : WorldSettings) (w : World) (k : ℕ) (advice : List ℕ) (o : Option Packet) (why : Refusal) → Reached ctx given w → Posted ctx given w → numbered w.packets k ≡ o → is_asking w o ≡ true
+    → adjudicated ctx w advice o ≡ Refused why → MayMeetAt true why
+adjudicated_refusal ctx given w k advice None why r p is asks e = absurd (Rattle.std.proofs.lemmas.Bool.false≢true asks)
+adjudicated_refusal ctx given w k advice (Some q) why r p is asks e =
+    let c : Carries ctx w q.bytes = all_at (SoundPacket ctx w) w.packets k q p.sound.packets is in
+    let a : Addressed ctx given q = all_at (Addressed ctx given) w.packets k q p.packets is in
+    node_advised ctx given w q.from q.to q.bytes advice c why r p (a c.envelope (carries_reads ctx w q.bytes r.laws c)) asks e
+
+pub adjudications_meet : (ctx : Context) (given : WorldSettings) (w : World) → Reached ctx given w → AdjudicationsMeet ctx w
+unfolding step
+adjudications_meet ctx given w r = λ k advice why asks e. adjudicated_refusal ctx given w k advice (numbered w.packets k) why r (reached_posts ctx given w r) refl asks e
 
 pub deliveries_meet : (ctx : Context) (given : WorldSettings) (w : World) → Reached ctx given w → DeliveriesMeet ctx w
 unfolding step

@@ -1,6 +1,5 @@
 -- What the settings that a world takes say of its nodes.
 use Rattle.std.proofs.Common.{◌≡◌, ℕ, ◌<◌, ◌≤◌, Bool, true, false, ◌||◌, not, cond, length, Option, Some, None, refl, arith, ltb-false}
-use Rattle.std.specs.Prelude.{nat_lt}
 use Rattle.std.specs.List.{list_all}
 use Rattle.std.proofs.lemmas.Bool.{or_parts}
 use Rattle.claim_model.specs.Context.{Context}

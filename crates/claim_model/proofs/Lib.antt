@@ -26,8 +26,10 @@ pub mod Phases
 pub mod Addressed
 pub mod Posts
 pub mod Deliverable
+pub mod Advising
 mod Premises
 pub mod BytesLaws
+pub mod Sayings
 pub mod Placeless
 pub mod AnswersBack
 pub mod Tabled

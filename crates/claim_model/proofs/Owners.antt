@@ -4,10 +4,10 @@ use Rattle.std.specs.Prelude.{bytes_eq}
 use Rattle.std.specs.List.{AllByRecursion}
 use Rattle.std.proofs.lemmas.Bool.{and_parts}
 use mathlib.Core.Path.{ap₂}
-use Rattle.claim_model.specs.Words.{TxnId, Auth, Fill, Claim, Reversal, Order, Bills, Reverses, Code, Ruling, Paid, Duplicate, Reversed, Rejected, RequestHeader}
+use Rattle.claim_model.specs.Words.{TxnId, Auth, Fill, Claim, Reversal, Order, Bills, Reverses, Code, Ruling, Paid, Duplicate, Reversed, Rejected, RequestHeader, RouteKey}
 use Rattle.claim_model.specs.Context.{Context}
 use Rattle.claim_model.specs.Laws.{Laws, IsClaimOf, IsReversalOf, IsOrderOf}
-use Rattle.claim_model.specs.Readable.{readable, payer_for}
+use Rattle.claim_model.specs.Readable.{readable, route_key, payer_for}
 use Rattle.claim_model.specs.Numbered.{numbered}
 use Rattle.claim_model.specs.Ruled.{Ruled, ruled_from}
 use Rattle.claim_model.specs.Payments.{Payment, payment_by, payment_at, payments, is_standing, standing}
@@ -86,9 +86,20 @@ claim_sources ctx w n rows (r ∷ rs) s =
     let x : Source ctx w n rows r = s.0 in
     all_append (ClaimSource ctx n) (payment_at r rs) (payments rs) (claim_source ctx w n rows r rs x.sound.header r.order r.ruling x.sound.routed x.order) (claim_sources ctx w n rows rs s.1)
 
+-- what a route may look at in a fill
+fill_key : Fill → RouteKey
+fill_key f = record { bin = f.bin; pcn = f.pcn; qualifier = f.qualifier; provider = f.provider }
+
+-- a claim's fill and its header are routed alike
+same_key : (h : RequestHeader) (c : Claim) → IsClaimOf h c → fill_key c.fill ≡ route_key h
+unfolding fill_key
+same_key h c s =
+    ap₂ (λ (bin pcn : List ℕ). record { bin = bin; pcn = pcn; qualifier = c.fill.qualifier; provider = c.fill.provider }) s.bin s.pcn
+    ∙ ap₂ (λ (qualifier provider : List ℕ). record { bin = h.bin; pcn = h.pcn; qualifier = qualifier; provider = provider }) s.qualifier s.provider
+
 -- the fill of a payment says which payer it has
-fill_routed : (ctx : Context) (n : ℕ) (p : Payment) → ClaimSource ctx n p → ctx.route p.claim.fill.bin p.claim.fill.pcn ≡ Some n
-fill_routed ctx n p s = ap₂ ctx.route s.claim.bin s.claim.pcn ∙ s.routed
+fill_routed : (ctx : Context) (n : ℕ) (p : Payment) → ClaimSource ctx n p → ctx.route (fill_key p.claim.fill) ≡ Some n
+fill_routed ctx n p s = ap ctx.route (same_key s.header p.claim s.claim) ∙ s.routed
 
 pub one_standing : (ctx : Context) (given : WorldSettings) (w : World) → Reached ctx given w → OneStandingPayment ctx w
 one_standing ctx given w r =
@@ -101,7 +112,7 @@ one_standing ctx given w r =
           (claim_sources ctx w k d.rows (ruled_rows ctx d.rows) (sources ctx given w k d r.laws (book_sound ctx given w k d x at))) in
           let to_n = fill_routed ctx n p (all_at (ClaimSource ctx n) (standing (ruled_rows ctx b.rows)) i p (claims n b at_n) e) in
           let to_m = fill_routed ctx m q (all_at (ClaimSource ctx m) (standing (ruled_rows ctx c.rows)) j q (claims m c at_m) f) in
-          let same : n ≡ m = same_some n m (sym to_n ∙ (ap (λ (y : Fill). ctx.route y.bin y.pcn) fill ∙ to_m)) in
+          let same : n ≡ m = same_some n m (sym to_n ∙ (ap (λ (y : Fill). ctx.route (fill_key y)) fill ∙ to_m)) in
           let books : c ≡ b = same_some c b (sym at_m ∙ (ap (book_at w) (sym same) ∙ at_n)) in
           let f' : numbered (standing (ruled_rows ctx b.rows)) j ≡ Some q = subst (λ (y : Book). numbered (standing (ruled_rows ctx y.rows)) j ≡ Some q) books f in
           (same, no_fill_twice_at (standing (ruled_rows ctx b.rows)) i j p q (ledger_at ctx w n b l at_n).fills e f' fill);

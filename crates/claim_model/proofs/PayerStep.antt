@@ -1,17 +1,18 @@
 -- A payer's step keeps a world sound.
-use Rattle.std.proofs.Common.{◌≡◌, ℕ, ◌<◌, ◌≤◌, Bool, true, false, cond, List, [], ◌∷◌, ◌++◌, length, Option, Some, None, Result, Ok, Err, refl, sym, ap, ◌∙◌, subst, arith}
+use Rattle.std.proofs.Common.{◌≡◌, ℕ, zero, suc, ◌<◌, ◌≤◌, Bool, true, false, cond, List, [], ◌∷◌, ◌++◌, length, Option, Some, None, Result, Ok, Err, refl, sym, ap, ◌∙◌, subst, arith}
 use Rattle.std.specs.Prelude.{bytes_eq, nat_lt, option_map, option_and_then}
 use Rattle.std.specs.List.{AllByRecursion, list_all}
 use Rattle.std.proofs.lemmas.Bool.{cond-true}
-use Rattle.claim_model.specs.Words.{TxnId, RequestHeader, Envelope, Plan, PlanFault}
+use Rattle.claim_model.specs.Words.{TxnId, RequestHeader, Envelope, Plan, PlanFault, Ruling, Answer}
 use Rattle.claim_model.specs.Context.{Context}
-use Rattle.claim_model.specs.Laws.{Laws, IsEnvelope, IsRuling}
-use Rattle.claim_model.specs.Readable.{readable, payer_for, is_payer, answer_text, same_id, answer_envelope, is_request}
+use Rattle.claim_model.specs.Laws.{Laws, IsEnvelope, AdvisesWell, IsRuling}
+use Rattle.claim_model.specs.Readable.{readable, payer_for, is_payer, answer_text, rulings_in, same_id, answer_envelope, is_request}
 use Rattle.claim_model.specs.Refusal.{Refusal}
 use Rattle.claim_model.specs.Numbered.{numbered}
+use Rattle.claim_model.specs.Judgement.{Verdict, verdict_in}
 use Rattle.claim_model.specs.Rows.{Row, BookSettings, Book, ruled_rows}
-use Rattle.claim_model.specs.Book.{serial_fits, row_of, new_row, Answered, entered_row, answered_by, answered_readable, answered}
-use Rattle.claim_model.specs.Node.{Node, Power, Up, AtRest, Sent, Call, Submit, Tick, Take, Stop, Start, Reprice, Outcome, Done, Refused, after_answer, payer_takes, after_reprice, payer_step}
+use Rattle.claim_model.specs.Book.{serial_fits, row_of, new_row, has_verdicts, unadvised, Answered, entered_row, answered_by, answered_readable, answered}
+use Rattle.claim_model.specs.Node.{Node, Power, Up, AtRest, Sent, Call, Submit, Tick, Take, Stop, Start, Reprice, Adjudicate, Outcome, Done, Refused, after_answer, payer_takes, advice_in, after_reprice, payer_step}
 use Rattle.claim_model.specs.World.{World}
 use Rattle.claim_model.specs.Settings.{WorldSettings, Accepts}
 use Rattle.claim_model.specs.Held.{book_in, asked, row_at, decided}
@@ -29,43 +30,45 @@ abbrev pub with_row : Book → Row → Book
 with_row b row = record { payer = b.payer; settings = b.settings; plan = b.plan; rows = b.rows ++ row ∷ [] }
 
 -- what a request makes of a book: its row was there, or it is entered as a new one
-pub data Rows (ctx : Context) (b : Book) (id : TxnId) (request : List ℕ) (h : RequestHeader) (a : Answered) : Type 0 where
-  Known : (row : Row) → row_of id b.rows ≡ Some row → row.request ≡ request → a.book ≡ b → a.bytes ≡ answer_text ctx h row.rulings → Rows ctx b id request h a
-  New : row_of id b.rows ≡ None → list_all serial_fits (new_row ctx b id request).rulings ≡ true → a.book ≡ with_row b (new_row ctx b id request)
-      → a.bytes ≡ answer_text ctx h (new_row ctx b id request).rulings → Rows ctx b id request h a
+pub data Rows (ctx : Context) (b : Book) (advice : List Ruling) (id : TxnId) (request : List ℕ) (h : RequestHeader) (a : Answered) : Type 0 where
+  Known : (row : Row) → row_of id b.rows ≡ Some row → row.request ≡ request → a.book ≡ b → a.bytes ≡ answer_text ctx h row.rulings → Rows ctx b advice id request h a
+  New : row_of id b.rows ≡ None → list_all serial_fits (new_row ctx b advice id request).rulings ≡ true → has_verdicts ctx b advice id request ≡ true → a.book ≡ with_row b (new_row ctx b advice id request)
+      → a.bytes ≡ answer_text ctx h (new_row ctx b advice id request).rulings → Rows ctx b advice id request h a
 
 -- an answered request is readable and routed to this payer
-pub record Ruled_on (ctx : Context) (b : Book) (id : TxnId) (request : List ℕ) (a : Answered) : Type 0 where
+pub record Ruled_on (ctx : Context) (b : Book) (advice : List Ruling) (id : TxnId) (request : List ℕ) (a : Answered) : Type 0 where
   pub header : RequestHeader
   pub reads : readable ctx request ≡ Some header
   pub routed : payer_for ctx header ≡ Some b.payer
-  pub rows : Rows ctx b id request header a
+  pub rows : Rows ctx b advice id request header a
 
-entered_rows : (ctx : Context) (b : Book) (id : TxnId) (request : List ℕ) (h : RequestHeader) (a : Answered) → row_of id b.rows ≡ None → entered_row ctx b h (new_row ctx b id request) ≡ Ok a → Rows ctx b id request h a
-entered_rows ctx b id request h a fresh e =
-    let p = cond_ok (list_all serial_fits (new_row ctx b id request).rulings) _ Refusal.SerialsUsedUp a e in
-    let same = same_ok _ a p.1 in
-    New fresh p.0 (ap (λ (x : Answered). x.book) (sym same)) (ap (λ (x : Answered). x.bytes) (sym same))
+entered_rows : (ctx : Context) (b : Book) (advice : List Ruling) (id : TxnId) (request : List ℕ) (h : RequestHeader) (a : Answered) → row_of id b.rows ≡ None
+    → entered_row ctx b h (has_verdicts ctx b advice id request) (new_row ctx b advice id request) ≡ Ok a → Rows ctx b advice id request h a
+entered_rows ctx b advice id request h a fresh e =
+    let p = cond_ok (list_all serial_fits (new_row ctx b advice id request).rulings) _ Refusal.SerialsUsedUp a e in
+    let q = cond_ok (has_verdicts ctx b advice id request) _ Refusal.NotAdvised a p.1 in
+    let same = same_ok _ a q.1 in
+    New fresh p.0 q.0 (ap (λ (x : Answered). x.book) (sym same)) (ap (λ (x : Answered). x.bytes) (sym same))
 
-by_rows : (ctx : Context) (b : Book) (id : TxnId) (request : List ℕ) (h : RequestHeader) (a : Answered) (o : Option Row) → row_of id b.rows ≡ o → answered_by ctx b id request h o ≡ Ok a → Rows ctx b id request h a
-by_rows ctx b id request h a (Some row) is e =
+by_rows : (ctx : Context) (b : Book) (advice : List Ruling) (id : TxnId) (request : List ℕ) (h : RequestHeader) (a : Answered) (o : Option Row) → row_of id b.rows ≡ o → answered_by ctx b advice id request h o ≡ Ok a → Rows ctx b advice id request h a
+by_rows ctx b advice id request h a (Some row) is e =
     let p = cond_ok (bytes_eq row.request request) _ Refusal.NumberReused a e in
     let same = same_ok _ a p.1 in
     Known row is (bytes_same row.request request p.0) (ap (λ (x : Answered). x.book) (sym same)) (ap (λ (x : Answered). x.bytes) (sym same))
-by_rows ctx b id request h a None is e =
-    let p = cond_ok (nat_lt (length b.rows) b.settings.cap) (entered_row ctx b h (new_row ctx b id request)) Refusal.BookFull a e in
-    entered_rows ctx b id request h a is p.1
+by_rows ctx b advice id request h a None is e =
+    let p = cond_ok (nat_lt (length b.rows) b.settings.cap) (entered_row ctx b h (has_verdicts ctx b advice id request) (new_row ctx b advice id request)) Refusal.BookFull a e in
+    entered_rows ctx b advice id request h a is p.1
 
-readable_rows : (ctx : Context) (b : Book) (id : TxnId) (request : List ℕ) (a : Answered) (o : Option RequestHeader) → readable ctx request ≡ o → answered_readable ctx b id request o ≡ Ok a → Ruled_on ctx b id request a
-readable_rows ctx b id request a None is e = absurd cc
-readable_rows ctx b id request a (Some h) is e =
-    let p = cond_ok (is_payer b.payer (payer_for ctx h)) (answered_by ctx b id request h (row_of id b.rows)) Refusal.NotOurs a e in
-    record { header = h; reads = is; routed = payer_same b.payer (payer_for ctx h) p.0; rows = by_rows ctx b id request h a (row_of id b.rows) refl p.1 }
+readable_rows : (ctx : Context) (b : Book) (advice : List Ruling) (id : TxnId) (request : List ℕ) (a : Answered) (o : Option RequestHeader) → readable ctx request ≡ o → answered_readable ctx b advice id request o ≡ Ok a → Ruled_on ctx b advice id request a
+readable_rows ctx b advice id request a None is e = absurd cc
+readable_rows ctx b advice id request a (Some h) is e =
+    let p = cond_ok (is_payer b.payer (payer_for ctx h)) (answered_by ctx b advice id request h (row_of id b.rows)) Refusal.NotOurs a e in
+    record { header = h; reads = is; routed = payer_same b.payer (payer_for ctx h) p.0; rows = by_rows ctx b advice id request h a (row_of id b.rows) refl p.1 }
 
 -- what an answered request says of the book
-pub answered_ruled : (ctx : Context) (b : Book) (id : TxnId) (request : List ℕ) (a : Answered) → answered ctx b id request ≡ Ok a → Ruled_on ctx b id request a
+pub answered_ruled : (ctx : Context) (b : Book) (advice : List Ruling) (id : TxnId) (request : List ℕ) (a : Answered) → answered ctx b advice id request ≡ Ok a → Ruled_on ctx b advice id request a
 unfolding answered
-answered_ruled ctx b id request a e = readable_rows ctx b id request a (readable ctx request) refl e
+answered_ruled ctx b advice id request a e = readable_rows ctx b advice id request a (readable ctx request) refl e
 
 -- the book of a sound world may pay
 pub may_pay : (ctx : Context) (given : WorldSettings) (w : World) (n : ℕ) (b : Book) → Accepts ctx given → SoundBook ctx given w n b → MayPay b
@@ -75,12 +78,12 @@ may_pay ctx given w n b accepts x =
     record { payer = omega (arith, x.payer, g.0); payer_fits = omega (arith, x.payer, g.1); serial = s }
 
 -- the row that is entered can be written
-pub new_row_written : (ctx : Context) (given : WorldSettings) (w : World) (n : ℕ) (b : Book) (id : TxnId) (request : List ℕ) (h : RequestHeader) → Laws ctx → Accepts ctx given → SoundBook ctx given w n b
-    → readable ctx request ≡ Some h → list_all serial_fits (new_row ctx b id request).rulings ≡ true
-    → (length (new_row ctx b id request).rulings ≡ h.count) × AllByRecursion IsRuling (new_row ctx b id request).rulings
-new_row_written ctx given w n b id request h laws accepts x reads fits = (
-  length_rulings ctx b (ruled_rows ctx b.rows) id 1 (ctx.orders request) ∙ laws.groups request h reads,
-  rulings_written ctx laws b (ruled_rows ctx b.rows) h id 1 (ctx.orders request) (may_pay ctx given w n b accepts x)
+pub new_row_written : (ctx : Context) (given : WorldSettings) (w : World) (n : ℕ) (b : Book) (advice : List Ruling) (id : TxnId) (request : List ℕ) (h : RequestHeader) → AdvisesWell advice → Laws ctx → Accepts ctx given → SoundBook ctx given w n b
+    → readable ctx request ≡ Some h → list_all serial_fits (new_row ctx b advice id request).rulings ≡ true
+    → (length (new_row ctx b advice id request).rulings ≡ h.count) × AllByRecursion IsRuling (new_row ctx b advice id request).rulings
+new_row_written ctx given w n b advice id request h well laws accepts x reads fits = (
+  length_rulings ctx b advice (ruled_rows ctx b.rows) id 1 (ctx.orders request) ∙ laws.groups request h reads,
+  rulings_written ctx laws b advice (ruled_rows ctx b.rows) h id 1 (ctx.orders request) well (may_pay ctx given w n b accepts x)
       (rows_written ctx b.rows (all_weaker (SoundRow ctx w n b.rows) _ (λ row s. s.written) b.rows x.rows)) (laws.orders request h reads) fits,
 )
 
@@ -129,11 +132,11 @@ carries_reply ctx v e a fits short d =
       says = d;
     }
 
-answer_step : (ctx : Context) (given : WorldSettings) (w : World) (n : ℕ) (b : Book) (from : Node) (bytes : List ℕ) (c : Carries ctx w bytes) (a : Answered)
-    → Laws ctx → Accepts ctx given → Sound ctx given w → numbered w.payers n ≡ Some (Up b) → asked w c.envelope.id ≡ Some c.envelope.payload
-    → (r : Ruled_on ctx b c.envelope.id c.envelope.payload a) → Rows ctx b c.envelope.id c.envelope.payload r.header a
+answer_step : (ctx : Context) (given : WorldSettings) (w : World) (n : ℕ) (b : Book) (advice : List Ruling) (from : Node) (bytes : List ℕ) (c : Carries ctx w bytes) (a : Answered)
+    → AdvisesWell advice → Laws ctx → Accepts ctx given → Sound ctx given w → numbered w.payers n ≡ Some (Up b) → asked w c.envelope.id ≡ Some c.envelope.payload
+    → (r : Ruled_on ctx b advice c.envelope.id c.envelope.payload a) → Rows ctx b advice c.envelope.id c.envelope.payload r.header a
     → Kept_sound ctx given w (with_payer w n (Up a.book) (record { to = from; bytes = ctx.envelope (answer_envelope c.envelope.id a.bytes) } ∷ []))
-answer_step ctx given w n b from bytes c a laws accepts x is asks r (Known row found same book text) =
+answer_step ctx given w n b advice from bytes c a well laws accepts x is asks r (Known row found same book text) =
     let id : TxnId = c.envelope.id in
     let sent : List Sent = record { to = from; bytes = ctx.envelope (answer_envelope id a.bytes) } ∷ [] in
     let v : World = with_payer w n (Up a.book) sent in
@@ -151,15 +154,15 @@ answer_step ctx given w n b from bytes c a laws accepts x is asks r (Known row f
       sound = sound_payer ctx given w n (Up b) (Up a.book) sent x is l (same_rows_book ctx given w v n b a.book l (ap (λ (q : Book). q.rows) book) (ap (λ (q : Book). q.payer) book) (ap (λ (q : Book). q.settings) book) sb) (reply, tt);
       later = l;
     }
-answer_step ctx given w n b from bytes c a laws accepts x is asks r (New fresh fits book text) =
+answer_step ctx given w n b advice from bytes c a well laws accepts x is asks r (New fresh fits advised book text) =
     let id : TxnId = c.envelope.id in
     let request : List ℕ = c.envelope.payload in
-    let row : Row = new_row ctx b id request in
+    let row : Row = new_row ctx b advice id request in
     let sent : List Sent = record { to = from; bytes = ctx.envelope (answer_envelope id a.bytes) } ∷ [] in
     let v : World = with_payer w n (Up a.book) sent in
     let sb : SoundBook ctx given w n b = x.payers n (Up b) is in
     let l : Later ctx w v = payer_later ctx w n (Up b) (Up a.book) sent is (subst (RowsStay b) (sym book) (row_stays_there b row)) in
-    let written = new_row_written ctx given w n b id request r.header laws accepts sb r.reads fits in
+    let written = new_row_written ctx given w n b advice id request r.header well laws accepts sb r.reads fits in
     let found : row_of id (b.rows ++ row ∷ []) ≡ Some row = new_found b row fresh in
     let routed : payer_for ctx r.header ≡ Some n = r.routed ∙ ap (λ (k : ℕ). Some k) sb.payer in
     let asks_v : asked v id ≡ Some request = l.asks id request asks in
@@ -204,15 +207,39 @@ repriced ctx given w n b next sent (Ok plan) x is e =
     let d = done_same (Up after) next [] sent e in
     moved_payer ctx given w n (Up after) next [] sent d.0 d.1 (quiet_payer ctx given w n (Up b) (Up after) x is refl refl refl)
 
+-- a payer that takes an advice asks
+pub asked_first : (b : Bool) (o : Outcome (Power Book Book)) (next : Power Book Book) (sent : List Sent) → cond b o (Refused Refusal.NotAsked) ≡ Done next sent → (b ≡ true) × (o ≡ Done next sent)
+asked_first true o next sent e = (refl, e)
+asked_first false o next sent e = absurd cc
+
+pub unadvised_well : AdvisesWell unadvised
+unadvised_well place claimed v e = absurd (nothing place v e)
+  where
+    nothing : (place : ℕ) (v : Verdict) → verdict_in claimed (numbered unadvised place) ≡ Some v → ⊥
+    nothing zero v e = cc
+    nothing (suc k) v e = cc
+
+-- what an answer that is read advises can be written
+pub advises_well : (ctx : Context) → Laws ctx → (o : Option Answer) (advice : List ℕ) → ctx.read_answer advice ≡ o → AdvisesWell (rulings_in o)
+advises_well ctx laws None advice is = unadvised_well
+advises_well ctx laws (Some answer) advice is = laws.sayings advice answer is
+
+takes_sound : (ctx : Context) (given : WorldSettings) (w : World) (n : ℕ) (b : Book) (advice : List Ruling) (from : Node) (bytes : List ℕ) (next : Power Book Book) (sent : List Sent)
+    → AdvisesWell advice → Laws ctx → Accepts ctx given → Sound ctx given w → numbered w.payers n ≡ Some (Up b) → (c : Carries ctx w bytes) → payer_takes ctx b advice from (ctx.read_envelope bytes) ≡ Done next sent
+    → Kept_sound ctx given w (with_payer w n next sent)
+takes_sound ctx given w n b advice from bytes next sent well laws accepts x is c e =
+    let t = takes_parts (is_request c.envelope) (after_answer ctx from c.envelope.id (answered ctx b advice c.envelope.id c.envelope.payload)) next sent (ap (payer_takes ctx b advice from) (sym (carries_reads ctx w bytes laws c)) ∙ e) in
+    let d = after_answer_done ctx from c.envelope.id (answered ctx b advice c.envelope.id c.envelope.payload) next sent t.1 in
+    let r = answered_ruled ctx b advice c.envelope.id c.envelope.payload d.0 d.1 in
+    moved_payer ctx given w n (Up d.0.book) next _ sent d.2 d.3
+    (answer_step ctx given w n b advice from bytes c d.0 well laws accepts x is (request_says ctx w bytes c t.0) r r.rows)
+
 pub payer_sound : (ctx : Context) (given : WorldSettings) (w : World) (n : ℕ) (s next : Power Book Book) (call : Call) (sent : List Sent)
     → Laws ctx → Accepts ctx given → Sound ctx given w → numbered w.payers n ≡ Some s → SoundCall ctx w call → payer_step ctx s call ≡ Done next sent
     → Kept_sound ctx given w (with_payer w n next sent)
-payer_sound ctx given w n (Up b) next (Take from bytes) sent laws accepts x is c e =
-    let t = takes_parts (is_request c.envelope) (after_answer ctx from c.envelope.id (answered ctx b c.envelope.id c.envelope.payload)) next sent (ap (payer_takes ctx b from) (sym (carries_reads ctx w bytes laws c)) ∙ e) in
-    let d = after_answer_done ctx from c.envelope.id (answered ctx b c.envelope.id c.envelope.payload) next sent t.1 in
-    let r = answered_ruled ctx b c.envelope.id c.envelope.payload d.0 d.1 in
-    moved_payer ctx given w n (Up d.0.book) next _ sent d.2 d.3
-    (answer_step ctx given w n b from bytes c d.0 laws accepts x is (request_says ctx w bytes c t.0) r r.rows)
+payer_sound ctx given w n (Up b) next (Take from bytes) sent laws accepts x is c e = takes_sound ctx given w n b unadvised from bytes next sent unadvised_well laws accepts x is c e
+payer_sound ctx given w n (Up b) next (Adjudicate from bytes advice) sent laws accepts x is c e =
+    takes_sound ctx given w n b (advice_in ctx advice) from bytes next sent (advises_well ctx laws (ctx.read_answer advice) advice refl) laws accepts x is c (asked_first b.settings.asks _ next sent e).1
 payer_sound ctx given w n (Up b) next Stop sent laws accepts x is c e =
     let d = done_same (AtRest b) next [] sent e in
     moved_payer ctx given w n (AtRest b) next [] sent d.0 d.1 (quiet_payer ctx given w n (Up b) (AtRest b) x is refl refl refl)
@@ -228,3 +255,4 @@ payer_sound ctx given w n (AtRest b) next Tick sent laws accepts x is c e = absu
 payer_sound ctx given w n (AtRest b) next (Take from bytes) sent laws accepts x is c e = absurd cc
 payer_sound ctx given w n (AtRest b) next Stop sent laws accepts x is c e = absurd cc
 payer_sound ctx given w n (AtRest b) next (Reprice product price) sent laws accepts x is c e = absurd cc
+payer_sound ctx given w n (AtRest b) next (Adjudicate from bytes advice) sent laws accepts x is c e = absurd cc

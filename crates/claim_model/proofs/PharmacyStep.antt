@@ -9,7 +9,7 @@ use Rattle.claim_model.specs.Readable.{request_envelope}
 use Rattle.claim_model.specs.Refusal.{Refusal}
 use Rattle.claim_model.specs.Numbered.{numbered, renumbered}
 use Rattle.claim_model.specs.Journal.{Journal, JournalAtRest, Kept, Sending, Submitted, submitted, ticked, due, heard, stopped, started, kept_entry}
-use Rattle.claim_model.specs.Node.{Node, Power, Up, AtRest, Sent, Call, Submit, Tick, Take, Stop, Start, Reprice, Done, to_switch, after_submit, after_hearing, pharmacy_takes, pharmacy_step}
+use Rattle.claim_model.specs.Node.{Node, Power, Up, AtRest, Sent, Call, Submit, Tick, Take, Stop, Start, Reprice, Adjudicate, Done, to_switch, after_submit, after_hearing, pharmacy_takes, pharmacy_step}
 use Rattle.claim_model.specs.World.{World, packet_from}
 use Rattle.claim_model.specs.Limits.{most_entries}
 use Rattle.claim_model.specs.Settings.{WorldSettings, Accepts}
@@ -29,6 +29,7 @@ SoundCall ctx w Tick = ⊤
 SoundCall ctx w Stop = ⊤
 SoundCall ctx w Start = ⊤
 SoundCall ctx w (Reprice product price) = ⊤
+SoundCall ctx w (Adjudicate from bytes advice) = Carries ctx w bytes
 
 -- bytes that carry an envelope read as this envelope
 pub carries_reads : (ctx : Context) (w : World) (bytes : List ℕ) → Laws ctx → (c : Carries ctx w bytes) → ctx.read_envelope bytes ≡ Ok c.envelope
@@ -247,6 +248,7 @@ pharmacy_sound ctx given w n (Up j) next Stop sent laws accepts x is c e =
     moved ctx given w n (AtRest (stopped j)) next [] sent d.0 d.1 (quiet_step ctx given w n (Up j) (AtRest (stopped j)) x is refl)
 pharmacy_sound ctx given w n (Up j) next Start sent laws accepts x is c e = absurd cc
 pharmacy_sound ctx given w n (Up j) next (Reprice product price) sent laws accepts x is c e = absurd cc
+pharmacy_sound ctx given w n (Up j) next (Adjudicate from bytes advice) sent laws accepts x is c e = absurd cc
 pharmacy_sound ctx given w n (AtRest j) next Start sent laws accepts x is c e =
     let d = done_same (Up (started j)) next [] sent e in
     moved ctx given w n (Up (started j)) next [] sent d.0 d.1 (quiet_step ctx given w n (AtRest j) (Up (started j)) x is (started_same j))
@@ -255,3 +257,4 @@ pharmacy_sound ctx given w n (AtRest j) next Tick sent laws accepts x is c e = a
 pharmacy_sound ctx given w n (AtRest j) next (Take from bytes) sent laws accepts x is c e = absurd cc
 pharmacy_sound ctx given w n (AtRest j) next Stop sent laws accepts x is c e = absurd cc
 pharmacy_sound ctx given w n (AtRest j) next (Reprice product price) sent laws accepts x is c e = absurd cc
+pharmacy_sound ctx given w n (AtRest j) next (Adjudicate from bytes advice) sent laws accepts x is c e = absurd cc

@@ -8,8 +8,8 @@ use Rattle.claim_model.specs.Numbered.{numbered, renumbered}
 use Rattle.claim_model.specs.Rows.{Book}
 use Rattle.claim_model.specs.Journal.{Journal, JournalAtRest}
 use Rattle.claim_model.specs.Table.{Table}
-use Rattle.claim_model.specs.Node.{Node, Pharmacy, Switch, Payer, Power, Sent, Call, Submit, Tick, Take, Stop, Start, Reprice, Outcome, Done, Refused, pharmacy_step, switch_step, payer_step}
-use Rattle.claim_model.specs.World.{World, Packet, Event, Submission, Ticking, Delivery, Stopping, Starting, PlanChange, packet_from, on_pharmacy, on_switch, on_payer, on_node, delivered, step, world_after, run}
+use Rattle.claim_model.specs.Node.{Node, Pharmacy, Switch, Payer, Power, Sent, Call, Submit, Tick, Take, Stop, Start, Reprice, Adjudicate, Outcome, Done, Refused, pharmacy_step, switch_step, payer_step}
+use Rattle.claim_model.specs.World.{World, Packet, Event, Submission, Ticking, Delivery, Stopping, Starting, PlanChange, Adjudication, packet_from, on_pharmacy, on_switch, on_payer, on_node, delivered, adjudicated, step, world_after, run}
 use Rattle.claim_model.specs.Settings.{WorldSettings, PayerSettings, Accepts, pharmacies_from, switches_of, payers_from, opening}
 use Rattle.claim_model.specs.Held.{journal_in}
 use Rattle.claim_model.specs.Promises.{Reached}
@@ -102,6 +102,11 @@ delivery_posts ctx given w v k sent None laws accepts p is e = absurd cc
 delivery_posts ctx given w v k sent (Some q) laws accepts p is e =
     node_posts ctx given w v q.to (Take q.from q.bytes) sent laws accepts p (all_at (SoundPacket ctx w) w.packets k q p.sound.packets is) (all_at (Addressed ctx given) w.packets k q p.packets is) e
 
+adjudication_posts : (ctx : Context) (given : WorldSettings) (w v : World) (k : ℕ) (advice : List ℕ) (sent : List Sent) (o : Option Packet) → Laws ctx → Accepts ctx given → Posted ctx given w → numbered w.packets k ≡ o → adjudicated ctx w advice o ≡ Done v sent → Posted ctx given v
+adjudication_posts ctx given w v k advice sent None laws accepts p is e = absurd cc
+adjudication_posts ctx given w v k advice sent (Some q) laws accepts p is e =
+    node_posts ctx given w v q.to (Adjudicate q.from q.bytes advice) sent laws accepts p (all_at (SoundPacket ctx w) w.packets k q p.sound.packets is) (all_at (Addressed ctx given) w.packets k q p.packets is) e
+
 event_posts : (ctx : Context) (given : WorldSettings) (w v : World) (event : Event) (sent : List Sent) → Laws ctx → Accepts ctx given → Posted ctx given w → step ctx w event ≡ Done v sent → Posted ctx given v
 unfolding step
 event_posts ctx given w v (Submission n text) sent laws accepts p e = node_posts ctx given w v (Pharmacy n) (Submit text) sent laws accepts p tt tt e
@@ -110,6 +115,7 @@ event_posts ctx given w v (Delivery k) sent laws accepts p e = delivery_posts ct
 event_posts ctx given w v (Stopping node) sent laws accepts p e = node_posts ctx given w v node Stop sent laws accepts p tt tt e
 event_posts ctx given w v (Starting node) sent laws accepts p e = node_posts ctx given w v node Start sent laws accepts p tt tt e
 event_posts ctx given w v (PlanChange n product price) sent laws accepts p e = node_posts ctx given w v (Payer n) (Reprice product price) sent laws accepts p tt tt e
+event_posts ctx given w v (Adjudication k advice) sent laws accepts p e = adjudication_posts ctx given w v k advice sent (numbered w.packets k) laws accepts p refl e
 
 outcome_posts : (ctx : Context) (given : WorldSettings) (w : World) (event : Event) (o : Outcome World) → Laws ctx → Accepts ctx given → Posted ctx given w → step ctx w event ≡ o → Posted ctx given (world_after w o)
 outcome_posts ctx given w event (Refused f) laws accepts p e = p

@@ -1,5 +1,5 @@
 -- What goes wrong without the premises: each of these worlds breaks a promise, and none of them is reached.
-use Rattle.std.proofs.Common.{◌≡◌, ℕ, List, [], ◌∷◌, ◌++◌, map, Option, Some, None, refl}
+use Rattle.std.proofs.Common.{◌≡◌, ℕ, false, List, [], ◌∷◌, ◌++◌, map, Option, Some, None, refl}
 use Rattle.std.specs.Prelude.{option_map}
 use Rattle.claim_profile.specs.Transaction.{transaction_code}
 use Rattle.claim_model.specs.Words.{TxnId, Auth}
@@ -21,7 +21,7 @@ use Rattle.claim_model.proofs.Small.{small}
 use Rattle.claim_model.proofs.Schedules.{pharmacy, one, refusals_by, c1, v1, auth_1, id, briefs, auths, a1}
 
 abbrev pub a_payer : PayerSettings
-a_payer = record { book = record { serial = 1; cap = 1000 }; plan = record { fee = 150; copay = 1000; prices = [] } }
+a_payer = record { book = record { serial = 1; cap = 1000; asks = false }; plan = record { fee = 150; copay = 1000; prices = [] } }
 
 -- who reversed the payment with an authorization
 abbrev pub reverser : Auth → Option Book → Option (Option TxnId)
@@ -64,7 +64,7 @@ forged_rows = refl
 
 -- two route tables: one switch forwards a request, the other one rejects it, and two nodes hold different answers
 abbrev pub without_routes : Context
-without_routes = record small { route = λ bin pcn. None }
+without_routes = record small { route = λ key. None }
 
 abbrev pub split : World
 split = run without_routes (run small one (Submission 1 c1 ∷ Ticking 1 ∷ Delivery 1 ∷ Delivery 3 ∷ Delivery 4 ∷ [])) (Delivery 2 ∷ Delivery 6 ∷ [])
@@ -114,7 +114,7 @@ lost_list_refused = refl
 
 -- a route to a payer that is not there
 abbrev pub lost_route : Context
-lost_route = record small { route = λ bin pcn. Some 2 }
+lost_route = record small { route = λ key. Some 2 }
 
 lost_route_delivery : refusals_by lost_route one (Submission 1 c1 ∷ Delivery 1 ∷ Delivery 2 ∷ []) ≡ None ∷ None ∷ Some NoSuchNode ∷ []
 unfolding one step answered readable transaction_code ruling judged submitted ticked due requested responded heard stopped started counted held refusals_by pharmacy

@@ -7,8 +7,8 @@ use Rattle.claim_model.specs.Numbered.{numbered}
 use Rattle.claim_model.specs.Rows.{Book}
 use Rattle.claim_model.specs.Journal.{PharmacySettings, Journal, JournalAtRest, stopped}
 use Rattle.claim_model.specs.Table.{Table}
-use Rattle.claim_model.specs.Node.{Node, Pharmacy, Switch, Payer, Power, Up, Sent, Call, Submit, Tick, Take, Stop, Start, Reprice, Outcome, Done, Refused, pharmacy_step, switch_step, payer_step}
-use Rattle.claim_model.specs.World.{World, Packet, Event, Submission, Ticking, Delivery, Stopping, Starting, PlanChange, pharmacy_stepped, on_pharmacy, switch_stepped, on_switch, payer_stepped, on_payer, on_node, delivered, step, world_after, run}
+use Rattle.claim_model.specs.Node.{Node, Pharmacy, Switch, Payer, Power, Up, Sent, Call, Submit, Tick, Take, Stop, Start, Reprice, Adjudicate, Outcome, Done, Refused, pharmacy_step, switch_step, payer_step}
+use Rattle.claim_model.specs.World.{World, Packet, Event, Submission, Ticking, Delivery, Stopping, Starting, PlanChange, Adjudication, pharmacy_stepped, on_pharmacy, switch_stepped, on_switch, payer_stepped, on_payer, on_node, delivered, adjudicated, step, world_after, run}
 use Rattle.claim_model.specs.Settings.{WorldSettings, PayerSettings, Accepts, pharmacies_from, switches_of, payers_from, opening}
 use Rattle.claim_model.specs.Held.{journal_in, book_in}
 use Rattle.claim_model.specs.Promises.{Reached}
@@ -139,6 +139,11 @@ delivery_made ctx w v k sent None is e = absurd cc
 delivery_made ctx w v k sent (Some p) is e =
     record { call = Take p.from p.bytes; step_is = at_node ctx w v p.to (Take p.from p.bytes) sent e; takes = λ all. all_at (SoundPacket ctx w) w.packets k p all is }
 
+adjudication_made : (ctx : Context) (w v : World) (k : ℕ) (advice : List ℕ) (sent : List Sent) (o : Option Packet) → numbered w.packets k ≡ o → adjudicated ctx w advice o ≡ Done v sent → Made ctx w v
+adjudication_made ctx w v k advice sent None is e = absurd cc
+adjudication_made ctx w v k advice sent (Some p) is e =
+    record { call = Adjudicate p.from p.bytes advice; step_is = at_node ctx w v p.to (Adjudicate p.from p.bytes advice) sent e; takes = λ all. all_at (SoundPacket ctx w) w.packets k p all is }
+
 pub event_made : (ctx : Context) (w v : World) (event : Event) (sent : List Sent) → step ctx w event ≡ Done v sent → Made ctx w v
 unfolding step
 event_made ctx w v (Submission n text) sent e = record { call = Submit text; step_is = at_node ctx w v (Pharmacy n) (Submit text) sent e; takes = λ all. tt }
@@ -147,6 +152,7 @@ event_made ctx w v (Delivery k) sent e = delivery_made ctx w v k sent (numbered 
 event_made ctx w v (Stopping node) sent e = record { call = Stop; step_is = at_node ctx w v node Stop sent e; takes = λ all. tt }
 event_made ctx w v (Starting node) sent e = record { call = Start; step_is = at_node ctx w v node Start sent e; takes = λ all. tt }
 event_made ctx w v (PlanChange n product price) sent e = record { call = Reprice product price; step_is = at_node ctx w v (Payer n) (Reprice product price) sent e; takes = λ all. tt }
+event_made ctx w v (Adjudication k advice) sent e = adjudication_made ctx w v k advice sent (numbered w.packets k) refl e
 
 step_sound : (ctx : Context) (given : WorldSettings) (w v : World) (call : Call) → Laws ctx → Accepts ctx given → Sound ctx given w → SoundCall ctx w call → Step ctx w v call → Kept_sound ctx given w v
 step_sound ctx given w v call laws accepts x c (At_pharmacy n s next sent is e f) = subst (Kept_sound ctx given w) (sym f) (pharmacy_sound ctx given w n s next call sent laws accepts x is c e)

@@ -1,19 +1,19 @@
 -- Schedules of events that compute: what the definitions say of whole stories.
-use Rattle.std.proofs.Common.{◌≡◌, ℕ, ◌+◌, List, [], ◌∷◌, ◌++◌, map, Option, Some, None, Result, Ok, Err, refl}
+use Rattle.std.proofs.Common.{◌≡◌, ℕ, ◌+◌, Bool, true, false, List, [], ◌∷◌, ◌++◌, map, Option, Some, None, Result, Ok, Err, refl}
 use Rattle.std.specs.Prelude.{option_map}
 use Rattle.claim_profile.specs.Transaction.{transaction_code}
 use Rattle.claim_model.specs.Words.{TxnId, Envelope, Auth, Ruling, Paid, Duplicate, Reversed, Rejected, BadBin, DuplicateClaim, ReversalNotProcessed}
 use Rattle.claim_model.specs.Context.{Context}
 use Rattle.claim_model.specs.Readable.{readable, rulings_in, request_envelope, answer_envelope}
-use Rattle.claim_model.specs.Refusal.{Refusal, Down, AlreadyUp, NoSuchNode, NoSuchPacket, NotWaiting, AlreadySettled, JournalFull, SerialsUsedUp, BookFull, NumberReused, NotOurs, Unreadable, NotMine, NoSuchNumber, Differs}
+use Rattle.claim_model.specs.Refusal.{Refusal, Down, AlreadyUp, NoSuchNode, NoSuchPacket, NotWaiting, AlreadySettled, JournalFull, SerialsUsedUp, BookFull, NumberReused, NotOurs, Unreadable, NotMine, NoSuchNumber, Differs, NotAdvised, NotAsked}
 use Rattle.claim_model.specs.Rows.{Row, Book}
 use Rattle.claim_model.specs.Judgement.{judged, ruling}
-use Rattle.claim_model.specs.Book.{Answered, answered}
+use Rattle.claim_model.specs.Book.{Answered, answered, unadvised}
 use Rattle.claim_model.specs.Journal.{PharmacySettings, Kept, JournalAtRest, Journal, Sending, Waits, Has, submitted, ticked, due, heard, stopped, started}
 use Rattle.claim_model.specs.Counted.{Counted, counted}
 use Rattle.claim_model.specs.Table.{Table, Routed, Forward, Back, Requested, requested, Responded, responded}
 use Rattle.claim_model.specs.Node.{Pharmacy, Switch, Payer, Up, Outcome, Done, Refused}
-use Rattle.claim_model.specs.World.{World, Event, Submission, Ticking, Delivery, Stopping, Starting, PlanChange, step, run, world_after}
+use Rattle.claim_model.specs.World.{World, Event, Submission, Ticking, Delivery, Stopping, Starting, PlanChange, Adjudication, step, run, world_after}
 use Rattle.claim_model.specs.Settings.{opening}
 use Rattle.claim_model.specs.Held.{journal_at, book_at, held}
 use Rattle.claim_model.proofs.Small.{small, all_amounts}
@@ -24,7 +24,7 @@ pharmacy provider nodes cap = record { qualifier = []; provider = provider ∷ [
 -- a pharmacy, two switches and a payer
 unfoldable pub one : World
 unfolding pharmacy
-one = opening (record { pharmacies = pharmacy 7 (1 ∷ 2 ∷ []) 100 ∷ []; switches = 64 ∷ 64 ∷ []; payers = record { book = record { serial = 1; cap = 1000 }; plan = record { fee = 150; copay = 1000; prices = [] } } ∷ [] })
+one = opening (record { pharmacies = pharmacy 7 (1 ∷ 2 ∷ []) 100 ∷ []; switches = 64 ∷ 64 ∷ []; payers = record { book = record { serial = 1; cap = 1000; asks = false }; plan = record { fee = 150; copay = 1000; prices = [] } } ∷ [] })
 
 -- what became of each event: none where it was accepted
 abbrev pub refusal_in : Outcome World → Option Refusal
@@ -80,7 +80,7 @@ id pharmacy number = record { pharmacy = pharmacy; number = number }
 
 -- requests that go straight to an empty book of payer 1
 abbrev pub book : ℕ → ℕ → Book
-book serial cap = record { payer = 1; settings = record { serial = serial; cap = cap }; plan = record { fee = 150; copay = 1000; prices = [] }; rows = [] }
+book serial cap = record { payer = 1; settings = record { serial = serial; cap = cap; asks = false }; plan = record { fee = 150; copay = 1000; prices = [] }; rows = [] }
 
 abbrev pub book_next : Book → Result Answered Refusal → Book
 book_next b (Ok a) = a.book
@@ -93,7 +93,7 @@ told_by (Err why) = Err why
 -- what a book answers to requests, by pharmacy 1, one number after another
 unfoldable pub replies : Book → ℕ → List (List ℕ) → List (Result (List Ruling) Refusal)
 replies b n [] = []
-replies b n (r ∷ rs) = told_by (answered small b (id 1 n) r) ∷ replies (book_next b (answered small b (id 1 n) r)) (n + 1) rs
+replies b n (r ∷ rs) = told_by (answered small b unadvised (id 1 n) r) ∷ replies (book_next b (answered small b unadvised (id 1 n) r)) (n + 1) rs
 
 -- the same claim again is a duplicate, another one for its fill is rejected, another fill is paid; a reversal of several fills without a
 -- fill number is rejected, one with it is done, and done once
@@ -130,20 +130,72 @@ all_or_nothing : replies (book 999999999998 100) 1 (c17 ∷ c1 ∷ []) ≡ Err S
 unfolding replies one step answered readable transaction_code ruling judged submitted ticked due requested responded heard stopped started counted held refusals_by pharmacy
 all_or_nothing = refl
 
+-- a book whose payer asks, with advices: requests in turn, each with the rulings of its advice
+abbrev pub asking : ℕ → Book
+asking serial = record { payer = 1; settings = record { serial = serial; cap = 100; asks = true }; plan = record { fee = 150; copay = 1000; prices = [] }; rows = [] }
+
+unfoldable pub advised : Book → ℕ → List (List Ruling × List ℕ) → List (Result (List Ruling) Refusal)
+advised b n [] = []
+advised b n (r ∷ rs) = told_by (answered small b r.0 (id 1 n) r.1) ∷ advised (book_next b (answered small b r.0 (id 1 n) r.1)) (n + 1) rs
+
+-- what an adjudication system says: it pays, under whatever authorization; it says that it paid before; it pays another prescription; it rejects;
+-- or it says nothing of use
+abbrev pub says_paid : Ruling
+says_paid = Paid (record { payer = 9; serial = 9 }) 123456 all_amounts
+
+abbrev pub says_again : Ruling
+says_again = Duplicate (record { payer = 9; serial = 9 }) 123456 all_amounts
+
+abbrev pub says_other : Ruling
+says_other = Paid (record { payer = 9; serial = 9 }) 5 all_amounts
+
+abbrev pub says_no : Ruling
+says_no = Rejected (BadBin ∷ [])
+
+-- a claim is not ruled without a verdict on its own prescription, and then as the advice says, under the book's own authorization; a duplicate, another claim for the
+-- fill and reversals are never asked for
+asked_for : advised (asking 1) 1 (([], c1) ∷ (says_other ∷ [], c1) ∷ (says_paid ∷ [], c1) ∷ ([], c1) ∷ ([], 1 ∷ 7 ∷ 4 ∷ 20 ∷ []) ∷ ([], 2 ∷ 7 ∷ 4 ∷ 99 ∷ []) ∷ (says_no ∷ [], c1) ∷ [])
+    ≡ Err NotAdvised ∷ Err NotAdvised ∷ Ok (Paid auth_1 123456 all_amounts ∷ []) ∷ Ok (Duplicate auth_1 123456 all_amounts ∷ []) ∷ Ok (Rejected (DuplicateClaim ∷ []) ∷ []) ∷ Ok (Reversed auth_1 123456 ∷ []) ∷ Ok (Rejected (BadBin ∷ []) ∷ []) ∷ []
+unfolding advised one step answered readable transaction_code ruling judged submitted ticked due requested responded heard stopped started counted held refusals_by pharmacy
+asked_for = refl
+
+-- of four places the first, the second and the fourth are to be priced: all three have a verdict, of which a payment that was made before is one, or the request is refused as a whole
+asked_for_four : advised (asking 1) 1 ((says_paid ∷ says_paid ∷ [], c17) ∷ (says_paid ∷ says_no ∷ Reversed auth_1 5 ∷ says_again ∷ [], c17) ∷ [])
+    ≡ Err NotAdvised ∷ Ok (Paid auth_1 123456 all_amounts ∷ Rejected (BadBin ∷ []) ∷ Duplicate auth_1 123456 all_amounts ∷ Paid auth_2 123456 all_amounts ∷ []) ∷ []
+unfolding advised one step answered readable transaction_code ruling judged submitted ticked due requested responded heard stopped started counted held refusals_by pharmacy
+asked_for_four = refl
+
+-- an answer's bytes, as an advice
+abbrev pub an_answer : List ℕ
+an_answer = 7 ∷ 1 ∷ 65 ∷ 1 ∷ 1 ∷ 1 ∷ 123456 ∷ []
+
+-- an advice for a payer that does not ask, and a world in which the payer asks
+advice_unasked : refusals one (Submission 1 c1 ∷ Delivery 1 ∷ Adjudication 1 an_answer ∷ Adjudication 2 an_answer ∷ Adjudication 3 an_answer ∷ []) ≡ None ∷ None ∷ Some NoSuchNode ∷ Some NotAsked ∷ Some NoSuchPacket ∷ []
+unfolding one step answered readable transaction_code ruling judged submitted ticked due requested responded heard stopped started counted held refusals_by pharmacy
+advice_unasked = refl
+
+abbrev pub asked_world : World
+asked_world = opening (record { pharmacies = pharmacy 7 (1 ∷ 2 ∷ []) 100 ∷ []; switches = 64 ∷ 64 ∷ []; payers = record { book = record { serial = 1; cap = 1000; asks = true }; plan = record { fee = 150; copay = 1000; prices = [] } } ∷ [] })
+
+advice_asked : refusals asked_world (Submission 1 c1 ∷ Delivery 1 ∷ Delivery 2 ∷ Adjudication 2 (5 ∷ []) ∷ Adjudication 2 an_answer ∷ Delivery 2 ∷ Adjudication 2 an_answer ∷ Delivery 3 ∷ Delivery 6 ∷ Delivery 6 ∷ [])
+    ≡ None ∷ None ∷ Some NotAdvised ∷ Some NotAdvised ∷ None ∷ None ∷ None ∷ None ∷ None ∷ Some AlreadySettled ∷ []
+unfolding one step answered readable transaction_code ruling judged submitted ticked due requested responded heard stopped started counted held refusals_by pharmacy
+advice_asked = refl
+
 -- in a full book a known number with its request is answered again, and no new one
-full_book : told_by (answered small (book_next (book 1 1) (answered small (book 1 1) (id 1 1) c1)) (id 1 1) c1) ≡ Ok (Paid auth_1 123456 all_amounts ∷ [])
+full_book : told_by (answered small (book_next (book 1 1) (answered small (book 1 1) unadvised (id 1 1) c1)) unadvised (id 1 1) c1) ≡ Ok (Paid auth_1 123456 all_amounts ∷ [])
 unfolding replies one step answered readable transaction_code ruling judged submitted ticked due requested responded heard stopped started counted held refusals_by pharmacy
 full_book = refl
 
-full_book_new : told_by (answered small (book_next (book 1 1) (answered small (book 1 1) (id 1 1) c1)) (id 1 2) c1) ≡ Err BookFull
+full_book_new : told_by (answered small (book_next (book 1 1) (answered small (book 1 1) unadvised (id 1 1) c1)) unadvised (id 1 2) c1) ≡ Err BookFull
 unfolding replies one step answered readable transaction_code ruling judged submitted ticked due requested responded heard stopped started counted held refusals_by pharmacy
 full_book_new = refl
 
-number_reused : told_by (answered small (book_next (book 1 1) (answered small (book 1 1) (id 1 1) c1)) (id 1 1) v1) ≡ Err NumberReused
+number_reused : told_by (answered small (book_next (book 1 1) (answered small (book 1 1) unadvised (id 1 1) c1)) unadvised (id 1 1) v1) ≡ Err NumberReused
 unfolding replies one step answered readable transaction_code ruling judged submitted ticked due requested responded heard stopped started counted held refusals_by pharmacy
 number_reused = refl
 
-not_ours : told_by (answered small (book 1 1) (id 1 1) cn) ≡ Err NotOurs
+not_ours : told_by (answered small (book 1 1) unadvised (id 1 1) cn) ≡ Err NotOurs
 unfolding replies one step answered readable transaction_code ruling judged submitted ticked due requested responded heard stopped started counted held refusals_by pharmacy
 not_ours = refl
 
@@ -225,7 +277,7 @@ world_refusals = refl
 
 -- a repeat does not make an entry young: the oldest leaves a full table
 abbrev pub narrow : World
-narrow = opening (record { pharmacies = pharmacy 7 (1 ∷ []) 100 ∷ []; switches = 2 ∷ []; payers = record { book = record { serial = 1; cap = 1000 }; plan = record { fee = 150; copay = 1000; prices = [] } } ∷ [] })
+narrow = opening (record { pharmacies = pharmacy 7 (1 ∷ []) 100 ∷ []; switches = 2 ∷ []; payers = record { book = record { serial = 1; cap = 1000; asks = false }; plan = record { fee = 150; copay = 1000; prices = [] } } ∷ [] })
 
 oldest_leaves : refusals narrow (Submission 1 c1 ∷ Submission 1 (1 ∷ 7 ∷ 4 ∷ 11 ∷ []) ∷ Submission 1 (1 ∷ 7 ∷ 4 ∷ 12 ∷ []) ∷ Delivery 1 ∷ Delivery 2 ∷ Delivery 1 ∷ Delivery 3 ∷ Delivery 4 ∷ Delivery 8 ∷ Delivery 5 ∷ Delivery 9 ∷ [])
     ≡ None ∷ None ∷ None ∷ None ∷ None ∷ None ∷ None ∷ None ∷ Some NotWaiting ∷ None ∷ None ∷ []
@@ -250,7 +302,7 @@ retries_after_start = refl
 
 -- a reversal by another pharmacy reverses nothing
 abbrev pub two : World
-two = opening (record { pharmacies = pharmacy 7 (1 ∷ 2 ∷ []) 100 ∷ pharmacy 8 (2 ∷ 1 ∷ []) 100 ∷ []; switches = 64 ∷ 64 ∷ []; payers = record { book = record { serial = 1; cap = 1000 }; plan = record { fee = 150; copay = 1000; prices = [] } } ∷ [] })
+two = opening (record { pharmacies = pharmacy 7 (1 ∷ 2 ∷ []) 100 ∷ pharmacy 8 (2 ∷ 1 ∷ []) 100 ∷ []; switches = 64 ∷ 64 ∷ []; payers = record { book = record { serial = 1; cap = 1000; asks = false }; plan = record { fee = 150; copay = 1000; prices = [] } } ∷ [] })
 
 abbrev pub others : List Event
 others = Submission 1 c1 ∷ Delivery 1 ∷ Delivery 2 ∷ Delivery 3 ∷ Delivery 4 ∷ Submission 2 (2 ∷ 8 ∷ 4 ∷ 0 ∷ []) ∷ Delivery 5 ∷ Delivery 6 ∷ Delivery 7 ∷ Delivery 8 ∷ []

@@ -5,9 +5,9 @@ use Rattle.std.proofs.lemmas.List.{append-nil}
 use Rattle.claim_model.specs.Context.{Context}
 use Rattle.claim_model.specs.Numbered.{numbered}
 use Rattle.claim_model.specs.Node.{Node, Sent, Done, Refused}
-use Rattle.claim_model.specs.World.{World, Packet, Event, Submission, Ticking, Delivery, Stopping, Starting, PlanChange, packet_from, step, run}
+use Rattle.claim_model.specs.World.{World, Packet, Event, Submission, Ticking, Delivery, Stopping, Starting, PlanChange, Adjudication, packet_from, step, run}
 use Rattle.claim_model.proofs.Lists.{numbered_append}
-use Rattle.claim_model.specs.Nodes.{AnyNode, node_step, node_at, called, Asked, taking, asked, asked_step}
+use Rattle.claim_model.specs.Nodes.{AnyNode, node_step, node_at, called, Asked, taking, adjudicating, asked, asked_step}
 use Rattle.claim_model.specs.Logs.{Logged, logged_by, log_in}
 use Rattle.claim_model.specs.Local.{StaysEnabled}
 use Rattle.claim_model.proofs.Names.{told_apart}
@@ -28,6 +28,15 @@ pub logs_alike : (ctx : Context) (w : World) (j k : ℕ) (node : Node) → numbe
 logs_alike ctx w j k node e =
     ap (λ (o : Option Asked). logged_by node o (step ctx w (Delivery j))) (ap (option_map taking) e)
     ∙ ap (logged_by node (asked w.packets (Delivery k))) (delivers_alike ctx w j k e)
+
+pub adjudicates_alike : (ctx : Context) (w : World) (j k : ℕ) (advice : List ℕ) → numbered w.packets j ≡ numbered w.packets k → step ctx w (Adjudication j advice) ≡ step ctx w (Adjudication k advice)
+adjudicates_alike ctx w j k advice e = asks_alike ctx w (Adjudication j advice) (Adjudication k advice) (ap (option_map (adjudicating advice)) e)
+
+pub adjudications_logged_alike : (ctx : Context) (w : World) (j k : ℕ) (advice : List ℕ) (node : Node) → numbered w.packets j ≡ numbered w.packets k
+    → logged_by node (asked w.packets (Adjudication j advice)) (step ctx w (Adjudication j advice)) ≡ logged_by node (asked w.packets (Adjudication k advice)) (step ctx w (Adjudication k advice))
+adjudications_logged_alike ctx w j k advice node e =
+    ap (λ (o : Option Asked). logged_by node o (step ctx w (Adjudication j advice))) (ap (option_map (adjudicating advice)) e)
+    ∙ ap (logged_by node (asked w.packets (Adjudication k advice))) (adjudicates_alike ctx w j k advice e)
 
 -- packets are never used up
 
@@ -55,6 +64,10 @@ asks_with : (before more : List Packet) (k : ℕ) (a : Asked) (o : Option Packet
 asks_with before more k a None is e = absurd cc
 asks_with before more k a (Some p) is e = ap (option_map taking) (numbered_append before more k p is) ∙ e
 
+asks_adjudicated : (before more : List Packet) (k : ℕ) (advice : List ℕ) (a : Asked) (o : Option Packet) → numbered before k ≡ o → option_map (adjudicating advice) o ≡ Some a → asked (before ++ more) (Adjudication k advice) ≡ Some a
+asks_adjudicated before more k advice a None is e = absurd cc
+asks_adjudicated before more k advice a (Some p) is e = ap (option_map (adjudicating advice)) (numbered_append before more k p is) ∙ e
+
 pub asks_still : (before more : List Packet) (event : Event) (a : Asked) → asked before event ≡ Some a → asked (before ++ more) event ≡ Some a
 asks_still before more (Submission n text) a e = e
 asks_still before more (Ticking n) a e = e
@@ -62,6 +75,7 @@ asks_still before more (Delivery k) a e = asks_with before more k a (numbered be
 asks_still before more (Stopping node) a e = e
 asks_still before more (Starting node) a e = e
 asks_still before more (PlanChange n product price) a e = e
+asks_still before more (Adjudication k advice) a e = asks_adjudicated before more k advice a (numbered before k) refl e
 
 -- a node that makes no call stays as it is
 

@@ -133,7 +133,7 @@ small =
     record {
       header = small_header;
       orders = small_orders;
-      route = λ bin pcn. cond (bytes_eq bin (4 ∷ [])) (Some 1) None;
+      route = λ key. cond (bytes_eq key.bin (4 ∷ [])) (Some 1) None;
       price = λ plan claim. Some all_amounts;
       reprice = λ plan product price. Ok plan;
       answer = small_answer;

@@ -9,7 +9,7 @@ use Rattle.claim_model.specs.Numbered.{numbered, renumbered}
 use Rattle.claim_model.specs.Rows.{Row, Book}
 use Rattle.claim_model.specs.Book.{new_row}
 use Rattle.claim_model.specs.Journal.{Journal, JournalAtRest, Kept, submitted, ticked, due, heard, stopped, started}
-use Rattle.claim_model.specs.Node.{Power, Up, AtRest, Sent, Call, Submit, Tick, Take, Stop, Start, Reprice, Outcome, Done, Refused, to_switch, pharmacy_takes, pharmacy_step}
+use Rattle.claim_model.specs.Node.{Power, Up, AtRest, Sent, Call, Submit, Tick, Take, Stop, Start, Reprice, Adjudicate, Outcome, Done, Refused, to_switch, pharmacy_takes, pharmacy_step}
 use Rattle.claim_model.specs.World.{World, Event, step, world_after, run}
 use Rattle.claim_model.specs.Held.{journal_in, book_in, journal_at, book_at}
 use Rattle.claim_model.specs.Promises.{EntryStays, StaysDecided}
@@ -93,11 +93,13 @@ pharmacy_on ctx (Up j) next Stop sent e = subst (λ y. Goes_on (stopped j) (jour
 pharmacy_on ctx (AtRest j) next Start sent e = subst (λ y. Goes_on j (journal_in y)) (done_same (Up (started j)) next [] sent e).0 (on_equal j (stopped (started j)) (started_same j))
 pharmacy_on ctx (Up j) next Start sent e = absurd cc
 pharmacy_on ctx (Up j) next (Reprice product price) sent e = absurd cc
+pharmacy_on ctx (Up j) next (Adjudicate from bytes advice) sent e = absurd cc
 pharmacy_on ctx (AtRest j) next (Submit text) sent e = absurd cc
 pharmacy_on ctx (AtRest j) next Tick sent e = absurd cc
 pharmacy_on ctx (AtRest j) next (Take from bytes) sent e = absurd cc
 pharmacy_on ctx (AtRest j) next Stop sent e = absurd cc
 pharmacy_on ctx (AtRest j) next (Reprice product price) sent e = absurd cc
+pharmacy_on ctx (AtRest j) next (Adjudicate from bytes advice) sent e = absurd cc
 
 -- books
 
@@ -121,8 +123,8 @@ rows_trans a b c f g =
 
 moves_on : (ctx : Context) (b after : Book) → BookMoves ctx b after → Rows_on b after
 moves_on ctx b after (Same rows payer settings) = record { payer = payer; settings = settings; more = []; rows = rows ∙ sym (append-nil b.rows) }
-moves_on ctx b after (Adds id request is) =
-    record { payer = ap (λ (q : Book). q.payer) is; settings = ap (λ (q : Book). q.settings) is; more = new_row ctx b id request ∷ []; rows = ap (λ (q : Book). q.rows) is }
+moves_on ctx b after (Adds advice id request is) =
+    record { payer = ap (λ (q : Book). q.payer) is; settings = ap (λ (q : Book). q.settings) is; more = new_row ctx b advice id request ∷ []; rows = ap (λ (q : Book). q.rows) is }
 
 -- a node in a list after one of them was changed
 changed : {A B : Type 0} (view : A → B) (R : B → B → Type 0) → ((b : B) → R b b) → (xs : List A) (n : ℕ) (s next : A) → numbered xs n ≡ Some s → R (view s) (view next)

@@ -8,11 +8,11 @@ use Rattle.claim_model.specs.Rows.{Book}
 use Rattle.claim_model.specs.Journal.{Journal, JournalAtRest}
 use Rattle.claim_model.specs.Table.{Table}
 use Rattle.claim_model.specs.Node.{Node, Pharmacy, Switch, Payer, Power, Sent, Call, Outcome, Done, Refused, pharmacy_step, switch_step, payer_step}
-use Rattle.claim_model.specs.World.{World, Packet, Event, Submission, Ticking, Delivery, Stopping, Starting, PlanChange, pharmacy_stepped, on_pharmacy, switch_stepped, on_switch, payer_stepped, on_payer, on_node, delivered, step}
+use Rattle.claim_model.specs.World.{World, Packet, Event, Submission, Ticking, Delivery, Stopping, Starting, PlanChange, Adjudication, pharmacy_stepped, on_pharmacy, switch_stepped, on_switch, payer_stepped, on_payer, on_node, delivered, adjudicated, step}
 use Rattle.claim_model.proofs.Lists.{numbered_put, numbered_put_other}
 use Rattle.claim_model.proofs.Sound.{with_pharmacy, with_switch, with_payer}
 use Rattle.claim_model.proofs.Runs.{pharmacy_done, switch_done, payer_done}
-use Rattle.claim_model.specs.Nodes.{AnyNode, OfPharmacy, OfSwitch, OfPayer, as_node, node_at, called, taking, asked, asked_step}
+use Rattle.claim_model.specs.Nodes.{AnyNode, OfPharmacy, OfSwitch, OfPayer, as_node, node_at, called, taking, adjudicating, asked, asked_step}
 use Rattle.claim_model.specs.Local.{Follows, IsLocal}
 
 -- what a step of a node comes to, and of the world with it
@@ -157,6 +157,10 @@ delivery_asks : (ctx : Context) (w : World) (o : Option Packet) → delivered ct
 delivery_asks ctx w None = refl
 delivery_asks ctx w (Some p) = refl
 
+adjudication_asks : (ctx : Context) (w : World) (advice : List ℕ) (o : Option Packet) → adjudicated ctx w advice o ≡ asked_step ctx w (option_map (adjudicating advice) o)
+adjudication_asks ctx w advice None = refl
+adjudication_asks ctx w advice (Some p) = refl
+
 pub step_asked : (ctx : Context) (w : World) (event : Event) → step ctx w event ≡ asked_step ctx w (asked w.packets event)
 unfolding step
 step_asked ctx w (Submission n text) = refl
@@ -165,3 +169,4 @@ step_asked ctx w (Delivery k) = delivery_asks ctx w (numbered w.packets k)
 step_asked ctx w (Stopping node) = refl
 step_asked ctx w (Starting node) = refl
 step_asked ctx w (PlanChange n product price) = refl
+step_asked ctx w (Adjudication k advice) = adjudication_asks ctx w advice (numbered w.packets k)

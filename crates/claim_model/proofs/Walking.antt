@@ -6,9 +6,9 @@ use Rattle.std.proofs.lemmas.List.{append-nil}
 use Rattle.claim_model.specs.Context.{Context}
 use Rattle.claim_model.specs.Numbered.{numbered}
 use Rattle.claim_model.specs.Node.{Node, Sent, Done}
-use Rattle.claim_model.specs.World.{World, Packet, Event, Submission, Ticking, Delivery, Stopping, Starting, PlanChange, packet_from, step, run}
+use Rattle.claim_model.specs.World.{World, Packet, Event, Submission, Ticking, Delivery, Stopping, Starting, PlanChange, Adjudication, packet_from, step, run}
 use Rattle.claim_model.proofs.Lists.{all_at, all_from, all_append, all_filter}
-use Rattle.claim_model.specs.Nodes.{AnyNode, node_step, node_at, called, Asked, taking, asked, asked_step}
+use Rattle.claim_model.specs.Nodes.{AnyNode, node_step, node_at, called, Asked, taking, adjudicating, asked, asked_step}
 use Rattle.claim_model.specs.Logs.{Logged, log_in, node_after, replay, posted_by, is_from}
 use Rattle.claim_model.specs.Local.{Follows}
 use Rattle.claim_model.specs.Interleavings.{Begins, GoesOn}
@@ -64,6 +64,12 @@ delivered_again v m k a (Some p) all is e =
     let among = all_at (IsAmong m.packets) v.packets k p all is in
     record { event = Delivery among.number; asks = ap (option_map taking) among.is ∙ e }
 
+adjudicated_again : (v m : World) (k : ℕ) (advice : List ℕ) (a : Asked) (o : Option Packet) → AllByRecursion (IsAmong m.packets) v.packets → numbered v.packets k ≡ o → option_map (adjudicating advice) o ≡ Some a → Again m a
+adjudicated_again v m k advice a None all is e = absurd cc
+adjudicated_again v m k advice a (Some p) all is e =
+    let among = all_at (IsAmong m.packets) v.packets k p all is in
+    record { event = Adjudication among.number advice; asks = ap (option_map (adjudicating advice)) among.is ∙ e }
+
 again : (v m : World) (event : Event) (a : Asked) → AllByRecursion (IsAmong m.packets) v.packets → asked v.packets event ≡ Some a → Again m a
 again v m (Submission n text) a all e = record { event = Submission n text; asks = e }
 again v m (Ticking n) a all e = record { event = Ticking n; asks = e }
@@ -71,6 +77,7 @@ again v m (Delivery k) a all e = delivered_again v m k a (numbered v.packets k) 
 again v m (Stopping node) a all e = record { event = Stopping node; asks = e }
 again v m (Starting node) a all e = record { event = Starting node; asks = e }
 again v m (PlanChange n product price) a all e = record { event = PlanChange n product price; asks = e }
+again v m (Adjudication k advice) a all e = adjudicated_again v m k advice a (numbered v.packets k) all refl e
 
 -- what two logs share
 

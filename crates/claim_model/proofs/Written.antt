@@ -4,13 +4,15 @@ use Rattle.std.specs.List.{AllByRecursion, list_all}
 use Rattle.std.proofs.lemmas.Bool.{and_parts}
 use Rattle.claim_model.specs.Words.{TxnId, Amounts, Claim, Reversal, Order, Bills, Reverses, Code, Ruling, Paid, Duplicate, Reversed, Rejected, RequestHeader}
 use Rattle.claim_model.specs.Context.{Context}
-use Rattle.claim_model.specs.Laws.{Laws, IsClaimOf, IsOrderOf, IsAuth, IsAmounts, IsRuling, IsPrescription, IsRejects}
+use Rattle.claim_model.specs.Laws.{Laws, IsClaimOf, IsOrderOf, IsAuth, IsAmounts, IsVerdict, AdvisesWell, IsRuling, IsPrescription, IsRejects}
 use Rattle.claim_model.specs.Ruled.{Ruled, ruled, ruled_from}
 use Rattle.claim_model.specs.Payments.{Payment, payment_by, payments, is_standing, standing}
 use Rattle.claim_model.specs.Rows.{Row, Book, ruled_row, ruled_rows}
-use Rattle.claim_model.specs.Judgement.{standing_for, only, payment_to_reverse, Unpriced, same_claim, is_for, judged_claim, judged_reversal, judged, next_serial, next_auth, priced, ruling_of, ruling, rulings_from}
+use Rattle.claim_model.specs.Judgement.{standing_for, only, payment_to_reverse, Unpriced, same_claim, is_for, judged_claim, judged_reversal, judged, next_serial, next_auth, Verdict, Pays, Rejects, planned, verdict_in, verdict_of, priced, ruling_of, ruling, rulings_from}
 use Rattle.claim_model.specs.Book.{serial_fits}
+use Rattle.claim_model.specs.Numbered.{numbered}
 use Rattle.claim_model.proofs.Lists.{all_append, all_filter, find_all}
+use Rattle.claim_model.proofs.Options.{same_some}
 
 -- what a payment has can be written
 abbrev pub IsWritten : Payment → Type 0
@@ -48,50 +50,63 @@ pub record MayPay (b : Book) : Type 0 where
 one_code : (code : Code) → IsRejects (code ∷ [])
 one_code code = record { some = omega arith; few = omega arith }
 
-priced_written : (ctx : Context) (h : RequestHeader) (b : Book) (before : List Ruled) (c : Claim) (o : Option Amounts) → MayPay b
-    → IsPrescription c.fill.prescription → ((m : Amounts) → o ≡ Some m → IsAmounts m) → serial_fits (priced (next_auth b before) c o) ≡ true → IsRuling (priced (next_auth b before) c o)
+priced_written : (ctx : Context) (h : RequestHeader) (b : Book) (before : List Ruled) (c : Claim) (o : Option Verdict) → MayPay b
+    → IsPrescription c.fill.prescription → ((v : Verdict) → o ≡ Some v → IsVerdict v) → serial_fits (priced (next_auth b before) c o) ≡ true → IsRuling (priced (next_auth b before) c o)
 priced_written ctx h b before c None may n fits s = one_code _
-priced_written ctx h b before c (Some m) may n fits s =
+priced_written ctx h b before c (Some (Rejects codes)) may n fits s = fits (Rejects codes) refl
+priced_written ctx h b before c (Some (Pays m)) may n fits s =
     let le : next_serial b before ≤ 999999999999 = leb-true _ _ s in
-    (record { payer = may.payer; payer_fits = may.payer_fits; serial = omega (arith, may.serial); serial_fits = le }, n, fits m refl)
+    (record { payer = may.payer; payer_fits = may.payer_fits; serial = omega (arith, may.serial); serial_fits = le }, n, fits (Pays m) refl)
 
-judged_claim_written : (ctx : Context) (laws : Laws ctx) (b : Book) (before : List Ruled) (c : Claim) (h : RequestHeader) (o : Option Payment) → MayPay b → IsClaimOf h c
-    → ((p : Payment) → o ≡ Some p → IsWritten p) → serial_fits (ruling_of ctx b before (judged_claim c o)) ≡ true → IsRuling (ruling_of ctx b before (judged_claim c o))
-judged_claim_written ctx laws b before c h None may of_it w s = priced_written ctx h b before c (ctx.price b.plan c) may of_it.prescription (λ m e. laws.prices b.plan h c m of_it e) s
-judged_claim_written ctx laws b before c h (Some p) may of_it w s = go (same_claim p.claim c)
+planned_written : (ctx : Context) (laws : Laws ctx) (b : Book) (c : Claim) (h : RequestHeader) → IsClaimOf h c → (o : Option Amounts) → ctx.price b.plan c ≡ o → IsVerdict (planned o)
+planned_written ctx laws b c h of_it None e = one_code _
+planned_written ctx laws b c h of_it (Some m) e = laws.prices b.plan h c m of_it e
+
+verdict_written : (ctx : Context) (laws : Laws ctx) (b : Book) (advice : List Ruling) (place : ℕ) (c : Claim) (h : RequestHeader) → AdvisesWell advice → IsClaimOf h c → (v : Verdict) → verdict_of ctx b advice place c ≡ Some v → IsVerdict v
+verdict_written ctx laws b advice place c h well of_it v e = by_asks b.settings.asks e
   where
-    go : (t : Bool) → IsRuling (ruling_of ctx b before (cond t (Unpriced (Duplicate p.auth c.fill.prescription p.amounts)) (Unpriced (Rejected (Code.DuplicateClaim ∷ [])))))
+    by_asks : (t : Bool) → cond t (verdict_in c.fill.prescription (numbered advice place)) (Some (planned (ctx.price b.plan c))) ≡ Some v → IsVerdict v
+    by_asks true k = well place c.fill.prescription v k
+    by_asks false k = subst IsVerdict (same_some _ v k) (planned_written ctx laws b c h of_it (ctx.price b.plan c) refl)
+
+judged_claim_written : (ctx : Context) (laws : Laws ctx) (b : Book) (advice : List Ruling) (before : List Ruled) (place : ℕ) (c : Claim) (h : RequestHeader) (o : Option Payment) → AdvisesWell advice → MayPay b → IsClaimOf h c
+    → ((p : Payment) → o ≡ Some p → IsWritten p) → serial_fits (ruling_of ctx b advice before place (judged_claim c o)) ≡ true → IsRuling (ruling_of ctx b advice before place (judged_claim c o))
+judged_claim_written ctx laws b advice before place c h None well may of_it w s =
+    priced_written ctx h b before c (verdict_of ctx b advice place c) may of_it.prescription (verdict_written ctx laws b advice place c h well of_it) s
+judged_claim_written ctx laws b advice before place c h (Some p) well may of_it w s = go (same_claim p.claim c)
+  where
+    go : (t : Bool) → IsRuling (ruling_of ctx b advice before place (cond t (Unpriced (Duplicate p.auth c.fill.prescription p.amounts)) (Unpriced (Rejected (Code.DuplicateClaim ∷ [])))))
     go true = let q = w p refl in (q.0, of_it.prescription, q.1)
     go false = one_code _
 
-judged_reversal_written : (ctx : Context) (b : Book) (before : List Ruled) (v : Reversal) (o : Option Payment) → IsPrescription v.prescription
-    → ((p : Payment) → o ≡ Some p → IsWritten p) → IsRuling (ruling_of ctx b before (judged_reversal v o))
-judged_reversal_written ctx b before v None n w = one_code _
-judged_reversal_written ctx b before v (Some p) n w = ((w p refl).0, n)
+judged_reversal_written : (ctx : Context) (b : Book) (advice : List Ruling) (before : List Ruled) (place : ℕ) (v : Reversal) (o : Option Payment) → IsPrescription v.prescription
+    → ((p : Payment) → o ≡ Some p → IsWritten p) → IsRuling (ruling_of ctx b advice before place (judged_reversal v o))
+judged_reversal_written ctx b advice before place v None n w = one_code _
+judged_reversal_written ctx b advice before place v (Some p) n w = ((w p refl).0, n)
 
-pub ruling_written : (ctx : Context) (laws : Laws ctx) (b : Book) (before : List Ruled) (h : RequestHeader) (order : Result Order (List Code)) → MayPay b → AllByRecursion RuledWritten before
-    → IsOrderOf h order → serial_fits (ruling ctx b before order) ≡ true → IsRuling (ruling ctx b before order)
+pub ruling_written : (ctx : Context) (laws : Laws ctx) (b : Book) (advice : List Ruling) (before : List Ruled) (place : ℕ) (h : RequestHeader) (order : Result Order (List Code)) → AdvisesWell advice → MayPay b → AllByRecursion RuledWritten before
+    → IsOrderOf h order → serial_fits (ruling ctx b advice before place order) ≡ true → IsRuling (ruling ctx b advice before place order)
 unfolding ruling judged
-ruling_written ctx laws b before h (Err codes) may w o s = o
-ruling_written ctx laws b before h (Ok (Bills c)) may w o s =
-    judged_claim_written ctx laws b before c h (standing_for c.fill before) may o
+ruling_written ctx laws b advice before place h (Err codes) well may w o s = o
+ruling_written ctx laws b advice before place h (Ok (Bills c)) well may w o s =
+    judged_claim_written ctx laws b advice before place c h (standing_for c.fill before) well may o
     (λ p e. find_all IsWritten _ (standing before) p (standing_written before w) e) s
-ruling_written ctx laws b before h (Ok (Reverses v)) may w o s =
-    judged_reversal_written ctx b before v (payment_to_reverse v before) o.prescription
+ruling_written ctx laws b advice before place h (Ok (Reverses v)) well may w o s =
+    judged_reversal_written ctx b advice before place v (payment_to_reverse v before) o.prescription
     (λ p e. only_all IsWritten _ p (all_filter IsWritten (λ (q : Payment). is_for v q.claim) (standing before) (standing_written before w)) e)
 
-pub rulings_written : (ctx : Context) (laws : Laws ctx) (b : Book) (before : List Ruled) (h : RequestHeader) (id : TxnId) (place : ℕ) (orders : List (Result Order (List Code))) → MayPay b
-    → AllByRecursion RuledWritten before → AllByRecursion (IsOrderOf h) orders → list_all serial_fits (rulings_from ctx b before id place orders) ≡ true
-    → AllByRecursion IsRuling (rulings_from ctx b before id place orders)
-rulings_written ctx laws b before h id place [] may w o s = tt
-rulings_written ctx laws b before h id place (order ∷ orders) may w o s =
-    let p = and_parts (serial_fits (ruling ctx b before order)) (list_all serial_fits (rulings_from ctx b (before ++ ruled id place order (ruling ctx b before order) ∷ []) id (place + 1) orders)) s in
-    let r : IsRuling (ruling ctx b before order) = ruling_written ctx laws b before h order may w o.0 p.0 in
-    (r, rulings_written ctx laws b (before ++ ruled id place order (ruling ctx b before order) ∷ []) h id (place + 1) orders may (all_append RuledWritten before _ w (r, tt)) o.1 p.1)
+pub rulings_written : (ctx : Context) (laws : Laws ctx) (b : Book) (advice : List Ruling) (before : List Ruled) (h : RequestHeader) (id : TxnId) (place : ℕ) (orders : List (Result Order (List Code))) → AdvisesWell advice → MayPay b
+    → AllByRecursion RuledWritten before → AllByRecursion (IsOrderOf h) orders → list_all serial_fits (rulings_from ctx b advice before id place orders) ≡ true
+    → AllByRecursion IsRuling (rulings_from ctx b advice before id place orders)
+rulings_written ctx laws b advice before h id place [] well may w o s = tt
+rulings_written ctx laws b advice before h id place (order ∷ orders) well may w o s =
+    let p = and_parts (serial_fits (ruling ctx b advice before place order)) (list_all serial_fits (rulings_from ctx b advice (before ++ ruled id place order (ruling ctx b advice before place order) ∷ []) id (place + 1) orders)) s in
+    let r : IsRuling (ruling ctx b advice before place order) = ruling_written ctx laws b advice before place h order well may w o.0 p.0 in
+    (r, rulings_written ctx laws b advice (before ++ ruled id place order (ruling ctx b advice before place order) ∷ []) h id (place + 1) orders well may (all_append RuledWritten before _ w (r, tt)) o.1 p.1)
 
-pub length_rulings : (ctx : Context) (b : Book) (before : List Ruled) (id : TxnId) (place : ℕ) (orders : List (Result Order (List Code))) → length (rulings_from ctx b before id place orders) ≡ length orders
-length_rulings ctx b before id place [] = refl
-length_rulings ctx b before id place (order ∷ orders) = ap Rattle.std.proofs.Common.suc (length_rulings ctx b (before ++ ruled id place order (ruling ctx b before order) ∷ []) id (place + 1) orders)
+pub length_rulings : (ctx : Context) (b : Book) (advice : List Ruling) (before : List Ruled) (id : TxnId) (place : ℕ) (orders : List (Result Order (List Code))) → length (rulings_from ctx b advice before id place orders) ≡ length orders
+length_rulings ctx b advice before id place [] = refl
+length_rulings ctx b advice before id place (order ∷ orders) = ap Rattle.std.proofs.Common.suc (length_rulings ctx b advice (before ++ ruled id place order (ruling ctx b advice before place order) ∷ []) id (place + 1) orders)
 
 -- rows with rulings that can be written make such a list of rulings
 

@@ -5,9 +5,9 @@ use Rattle.claim_profile.specs.Authorization.{largest_serial}
 use Rattle.claim_model.specs.Words.{TxnId, RequestHeader, Ruling, Paid, Duplicate, Reversed, Rejected}
 use Rattle.claim_model.specs.Context.{Context}
 use Rattle.claim_model.specs.Readable.{readable, payer_for, is_payer, answer_text, same_id}
-use Rattle.claim_model.specs.Refusal.{Refusal, Unreadable, NotOurs, NumberReused, BookFull, SerialsUsedUp}
+use Rattle.claim_model.specs.Refusal.{Refusal, Unreadable, NotOurs, NumberReused, BookFull, SerialsUsedUp, NotAdvised}
 use Rattle.claim_model.specs.Rows.{Row, Book, ruled_rows}
-use Rattle.claim_model.specs.Judgement.{rulings_from}
+use Rattle.claim_model.specs.Judgement.{rulings_from, all_advised}
 
 -- the greatest serial of an authorization
 abbrev pub last_serial : ℕ
@@ -23,9 +23,13 @@ serial_fits (Rejected codes) = true
 abbrev pub row_of : TxnId → List Row → Option Row
 row_of id rows = find (λ row. same_id row.id id) rows
 
--- the row that a new request gets
-abbrev pub new_row : Context → Book → TxnId → List ℕ → Row
-new_row ctx b id request = record { id = id; request = request; rulings = rulings_from ctx b (ruled_rows ctx b.rows) id 1 (ctx.orders request) }
+-- the row that a new request gets with an advice
+abbrev pub new_row : Context → Book → List Ruling → TxnId → List ℕ → Row
+new_row ctx b advice id request = record { id = id; request = request; rulings = rulings_from ctx b advice (ruled_rows ctx b.rows) id 1 (ctx.orders request) }
+
+-- a new request has a verdict on each of its claims that is to be priced
+abbrev pub has_verdicts : Context → Book → List Ruling → TxnId → List ℕ → Bool
+has_verdicts ctx b advice id request = all_advised ctx b advice (ruled_rows ctx b.rows) id 1 (ctx.orders request)
 
 -- the book after a request, its answer, and whether that answer had been kept
 pub record Answered : Type 0 where
@@ -33,22 +37,30 @@ pub record Answered : Type 0 where
   pub bytes : List ℕ
   pub kept : Bool
 
-abbrev pub entered_row : Context → Book → RequestHeader → Row → Result Answered Refusal
-entered_row ctx b h row =
+abbrev pub entered_row : Context → Book → RequestHeader → Bool → Row → Result Answered Refusal
+entered_row ctx b h advised row =
     cond (list_all serial_fits row.rulings)
+    (cond advised
     (Ok (record { book = record { payer = b.payer; settings = b.settings; plan = b.plan; rows = b.rows ++ row ∷ [] }; bytes = answer_text ctx h row.rulings; kept = Bool.false }))
+    (Err NotAdvised))
     (Err SerialsUsedUp)
 
 -- a known id with its request gets its row's answer again; a new one gets a row
-abbrev pub answered_by : Context → Book → TxnId → List ℕ → RequestHeader → Option Row → Result Answered Refusal
-answered_by ctx b id request h (Some row) =
+abbrev pub answered_by : Context → Book → List Ruling → TxnId → List ℕ → RequestHeader → Option Row → Result Answered Refusal
+answered_by ctx b advice id request h (Some row) =
     cond (bytes_eq row.request request) (Ok (record { book = b; bytes = answer_text ctx h row.rulings; kept = true })) (Err NumberReused)
-answered_by ctx b id request h None = cond (nat_lt (length b.rows) b.settings.cap) (entered_row ctx b h (new_row ctx b id request)) (Err BookFull)
+answered_by ctx b advice id request h None =
+    cond (nat_lt (length b.rows) b.settings.cap) (entered_row ctx b h (has_verdicts ctx b advice id request) (new_row ctx b advice id request)) (Err BookFull)
 
-abbrev pub answered_readable : Context → Book → TxnId → List ℕ → Option RequestHeader → Result Answered Refusal
-answered_readable ctx b id request None = Err Unreadable
-answered_readable ctx b id request (Some h) = cond (is_payer b.payer (payer_for ctx h)) (answered_by ctx b id request h (row_of id b.rows)) (Err NotOurs)
+abbrev pub answered_readable : Context → Book → List Ruling → TxnId → List ℕ → Option RequestHeader → Result Answered Refusal
+answered_readable ctx b advice id request None = Err Unreadable
+answered_readable ctx b advice id request (Some h) = cond (is_payer b.payer (payer_for ctx h)) (answered_by ctx b advice id request h (row_of id b.rows)) (Err NotOurs)
 
--- a request at a payer: Unreadable, NotOurs, NumberReused, the kept answer, BookFull, SerialsUsedUp, or a new row
-unfoldable pub answered : Context → Book → TxnId → List ℕ → Result Answered Refusal
-answered ctx b id request = answered_readable ctx b id request (readable ctx request)
+-- a request at a payer, with the rulings of an advice: Unreadable, NotOurs, NumberReused, the kept answer, BookFull, SerialsUsedUp,
+-- NotAdvised where the payer asks and the advice has no verdict on a claim that is to be priced, or a new row
+unfoldable pub answered : Context → Book → List Ruling → TxnId → List ℕ → Result Answered Refusal
+answered ctx b advice id request = answered_readable ctx b advice id request (readable ctx request)
+
+-- without an advice
+abbrev pub unadvised : List Ruling
+unadvised = []

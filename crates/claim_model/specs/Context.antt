@@ -1,14 +1,14 @@
 -- How bytes are read and written, which the model takes as it is: every definition and theorem is for any such reading.
 use Rattle.std.specs.Prelude.{ℕ, List, Option, Result}
-use Rattle.claim_model.specs.Words.{RequestHeader, Order, Code, Plan, Claim, Amounts, PlanFault, Status, Ruling, Answer, Envelope, EnvelopeFault}
+use Rattle.claim_model.specs.Words.{RequestHeader, Order, Code, Plan, Claim, Amounts, PlanFault, Status, Ruling, Answer, Envelope, EnvelopeFault, RouteKey}
 
 pub record Context : Type 0 where
   -- the header of a text that is framed as a request; none where the framing refuses it
   pub header : List ℕ → Option RequestHeader
   -- what each group of such a text asks for, in order: a claim or a reversal, or the codes that reject the group
   pub orders : List ℕ → List (Result Order (List Code))
-  -- the payer of a BIN and a PCN, by the one route table
-  pub route : List ℕ → List ℕ → Option ℕ
+  -- the payer of a BIN, a PCN, and a provider with its qualifier, by the one route table
+  pub route : RouteKey → Option ℕ
   -- what a plan pays for a claim; none where the product is not on the plan
   pub price : Plan → Claim → Option Amounts
   -- the plan with a new price for a product, or without the product

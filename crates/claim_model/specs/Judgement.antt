@@ -1,7 +1,8 @@
 -- How one group is ruled, over all that was ruled before it.
-use Rattle.std.specs.Prelude.{ℕ, ◌+◌, Bool, true, false, cond, ◌&&◌, ◌==◌, List, [], ◌∷◌, ◌++◌, Option, Some, None, Result, Ok, Err, find, filter, count_by, bytes_eq}
+use Rattle.std.specs.Prelude.{ℕ, ◌+◌, Bool, true, false, cond, ◌&&◌, ◌==◌, List, [], ◌∷◌, ◌++◌, Option, Some, None, is_some, Result, Ok, Err, find, filter, count_by, bytes_eq}
 use Rattle.claim_model.specs.Words.{TxnId, Auth, Amounts, Fill, Claim, Reversal, Order, Bills, Reverses, Code, NotCovered, DuplicateClaim, ReversalNotProcessed, Ruling, Paid, Duplicate, Reversed, Rejected}
 use Rattle.claim_model.specs.Context.{Context}
+use Rattle.claim_model.specs.Numbered.{numbered}
 use Rattle.claim_model.specs.Ruled.{Ruled, ruled}
 use Rattle.claim_model.specs.Payments.{Payment, standing}
 use Rattle.claim_model.specs.Rows.{Book}
@@ -75,21 +76,57 @@ next_serial b before = b.settings.serial + count_by (λ (r : Ruled). is_paid r.r
 abbrev pub next_auth : Book → List Ruled → Auth
 next_auth b before = record { payer = b.payer; serial = next_serial b before }
 
--- a claim whose product is not on the plan is rejected with 70, any other is paid
-abbrev pub priced : Auth → Claim → Option Amounts → Ruling
+-- what is paid for a claim that is to be priced, or the codes that reject it
+pub data Verdict : Type 0 where
+  Pays : Amounts → Verdict
+  Rejects : List Code → Verdict
+
+-- the verdict of a plan: a claim whose product is not on it is rejected with 70
+abbrev pub planned : Option Amounts → Verdict
+planned None = Rejects (NotCovered ∷ [])
+planned (Some amounts) = Pays amounts
+
+-- the verdict on the claim of a prescription in what an answer says at its place: the amounts that it pays, or says to have paid before, for this very
+-- prescription, or its codes; none where it says anything else of the place, or nothing
+abbrev pub verdict_in : ℕ → Option Ruling → Option Verdict
+verdict_in claimed None = None
+verdict_in claimed (Some (Paid auth prescription amounts)) = cond (prescription == claimed) (Some (Pays amounts)) None
+verdict_in claimed (Some (Duplicate auth prescription amounts)) = cond (prescription == claimed) (Some (Pays amounts)) None
+verdict_in claimed (Some (Reversed auth prescription)) = None
+verdict_in claimed (Some (Rejected codes)) = Some (Rejects codes)
+
+-- the verdict on the claim at a place: the plan's; of a payer that asks, what its advice says there
+abbrev pub verdict_of : Context → Book → List Ruling → ℕ → Claim → Option Verdict
+verdict_of ctx b advice place c = cond b.settings.asks (verdict_in c.fill.prescription (numbered advice place)) (Some (planned (ctx.price b.plan c)))
+
+-- the ruling by a verdict; where there is none a rejection stands in its place, and the request is refused as a whole
+abbrev pub priced : Auth → Claim → Option Verdict → Ruling
 priced auth c None = Rejected (NotCovered ∷ [])
-priced auth c (Some amounts) = Paid auth c.fill.prescription amounts
+priced auth c (Some (Rejects codes)) = Rejected codes
+priced auth c (Some (Pays amounts)) = Paid auth c.fill.prescription amounts
 
-abbrev pub ruling_of : Context → Book → List Ruled → Judged → Ruling
-ruling_of ctx b before (Unpriced ruling) = ruling
-ruling_of ctx b before (ToPrice c) = priced (next_auth b before) c (ctx.price b.plan c)
+abbrev pub ruling_of : Context → Book → List Ruling → List Ruled → ℕ → Judged → Ruling
+ruling_of ctx b advice before place (Unpriced ruling) = ruling
+ruling_of ctx b advice before place (ToPrice c) = priced (next_auth b before) c (verdict_of ctx b advice place c)
 
--- the ruling of an order over what was ruled before it
-unfoldable pub ruling : Context → Book → List Ruled → Result Order (List Code) → Ruling
-ruling ctx b before order = ruling_of ctx b before (judged before order)
+-- the ruling of an order at a place over what was ruled before it
+unfoldable pub ruling : Context → Book → List Ruling → List Ruled → ℕ → Result Order (List Code) → Ruling
+ruling ctx b advice before place order = ruling_of ctx b advice before place (judged before order)
 
 -- the rulings of a request's groups: each over all rows before and the earlier places of its own request
-abbrev pub rulings_from : Context → Book → List Ruled → TxnId → ℕ → List (Result Order (List Code)) → List Ruling
-rulings_from ctx b before id place [] = []
-rulings_from ctx b before id place (order ∷ orders) =
-    let r = ruling ctx b before order in r ∷ rulings_from ctx b (before ++ ruled id place order r ∷ []) id (place + 1) orders
+abbrev pub rulings_from : Context → Book → List Ruling → List Ruled → TxnId → ℕ → List (Result Order (List Code)) → List Ruling
+rulings_from ctx b advice before id place [] = []
+rulings_from ctx b advice before id place (order ∷ orders) =
+    let r = ruling ctx b advice before place order in r ∷ rulings_from ctx b advice (before ++ ruled id place order r ∷ []) id (place + 1) orders
+
+-- nothing is asked for, or there is a verdict
+abbrev pub is_advised : Context → Book → List Ruling → ℕ → Judged → Bool
+is_advised ctx b advice place (Unpriced ruling) = true
+is_advised ctx b advice place (ToPrice c) = is_some (verdict_of ctx b advice place c)
+
+-- there is a verdict on each claim that is to be priced
+abbrev pub all_advised : Context → Book → List Ruling → List Ruled → TxnId → ℕ → List (Result Order (List Code)) → Bool
+all_advised ctx b advice before id place [] = true
+all_advised ctx b advice before id place (order ∷ orders) =
+    is_advised ctx b advice place (judged before order)
+    && all_advised ctx b advice (before ++ ruled id place order (ruling ctx b advice before place order) ∷ []) id (place + 1) orders

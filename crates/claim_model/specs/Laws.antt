@@ -5,6 +5,8 @@ use Rattle.claim_profile.specs.Authorization.{largest_serial}
 use Rattle.claim_profile.specs.Money.{largest}
 use Rattle.claim_model.specs.Words.{Auth, Amounts, Claim, Reversal, Order, Bills, Reverses, Code, Ruling, Paid, Duplicate, Reversed, Rejected, RequestHeader, Status, AcceptedStatus, RejectedStatus, Answer, Envelope, Plan}
 use Rattle.claim_model.specs.Context.{Context}
+use Rattle.claim_model.specs.Numbered.{numbered}
+use Rattle.claim_model.specs.Judgement.{Verdict, Pays, Rejects, verdict_in}
 use Rattle.claim_model.specs.Readable.{readable, longest, billing_code, reversal_code}
 
 -- an envelope that can be written: neither number is zero, both fit their fields, and the payload is not too long
@@ -63,6 +65,15 @@ pub record IsAmounts (m : Amounts) : Type 0 where
   pub total : m.total ≤ largest
   pub sum : m.total + m.copay ≡ m.cost + m.fee
 
+-- a verdict that can be written
+abbrev pub IsVerdict : Verdict → Type 0
+IsVerdict (Pays amounts) = IsAmounts amounts
+IsVerdict (Rejects codes) = IsRejects codes
+
+-- an advice whose verdicts can be written
+abbrev pub AdvisesWell : List Ruling → Type 0
+AdvisesWell advice = (place claimed : ℕ) (v : Verdict) → verdict_in claimed (numbered advice place) ≡ Some v → IsVerdict v
+
 -- a ruling that can be written
 abbrev pub IsRuling : Ruling → Type 0
 IsRuling (Paid auth prescription amounts) = IsAuth auth × IsPrescription prescription × IsAmounts amounts
@@ -104,3 +115,5 @@ pub record Laws (ctx : Context) : Type 0 where
   -- a price for such a claim gives amounts that fit
   pub prices : (plan : Plan) (h : RequestHeader) (c : Claim) (amounts : Amounts) → IsClaimOf h c → ctx.price plan c ≡ Some amounts → IsAmounts amounts
   pub answers : AnswersReadBack ctx
+  -- what an answer that is read says of a claim can be written again
+  pub sayings : (text : List ℕ) (answer : Answer) → ctx.read_answer text ≡ Some answer → AdvisesWell answer.rulings

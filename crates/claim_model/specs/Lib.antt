@@ -8,6 +8,7 @@ pub mod Ruled
 pub mod Payments
 pub mod Rows
 pub mod Judgement
+pub mod Advised
 pub mod Book
 pub mod Numbered
 pub mod Journal

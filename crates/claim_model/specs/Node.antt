@@ -1,11 +1,11 @@
 -- One call on one node, up or at rest.
 use Rattle.std.specs.Prelude.{ℕ, cond, List, [], ◌∷◌, map, Option, Result, Ok, Err}
-use Rattle.claim_model.specs.Words.{TxnId, Envelope, EnvelopeFault, Plan, PlanFault}
+use Rattle.claim_model.specs.Words.{TxnId, Envelope, EnvelopeFault, Plan, PlanFault, Ruling}
 use Rattle.claim_model.specs.Context.{Context}
-use Rattle.claim_model.specs.Readable.{is_request, answer_envelope}
-use Rattle.claim_model.specs.Refusal.{Refusal, NoSuchNode, Down, AlreadyUp, NoEnvelope, NotPriced, Unreadable}
+use Rattle.claim_model.specs.Readable.{is_request, answer_envelope, rulings_in}
+use Rattle.claim_model.specs.Refusal.{Refusal, NoSuchNode, Down, AlreadyUp, NoEnvelope, NotPriced, Unreadable, NotAsked}
 use Rattle.claim_model.specs.Rows.{Book}
-use Rattle.claim_model.specs.Book.{Answered, answered}
+use Rattle.claim_model.specs.Book.{Answered, answered, unadvised}
 use Rattle.claim_model.specs.Journal.{Journal, JournalAtRest, Sending, Submitted, submitted, ticked, due, heard, stopped, started}
 use Rattle.claim_model.specs.Table.{Table, Routed, Forward, Back, Requested, requested, Responded, responded}
 
@@ -20,7 +20,7 @@ pub record Sent : Type 0 where
   pub to : Node
   pub bytes : List ℕ
 
--- a call on one node
+-- a call on one node. Adjudicate takes a packet with an advice: the answer of the payer's own system to the request in it
 pub data Call : Type 0 where
   Submit : (text : List ℕ) → Call
   Tick : Call
@@ -28,6 +28,7 @@ pub data Call : Type 0 where
   Stop : Call
   Start : Call
   Reprice : (product : List ℕ) → (price : Option ℕ) → Call
+  Adjudicate : (from : Node) → (bytes : List ℕ) → (advice : List ℕ) → Call
 
 -- a node is up, or at rest with what it keeps
 pub data Power (A B : Type 0) : Type 0 where
@@ -63,6 +64,7 @@ pharmacy_up ctx j (Take from bytes) = pharmacy_takes ctx j (ctx.read_envelope by
 pharmacy_up ctx j Stop = Done (AtRest (stopped j)) []
 pharmacy_up ctx j Start = Refused AlreadyUp
 pharmacy_up ctx j (Reprice product price) = Refused NoSuchNode
+pharmacy_up ctx j (Adjudicate from bytes advice) = Refused NoSuchNode
 
 abbrev pub pharmacy_at_rest : JournalAtRest → Call → Outcome (Power Journal JournalAtRest)
 pharmacy_at_rest j (Submit text) = Refused Down
@@ -71,6 +73,7 @@ pharmacy_at_rest j (Take from bytes) = Refused Down
 pharmacy_at_rest j Stop = Refused Down
 pharmacy_at_rest j Start = Done (Up (started j)) []
 pharmacy_at_rest j (Reprice product price) = Refused NoSuchNode
+pharmacy_at_rest j (Adjudicate from bytes advice) = Refused NoSuchNode
 
 -- a call on a pharmacy
 abbrev pub pharmacy_step : Context → Power Journal JournalAtRest → Call → Outcome (Power Journal JournalAtRest)
@@ -102,6 +105,7 @@ switch_up ctx t (Take from bytes) = switch_takes ctx t (ctx.read_envelope bytes)
 switch_up ctx t Stop = Done (AtRest t.cap) []
 switch_up ctx t Start = Refused AlreadyUp
 switch_up ctx t (Reprice product price) = Refused NoSuchNode
+switch_up ctx t (Adjudicate from bytes advice) = Refused NoSuchNode
 
 abbrev pub switch_at_rest : ℕ → Call → Outcome (Power Table ℕ)
 switch_at_rest cap (Submit text) = Refused NoSuchNode
@@ -110,6 +114,7 @@ switch_at_rest cap (Take from bytes) = Refused Down
 switch_at_rest cap Stop = Refused Down
 switch_at_rest cap Start = Done (Up (record { cap = cap; entries = [] })) []
 switch_at_rest cap (Reprice product price) = Refused NoSuchNode
+switch_at_rest cap (Adjudicate from bytes advice) = Refused NoSuchNode
 
 -- a call on a switch
 abbrev pub switch_step : Context → Power Table ℕ → Call → Outcome (Power Table ℕ)
@@ -122,9 +127,13 @@ abbrev pub after_answer : Context → Node → TxnId → Result Answered Refusal
 after_answer ctx from id (Err fault) = Refused fault
 after_answer ctx from id (Ok a) = Done (Up a.book) (record { to = from; bytes = ctx.envelope (answer_envelope id a.bytes) } ∷ [])
 
-abbrev pub payer_takes : Context → Book → Node → Result Envelope EnvelopeFault → Outcome (Power Book Book)
-payer_takes ctx b from (Err fault) = Refused (NoEnvelope fault)
-payer_takes ctx b from (Ok e) = cond (is_request e) (after_answer ctx from e.id (answered ctx b e.id e.payload)) (Refused Unreadable)
+abbrev pub payer_takes : Context → Book → List Ruling → Node → Result Envelope EnvelopeFault → Outcome (Power Book Book)
+payer_takes ctx b advice from (Err fault) = Refused (NoEnvelope fault)
+payer_takes ctx b advice from (Ok e) = cond (is_request e) (after_answer ctx from e.id (answered ctx b advice e.id e.payload)) (Refused Unreadable)
+
+-- the rulings of an advice; none where its bytes are no answer
+abbrev pub advice_in : Context → List ℕ → List Ruling
+advice_in ctx advice = rulings_in (ctx.read_answer advice)
 
 abbrev pub after_reprice : Book → Result Plan PlanFault → Outcome (Power Book Book)
 after_reprice b (Err fault) = Refused (NotPriced fault)
@@ -133,10 +142,11 @@ after_reprice b (Ok plan) = Done (Up (record { payer = b.payer; settings = b.set
 abbrev pub payer_up : Context → Book → Call → Outcome (Power Book Book)
 payer_up ctx b (Submit text) = Refused NoSuchNode
 payer_up ctx b Tick = Refused NoSuchNode
-payer_up ctx b (Take from bytes) = payer_takes ctx b from (ctx.read_envelope bytes)
+payer_up ctx b (Take from bytes) = payer_takes ctx b unadvised from (ctx.read_envelope bytes)
 payer_up ctx b Stop = Done (AtRest b) []
 payer_up ctx b Start = Refused AlreadyUp
 payer_up ctx b (Reprice product price) = after_reprice b (ctx.reprice b.plan product price)
+payer_up ctx b (Adjudicate from bytes advice) = cond b.settings.asks (payer_takes ctx b (advice_in ctx advice) from (ctx.read_envelope bytes)) (Refused NotAsked)
 
 abbrev pub payer_at_rest : Book → Call → Outcome (Power Book Book)
 payer_at_rest b (Submit text) = Refused NoSuchNode
@@ -145,6 +155,7 @@ payer_at_rest b (Take from bytes) = Refused Down
 payer_at_rest b Stop = Refused Down
 payer_at_rest b Start = Done (Up b) []
 payer_at_rest b (Reprice product price) = Refused Down
+payer_at_rest b (Adjudicate from bytes advice) = Refused Down
 
 -- a call on a payer
 abbrev pub payer_step : Context → Power Book Book → Call → Outcome (Power Book Book)

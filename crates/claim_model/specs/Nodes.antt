@@ -6,8 +6,8 @@ use Rattle.claim_model.specs.Numbered.{numbered}
 use Rattle.claim_model.specs.Journal.{Journal, JournalAtRest}
 use Rattle.claim_model.specs.Table.{Table}
 use Rattle.claim_model.specs.Rows.{Book}
-use Rattle.claim_model.specs.Node.{Node, Pharmacy, Switch, Payer, Call, Submit, Tick, Take, Stop, Start, Reprice, Power, Outcome, Done, Refused, pharmacy_step, switch_step, payer_step}
-use Rattle.claim_model.specs.World.{World, Packet, Event, Submission, Ticking, Delivery, Stopping, Starting, PlanChange, on_node}
+use Rattle.claim_model.specs.Node.{Node, Pharmacy, Switch, Payer, Call, Submit, Tick, Take, Stop, Start, Reprice, Adjudicate, Power, Outcome, Done, Refused, pharmacy_step, switch_step, payer_step}
+use Rattle.claim_model.specs.World.{World, Packet, Event, Submission, Ticking, Delivery, Stopping, Starting, PlanChange, Adjudication, on_node}
 
 -- a pharmacy, a switch or a payer, up or at rest
 pub data AnyNode : Type 0 where
@@ -57,6 +57,9 @@ pub record Asked : Type 0 where
 abbrev pub taking : Packet → Asked
 taking p = record { node = p.to; call = Take p.from p.bytes }
 
+abbrev pub adjudicating : List ℕ → Packet → Asked
+adjudicating advice p = record { node = p.to; call = Adjudicate p.from p.bytes advice }
+
 -- the call that an event is where these packets were sent; none where it delivers a packet that was never sent
 abbrev pub asked : List Packet → Event → Option Asked
 asked packets (Submission n text) = Some (record { node = Pharmacy n; call = Submit text })
@@ -65,6 +68,7 @@ asked packets (Delivery k) = option_map taking (numbered packets k)
 asked packets (Stopping node) = Some (record { node = node; call = Stop })
 asked packets (Starting node) = Some (record { node = node; call = Start })
 asked packets (PlanChange n product price) = Some (record { node = Payer n; call = Reprice product price })
+asked packets (Adjudication k advice) = option_map (adjudicating advice) (numbered packets k)
 
 -- that call, in a world
 abbrev pub asked_step : Context → World → Option Asked → Outcome World

@@ -1,5 +1,5 @@
 -- What holds of every world that events lead to.
-use Rattle.std.specs.Prelude.{⊤, None, ◌++◌, ◌≡◌, ◌<◌, ◌≤◌, ℕ, true, false, List, Some, Ok}
+use Rattle.std.specs.Prelude.{⊤, ◌⊎◌, Bool, Option, None, ◌++◌, ◌≡◌, ◌<◌, ◌≤◌, ℕ, true, false, List, Some, Ok}
 use Rattle.claim_model.specs.Words.{TxnId, Auth, Ruling, Reversed, RequestHeader, ResponseHeader, Envelope}
 use Rattle.claim_model.specs.Context.{Context}
 use Rattle.claim_model.specs.Laws.{Laws}
@@ -11,9 +11,9 @@ use Rattle.claim_model.specs.Numbered.{numbered}
 use Rattle.claim_model.specs.Journal.{JournalAtRest, Kept}
 use Rattle.claim_model.specs.Counted.{Counted, named, told, counted}
 use Rattle.claim_model.specs.Table.{Slot, Table}
-use Rattle.claim_model.specs.Refusal.{Refusal, NoSuchPacket, Down, AlreadySettled, NotWaiting, BookFull, SerialsUsedUp}
-use Rattle.claim_model.specs.Node.{Node, Up, Refused}
-use Rattle.claim_model.specs.World.{World, Packet, Event, Delivery, step, run}
+use Rattle.claim_model.specs.Refusal.{Refusal, NoSuchPacket, Down, AlreadySettled, NotWaiting, BookFull, SerialsUsedUp, NotAdvised}
+use Rattle.claim_model.specs.Node.{Node, Pharmacy, Switch, Payer, Up, Refused}
+use Rattle.claim_model.specs.World.{World, Packet, Event, Delivery, Adjudication, step, run}
 use Rattle.claim_model.specs.Settings.{WorldSettings, Accepts, opening}
 use Rattle.claim_model.specs.Held.{journal_at, book_at, asked, row_answer, decided, held, held_place}
 
@@ -168,6 +168,30 @@ MayMeet BookFull = ⊤
 MayMeet SerialsUsedUp = ⊤
 MayMeet other = ⊥
 
+-- the payer of a book that is there asks
+abbrev pub asks_in : Option Book → Bool
+asks_in None = false
+asks_in (Some b) = b.settings.asks
+
+-- the node is a payer that asks
+abbrev pub asks_at : World → Node → Bool
+asks_at w (Pharmacy n) = false
+asks_at w (Switch n) = false
+asks_at w (Payer n) = asks_in (book_at w n)
+
+-- the packet is for a payer that asks
+abbrev pub is_asking : World → Option Packet → Bool
+is_asking w None = false
+is_asking w (Some p) = asks_at w p.to
+
+-- the same; and at a payer that asks, that it has no advice
+abbrev pub MayMeetAt : Bool → Refusal → Type 0
+MayMeetAt asks why = MayMeet why ⊎ ((asks ≡ true) × (why ≡ NotAdvised))
+
 -- a delivery is refused for these reasons alone
 abbrev pub DeliveriesMeet : Context → World → Type 0
-DeliveriesMeet ctx w = (k : ℕ) (why : Refusal) → step ctx w (Delivery k) ≡ Refused why → MayMeet why
+DeliveriesMeet ctx w = (k : ℕ) (why : Refusal) → step ctx w (Delivery k) ≡ Refused why → MayMeetAt (is_asking w (numbered w.packets k)) why
+
+-- and so is an adjudication of a packet for a payer that asks
+abbrev pub AdjudicationsMeet : Context → World → Type 0
+AdjudicationsMeet ctx w = (k : ℕ) (advice : List ℕ) (why : Refusal) → is_asking w (numbered w.packets k) ≡ true → step ctx w (Adjudication k advice) ≡ Refused why → MayMeetAt true why

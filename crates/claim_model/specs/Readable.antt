@@ -3,7 +3,7 @@ use Rattle.std.specs.Prelude.{ℕ, Bool, true, false, cond, ◌&&◌, ◌==◌, 
 use Rattle.envelope.specs.Envelope.{longest_payload}
 use Rattle.claim_profile.specs.declared.transaction.TransactionCode.TheVariants.{Billing, Reversal}
 use Rattle.claim_profile.specs.Transaction.{code_bytes, transaction_code}
-use Rattle.claim_model.specs.Words.{TxnId, RequestHeader, Answer, Ruling, Rejected, BadBin, AcceptedStatus, RejectedStatus, Envelope, Request, Response}
+use Rattle.claim_model.specs.Words.{TxnId, RequestHeader, Answer, Ruling, Rejected, BadBin, AcceptedStatus, RejectedStatus, Envelope, Request, Response, RouteKey}
 use Rattle.claim_model.specs.Context.{Context}
 
 -- "D0"
@@ -36,9 +36,13 @@ if_carried h = cond (has_version h && has_code h) (Some h) None
 unfoldable pub readable : Context → List ℕ → Option RequestHeader
 readable ctx text = cond (nat_le (length text) longest) (option_and_then if_carried (ctx.header text)) None
 
+-- what a route may look at in a header
+abbrev pub route_key : RequestHeader → RouteKey
+route_key h = record { bin = h.bin; pcn = h.pcn; qualifier = h.qualifier; provider = h.provider }
+
 -- the payer to which a request is routed
 abbrev pub payer_for : Context → RequestHeader → Option ℕ
-payer_for ctx h = ctx.route h.bin h.pcn
+payer_for ctx h = ctx.route (route_key h)
 
 abbrev pub is_payer : ℕ → Option ℕ → Bool
 is_payer payer None = false

@@ -18,6 +18,8 @@ pub use Rattle.claim_model.specs.declared.refusal.Refusal.TheVariants.{NotMine, 
 pub use Rattle.claim_model.specs.declared.refusal.Refusal.TheVariants.{NumberReused, NotWaiting}
 -- of a request at a payer
 pub use Rattle.claim_model.specs.declared.refusal.Refusal.TheVariants.{NotOurs, BookFull, SerialsUsedUp}
+-- of a request at a payer that asks, and of an advice at one that does not
+pub use Rattle.claim_model.specs.declared.refusal.Refusal.TheVariants.{NotAdvised, NotAsked}
 -- of a price
 pub use Rattle.claim_model.specs.declared.refusal.Refusal.TheVariants.{NotPriced}
 pub use Rattle.claim_model.specs.declared.refusal.Fault.{Fault}
@@ -80,6 +82,8 @@ refusal_name NotWaiting = codes "NotWaiting"
 refusal_name NotOurs = codes "NotOurs"
 refusal_name BookFull = codes "BookFull"
 refusal_name SerialsUsedUp = codes "SerialsUsedUp"
+refusal_name NotAdvised = codes "NotAdvised"
+refusal_name NotAsked = codes "NotAsked"
 refusal_name (NotPriced why) = price_name why
 
 -- a refusal, or want of memory where there is none

@@ -1,5 +1,5 @@
 -- A payer's book, and the list of all that it ruled.
-use Rattle.std.specs.Prelude.{ℕ, List, flat_map}
+use Rattle.std.specs.Prelude.{ℕ, Bool, List, flat_map}
 use Rattle.claim_model.specs.Words.{TxnId, Ruling, Plan}
 use Rattle.claim_model.specs.Context.{Context}
 use Rattle.claim_model.specs.Ruled.{Ruled, ruled_groups}
@@ -10,10 +10,12 @@ pub record Row : Type 0 where
   pub request : List ℕ
   pub rulings : List Ruling
 
--- the serial of the first payment, and how many rows the book may have
+-- the serial of the first payment, how many rows the book may have, and whether the payer asks for the verdict on each claim that is to be
+-- priced, in place of pricing it by the plan
 pub record BookSettings : Type 0 where
   pub serial : ℕ
   pub cap : ℕ
+  pub asks : Bool
 
 -- a book, oldest row first
 pub record Book : Type 0 where

@@ -1,7 +1,7 @@
 -- The settings of a world, which of them a world takes, and the world that it opens with.
 use Rattle.std.specs.Prelude.{ℕ, zero, suc, ◌+◌, ◌<◌, ◌≤◌, ◌≡◌, Bool, true, false, cond, not, ◌&&◌, ◌||◌, nat_lt, List, [], ◌∷◌, length, Option, Some, None, bytes_eq}
 use Rattle.std.specs.List.{list_any, list_all, AllByRecursion}
-use Rattle.claim_model.specs.Words.{Plan}
+use Rattle.claim_model.specs.Words.{Plan, RouteKey}
 use Rattle.claim_model.specs.Context.{Context}
 use Rattle.claim_model.specs.Rows.{BookSettings}
 use Rattle.claim_model.specs.Journal.{PharmacySettings, Journal, JournalAtRest}
@@ -69,7 +69,7 @@ pub record Accepts (ctx : Context) (s : WorldSettings) : Type 0 where
   pub pharmacies : AllByRecursion IsPharmacySettings s.pharmacies
   pub books : AllByRecursion (λ p. IsBookSettings p.book) s.payers
   -- a route leads to a payer that is there
-  pub routes : (bin pcn : List ℕ) (payer : ℕ) → ctx.route bin pcn ≡ Some payer → (0 < payer) × (payer ≤ length s.payers)
+  pub routes : (key : RouteKey) (payer : ℕ) → ctx.route key ≡ Some payer → (0 < payer) × (payer ≤ length s.payers)
 
 abbrev pub pharmacies_from : ℕ → List PharmacySettings → List (Power Journal JournalAtRest)
 pharmacies_from n [] = []

@@ -19,6 +19,7 @@ pub use Rattle.claim_profile.specs.declared.ruling.Ruling.{Ruling}
 pub use Rattle.claim_profile.specs.declared.ruling.Ruling.TheVariants.{Paid, Duplicate, Reversed, Rejected}
 pub use Rattle.claim_profile.specs.declared.ruling.HeaderStatus.{HeaderStatus as Status}
 pub use Rattle.claim_profile.specs.declared.ruling.HeaderStatus.TheVariants.{Accepted as AcceptedStatus, Rejected as RejectedStatus}
+pub use Rattle.bin_routes.specs.Key.{RouteKey}
 pub use Rattle.plan_rules.specs.Terms.{Terms as Plan}
 pub use Rattle.plan_rules.specs.declared.fault.PlanFault.{PlanFault}
 

@@ -6,7 +6,7 @@ use Rattle.claim_model.specs.Rows.{Book}
 use Rattle.claim_model.specs.Numbered.{numbered, renumbered}
 use Rattle.claim_model.specs.Journal.{Journal, JournalAtRest}
 use Rattle.claim_model.specs.Table.{Table}
-use Rattle.claim_model.specs.Node.{Node, Pharmacy, Switch, Payer, Sent, Call, Submit, Tick, Take, Stop, Start, Reprice, Power, Outcome, Done, Refused, pharmacy_step, switch_step, payer_step}
+use Rattle.claim_model.specs.Node.{Node, Pharmacy, Switch, Payer, Sent, Call, Submit, Tick, Take, Stop, Start, Reprice, Adjudicate, Power, Outcome, Done, Refused, pharmacy_step, switch_step, payer_step}
 
 -- a packet, with its sender and its addressee
 pub record Packet : Type 0 where
@@ -21,7 +21,8 @@ pub record World : Type 0 where
   pub payers : List (Power Book Book)
   pub packets : List Packet
 
--- an event is one call on one node. Losing a packet is never delivering it, repeating it is delivering it twice
+-- an event is one call on one node. Losing a packet is never delivering it, repeating it is delivering it twice. An adjudication delivers a
+-- packet with an advice
 pub data Event : Type 0 where
   Submission : (pharmacy : ℕ) → (text : List ℕ) → Event
   Ticking : (pharmacy : ℕ) → Event
@@ -29,6 +30,7 @@ pub data Event : Type 0 where
   Stopping : Node → Event
   Starting : Node → Event
   PlanChange : (payer : ℕ) → (product : List ℕ) → (price : Option ℕ) → Event
+  Adjudication : (packet : ℕ) → (advice : List ℕ) → Event
 
 abbrev pub packet_from : Node → Sent → Packet
 packet_from node s = record { from = node; to = s.to; bytes = s.bytes }
@@ -73,6 +75,10 @@ abbrev pub delivered : Context → World → Option Packet → Outcome World
 delivered ctx w None = Refused NoSuchPacket
 delivered ctx w (Some p) = on_node ctx w p.to (Take p.from p.bytes)
 
+abbrev pub adjudicated : Context → World → List ℕ → Option Packet → Outcome World
+adjudicated ctx w advice None = Refused NoSuchPacket
+adjudicated ctx w advice (Some p) = on_node ctx w p.to (Adjudicate p.from p.bytes advice)
+
 -- one event: the one node makes its step and what it sends is posted; a refused event changes nothing
 unfoldable pub step : Context → World → Event → Outcome World
 step ctx w (Submission n text) = on_node ctx w (Pharmacy n) (Submit text)
@@ -81,6 +87,7 @@ step ctx w (Delivery k) = delivered ctx w (numbered w.packets k)
 step ctx w (Stopping node) = on_node ctx w node Stop
 step ctx w (Starting node) = on_node ctx w node Start
 step ctx w (PlanChange n product price) = on_node ctx w (Payer n) (Reprice product price)
+step ctx w (Adjudication k advice) = adjudicated ctx w advice (numbered w.packets k)
 
 abbrev pub world_after : World → Outcome World → World
 world_after w (Done next sent) = next

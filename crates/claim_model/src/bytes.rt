@@ -6,13 +6,13 @@ ghost use Rattle.bin_routes.specs.Fault.{first_fault};
 ghost use Rattle.bin_routes.specs.Table.{RouteMaps, routes_of};
 ghost use Rattle.std.specs.List.{AllByRecursion};
 ghost use Rattle.claim_profile.specs.Readable.{readable_header};
-ghost use Rattle.claim_model.specs.Words.{RequestHeader, Plan, Claim, Amounts};
+ghost use Rattle.claim_model.specs.Words.{RequestHeader, RouteKey, Plan, Claim, Amounts};
 ghost use Rattle.claim_model.specs.Readable.{readable};
 ghost use Rattle.claim_model.specs.Laws.{Laws, IsOrderOf, IsClaimOf, IsAmounts};
 ghost use Rattle.envelope.specs.Opening.{envelope_of};
 ghost use Rattle.claim_model.specs.Bytes.{envelope_in, bytes_with};
 
-use bin_routes::route_laws;
+use bin_routes::range_laws;
 use claim_profile::{answer_laws, readable_laws};
 use envelope::envelope_reads_back;
 use overpunch::{amount_in_range, number_in_range};
@@ -30,10 +30,10 @@ pub fn bytes_keep_laws()
 
 /// Rows without a fault lead to payers that are there.
 pub fn routes_lead_to_payers()
-    ensures { (payers : ℕ) (rows : List Row) (bin pcn : List ℕ) (payer : ℕ) → first_fault payers rows ≡ None
-        → (bytes_with (routes_of rows)).route bin pcn ≡ Some payer → (0 < payer) × (payer ≤ payers) }
+    ensures { (payers : ℕ) (rows : List Row) (key : RouteKey) (payer : ℕ) → first_fault payers rows ≡ None
+        → (bytes_with (routes_of rows)).route key ≡ Some payer → (0 < payer) × (payer ≤ payers) }
 {
-    route_laws();
+    range_laws();
 }
 
 /// The requests that the model takes are those that the reader of the profile takes.

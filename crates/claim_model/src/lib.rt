@@ -5,6 +5,7 @@
 //! of settings and the refusals of calls, and no node's code.
 #![tactic(auto)]
 
+mod advice;
 mod answers;
 mod bytes;
 mod deliveries;
@@ -16,6 +17,7 @@ mod refusal;
 mod replays;
 mod tables;
 
+pub use advice::{asking_payers_rule_as_advised, other_payers_ask_nobody};
 pub use answers::{
     answers_are_decided, answers_are_whole, decisions_stay, one_answer, requests_are_submitted,
 };

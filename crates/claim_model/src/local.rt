@@ -4,7 +4,7 @@ ghost use Rattle.std.specs.Prelude.{◌≡◌, ℕ, List};
 ghost use Rattle.claim_model.specs.Context.{Context};
 ghost use Rattle.claim_model.specs.Numbered.{numbered};
 ghost use Rattle.claim_model.specs.Node.{Node, Call};
-ghost use Rattle.claim_model.specs.World.{World, Event, Delivery, step};
+ghost use Rattle.claim_model.specs.World.{World, Event, Delivery, Adjudication, step};
 ghost use Rattle.claim_model.specs.Nodes.{Asked, asked, asked_step};
 ghost use Rattle.claim_model.specs.Logs.{logged_by};
 ghost use Rattle.claim_model.specs.Local.{IsLocal, StaysEnabled};
@@ -18,13 +18,19 @@ pub fn calls_are_local()
 {}
 
 /// Two packets with the same sender, addressee and bytes serve alike: delivered, either leads to the same world with the
-/// same packets, and adds the same to each log.
+/// same packets, and adds the same to each log; and so do they with one advice.
 pub fn equal_packets_serve_alike()
     ensures step { (ctx : Context) (w : World) (j k : ℕ) → numbered w.packets j ≡ numbered w.packets k
         → step ctx w (Delivery j) ≡ step ctx w (Delivery k) }
     ensures logged { (ctx : Context) (w : World) (j k : ℕ) (node : Node) → numbered w.packets j ≡ numbered w.packets k
         → logged_by node (asked w.packets (Delivery j)) (step ctx w (Delivery j))
         ≡ logged_by node (asked w.packets (Delivery k)) (step ctx w (Delivery k)) }
+    ensures advised { (ctx : Context) (w : World) (j k : ℕ) (advice : List ℕ) → numbered w.packets j ≡ numbered w.packets k
+        → step ctx w (Adjudication j advice) ≡ step ctx w (Adjudication k advice) }
+    ensures advised_logged { (ctx : Context) (w : World) (j k : ℕ) (advice : List ℕ) (node : Node)
+        → numbered w.packets j ≡ numbered w.packets k
+        → logged_by node (asked w.packets (Adjudication j advice)) (step ctx w (Adjudication j advice))
+        ≡ logged_by node (asked w.packets (Adjudication k advice)) (step ctx w (Adjudication k advice)) }
 {}
 
 /// What a node would accept now it would accept, and send the same for, after any events in which it makes no call: packets

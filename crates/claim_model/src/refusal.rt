@@ -74,6 +74,12 @@ pub enum Refusal {
     /// A place of the request would be paid, and no serial number is left.
     #[error("the serial numbers are used up")]
     SerialsUsedUp,
+    /// The payer asks for the verdict on each claim that is to be priced, and the advice has none on one of them.
+    #[error("a claim has no verdict yet")]
+    NotAdvised,
+    /// The payer prices by its plan, and takes no advice.
+    #[error("the payer takes no advice")]
+    NotAsked,
     /// The price is none that the payer's plan takes.
     #[error("{0}")]
     NotPriced(PlanFault),
@@ -116,6 +122,8 @@ impl Refusal {
             Refusal::NotOurs => "NotOurs",
             Refusal::BookFull => "BookFull",
             Refusal::SerialsUsedUp => "SerialsUsedUp",
+            Refusal::NotAdvised => "NotAdvised",
+            Refusal::NotAsked => "NotAsked",
             Refusal::NotPriced(fault) => name_of_price(fault),
         }
     }

@@ -41,6 +41,30 @@ pub fn pcn_of(request: &[u8]) -> [u8; 10]
     pcn
 }
 
+/// The service provider ID qualifier (202-B2) of a readable request.
+#[tactic(auto, using(crate::proofs::Headers::readable_long, crate::proofs::Headers::readable_is))]
+pub fn qualifier_of(request: &[u8]) -> [u8; 2]
+    requires { IsSome (readable_header request.now) }
+    ensures value { result ≡ (request_of request.now).qualifier }
+    ensures readable { readable_header request.now ≡ Some (request_of request.now) }
+{
+    let mut qualifier = [0; 2];
+    qualifier.copy_from_slice(&request[21..23]);
+    qualifier
+}
+
+/// The service provider ID (201-B1) of a readable request.
+#[tactic(auto, using(crate::proofs::Headers::readable_long, crate::proofs::Headers::readable_is))]
+pub fn provider_of(request: &[u8]) -> [u8; 15]
+    requires { IsSome (readable_header request.now) }
+    ensures value { result ≡ (request_of request.now).provider }
+    ensures readable { readable_header request.now ≡ Some (request_of request.now) }
+{
+    let mut provider = [0; 15];
+    provider.copy_from_slice(&request[23..38]);
+    provider
+}
+
 /// How many transactions (109-A9) a readable request has.
 #[tactic(auto, using(crate::proofs::Headers::readable_long, crate::proofs::Headers::readable_count, crate::proofs::Headers::readable_is))]
 pub fn count_of(request: &[u8]) -> u8

@@ -34,7 +34,7 @@ pub use authorization::Auth;
 pub use building::{BillingParts, BuildFault, ReversalParts, billing, reversal};
 pub use building_laws::{billing_laws, reversal_laws};
 pub use found::trimmed;
-pub use header_parts::{bin_of, code_of, count_of, date_of, pcn_of};
+pub use header_parts::{bin_of, code_of, count_of, date_of, pcn_of, provider_of, qualifier_of};
 pub use laws::{answer_laws, readable_laws, unrouted_laws};
 pub use order::{Claim, Fill, Order, Reversal};
 pub use order_reading::{OrderFault, order_at, read_order};

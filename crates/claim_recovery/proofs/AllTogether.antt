@@ -8,7 +8,7 @@ use Rattle.claim_model.specs.Context.{Context}
 use Rattle.claim_model.specs.Numbered.{numbered}
 use Rattle.claim_model.specs.Journal.{PharmacySettings, Journal, JournalAtRest, Kept}
 use Rattle.claim_model.specs.Node.{Pharmacy, Power}
-use Rattle.claim_model.specs.World.{World, Event, Submission, Ticking, Delivery, Stopping, Starting, PlanChange, run}
+use Rattle.claim_model.specs.World.{World, Event, Submission, Ticking, Delivery, Stopping, Starting, PlanChange, Adjudication, run}
 use Rattle.claim_model.specs.Settings.{WorldSettings}
 use Rattle.claim_model.specs.Held.{journal_in, journal_at, entry_of, held}
 use Rattle.claim_model.specs.Promises.{Reached}
@@ -37,6 +37,7 @@ length_is old n (Delivery k ∷ events) all = let r = length_is old n events all
 length_is old n (Stopping node ∷ events) all = absurd all.0
 length_is old n (Starting node ∷ events) all = let r = length_is old n events all.1 in omega (arith, r)
 length_is old n (PlanChange m product price ∷ events) all = absurd all.0
+length_is old n (Adjudication k advice ∷ events) all = let r = length_is old n events all.1 in omega (arith, r)
 
 -- help of one pharmacy, later, is help
 helps_by : (old new n : ℕ) → old ≤ new → (event : Event) → HelpsOne new n event → Helps old event
@@ -46,6 +47,7 @@ helps_by old new n le (Delivery k) h = omega (arith, le, h)
 helps_by old new n le (Stopping node) h = h
 helps_by old new n le (Starting node) h = tt
 helps_by old new n le (PlanChange m product price) h = h
+helps_by old new n le (Adjudication k advice) h = omega (arith, le, h)
 
 -- ---- entries that are not open
 

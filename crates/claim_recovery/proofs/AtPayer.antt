@@ -2,14 +2,14 @@
 use Rattle.std.proofs.Common.{◌≡◌, ℕ, ◌+◌, ◌<◌, ◌≤◌, List, [], ◌∷◌, ◌++◌, length, Option, Some, None, Ok, refl, sym, ap, ◌∙◌, subst, inl, inr, arith}
 use Rattle.std.specs.Prelude.{option_map, option_and_then}
 use Rattle.std.proofs.lemmas.Bool.{cases_eq, cond-true}
-use Rattle.claim_model.specs.Words.{TxnId, RequestHeader}
+use Rattle.claim_model.specs.Words.{TxnId, RequestHeader, Ruling}
 use Rattle.claim_model.specs.Context.{Context}
 use Rattle.claim_model.specs.Readable.{payer_for, answer_text, same_id, request_envelope, answer_envelope}
 use Rattle.claim_model.specs.Numbered.{numbered}
 use Rattle.claim_model.specs.Rows.{Row, Book}
 use Rattle.claim_model.specs.Book.{row_of, new_row, Answered, answered}
 use Rattle.claim_model.specs.Node.{Node, Switch, Payer, Power, Up, AtRest, Sent}
-use Rattle.claim_model.specs.World.{World, Packet, Event, Delivery, Starting}
+use Rattle.claim_model.specs.World.{World, Packet, Event, Delivery, Starting, Adjudication}
 use Rattle.claim_model.specs.Settings.{WorldSettings}
 use Rattle.claim_model.specs.Held.{book_in, book_at, row_at, decided}
 use Rattle.claim_model.specs.Promises.{Reached}
@@ -19,9 +19,9 @@ use Rattle.claim_model.proofs.Tests.{id_self}
 use Rattle.claim_model.proofs.Sound.{with_payer}
 use Rattle.claim_model.proofs.Decided.{decided_routed}
 use Rattle.claim_model.proofs.PayerStep.{Rows, Known, New, answered_ruled}
-use Rattle.claim_recovery.specs.Recovered.{IsRouted, BookLeft, AsItWas, OneRowMore}
-use Rattle.claim_recovery.proofs.Paths.{Path, path_none, path_delivery, path_start, packet_stays, packet_new}
-use Rattle.claim_recovery.proofs.Forward.{start_payer, request_at_payer}
+use Rattle.claim_recovery.specs.Recovered.{Handed, ByDelivery, ByAdvice, handed_with, IsRouted, BookLeft, AsItWas, OneRowMore}
+use Rattle.claim_recovery.proofs.Paths.{Path, path_none, path_delivery, path_adjudication, path_start, packet_stays, packet_new}
+use Rattle.claim_recovery.proofs.Forward.{start_payer, request_at_payer, advised_at_payer}
 use Rattle.claim_recovery.proofs.Unchanged.{Same, same_self, same_payer, Booked}
 use Rattle.claim_recovery.proofs.AtSwitch.{IsKnown}
 
@@ -96,39 +96,46 @@ pub record RowThere (ctx : Context) (b : Book) (id : TxnId) (request : List ℕ)
   pub request_is : row.request ≡ request
   pub text : a.bytes ≡ answer_text ctx h row.rulings
 
-row_there : (ctx : Context) (b : Book) (id : TxnId) (request : List ℕ) (h : RequestHeader) (a : Answered) → Rows ctx b id request h a → RowThere ctx b id request h a
-row_there ctx b id request h a (Known row found same book text) = record { row = row; found = subst (λ (q : Book). row_of id q.rows ≡ Some row) (sym book) found; request_is = same; text = text }
-row_there ctx b id request h a (New fresh fits book text) =
-    let row : Row = new_row ctx b id request in
+row_there : (ctx : Context) (b : Book) (advice : List Ruling) (id : TxnId) (request : List ℕ) (h : RequestHeader) (a : Answered) → Rows ctx b advice id request h a → RowThere ctx b id request h a
+row_there ctx b advice id request h a (Known row found same book text) = record { row = row; found = subst (λ (q : Book). row_of id q.rows ≡ Some row) (sym book) found; request_is = same; text = text }
+row_there ctx b advice id request h a (New fresh fits advised book text) =
+    let row : Row = new_row ctx b advice id request in
     let found : row_of id (b.rows ++ row ∷ []) ≡ Some row = find_beyond _ b.rows (row ∷ []) fresh ∙ cond-true (same_id row.id row.id) (Some row) None (id_self row.id) in
     record { row = row; found = subst (λ (q : Book). row_of id q.rows ≡ Some row) (sym book) found; request_is = refl; text = text }
 
-rows_left : (ctx : Context) (b : Book) (id : TxnId) (request : List ℕ) (p : ℕ) (h : RequestHeader) (a : Answered) → IsRouted ctx request p → Rows ctx b id request h a → BookLeft ctx id request p (Some b) (Some a.book)
-rows_left ctx b id request p h a routed (Known row found same book text) = AsItWas (ap (λ (q : Book). Some q) book)
-rows_left ctx b id request p h a routed (New fresh fits book text) = OneRowMore b refl fresh routed (ap (λ (q : Book). Some q) book)
+rows_left : (ctx : Context) (b : Book) (advice : List Ruling) (id : TxnId) (request : List ℕ) (p : ℕ) (h : RequestHeader) (a : Answered) → IsRouted ctx request p → Rows ctx b advice id request h a → BookLeft ctx id request p (Some b) (Some a.book)
+rows_left ctx b advice id request p h a routed (Known row found same book text) = AsItWas (ap (λ (q : Book). Some q) book)
+rows_left ctx b advice id request p h a routed (New fresh fits advised book text) = OneRowMore b advice refl fresh routed (ap (λ (q : Book). Some q) book)
 
-pub payer_replies : (ctx : Context) (given : WorldSettings) (may : Event → Type 0) (w : World) (old : ℕ) (id : TxnId) (request : List ℕ) (m p k : ℕ) (b : Book) (a : Answered) → Reached ctx given w → old ≤ length w.packets → old < k
-    → ((k : ℕ) → old < k → may (Delivery k)) → (known : IsKnown ctx w id request) → payer_for ctx known.header ≡ Some p → numbered w.payers p ≡ Some (Up b) → answered ctx b id request ≡ Ok a
+-- the request is handed to the payer, which answers
+handed_over : (ctx : Context) (may : Event → Type 0) (w : World) (p k m : ℕ) (id : TxnId) (request : List ℕ) (b : Book) (handed : Handed b) (a : Answered) → may (Delivery k) → ((advice : List ℕ) → may (Adjudication k advice)) → numbered w.payers p ≡ Some (Up b)
+    → numbered w.packets k ≡ Some (record { from = Switch m; to = Payer p; bytes = ctx.envelope (request_envelope id request) }) → ctx.read_envelope (ctx.envelope (request_envelope id request)) ≡ Ok (request_envelope id request) → answered ctx b (handed_with ctx b handed) id request ≡ Ok a
+    → Path ctx may w (with_payer w p (Up a.book) (record { to = Switch m; bytes = ctx.envelope (answer_envelope id a.bytes) } ∷ [])) 0 1 0
+handed_over ctx may w p k m id request b ByDelivery a ok advised up stands reads answers =
+    path_delivery ctx may w _ k _ ok (request_at_payer ctx w p k (Switch m) (ctx.envelope (request_envelope id request)) (request_envelope id request) b a up stands reads refl answers)
+handed_over ctx may w p k m id request b (ByAdvice advice asks) a ok advised up stands reads answers =
+    path_adjudication ctx may w _ k advice _ (advised advice) (advised_at_payer ctx w p k advice (Switch m) (ctx.envelope (request_envelope id request)) (request_envelope id request) b a asks up stands reads refl answers)
+
+pub payer_replies : (ctx : Context) (given : WorldSettings) (may : Event → Type 0) (w : World) (old : ℕ) (id : TxnId) (request : List ℕ) (m p k : ℕ) (b : Book) (handed : Handed b) (a : Answered) → Reached ctx given w → old ≤ length w.packets → old < k
+    → ((k : ℕ) → old < k → may (Delivery k)) → ((k : ℕ) (advice : List ℕ) → old < k → may (Adjudication k advice)) → (known : IsKnown ctx w id request) → payer_for ctx known.header ≡ Some p → numbered w.payers p ≡ Some (Up b) → answered ctx b (handed_with ctx b handed) id request ≡ Ok a
     → numbered w.packets k ≡ Some (record { from = Switch m; to = Payer p; bytes = ctx.envelope (request_envelope id request) }) → Replied ctx may w old id request m
-payer_replies ctx given may w old id request m p k b a r before fresh ok known route up answers stands =
+payer_replies ctx given may w old id request m p k b handed a r before fresh ok advised known route up answers stands =
     let sent : List Sent = record { to = Switch m; bytes = ctx.envelope (answer_envelope id a.bytes) } ∷ [] in
     let v : World = with_payer w p (Up a.book) sent in
-    let ruled = answered_ruled ctx b id request a answers in
+    let ruled = answered_ruled ctx b (handed_with ctx b handed) id request a answers in
     let same_header : ruled.header ≡ known.header = same_some _ _ (sym ruled.reads ∙ known.reads) in
-    let row = row_there ctx b id request ruled.header a ruled.rows in
+    let row = row_there ctx b (handed_with ctx b handed) id request ruled.header a ruled.rows in
     let there : row_at v p id ≡ Some row.row =
     ap (λ (o : Option (Power Book Book)). option_and_then (λ (q : Book). row_of id q.rows) (option_map book_in o)) (numbered_put w.payers p (Up b) (Up a.book) up) ∙ row.found in
     let d : decided ctx v id ≡ Some (answer_text ctx known.header row.row.rulings) = decided_routed ctx v id request known.header p row.row known.asks known.reads route there row.request_is in
     let text : a.bytes ≡ answer_text ctx known.header row.row.rulings = row.text ∙ ap (λ (h : RequestHeader). answer_text ctx h row.row.rulings) same_header in
     record {
       world = v;
-      path =
-          path_delivery ctx may w v k sent (ok k fresh)
-          (request_at_payer ctx w p k (Switch m) (ctx.envelope (request_envelope id request)) (request_envelope id request) b a up stands (r.laws.envelopes (request_envelope id request) known.fits) refl answers);
+      path = handed_over ctx may w p k m id request b handed a (ok k fresh) (λ advice. advised k advice fresh) up stands (r.laws.envelopes (request_envelope id request) known.fits) answers;
       booked = record {
         pharmacies = λ n d. refl;
         journal = refl;
-        books = books_left ctx id request w p b a.book sent up (rows_left ctx b id request p ruled.header a (record { header = known.header; reads = known.reads; route = route }) ruled.rows);
+        books = books_left ctx id request w p b a.book sent up (rows_left ctx b (handed_with ctx b handed) id request p ruled.header a (record { header = known.header; reads = known.reads; route = route }) ruled.rows);
       };
       pharmacies = refl;
       switches = refl;

@@ -8,7 +8,7 @@ use Rattle.claim_model.specs.Numbered.{numbered}
 use Rattle.claim_model.specs.Journal.{Journal, JournalAtRest, Kept, Entry, circle, stopped}
 use Rattle.claim_model.specs.Table.{Slot, Table, Routed, Forward, Back, filled, Requested, requested, Responded}
 use Rattle.claim_model.specs.Node.{Pharmacy, Switch, Payer, Power, Up, Sent, to_payer_or_back}
-use Rattle.claim_model.specs.World.{World, Event, Delivery, Starting, packet_from}
+use Rattle.claim_model.specs.World.{World, Event, Delivery, Starting, Adjudication, packet_from}
 use Rattle.claim_model.specs.Settings.{WorldSettings}
 use Rattle.claim_model.specs.Held.{journal_at}
 use Rattle.claim_model.specs.Promises.{Reached}
@@ -37,6 +37,7 @@ stopped_settings j = refl
 -- which events the stages after the tick need
 pub record Allows (may : Event → Type 0) (old : ℕ) : Type 0 where
   pub delivery : (k : ℕ) → old < k → may (Delivery k)
+  pub adjudication : (k : ℕ) (advice : List ℕ) → old < k → may (Adjudication k advice)
   pub payer : (p : ℕ) → may (Starting (Payer p))
 
 pub waits_on : (w v : World) (id : TxnId) (request : List ℕ) → v.pharmacies ≡ w.pharmacies → IsWaiting w id request → IsWaiting v id request
@@ -147,7 +148,7 @@ arrived_by ctx given may w old id request m t q r before allows up known x answe
     let before_u : old ≤ length u.packets = omega (arith, before, grown_v, grown) in
     let fresh : old < length w.packets + 1 = omega (arith, before) in
     let replied : Replied ctx may u old id request m =
-    payer_replies ctx given may u old id request m p (length w.packets + 1) would.book would.answer ru before_u fresh allows.delivery known_u (ap (payer_for ctx) (same_some known_u.header known.header (sym known_u.reads ∙ known.reads)) ∙ route) pay.up would.answers
+    payer_replies ctx given may u old id request m p (length w.packets + 1) would.book would.handed would.answer ru before_u fresh allows.delivery allows.adjudication known_u (ap (payer_for ctx) (same_some known_u.header known.header (sym known_u.reads ∙ known.reads)) ∙ route) pay.up would.answers
     (pay.packets (length w.packets + 1) _ packet) in
     let up_v : numbered v.switches m ≡ Some (Up q.table) = numbered_put w.switches m (Up t) (Up q.table) up in
     let up_u : numbered u.switches m ≡ Some (Up q.table) = up_on v u m q.table pay.switches up_v in
@@ -263,7 +264,7 @@ ended_within ctx may w id request ticks starts ticks' starts' a b e =
 
 pub answerable_on : (ctx : Context) (w v : World) (id : TxnId) (request : List ℕ) → Same id.pharmacy w v → Answerable ctx w id request → Answerable ctx v id request
 answerable_on ctx w v id request same answerable header payer reads route =
-    let a = answerable header payer reads route in record { book = a.book; there = same.books payer ∙ a.there; answer = a.answer; answers = a.answers }
+    let a = answerable header payer reads route in record { book = a.book; there = same.books payer ∙ a.there; handed = a.handed; answer = a.answer; answers = a.answers }
 
 -- ---- what settings say
 

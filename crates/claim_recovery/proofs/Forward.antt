@@ -2,17 +2,17 @@
 use Rattle.std.proofs.Common.{◌≡◌, ℕ, Bool, true, false, cond, not, ◌&&◌, ◌==◌, List, [], ◌∷◌, ◌++◌, map, drop, length, nat_lt, Option, Some, None, Ok, Err, refl, sym, ap, ◌∙◌, subst}
 use Rattle.std.specs.Prelude.{bytes_eq}
 use Rattle.std.proofs.lemmas.Bool.{cases_eq, cond-true, and_from, not_from_false}
-use Rattle.claim_model.specs.Words.{TxnId, RequestHeader, Envelope, Answer}
+use Rattle.claim_model.specs.Words.{TxnId, RequestHeader, Envelope, Answer, Ruling}
 use Rattle.claim_model.specs.Context.{Context}
 use Rattle.claim_model.specs.Readable.{fits, settles, same_id, answer_envelope, is_request}
 use Rattle.claim_model.specs.declared.refusal.Refusal.{Refusal}
 use Rattle.claim_model.specs.Numbered.{numbered, renumbered}
 use Rattle.claim_model.specs.Rows.{Book}
-use Rattle.claim_model.specs.Book.{Answered, answered}
+use Rattle.claim_model.specs.Book.{unadvised, Answered, answered}
 use Rattle.claim_model.specs.Journal.{Journal, JournalAtRest, Waits, Has, ticked, due, heard, heard_at, settle_with, started}
 use Rattle.claim_model.specs.Table.{Slot, Table, slot_of, Requested, requested, entered, filled, Responded, responded, responded_readable, responded_by, responded_with}
-use Rattle.claim_model.specs.Node.{Node, Pharmacy, Switch, Payer, Power, Up, AtRest, Sent, Call, Tick, Take, Start, Done, to_switch, to_payer_or_back, after_request, after_response, switch_takes, after_hearing, pharmacy_takes, after_answer, payer_takes, pharmacy_step, switch_step, payer_step}
-use Rattle.claim_model.specs.World.{World, Packet, Ticking, Delivery, Starting, pharmacy_stepped, on_pharmacy, switch_stepped, on_switch, payer_stepped, on_payer, on_node, delivered, step}
+use Rattle.claim_model.specs.Node.{Node, Pharmacy, Switch, Payer, Power, Up, AtRest, Sent, Call, Tick, Take, Adjudicate, Start, Done, to_switch, to_payer_or_back, after_request, after_response, switch_takes, after_hearing, pharmacy_takes, after_answer, payer_takes, advice_in, pharmacy_step, switch_step, payer_step}
+use Rattle.claim_model.specs.World.{World, Packet, Ticking, Delivery, Starting, Adjudication, pharmacy_stepped, on_pharmacy, switch_stepped, on_switch, payer_stepped, on_payer, on_node, delivered, adjudicated, step}
 use Rattle.claim_model.proofs.Sound.{with_pharmacy, with_switch, with_payer}
 use Rattle.claim_model.proofs.Tests.{bytes_self, nat_self, id_self}
 
@@ -55,6 +55,10 @@ pub deliver : (ctx : Context) (w : World) (k : ℕ) (p : Packet) → numbered w.
 unfolding step
 deliver ctx w k p is = ap (delivered ctx w) is
 
+pub adjudicate : (ctx : Context) (w : World) (k : ℕ) (advice : List ℕ) (p : Packet) → numbered w.packets k ≡ Some p → step ctx w (Adjudication k advice) ≡ on_node ctx w p.to (Adjudicate p.from p.bytes advice)
+unfolding step
+adjudicate ctx w k advice p is = ap (adjudicated ctx w advice) is
+
 -- a packet at a switch that is up: a request
 pub request_at_switch : (ctx : Context) (w : World) (m k : ℕ) (from : Node) (bytes : List ℕ) (e : Envelope) (t : Table) (r : Requested) → numbered w.switches m ≡ Some (Up t)
     → numbered w.packets k ≡ Some (record { from = from; to = Switch m; bytes = bytes }) → ctx.read_envelope bytes ≡ Ok e → is_request e ≡ true → requested ctx t e ≡ Ok r
@@ -81,16 +85,31 @@ answer_at_switch ctx w m k from bytes e t r up stands reads is goes =
     ∙ (cond_false (is_request e) (after_request e.id (requested ctx t e)) (after_response e.id (responded ctx t e)) is
     ∙ ap (after_response e.id) goes))
 
+takes_forward : (ctx : Context) (b : Book) (advice : List Ruling) (from : Node) (bytes : List ℕ) (e : Envelope) (a : Answered) → ctx.read_envelope bytes ≡ Ok e → is_request e ≡ true → answered ctx b advice e.id e.payload ≡ Ok a
+    → payer_takes ctx b advice from (ctx.read_envelope bytes) ≡ Done (Up a.book) (record { to = from; bytes = ctx.envelope (answer_envelope e.id a.bytes) } ∷ [])
+takes_forward ctx b advice from bytes e a reads is goes =
+    ap (payer_takes ctx b advice from) reads
+    ∙ (cond-true (is_request e) (after_answer ctx from e.id (answered ctx b advice e.id e.payload)) (Rattle.claim_model.specs.Node.Refused Refusal.Unreadable) is
+    ∙ ap (after_answer ctx from e.id) goes)
+
 -- a request at a payer that is up
 pub request_at_payer : (ctx : Context) (w : World) (p k : ℕ) (from : Node) (bytes : List ℕ) (e : Envelope) (b : Book) (a : Answered) → numbered w.payers p ≡ Some (Up b)
-    → numbered w.packets k ≡ Some (record { from = from; to = Payer p; bytes = bytes }) → ctx.read_envelope bytes ≡ Ok e → is_request e ≡ true → answered ctx b e.id e.payload ≡ Ok a
+    → numbered w.packets k ≡ Some (record { from = from; to = Payer p; bytes = bytes }) → ctx.read_envelope bytes ≡ Ok e → is_request e ≡ true → answered ctx b unadvised e.id e.payload ≡ Ok a
     → step ctx w (Delivery k) ≡ Done (with_payer w p (Up a.book) (record { to = from; bytes = ctx.envelope (answer_envelope e.id a.bytes) } ∷ [])) (record { to = from; bytes = ctx.envelope (answer_envelope e.id a.bytes) } ∷ [])
 request_at_payer ctx w p k from bytes e b a up stands reads is goes =
     deliver ctx w k (record { from = from; to = Payer p; bytes = bytes }) stands
     ∙ on_payer_forward ctx w p (Up b) (Up a.book) (Take from bytes) _ up
-    (ap (payer_takes ctx b from) reads
-    ∙ (cond-true (is_request e) (after_answer ctx from e.id (answered ctx b e.id e.payload)) (Rattle.claim_model.specs.Node.Refused Refusal.Unreadable) is
-    ∙ ap (after_answer ctx from e.id) goes))
+    (takes_forward ctx b unadvised from bytes e a reads is goes)
+
+-- the same with an advice, where the payer asks
+pub advised_at_payer : (ctx : Context) (w : World) (p k : ℕ) (advice : List ℕ) (from : Node) (bytes : List ℕ) (e : Envelope) (b : Book) (a : Answered) → b.settings.asks ≡ true → numbered w.payers p ≡ Some (Up b)
+    → numbered w.packets k ≡ Some (record { from = from; to = Payer p; bytes = bytes }) → ctx.read_envelope bytes ≡ Ok e → is_request e ≡ true → answered ctx b (advice_in ctx advice) e.id e.payload ≡ Ok a
+    → step ctx w (Adjudication k advice) ≡ Done (with_payer w p (Up a.book) (record { to = from; bytes = ctx.envelope (answer_envelope e.id a.bytes) } ∷ [])) (record { to = from; bytes = ctx.envelope (answer_envelope e.id a.bytes) } ∷ [])
+advised_at_payer ctx w p k advice from bytes e b a asks up stands reads is goes =
+    adjudicate ctx w k advice (record { from = from; to = Payer p; bytes = bytes }) stands
+    ∙ on_payer_forward ctx w p (Up b) (Up a.book) (Adjudicate from bytes advice) _ up
+    (cond-true b.settings.asks (payer_takes ctx b (advice_in ctx advice) from (ctx.read_envelope bytes)) (Rattle.claim_model.specs.Node.Refused Refusal.NotAsked) asks
+    ∙ takes_forward ctx b (advice_in ctx advice) from bytes e a reads is goes)
 
 -- an answer at a pharmacy that is up
 pub answer_at_pharmacy : (ctx : Context) (w : World) (n k : ℕ) (from : Node) (bytes : List ℕ) (e : Envelope) (j after : Journal) → numbered w.pharmacies n ≡ Some (Up j)

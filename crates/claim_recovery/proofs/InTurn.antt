@@ -8,7 +8,7 @@ use Rattle.claim_model.specs.Numbered.{numbered}
 use Rattle.claim_model.specs.Journal.{Journal, JournalAtRest, circle}
 use Rattle.claim_model.specs.Readable.{request_envelope}
 use Rattle.claim_model.specs.Node.{Pharmacy, Switch, Power, Up}
-use Rattle.claim_model.specs.World.{World, Packet, Event, Submission, Ticking, Delivery, Stopping, Starting, PlanChange, run}
+use Rattle.claim_model.specs.World.{World, Packet, Event, Submission, Ticking, Delivery, Stopping, Starting, PlanChange, Adjudication, run}
 use Rattle.claim_model.specs.Settings.{WorldSettings}
 use Rattle.claim_model.specs.Held.{journal_in}
 use Rattle.claim_model.specs.Promises.{Reached}
@@ -29,6 +29,7 @@ ticks_alone n (Delivery k ∷ events) all = absurd all.0
 ticks_alone n (Stopping node ∷ events) all = absurd all.0
 ticks_alone n (Starting node ∷ events) all = absurd all.0
 ticks_alone n (PlanChange m product price ∷ events) all = absurd all.0
+ticks_alone n (Adjudication k advice ∷ events) all = absurd all.0
 
 stands_by : (u v : World) (k : ℕ) (p : Packet) → u ≡ v → numbered v.packets k ≡ Some p → numbered u.packets k ≡ Some p
 stands_by u v k p e stands = ap (λ (x : World). numbered x.packets k) e ∙ stands

@@ -4,7 +4,7 @@ use Rattle.std.specs.Prelude.{filter, sum_by, is_none, option_map, option_and_th
 use Rattle.std.proofs.lemmas.List.{append-nil}
 use Rattle.std.proofs.lemmas.List.Sums.{sum_by-cons}
 use Rattle.std.proofs.lemmas.Bool.{cases_eq, and_parts, and_from}
-use Rattle.claim_model.specs.Words.{TxnId, RequestHeader, Order, Code}
+use Rattle.claim_model.specs.Words.{TxnId, RequestHeader, Order, Code, Ruling}
 use Rattle.claim_model.specs.Context.{Context}
 use Rattle.claim_model.specs.Laws.{Laws}
 use Rattle.claim_model.specs.Readable.{readable, payer_for, is_payer}
@@ -93,9 +93,9 @@ none_before b row x e = go (row_of x b.rows) refl
 
 row_before : (ctx : Context) (w v : World) (id : TxnId) (request : List ℕ) (payer : ℕ) (x : TxnId) → BookLeft ctx id request payer (book_at w payer) (book_at v payer) → is_none (row_at v payer x) ≡ true → is_none (row_at w payer x) ≡ true
 row_before ctx w v id request payer x (AsItWas e) h = ap (λ (o : Option Book). is_none (option_and_then (λ (b : Book). row_of x b.rows) o)) (sym e) ∙ h
-row_before ctx w v id request payer x (OneRowMore b is fresh routed after) h =
+row_before ctx w v id request payer x (OneRowMore b advice is fresh routed after) h =
     ap (λ (o : Option Book). is_none (option_and_then (λ (b : Book). row_of x b.rows) o)) is
-    ∙ none_before b (new_row ctx b id request) x (ap (λ (o : Option Book). is_none (option_and_then (λ (b : Book). row_of x b.rows) o)) (sym after) ∙ h)
+    ∙ none_before b (new_row ctx b advice id request) x (ap (λ (o : Option Book). is_none (option_and_then (λ (b : Book). row_of x b.rows) o)) (sym after) ∙ h)
 
 needs_before : (ctx : Context) (w v : World) (id : TxnId) (request : List ℕ) (payer : ℕ) → asked w id ≡ Some request → LeavesOthers ctx w v id request → (x : TxnId) → needs_row ctx v payer x ≡ true → needs_row ctx w payer x ≡ true
 needs_before ctx w v id request payer asks l x h =
@@ -106,20 +106,20 @@ needs_before ctx w v id request payer asks l x h =
 
 -- ---- what one request takes
 
-takes_serials : (ctx : Context) (b : Book) (before : List Ruled) (id : TxnId) (place : ℕ) (orders : List (Result Order (List Code))) → next_serial b (before ++ ruled_from id place orders (rulings_from ctx b before id place orders)) ≤ next_serial b before + length orders
-takes_serials ctx b before id place [] = let e = ap (next_serial b) (append-nil before) in omega (arith, e)
-takes_serials ctx b before id place (order ∷ orders) =
-    let x : Ruled = ruled id place order (ruling ctx b before order) in
-    let rest : List Ruled = ruled_from id (place + 1) orders (rulings_from ctx b (before ++ x ∷ []) id (place + 1) orders) in
-    let on = takes_serials ctx b (before ++ x ∷ []) id (place + 1) orders in
+takes_serials : (ctx : Context) (b : Book) (advice : List Ruling) (before : List Ruled) (id : TxnId) (place : ℕ) (orders : List (Result Order (List Code))) → next_serial b (before ++ ruled_from id place orders (rulings_from ctx b advice before id place orders)) ≤ next_serial b before + length orders
+takes_serials ctx b advice before id place [] = let e = ap (next_serial b) (append-nil before) in omega (arith, e)
+takes_serials ctx b advice before id place (order ∷ orders) =
+    let x : Ruled = ruled id place order (ruling ctx b advice before place order) in
+    let rest : List Ruled = ruled_from id (place + 1) orders (rulings_from ctx b advice (before ++ x ∷ []) id (place + 1) orders) in
+    let on = takes_serials ctx b advice (before ++ x ∷ []) id (place + 1) orders in
     let one = next_most b before x in
     let e : next_serial b ((before ++ x ∷ []) ++ rest) ≡ next_serial b (before ++ x ∷ rest) = ap (next_serial b) (append_assoc before (x ∷ []) rest) in
     omega (arith, on, one, e)
 
-row_takes : (ctx : Context) (b : Book) (id : TxnId) (request : List ℕ) → next_serial b (ruled_rows ctx (b.rows ++ new_row ctx b id request ∷ [])) ≤ next_serial b (ruled_rows ctx b.rows) + length (ctx.orders request)
-row_takes ctx b id request =
-    let e = ap (next_serial b) (ruled_rows_more ctx b.rows (new_row ctx b id request)) in
-    let t = takes_serials ctx b (ruled_rows ctx b.rows) id 1 (ctx.orders request) in
+row_takes : (ctx : Context) (b : Book) (advice : List Ruling) (id : TxnId) (request : List ℕ) → next_serial b (ruled_rows ctx (b.rows ++ new_row ctx b advice id request ∷ [])) ≤ next_serial b (ruled_rows ctx b.rows) + length (ctx.orders request)
+row_takes ctx b advice id request =
+    let e = ap (next_serial b) (ruled_rows_more ctx b.rows (new_row ctx b advice id request)) in
+    let t = takes_serials ctx b advice (ruled_rows ctx b.rows) id 1 (ctx.orders request) in
     omega (arith, e, t)
 
 header_is : (ctx : Context) (w : World) (id : TxnId) (request : List ℕ) (h : RequestHeader) → asked w id ≡ Some request → readable ctx request ≡ Some h → header_of ctx w id ≡ Some h
@@ -181,7 +181,7 @@ room_left ctx w v id request more payer b laws asks l room rest (AsItWas e) is s
     let rows = enough.rows in
     let serials = enough.serials in
     record { rows = omega (arith, rows, count); serials = omega (arith, serials, sum) }
-room_left ctx w v id request more payer b laws asks l room rest (OneRowMore c is_c fresh routed after) is some =
+room_left ctx w v id request more payer b laws asks l room rest (OneRowMore c advice is_c fresh routed after) is some =
     let same = asked_same ctx w v id request asks l in
     let less : Fewer (transactions ctx v) (transactions ctx w) (undecided ctx v payer more) (undecided ctx w payer more) =
     fewer (transactions ctx v) (transactions ctx w) (needs_row ctx v payer) (needs_row ctx w payer) more (transactions_same ctx w v same) (needs_before ctx w v id request payer asks l) in
@@ -196,9 +196,9 @@ room_left ctx w v id request more payer b laws asks l room rest (OneRowMore c is
     ap (sum_by (transactions ctx w)) first ∙ sum_by-cons (transactions ctx w) id (undecided ctx w payer more) in
     let own : transactions ctx w id ≡ routed.header.count = ap count_in (header_is ctx w id request routed.header asks routed.reads) in
     let groups : length (ctx.orders request) ≡ routed.header.count = laws.groups request routed.header routed.reads in
-    let takes = row_takes ctx c id request in
-    let longer = length-append c.rows (new_row ctx c id request ∷ []) in
-    let book : one_row_more ctx c id request ≡ b = same_some (one_row_more ctx c id request) b (sym after ∙ is) in
+    let takes = row_takes ctx c advice id request in
+    let longer = length-append c.rows (new_row ctx c advice id request ∷ []) in
+    let book : one_row_more ctx c advice id request ≡ b = same_some (one_row_more ctx c advice id request) b (sym after ∙ is) in
     subst (λ (q : Book). HasRoomFor ctx v q (undecided ctx v payer more)) book
     (record { rows = omega (arith, rows, n, count, longer); serials = omega (arith, serials, total, own, groups, takes, sum) })
 

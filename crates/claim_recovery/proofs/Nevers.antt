@@ -3,24 +3,24 @@ use Rattle.std.proofs.Common.{◌≡◌, ℕ, ◌<◌, ◌≤◌, List, [], ◌�
 use Rattle.std.specs.Prelude.{⊤, option_map, option_and_then}
 use Rattle.std.specs.List.{AllByRecursion}
 use Rattle.std.proofs.lemmas.Bool.{cases_eq}
-use Rattle.claim_model.specs.Words.{TxnId, RequestHeader, Envelope, EnvelopeFault, Plan, PlanFault}
+use Rattle.claim_model.specs.Words.{TxnId, RequestHeader, Envelope, EnvelopeFault, Plan, PlanFault, Ruling}
 use Rattle.claim_model.specs.Context.{Context}
 use Rattle.claim_model.specs.Readable.{readable, payer_for, is_payer, is_request}
 use Rattle.claim_model.specs.declared.refusal.Refusal.{Refusal}
 use Rattle.claim_model.specs.Numbered.{numbered, renumbered}
 use Rattle.claim_model.specs.Rows.{Row, Book}
-use Rattle.claim_model.specs.Book.{row_of, new_row, Answered, entered_row, answered_by, answered_readable, answered}
+use Rattle.claim_model.specs.Book.{row_of, new_row, has_verdicts, unadvised, Answered, entered_row, answered_by, answered_readable, answered}
 use Rattle.claim_model.specs.Journal.{Journal, JournalAtRest}
 use Rattle.claim_model.specs.Table.{Table}
-use Rattle.claim_model.specs.Node.{Node, Pharmacy, Switch, Payer, Power, Up, AtRest, Sent, Call, Submit, Tick, Take, Stop, Start, Reprice, Outcome, Done, Refused, after_answer, payer_takes, after_reprice, pharmacy_step, switch_step, payer_step}
-use Rattle.claim_model.specs.World.{World, Packet, Event, Submission, Ticking, Delivery, Stopping, Starting, PlanChange, on_pharmacy, on_switch, on_payer, on_node, delivered, step, world_after, run}
+use Rattle.claim_model.specs.Node.{Node, Pharmacy, Switch, Payer, Power, Up, AtRest, Sent, Call, Submit, Tick, Take, Stop, Start, Reprice, Adjudicate, Outcome, Done, Refused, after_answer, payer_takes, advice_in, after_reprice, pharmacy_step, switch_step, payer_step}
+use Rattle.claim_model.specs.World.{World, Packet, Event, Submission, Ticking, Delivery, Stopping, Starting, PlanChange, Adjudication, on_pharmacy, on_switch, on_payer, on_node, delivered, adjudicated, step, world_after, run}
 use Rattle.claim_model.specs.Settings.{WorldSettings}
 use Rattle.claim_model.specs.Held.{book_in, book_at, row_at, row_answer, asked, decided_by, decided_for, decided, held}
 use Rattle.claim_model.specs.Promises.{Reached}
 use Rattle.claim_model.proofs.Lists.{numbered_put, numbered_put_other}
 use Rattle.claim_model.proofs.Options.{same_some, cond_ok}
 use Rattle.claim_model.proofs.PharmacyStep.{done_same}
-use Rattle.claim_model.proofs.PayerStep.{Rows, Known, New, answered_ruled, after_answer_done, takes_parts}
+use Rattle.claim_model.proofs.PayerStep.{Rows, Known, New, answered_ruled, after_answer_done, takes_parts, asked_first}
 use Rattle.claim_model.proofs.Held.{held_decided}
 use Rattle.claim_model.proofs.Runs.{pharmacy_done, switch_done, payer_done, run_sound, reached_sound}
 use Rattle.claim_recovery.specs.Room.{IsAskedOf, Never, AnyEvent}
@@ -42,6 +42,7 @@ CallsFor Q payer (Delivery k) = (from : Node) (bytes : List ℕ) → Q (Take fro
 CallsFor Q payer (Stopping node) = Q Stop
 CallsFor Q payer (Starting node) = Q Start
 CallsFor Q payer (PlanChange n product price) = n ≡ payer → Q (Reprice product price)
+CallsFor Q payer (Adjudication k advice) = (from : Node) (bytes : List ℕ) → Q (Adjudicate from bytes advice)
 
 abbrev pub Keeps : Context → (Book → Type 0) → (Call → Type 0) → Type 0
 Keeps ctx P Q = (s next : Power Book Book) (call : Call) (sent : List Sent) → Q call → P (book_in s) → payer_step ctx s call ≡ Done next sent → P (book_in next)
@@ -77,6 +78,10 @@ at_delivery : (ctx : Context) (P : Book → Type 0) (Q : Call → Type 0) (w v :
 at_delivery ctx P Q w v payer sent None k q h e = absurd cc
 at_delivery ctx P Q w v payer sent (Some p) k q h e = at_node ctx P Q w v payer p.to (Take p.from p.bytes) sent k (q p.from p.bytes) h e
 
+at_adjudication : (ctx : Context) (P : Book → Type 0) (Q : Call → Type 0) (w v : World) (payer : ℕ) (advice : List ℕ) (sent : List Sent) (o : Option Packet) → Keeps ctx P Q → ((from : Node) (bytes : List ℕ) → Q (Adjudicate from bytes advice)) → Holds P payer w → adjudicated ctx w advice o ≡ Done v sent → Holds P payer v
+at_adjudication ctx P Q w v payer advice sent None k q h e = absurd cc
+at_adjudication ctx P Q w v payer advice sent (Some p) k q h e = at_node ctx P Q w v payer p.to (Adjudicate p.from p.bytes advice) sent k (q p.from p.bytes) h e
+
 at_event : (ctx : Context) (P : Book → Type 0) (Q : Call → Type 0) (w v : World) (payer : ℕ) (event : Event) (sent : List Sent) → Keeps ctx P Q → CallsFor Q payer event → Holds P payer w → step ctx w event ≡ Done v sent → Holds P payer v
 unfolding step
 at_event ctx P Q w v payer (Submission n text) sent k q h e = at_pharmacy ctx P w v payer n (Submit text) sent (numbered w.pharmacies n) h e
@@ -85,6 +90,7 @@ at_event ctx P Q w v payer (Delivery i) sent k q h e = at_delivery ctx P Q w v p
 at_event ctx P Q w v payer (Stopping node) sent k q h e = at_node ctx P Q w v payer node Stop sent k q h e
 at_event ctx P Q w v payer (Starting node) sent k q h e = at_node ctx P Q w v payer node Start sent k q h e
 at_event ctx P Q w v payer (PlanChange n product price) sent k q h e = at_payer ctx P Q w v payer n (Reprice product price) sent (numbered w.payers n) k q h refl e
+at_event ctx P Q w v payer (Adjudication i advice) sent k q h e = at_adjudication ctx P Q w v payer advice sent (numbered w.packets i) k q h e
 
 at_outcome : (ctx : Context) (P : Book → Type 0) (Q : Call → Type 0) (w : World) (payer : ℕ) (event : Event) (o : Outcome World) → Keeps ctx P Q → CallsFor Q payer event → Holds P payer w → step ctx w event ≡ o → Holds P payer (world_after w o)
 at_outcome ctx P Q w payer event (Refused f) k q h e = h
@@ -129,30 +135,30 @@ pub record IsFull (id : TxnId) (b : Book) : Type 0 where
   pub full : b.settings.cap ≤ length b.rows
   pub none : row_of id b.rows ≡ None
 
-room_in : (ctx : Context) (b : Book) (id : TxnId) (request : List ℕ) (h : RequestHeader) (o : Option Row) (a : Answered) → o ≡ None → answered_by ctx b id request h o ≡ Ok a → length b.rows < b.settings.cap
-room_in ctx b id request h (Some row) a is e = absurd cc
-room_in ctx b id request h None a is e = ltb-true _ _ (cond_ok (nat_lt (length b.rows) b.settings.cap) (entered_row ctx b h (new_row ctx b id request)) Refusal.BookFull a e).0
+room_in : (ctx : Context) (b : Book) (advice : List Ruling) (id : TxnId) (request : List ℕ) (h : RequestHeader) (o : Option Row) (a : Answered) → o ≡ None → answered_by ctx b advice id request h o ≡ Ok a → length b.rows < b.settings.cap
+room_in ctx b advice id request h (Some row) a is e = absurd cc
+room_in ctx b advice id request h None a is e = ltb-true _ _ (cond_ok (nat_lt (length b.rows) b.settings.cap) (entered_row ctx b h (has_verdicts ctx b advice id request) (new_row ctx b advice id request)) Refusal.BookFull a e).0
 
-room_of : (ctx : Context) (b : Book) (id : TxnId) (request : List ℕ) (o : Option RequestHeader) (a : Answered) → row_of id b.rows ≡ None → answered_readable ctx b id request o ≡ Ok a → length b.rows < b.settings.cap
-room_of ctx b id request None a none e = absurd cc
-room_of ctx b id request (Some h) a none e = room_in ctx b id request h (row_of id b.rows) a none (cond_ok (is_payer b.payer (payer_for ctx h)) (answered_by ctx b id request h (row_of id b.rows)) Refusal.NotOurs a e).1
+room_of : (ctx : Context) (b : Book) (advice : List Ruling) (id : TxnId) (request : List ℕ) (o : Option RequestHeader) (a : Answered) → row_of id b.rows ≡ None → answered_readable ctx b advice id request o ≡ Ok a → length b.rows < b.settings.cap
+room_of ctx b advice id request None a none e = absurd cc
+room_of ctx b advice id request (Some h) a none e = room_in ctx b advice id request h (row_of id b.rows) a none (cond_ok (is_payer b.payer (payer_for ctx h)) (answered_by ctx b advice id request h (row_of id b.rows)) Refusal.NotOurs a e).1
 
 -- a new row needs room
-new_needs_room : (ctx : Context) (b : Book) (id : TxnId) (request : List ℕ) (a : Answered) → row_of id b.rows ≡ None → answered ctx b id request ≡ Ok a → length b.rows < b.settings.cap
+new_needs_room : (ctx : Context) (b : Book) (advice : List Ruling) (id : TxnId) (request : List ℕ) (a : Answered) → row_of id b.rows ≡ None → answered ctx b advice id request ≡ Ok a → length b.rows < b.settings.cap
 unfolding answered
-new_needs_room ctx b id request a none e = room_of ctx b id request (readable ctx request) a none e
+new_needs_room ctx b advice id request a none e = room_of ctx b advice id request (readable ctx request) a none e
 
-full_rows : (ctx : Context) (id : TxnId) (b : Book) (i : TxnId) (r : List ℕ) (h : RequestHeader) (a : Answered) → answered ctx b i r ≡ Ok a → IsFull id b → Rows ctx b i r h a → IsFull id a.book
-full_rows ctx id b i r h a e f (Known row found same book text) = subst (IsFull id) (sym book) f
-full_rows ctx id b i r h a e f (New fresh fits book text) = let room = new_needs_room ctx b i r a fresh e in let full = f.full in absurd (omega (arith, room, full))
+full_rows : (ctx : Context) (id : TxnId) (b : Book) (advice : List Ruling) (i : TxnId) (r : List ℕ) (h : RequestHeader) (a : Answered) → answered ctx b advice i r ≡ Ok a → IsFull id b → Rows ctx b advice i r h a → IsFull id a.book
+full_rows ctx id b advice i r h a e f (Known row found same book text) = subst (IsFull id) (sym book) f
+full_rows ctx id b advice i r h a e f (New fresh fits advised book text) = let room = new_needs_room ctx b advice i r a fresh e in let full = f.full in absurd (omega (arith, room, full))
 
-full_takes : (ctx : Context) (id : TxnId) (b : Book) (from : Node) (o : Result Envelope EnvelopeFault) (next : Power Book Book) (sent : List Sent) → IsFull id b → payer_takes ctx b from o ≡ Done next sent → IsFull id (book_in next)
-full_takes ctx id b from (Err fault) next sent f e = absurd cc
-full_takes ctx id b from (Ok env) next sent f e =
-    let t = takes_parts (is_request env) (after_answer ctx from env.id (answered ctx b env.id env.payload)) next sent e in
-    let d = after_answer_done ctx from env.id (answered ctx b env.id env.payload) next sent t.1 in
-    let r = answered_ruled ctx b env.id env.payload d.0 d.1 in
-    subst (λ (x : Power Book Book). IsFull id (book_in x)) d.2 (full_rows ctx id b env.id env.payload r.header d.0 d.1 f r.rows)
+full_takes : (ctx : Context) (id : TxnId) (b : Book) (advice : List Ruling) (from : Node) (o : Result Envelope EnvelopeFault) (next : Power Book Book) (sent : List Sent) → IsFull id b → payer_takes ctx b advice from o ≡ Done next sent → IsFull id (book_in next)
+full_takes ctx id b advice from (Err fault) next sent f e = absurd cc
+full_takes ctx id b advice from (Ok env) next sent f e =
+    let t = takes_parts (is_request env) (after_answer ctx from env.id (answered ctx b advice env.id env.payload)) next sent e in
+    let d = after_answer_done ctx from env.id (answered ctx b advice env.id env.payload) next sent t.1 in
+    let r = answered_ruled ctx b advice env.id env.payload d.0 d.1 in
+    subst (λ (x : Power Book Book). IsFull id (book_in x)) d.2 (full_rows ctx id b advice env.id env.payload r.header d.0 d.1 f r.rows)
 
 full_reprice : (id : TxnId) (b : Book) (o : Result Plan PlanFault) (next : Power Book Book) (sent : List Sent) → IsFull id b → after_reprice b o ≡ Done next sent → IsFull id (book_in next)
 full_reprice id b (Err fault) next sent f e = absurd cc
@@ -163,7 +169,9 @@ AnyCall : Call → Type 0
 AnyCall call = ⊤
 
 full_keeps : (ctx : Context) (id : TxnId) → Keeps ctx (IsFull id) AnyCall
-full_keeps ctx id (Up b) next (Take from bytes) sent q f e = full_takes ctx id b from (ctx.read_envelope bytes) next sent f e
+full_keeps ctx id (Up b) next (Take from bytes) sent q f e = full_takes ctx id b unadvised from (ctx.read_envelope bytes) next sent f e
+full_keeps ctx id (Up b) next (Adjudicate from bytes advice) sent q f e =
+    full_takes ctx id b (advice_in ctx advice) from (ctx.read_envelope bytes) next sent f (asked_first b.settings.asks _ next sent e).1
 full_keeps ctx id (Up b) next Stop sent q f e = subst (λ (x : Power Book Book). IsFull id (book_in x)) (done_same (AtRest b) next [] sent e).0 f
 full_keeps ctx id (Up b) next (Reprice product price) sent q f e = full_reprice id b (ctx.reprice b.plan product price) next sent f e
 full_keeps ctx id (AtRest b) next Start sent q f e = subst (λ (x : Power Book Book). IsFull id (book_in x)) (done_same (Up b) next [] sent e).0 f
@@ -175,6 +183,7 @@ full_keeps ctx id (AtRest b) next Tick sent q f e = absurd cc
 full_keeps ctx id (AtRest b) next (Take from bytes) sent q f e = absurd cc
 full_keeps ctx id (AtRest b) next Stop sent q f e = absurd cc
 full_keeps ctx id (AtRest b) next (Reprice product price) sent q f e = absurd cc
+full_keeps ctx id (AtRest b) next (Adjudicate from bytes advice) sent q f e = absurd cc
 
 any_calls : (payer : ℕ) (event : Event) → CallsFor AnyCall payer event
 unfolding AnyCall
@@ -184,6 +193,7 @@ any_calls payer (Delivery k) = λ from bytes. tt
 any_calls payer (Stopping node) = tt
 any_calls payer (Starting node) = tt
 any_calls payer (PlanChange n product price) = λ same. tt
+any_calls payer (Adjudication k advice) = λ from bytes. tt
 
 all_calls : (payer : ℕ) (events : List Event) → AllByRecursion (CallsFor AnyCall payer) events
 all_calls payer [] = tt

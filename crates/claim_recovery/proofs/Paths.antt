@@ -6,7 +6,7 @@ use Rattle.std.proofs.lemmas.List.Elements.{filter-append}
 use Rattle.claim_model.specs.Context.{Context}
 use Rattle.claim_model.specs.Numbered.{numbered}
 use Rattle.claim_model.specs.Node.{Node, Pharmacy, Switch, Payer, Sent, Call, Outcome, Done, Refused}
-use Rattle.claim_model.specs.World.{World, Packet, Event, Ticking, Delivery, Starting, packet_from, posted, step, world_after, run}
+use Rattle.claim_model.specs.World.{World, Packet, Event, Ticking, Delivery, Starting, Adjudication, packet_from, posted, step, world_after, run}
 use Rattle.claim_model.specs.Settings.{WorldSettings, opening}
 use Rattle.claim_model.specs.Promises.{Reached}
 use Rattle.claim_model.proofs.Lists.{all_append, numbered_append, numbered_last}
@@ -67,6 +67,10 @@ leads_to ctx w v event sent e = ap (world_after w) e
 pub path_tick : (ctx : Context) (may : Event → Type 0) (w v : World) (n : ℕ) (sent : List Sent) → may (Ticking n) → step ctx w (Ticking n) ≡ Done v sent → Path ctx may w v 1 0 0
 path_tick ctx may w v n sent m e =
     record { events = Ticking n ∷ []; leads = leads_to ctx w v (Ticking n) sent e; done = (is_done ctx w v (Ticking n) sent e, tt); help = (m, tt); ticks_are = refl; deliveries_are = refl; starts_are = refl }
+
+pub path_adjudication : (ctx : Context) (may : Event → Type 0) (w v : World) (k : ℕ) (advice : List ℕ) (sent : List Sent) → may (Adjudication k advice) → step ctx w (Adjudication k advice) ≡ Done v sent → Path ctx may w v 0 1 0
+path_adjudication ctx may w v k advice sent m e =
+    record { events = Adjudication k advice ∷ []; leads = leads_to ctx w v (Adjudication k advice) sent e; done = (is_done ctx w v (Adjudication k advice) sent e, tt); help = (m, tt); ticks_are = refl; deliveries_are = refl; starts_are = refl }
 
 pub path_delivery : (ctx : Context) (may : Event → Type 0) (w v : World) (k : ℕ) (sent : List Sent) → may (Delivery k) → step ctx w (Delivery k) ≡ Done v sent → Path ctx may w v 0 1 0
 path_delivery ctx may w v k sent m e =

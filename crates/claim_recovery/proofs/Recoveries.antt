@@ -65,7 +65,7 @@ asked_on ctx given may w id request ticks m starts r allows known answerable a u
 
 -- a later moment has the same leave
 allows_on : (may : Event → Type 0) (old new : ℕ) → old ≤ new → Allows may old → Allows may new
-allows_on may old new before a = record { delivery = λ k h. a.delivery k (omega (arith, before, h)); payer = a.payer }
+allows_on may old new before a = record { delivery = λ k h. a.delivery k (omega (arith, before, h)); adjudication = λ k advice h. a.adjudication k advice (omega (arith, before, h)); payer = a.payer }
 
 -- the settings of the journal of a pharmacy that is up
 same_settings : (w v : World) (id : TxnId) (journal : JournalAtRest) (j : Journal) → journal_at w id.pharmacy ≡ Some journal → journal_at v id.pharmacy ≡ journal_at w id.pharmacy → numbered v.pharmacies id.pharmacy ≡ Some (Up j) → j.settings ≡ journal.settings
@@ -172,10 +172,10 @@ left_by ctx id request answer u v w b c =
     }
 
 helps_one : (old n : ℕ) → Allows (HelpsOne old n) old
-helps_one old n = record { delivery = λ k h. h; payer = λ p. tt }
+helps_one old n = record { delivery = λ k h. h; adjudication = λ k advice h. h; payer = λ p. tt }
 
 helps_without : (old n : ℕ) → Allows (HelpsWithoutSwitch old n) old
-helps_without old n = record { delivery = λ k h. h; payer = λ p. tt }
+helps_without old n = record { delivery = λ k h. h; adjudication = λ k advice h. h; payer = λ p. tt }
 
 recovered_ends : (ctx : Context) (given : WorldSettings) (w : World) (id : TxnId) (request : List ℕ) (journal : JournalAtRest) → Reached ctx given w → Timely given → journal_at w id.pharmacy ≡ Some journal → IsOpen w id request → Answerable ctx w id request
     → EndedSoon ctx (HelpsOne (length w.packets) id.pharmacy) w id request journal.settings.again 3

@@ -11,8 +11,8 @@ use Rattle.claim_model.specs.Numbered.{numbered, renumbered}
 use Rattle.claim_model.specs.Rows.{Book}
 use Rattle.claim_model.specs.Journal.{State, Waits, Has, Entry, Journal, JournalAtRest, circle, ticked_state, ticked, due_by, due_from, due, heard, answer_in, kept_entry, stopped}
 use Rattle.claim_model.specs.Table.{Table}
-use Rattle.claim_model.specs.Node.{Node, Pharmacy, Switch, Payer, Power, Up, AtRest, Sent, Call, Submit, Tick, Take, Stop, Start, Reprice, Outcome, Done, Refused, to_switch, pharmacy_takes, pharmacy_step, switch_step, payer_step}
-use Rattle.claim_model.specs.World.{World, Packet, Event, Submission, Ticking, Delivery, Stopping, Starting, PlanChange, on_pharmacy, on_switch, on_payer, on_node, delivered, step, world_after}
+use Rattle.claim_model.specs.Node.{Node, Pharmacy, Switch, Payer, Power, Up, AtRest, Sent, Call, Submit, Tick, Take, Stop, Start, Reprice, Adjudicate, Outcome, Done, Refused, to_switch, pharmacy_takes, pharmacy_step, switch_step, payer_step}
+use Rattle.claim_model.specs.World.{World, Packet, Event, Submission, Ticking, Delivery, Stopping, Starting, PlanChange, Adjudication, on_pharmacy, on_switch, on_payer, on_node, delivered, adjudicated, step, world_after}
 use Rattle.claim_model.specs.Held.{journal_in}
 use Rattle.claim_model.proofs.Lists.{numbered_put, numbered_put_other, all_at}
 use Rattle.claim_model.proofs.Sound.{with_pharmacy}
@@ -83,6 +83,7 @@ IsQuietCall (Take from bytes) = ⊤
 IsQuietCall Stop = ⊥
 IsQuietCall Start = ⊥
 IsQuietCall (Reprice product price) = ⊥
+IsQuietCall (Adjudicate from bytes advice) = ⊤
 
 takes_nothing : (ctx : Context) (j : Journal) (r : Result Envelope EnvelopeFault) (next : Power Journal JournalAtRest) (sent : List Sent) → AllSettled (stopped j) → pharmacy_takes ctx j r ≡ Done next sent → next ≡ Up j
 takes_nothing ctx j (Err f) next sent all e = absurd cc
@@ -97,6 +98,8 @@ still_pharmacy ctx (Up j) next Tick sent all q e = sym (done_same (Up (ticked j)
 still_pharmacy ctx (Up j) next (Take from bytes) sent all q e = takes_nothing ctx j (ctx.read_envelope bytes) next sent all e
 still_pharmacy ctx (AtRest j) next Tick sent all q e = absurd cc
 still_pharmacy ctx (AtRest j) next (Take from bytes) sent all q e = absurd cc
+still_pharmacy ctx (Up j) next (Adjudicate from bytes advice) sent all q e = absurd cc
+still_pharmacy ctx (AtRest j) next (Adjudicate from bytes advice) sent all q e = absurd cc
 still_pharmacy ctx s next (Submit text) sent all q e = absurd q
 still_pharmacy ctx s next Stop sent all q e = absurd q
 still_pharmacy ctx s next Start sent all q e = absurd q
@@ -149,6 +152,15 @@ at_delivery : (ctx : Context) (w v : World) (n : ℕ) (s : Power Journal Journal
 at_delivery ctx w v n s sent None is all e = absurd cc
 at_delivery ctx w v n s sent (Some p) is all e = at_node ctx w v n s p.to (Take p.from p.bytes) sent is all (quiet_take n p.to p.from p.bytes) e
 
+quiet_adjudicate : (n : ℕ) (node : Node) (from : Node) (bytes advice : List ℕ) → SparesCall n node (Adjudicate from bytes advice)
+quiet_adjudicate n (Pharmacy m) from bytes advice = λ e. tt
+quiet_adjudicate n (Switch m) from bytes advice = tt
+quiet_adjudicate n (Payer m) from bytes advice = tt
+
+at_adjudication : (ctx : Context) (w v : World) (n : ℕ) (s : Power Journal JournalAtRest) (advice : List ℕ) (sent : List Sent) (o : Option Packet) → numbered w.pharmacies n ≡ Some s → AllSettled (journal_in s) → adjudicated ctx w advice o ≡ Done v sent → numbered v.pharmacies n ≡ Some s
+at_adjudication ctx w v n s advice sent None is all e = absurd cc
+at_adjudication ctx w v n s advice sent (Some p) is all e = at_node ctx w v n s p.to (Adjudicate p.from p.bytes advice) sent is all (quiet_adjudicate n p.to p.from p.bytes advice) e
+
 at_event : (ctx : Context) (w v : World) (n : ℕ) (s : Power Journal JournalAtRest) (event : Event) (sent : List Sent) → numbered w.pharmacies n ≡ Some s → AllSettled (journal_in s) → Spares n event → step ctx w event ≡ Done v sent → numbered v.pharmacies n ≡ Some s
 unfolding step
 at_event ctx w v n s (Submission m text) sent is all q e = at_node ctx w v n s (Pharmacy m) (Submit text) sent is all (λ same. absurd (q same)) e
@@ -157,6 +169,7 @@ at_event ctx w v n s (Delivery k) sent is all q e = at_delivery ctx w v n s sent
 at_event ctx w v n s (Stopping node) sent is all q e = at_node ctx w v n s node Stop sent is all (other_spares n node Stop q) e
 at_event ctx w v n s (Starting node) sent is all q e = at_node ctx w v n s node Start sent is all (other_spares n node Start q) e
 at_event ctx w v n s (PlanChange m product price) sent is all q e = at_node ctx w v n s (Payer m) (Reprice product price) sent is all tt e
+at_event ctx w v n s (Adjudication k advice) sent is all q e = at_adjudication ctx w v n s advice sent (numbered w.packets k) is all e
 
 at_outcome : (ctx : Context) (w : World) (n : ℕ) (s : Power Journal JournalAtRest) (event : Event) (o : Outcome World) → numbered w.pharmacies n ≡ Some s → AllSettled (journal_in s) → Spares n event → step ctx w event ≡ o → numbered (world_after w o).pharmacies n ≡ Some s
 at_outcome ctx w n s event (Refused f) is all q e = is

@@ -35,11 +35,11 @@ same_then n u v w a b = record { pharmacies = λ m d. b.pharmacies m d ∙ a.pha
 
 pub left_after : (ctx : Context) (id : TxnId) (request : List ℕ) (m : ℕ) (x y z : Option Book) → BookLeft ctx id request m x y → z ≡ y → BookLeft ctx id request m x z
 left_after ctx id request m x y z (AsItWas e) f = AsItWas (f ∙ e)
-left_after ctx id request m x y z (OneRowMore b is fresh routed e) f = OneRowMore b is fresh routed (f ∙ e)
+left_after ctx id request m x y z (OneRowMore b advice is fresh routed e) f = OneRowMore b advice is fresh routed (f ∙ e)
 
 left_before : (ctx : Context) (id : TxnId) (request : List ℕ) (m : ℕ) (x y z : Option Book) → y ≡ x → BookLeft ctx id request m y z → BookLeft ctx id request m x z
 left_before ctx id request m x y z e (AsItWas f) = AsItWas (f ∙ e)
-left_before ctx id request m x y z e (OneRowMore b is fresh routed f) = OneRowMore b (sym e ∙ is) fresh routed f
+left_before ctx id request m x y z e (OneRowMore b advice is fresh routed f) = OneRowMore b advice (sym e ∙ is) fresh routed f
 
 pub booked_same : (ctx : Context) (id : TxnId) (request : List ℕ) (w v : World) → Same id.pharmacy w v → Booked ctx id request w v
 booked_same ctx id request w v a = record { pharmacies = a.pharmacies; journal = a.journal; books = λ m. AsItWas (a.books m) }

@@ -4,7 +4,7 @@ use Rattle.std.specs.List.{AllByRecursion}
 use Rattle.claim_model.specs.Context.{Context}
 use Rattle.claim_model.specs.Journal.{PharmacySettings}
 use Rattle.claim_model.specs.Node.{Node, Pharmacy, Switch, Payer, Outcome, Done, Refused}
-use Rattle.claim_model.specs.World.{World, Event, Submission, Ticking, Delivery, Stopping, Starting, PlanChange, step, world_after}
+use Rattle.claim_model.specs.World.{World, Event, Submission, Ticking, Delivery, Stopping, Starting, PlanChange, Adjudication, step, world_after}
 use Rattle.claim_model.specs.Settings.{WorldSettings}
 
 -- a pharmacy waits at least one tick before it sends again, and tries each switch at least once
@@ -34,6 +34,7 @@ Helps old (Delivery k) = old < k
 Helps old (Stopping node) = ⊥
 Helps old (Starting node) = ⊤
 Helps old (PlanChange n product price) = ⊥
+Helps old (Adjudication k advice) = old < k
 
 -- the same, with ticks of one pharmacy alone
 abbrev pub HelpsOne : ℕ → ℕ → Event → Type 0
@@ -43,6 +44,7 @@ HelpsOne old pharmacy (Delivery k) = old < k
 HelpsOne old pharmacy (Stopping node) = ⊥
 HelpsOne old pharmacy (Starting node) = ⊤
 HelpsOne old pharmacy (PlanChange n product price) = ⊥
+HelpsOne old pharmacy (Adjudication k advice) = old < k
 
 abbrev pub IsNoSwitch : Node → Type 0
 IsNoSwitch (Pharmacy n) = ⊤
@@ -57,6 +59,7 @@ HelpsWithoutSwitch old pharmacy (Delivery k) = old < k
 HelpsWithoutSwitch old pharmacy (Stopping node) = ⊥
 HelpsWithoutSwitch old pharmacy (Starting node) = IsNoSwitch node
 HelpsWithoutSwitch old pharmacy (PlanChange n product price) = ⊥
+HelpsWithoutSwitch old pharmacy (Adjudication k advice) = old < k
 
 abbrev pub is_tick : Event → Bool
 is_tick (Submission n text) = false
@@ -65,6 +68,7 @@ is_tick (Delivery k) = false
 is_tick (Stopping node) = false
 is_tick (Starting node) = false
 is_tick (PlanChange n product price) = false
+is_tick (Adjudication k advice) = false
 
 abbrev pub is_delivery : Event → Bool
 is_delivery (Submission n text) = false
@@ -73,6 +77,7 @@ is_delivery (Delivery k) = true
 is_delivery (Stopping node) = false
 is_delivery (Starting node) = false
 is_delivery (PlanChange n product price) = false
+is_delivery (Adjudication k advice) = true
 
 abbrev pub is_start : Event → Bool
 is_start (Submission n text) = false
@@ -81,6 +86,7 @@ is_start (Delivery k) = false
 is_start (Stopping node) = false
 is_start (Starting node) = true
 is_start (PlanChange n product price) = false
+is_start (Adjudication k advice) = false
 
 -- how many events of a kind a list has
 abbrev pub how_many : (Event → Bool) → List Event → ℕ

@@ -5,7 +5,7 @@ use Rattle.claim_model.specs.Context.{Context}
 use Rattle.claim_model.specs.Numbered.{numbered}
 use Rattle.claim_model.specs.Journal.{Journal, JournalAtRest, Kept, stopped}
 use Rattle.claim_model.specs.Node.{Node, Pharmacy, Switch, Payer, Power, Up, Done}
-use Rattle.claim_model.specs.World.{World, Event, Submission, Ticking, Delivery, Stopping, Starting, PlanChange, step, run}
+use Rattle.claim_model.specs.World.{World, Event, Submission, Ticking, Delivery, Stopping, Starting, PlanChange, Adjudication, step, run}
 use Rattle.claim_model.specs.Held.{journal_in}
 
 pub record HasAnswer (k : Kept) : Type 0 where
@@ -29,6 +29,7 @@ Spares n (Delivery k) = ⊤
 Spares n (Stopping node) = IsOther n node
 Spares n (Starting node) = IsOther n node
 Spares n (PlanChange m product price) = ⊤
+Spares n (Adjudication k advice) = ⊤
 
 -- a tick of such a pharmacy sends nothing and changes nothing at all
 abbrev pub TicksInVain : Context → World → ℕ → Type 0

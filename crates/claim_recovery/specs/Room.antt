@@ -1,16 +1,16 @@
 -- What a book must have to answer a new request, and what it means to be never answered.
-use Rattle.std.specs.Prelude.{◌≡◌, ℕ, ◌+◌, ◌<◌, ◌≤◌, List, [], ◌∷◌, length, ⊤, Option, Some, None, Ok}
+use Rattle.std.specs.Prelude.{◌≡◌, ℕ, ◌+◌, ◌<◌, ◌≤◌, false, List, [], ◌∷◌, length, slice_get, ⊤, Option, Some, None, IsSome, Result, Ok}
 use Rattle.std.specs.List.{AllByRecursion}
-use Rattle.claim_model.specs.Words.{TxnId, RequestHeader, Claim, Bills, NotCovered, Rejected, Plan, Amounts}
+use Rattle.claim_model.specs.Words.{TxnId, RequestHeader, Claim, Order, Bills, Code, NotCovered, Ruling, Rejected, Plan, Amounts}
 use Rattle.claim_model.specs.Context.{Context}
 use Rattle.claim_model.specs.Readable.{readable, payer_for}
 use Rattle.claim_model.specs.Rows.{Book, ruled_rows}
-use Rattle.claim_model.specs.Judgement.{standing_for, next_serial}
-use Rattle.claim_model.specs.Book.{last_serial, row_of, new_row, Answered, answered}
+use Rattle.claim_model.specs.Judgement.{verdict_in, standing_for, next_serial}
+use Rattle.claim_model.specs.Book.{last_serial, row_of, new_row, unadvised, Answered, answered}
 use Rattle.claim_model.specs.Numbered.{numbered}
 use Rattle.claim_model.specs.Journal.{JournalAtRest}
 use Rattle.claim_model.specs.Node.{Node, Done}
-use Rattle.claim_model.specs.World.{World, Event, Submission, Ticking, Delivery, Stopping, Starting, PlanChange, step, run}
+use Rattle.claim_model.specs.World.{World, Event, Submission, Ticking, Delivery, Stopping, Starting, PlanChange, Adjudication, step, run}
 use Rattle.claim_model.specs.Held.{book_at, asked, held}
 use Rattle.claim_recovery.specs.Recovered.{Recovered}
 
@@ -45,9 +45,15 @@ KeepsPlan payer (Delivery k) = ⊤
 KeepsPlan payer (Stopping node) = ⊤
 KeepsPlan payer (Starting node) = ⊤
 KeepsPlan payer (PlanChange n product price) = n ≡ payer → ⊥
+KeepsPlan payer (Adjudication k advice) = ⊤
 
--- one of the claims of a request has no standing payment for its fill, and the plan would pay it
+-- an advice has a verdict on each claim of some orders, at its place
+abbrev pub AdvisesAll : List Ruling → List (Result Order (List Code)) → Type 0
+AdvisesAll advice orders = (k : ℕ) (claim : Claim) → slice_get orders k ≡ Some (Ok (Bills claim)) → IsSome (verdict_in claim.fill.prescription (slice_get advice k))
+
+-- the payer prices by its plan, and one of the claims of a request has no standing payment for its fill, and the plan would pay it
 pub record WantsSerial (ctx : Context) (b : Book) (request : List ℕ) : Type 0 where
+  pub by_plan : b.settings.asks ≡ false
   pub place : ℕ
   pub claim : Claim
   pub stands : numbered (ctx.orders request) place ≡ Some (Ok (Bills claim))
@@ -72,6 +78,6 @@ pub record RejectedAfter (ctx : Context) (w : World) (journal : JournalAtRest) (
   pub changes : step ctx w (PlanChange payer product price) ≡ Done world []
   pub recovered : Recovered ctx world journal id
   pub answer : Answered
-  pub answers : answered ctx (with_plan b plan) id request ≡ Ok answer
-  pub row : row_of id answer.book.rows ≡ Some (new_row ctx (with_plan b plan) id request)
-  pub not_covered : (place : ℕ) (claim : Claim) → numbered (ctx.orders request) place ≡ Some (Ok (Bills claim)) → standing_for claim.fill (ruled_rows ctx b.rows) ≡ None → numbered (new_row ctx (with_plan b plan) id request).rulings place ≡ Some (Rejected (NotCovered ∷ []))
+  pub answers : answered ctx (with_plan b plan) unadvised id request ≡ Ok answer
+  pub row : row_of id answer.book.rows ≡ Some (new_row ctx (with_plan b plan) unadvised id request)
+  pub not_covered : (place : ℕ) (claim : Claim) → numbered (ctx.orders request) place ≡ Some (Ok (Bills claim)) → standing_for claim.fill (ruled_rows ctx b.rows) ≡ None → numbered (new_row ctx (with_plan b plan) unadvised id request).rulings place ≡ Some (Rejected (NotCovered ∷ []))

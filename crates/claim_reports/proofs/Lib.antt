@@ -5,3 +5,4 @@ pub mod Comparisons
 pub mod Continuing
 pub mod Firsts
 pub mod Lines
+pub mod Rowwise

@@ -1,7 +1,8 @@
 -- What a pharmacy counts beside what a payer paid.
-use Rattle.std.specs.Prelude.{◌≡◌, ℕ, ◌==◌, ◌||◌, ◌++◌, Bool, true, false, cond, List, [], ◌∷◌, Option, Some, None, is_some}
+use Rattle.std.specs.Prelude.{◌≡◌, ℕ, ◌==◌, ◌&&◌, ◌||◌, ◌++◌, Bool, true, false, cond, List, [], ◌∷◌, Option, Some, None, is_some}
 use Rattle.std.specs.Option.{option_or}
 use Rattle.std.specs.List.{flat_map}
+use Rattle.claim_reports.specs.declared.beside.Figures.{Figures}
 use Rattle.claim_reports.specs.declared.beside.Counted.{Counted}
 use Rattle.claim_reports.specs.declared.beside.Made.{Made}
 use Rattle.claim_reports.specs.declared.beside.Entry.{Entry}
@@ -28,16 +29,20 @@ abbrev pub is_open_entry : Option Entry → Bool
 is_open_entry None = false
 is_open_entry (Some e) = e.open
 
--- of a payment that is counted and was made: that it was reversed; else that its cents differ
+-- each figure is the other's: the total, the amounts that make it, and the fill that it is for
+abbrev pub same_figures : Figures → Figures → Bool
+same_figures a b = (a.cents == b.cents) && ((a.cost == b.cost) && ((a.fee == b.fee) && ((a.copay == b.copay) && ((a.prescription == b.prescription) && (a.fill == b.fill)))))
+
+-- of a payment that is counted and was made: that it was reversed; else that a figure differs
 abbrev pub standing_alike : Counted → Made → Option Finding
-standing_alike c m = cond (m.cents == c.cents) None (Some (Differs c.auth c.cents m.cents))
+standing_alike c m = cond (same_figures m.figures c.figures) None (Some (Differs c.auth c.figures m.figures))
 
 abbrev pub made_alike : (ℕ → Option Entry) → Counted → Made → Option ℕ → Option Finding
-made_alike entries c m (Some number) = Some (Reversed c.auth c.cents (is_open_entry (entries number)))
+made_alike entries c m (Some number) = Some (Reversed c.auth c.figures (is_open_entry (entries number)))
 made_alike entries c m None = standing_alike c m
 
 abbrev pub beside : (ℕ → Option Entry) → Counted → Option Made → Option Finding
-beside entries c None = Some (NotPaid c.auth c.cents)
+beside entries c None = Some (NotPaid c.auth c.figures)
 beside entries c (Some m) = made_alike entries c m m.reversed_by
 
 -- what is found of a payment that is counted
@@ -47,7 +52,7 @@ counted_finding entries made c = beside entries c (made c.auth)
 -- what is found of a payment that was made: that it stands and is not counted
 abbrev pub made_finding : (ℕ → Option Entry) → (ℕ → Option Counted) → Made → Option Finding
 made_finding entries counted m =
-    cond (is_some m.reversed_by || is_some (counted m.auth)) None (Some (NotCounted m.auth m.cents (is_open_entry (entries m.number))))
+    cond (is_some m.reversed_by || is_some (counted m.auth)) None (Some (NotCounted m.auth m.figures (is_open_entry (entries m.number))))
 
 -- a finding, where there is one
 abbrev pub told : Option Finding → List Finding

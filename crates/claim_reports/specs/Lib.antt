@@ -1,5 +1,9 @@
+pub mod Tables
 pub mod Totals
+pub mod Totalled
 pub mod Ledger
 pub mod Comparing
+pub mod Compared
+pub mod Showing
 pub mod Ruled
 pub mod Wider

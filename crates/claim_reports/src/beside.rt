@@ -4,19 +4,36 @@ ghost use Rattle.std.specs.Prelude.{◌≡◌, ◌++◌, ℕ, IfOk, OnOk};
 ghost use Rattle.std.specs.List.{flat_map};
 ghost use Rattle.std.specs.Ordering.{nat_cmp};
 ghost use Rattle.std.specs.BTreeMap.{get};
-ghost use Rattle.claim_reports.specs.Comparing.{made_under, entry_under, counted_under, is_open_entry, Findings, told, counted_finding, made_finding};
+ghost use Rattle.claim_reports.specs.Comparing.{made_under, entry_under, counted_under, is_open_entry, Findings, told, counted_finding, made_finding, same_figures};
 
 use crate::fault::ReportFault;
 use std::alloc::{AllocError, Global};
 use std::collections::BTreeMap;
+
+/// What a payment is for, and what it comes to.
+#[derive(Clone, Copy, PartialEq, Eq)]
+pub struct Figures {
+    /// The prescription's number (402-D2).
+    pub prescription: u64,
+    /// The fill number (403-D3).
+    pub fill: u64,
+    /// The ingredient cost paid (506-F6) in cents.
+    pub cost: u64,
+    /// The dispensing fee paid (507-F7) in cents.
+    pub fee: u64,
+    /// The patient's part (505-F5) in cents.
+    pub copay: u64,
+    /// The total (509-F9) in cents.
+    pub cents: u64,
+}
 
 /// A payment that a pharmacy counts.
 #[derive(Clone, Copy)]
 pub struct Counted {
     /// Its authorization (503-F3), as a number.
     pub auth: u64,
-    /// Its total (509-F9) in cents.
-    pub cents: u64,
+    /// What it is for, and what it comes to.
+    pub figures: Figures,
 }
 
 /// A payment of a payer's book.
@@ -26,8 +43,8 @@ pub struct Made {
     pub auth: u64,
     /// The number of the pharmacy's billing.
     pub number: u64,
-    /// Its total (509-F9) in cents.
-    pub cents: u64,
+    /// What it is for, and what it comes to.
+    pub figures: Figures,
     /// The number of the pharmacy's reversal, where it was reversed.
     pub reversed_by: Option<u64>,
 }
@@ -45,14 +62,14 @@ pub struct Entry {
 /// it may still be on its way: the pharmacy's entry is open.
 #[derive(Clone, Copy, PartialEq, Eq)]
 pub enum Finding {
-    /// The pharmacy counts it, with so many cents, and the payer has not paid it.
-    NotPaid(u64, u64),
-    /// The pharmacy counts other cents, which come first, than the payer paid.
-    Differs(u64, u64, u64),
-    /// The pharmacy counts it, with so many cents, and the payer has reversed it.
-    Reversed(u64, u64, bool),
-    /// It stands at the payer, with so many cents, and the pharmacy does not count it.
-    NotCounted(u64, u64, bool),
+    /// The pharmacy counts it, and the payer has not paid it.
+    NotPaid(u64, Figures),
+    /// The pharmacy counts other figures, which come first, than the payer paid.
+    Differs(u64, Figures, Figures),
+    /// The pharmacy counts it, and the payer has reversed it.
+    Reversed(u64, Figures, bool),
+    /// It stands at the payer, and the pharmacy does not count it.
+    NotCounted(u64, Figures, bool),
 }
 
 /// What the pharmacy counts and the payer has not, or has otherwise, in the order in which the pharmacy counts them; then what
@@ -168,18 +185,18 @@ fn counted_finding(
     ensures { result ≡ counted_finding (get nat_cmp open.now) (get nat_cmp paid.now) counted.now }
 {
     let Some(made) = paid.get(&counted.auth) else {
-        return Some(Finding::NotPaid(counted.auth, counted.cents));
+        return Some(Finding::NotPaid(counted.auth, counted.figures));
     };
     match made.reversed_by {
         Some(number) => {
             let is_open = is_open(open, number);
-            Some(Finding::Reversed(counted.auth, counted.cents, is_open))
+            Some(Finding::Reversed(counted.auth, counted.figures, is_open))
         }
         None => {
-            if made.cents == counted.cents {
+            if made.figures.are(counted.figures) {
                 return None;
             }
-            Some(Finding::Differs(counted.auth, counted.cents, made.cents))
+            Some(Finding::Differs(counted.auth, counted.figures, made.figures))
         }
     }
 }
@@ -196,7 +213,21 @@ fn made_finding(
         return None;
     }
     let is_open = is_open(open, made.number);
-    Some(Finding::NotCounted(made.auth, made.cents, is_open))
+    Some(Finding::NotCounted(made.auth, made.figures, is_open))
+}
+
+impl Figures {
+    /// Whether each of them is that of others.
+    fn are(self, others: Figures) -> bool
+        ensures { result ≡ same_figures self others }
+    {
+        self.cents == others.cents
+            && self.cost == others.cost
+            && self.fee == others.fee
+            && self.copay == others.copay
+            && self.prescription == others.prescription
+            && self.fill == others.fill
+    }
 }
 
 /// Whether the entry of a number has no answer yet.

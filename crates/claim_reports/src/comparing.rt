@@ -1,20 +1,19 @@
 //! What a pharmacy counts beside what a payer paid, by their tables.
 
-use crate::beside::{Counted, Entry, Finding, Made, compare};
+ghost use Rattle.std.specs.Prelude.{◌≡◌, ◌&&◌, ◌++◌, map, option_map, IfOk, OnOk};
+ghost use Rattle.std.specs.List.{list_all};
+ghost use Rattle.table_text.specs.Adding.{Adds, AddsRow};
+ghost use Rattle.table_text.specs.Rows.{head_text};
+ghost use Rattle.table_text.specs.declared.layout.Style.TheVariants.{Csv};
+ghost use Rattle.claim_reports.specs.Compared.{first_apart, apart_name, finding_names, shown_row, shown, finding_rows, is_on_its_way, IsCompared};
+ghost use Rattle.claim_reports.specs.Showing.{apart_seen, shown_seen};
+
+use crate::beside::{Figures, Finding, compare};
 use crate::fault::ReportFault;
 use crate::numbers::auth_text;
-use crate::table::Table;
+use crate::sides::{Between, counted_in, entries_in, made_in};
 use std::alloc::{AllocError, Global};
 use table_text::{Field, Style, put_head, put_row};
-
-/// Which payer and which pharmacy.
-#[derive(Clone, Copy)]
-pub struct Between {
-    /// The payer.
-    pub payer: u64,
-    /// The pharmacy.
-    pub pharmacy: u64,
-}
 
 /// What differs, as CSV, and whether all of it may still be on its way.
 #[derive(Drop)]
@@ -25,7 +24,26 @@ pub struct Comparison {
     pub agrees: bool,
 }
 
-/// Compares the pharmacy's tables `counted` and `entries` with the payer's table `payments`.
+/// A figure that is another on both sides.
+#[derive(Clone, Copy)]
+struct Apart {
+    name: &'static [u8],
+    counted: u64,
+    paid: u64,
+}
+
+/// What the row of a finding says.
+#[derive(Clone, Copy)]
+struct Shown {
+    word: &'static [u8],
+    auth: u64,
+    counted: Option<u64>,
+    paid: Option<u64>,
+    on_its_way: bool,
+    apart: Option<Apart>,
+}
+
+/// Compares the pharmacy's tables `counted` and `entries` with the payer's table `payments`: the fill and each amount.
 ///
 /// # Errors
 /// A table that is none, or has a value of another kind; want of memory.
@@ -35,7 +53,10 @@ pub fn compare_tables(
     entries: &[u8],
     payments: &[u8],
     between: Between,
-) -> Result<Comparison, ReportFault> {
+) -> Result<Comparison, ReportFault>
+    // What is written is, row by row, what is found of the rows that a reader of CSV finds in the tables.
+    ensures { IfOk result (λ told. IsCompared counted.now entries.now payments.now between told.text.items told.agrees) }
+{
     let counted = counted_in(alloc, counted, between)?;
     let entries = entries_in(alloc, entries, between)?;
     let made = made_in(alloc, payments, between)?;
@@ -47,119 +68,161 @@ pub fn compare_tables(
     )?;
     let mut text = Vec::new(alloc);
     put_names(&mut text)?;
-    let mut agrees = true;
-    for finding in &found {
-        agrees &= put_finding(&mut text, *finding)?;
-    }
+    put_findings(alloc, &mut text, found.as_slice())?;
+    let agrees = are_on_their_way(found.as_slice());
     Ok(Comparison { text, agrees })
 }
 
-/// The payments of the payer that the pharmacy counts.
-fn counted_in(alloc: Global, text: &[u8], between: Between) -> Result<Vec<Counted>, ReportFault> {
-    let table = Table::read(alloc, 1, text)?;
-    let payer = table.column("payer")?;
-    let pharmacy = table.column("pharmacy")?;
-    let auth = table.column("authorization")?;
-    let cents = table.column("paid_cents")?;
-    let mut counted = Vec::new(alloc);
-    for place in 0..table.count() {
-        if let Some(row) = table.row(place) {
-            let is_payer = row.number(payer)? == between.payer;
-            if is_payer && row.number(pharmacy)? == between.pharmacy {
-                let auth = row.number(auth)?;
-                let cents = row.number(cents)?;
-                counted.push(Counted { auth, cents })?;
-            }
-        }
+/// Appends the row of each finding.
+fn put_findings(alloc: Global, out: &mut Vec<u8>, found: &[Finding]) -> Result<(), AllocError>
+    ensures { OnOk result (out.new.items ≡ out.old.items ++ finding_rows found.now) }
+{
+    for finding in found {
+        put_shown(alloc, out, &told_of(finding))?;
     }
-    Ok(counted)
+    Ok(())
 }
 
-/// The entries of the pharmacy.
-fn entries_in(alloc: Global, text: &[u8], between: Between) -> Result<Vec<Entry>, ReportFault> {
-    let table = Table::read(alloc, 2, text)?;
-    let pharmacy = table.column("pharmacy")?;
-    let number = table.column("number")?;
-    let state = table.column("state")?;
-    let mut entries = Vec::new(alloc);
-    for place in 0..table.count() {
-        if let Some(row) = table.row(place) {
-            if row.number(pharmacy)? == between.pharmacy {
-                let number = row.number(number)?;
-                let open = row.word(state, b"answered", b"open")?;
-                entries.push(Entry { number, open })?;
-            }
-        }
-    }
-    Ok(entries)
+/// Whether each of some findings may still be on its way.
+fn are_on_their_way(found: &[Finding]) -> bool
+    ensures { result ≡ list_all is_on_its_way found.now }
+{
+    found.iter().all(|finding| told_of(finding).on_its_way)
 }
 
-/// The payments of the payer that the pharmacy asked for.
-fn made_in(alloc: Global, text: &[u8], between: Between) -> Result<Vec<Made>, ReportFault> {
-    let table = Table::read(alloc, 3, text)?;
-    let payer = table.column("payer")?;
-    let pharmacy = table.column("pharmacy")?;
-    let number = table.column("number")?;
-    let auth = table.column("authorization")?;
-    let cents = table.column("paid_cents")?;
-    let reversed_by = table.column("reversed_by")?;
-    let mut made = Vec::new(alloc);
-    for place in 0..table.count() {
-        if let Some(row) = table.row(place) {
-            let is_payer = row.number(payer)? == between.payer;
-            if is_payer && row.number(pharmacy)? == between.pharmacy {
-                made.push(Made {
-                    auth: row.number(auth)?,
-                    number: row.number(number)?,
-                    cents: row.number(cents)?,
-                    reversed_by: row.optional_number(reversed_by)?,
-                })?;
-            }
-        }
+/// What the row of a finding says.
+fn told_of(finding: &Finding) -> Shown
+    ensures { shown_seen result ≡ shown finding.now }
+{
+    match *finding {
+        Finding::NotPaid(auth, counted) => Shown {
+            word: b"not_paid",
+            auth,
+            counted: Some(counted.cents),
+            paid: None,
+            on_its_way: false,
+            apart: None,
+        },
+        Finding::Differs(auth, counted, paid) => Shown {
+            word: b"differs",
+            auth,
+            counted: Some(counted.cents),
+            paid: Some(paid.cents),
+            on_its_way: false,
+            apart: first_apart(counted, paid),
+        },
+        Finding::Reversed(auth, counted, on_its_way) => Shown {
+            word: b"reversed",
+            auth,
+            counted: Some(counted.cents),
+            paid: None,
+            on_its_way,
+            apart: None,
+        },
+        Finding::NotCounted(auth, paid, on_its_way) => Shown {
+            word: b"not_counted",
+            auth,
+            counted: None,
+            paid: Some(paid.cents),
+            on_its_way,
+            apart: None,
+        },
     }
-    Ok(made)
 }
 
-/// Appends the row of a finding, and says whether it may still be on its way.
-fn put_finding(out: &mut Vec<u8>, finding: Finding) -> Result<bool, AllocError> {
-    let (word, auth, counted, paid, on_its_way) = match finding {
-        Finding::NotPaid(auth, cents) => (b"not_paid".as_slice(), auth, Some(cents), None, false),
-        Finding::Differs(auth, counted, paid) => {
-            (
-                b"differs".as_slice(),
-                auth,
-                Some(counted),
-                Some(paid),
-                false,
-            )
+/// The first figure that is another on both sides: of the total, of the amounts that make it, and of the fill.
+#[tactic(auto, unfolding(crate::specs::Compared::first_apart))]
+fn first_apart(counted: Figures, paid: Figures) -> Option<Apart>
+    ensures { option_map apart_seen result ≡ first_apart counted paid }
+{
+    if counted.cents != paid.cents {
+        return Some(Apart::of(b"total", counted.cents, paid.cents));
+    }
+    if counted.cost != paid.cost {
+        return Some(Apart::of(b"cost", counted.cost, paid.cost));
+    }
+    if counted.fee != paid.fee {
+        return Some(Apart::of(b"fee", counted.fee, paid.fee));
+    }
+    if counted.copay != paid.copay {
+        return Some(Apart::of(b"copay", counted.copay, paid.copay));
+    }
+    if counted.prescription != paid.prescription {
+        return Some(Apart::of(b"prescription", counted.prescription, paid.prescription));
+    }
+    if counted.fill != paid.fill {
+        return Some(Apart::of(b"fill", counted.fill, paid.fill));
+    }
+    None
+}
+
+impl Apart {
+    /// A figure of this name.
+    fn of(name: &'static [u8], counted: u64, paid: u64) -> Apart
+        ensures { apart_seen result ≡ record { name = name.now; counted = counted; paid = paid } }
+    {
+        Apart {
+            name,
+            counted,
+            paid,
         }
-        Finding::Reversed(auth, cents, on_its_way) => {
-            (b"reversed".as_slice(), auth, Some(cents), None, on_its_way)
+    }
+}
+
+impl Shown {
+    /// The name of the figure that differs, where one does.
+    fn figure(&self) -> &'static [u8]
+        ensures { result.now ≡ apart_name (option_map apart_seen self.now.apart) }
+    {
+        match self.apart {
+            Some(apart) => apart.name,
+            None => b"",
         }
-        Finding::NotCounted(auth, cents, on_its_way) => {
-            (
-                b"not_counted".as_slice(),
-                auth,
-                None,
-                Some(cents),
-                on_its_way,
-            )
+    }
+
+    /// What the pharmacy counts of it.
+    fn counted_figure(&self) -> Option<u64>
+        ensures { result ≡ option_map (λ a. a.counted) (option_map apart_seen self.now.apart) }
+    {
+        match self.apart {
+            Some(apart) => Some(apart.counted),
+            None => None,
         }
-    };
-    let digits = auth_text(auth);
+    }
+
+    /// What the payer paid of it.
+    fn paid_figure(&self) -> Option<u64>
+        ensures { result ≡ option_map (λ a. a.paid) (option_map apart_seen self.now.apart) }
+    {
+        match self.apart {
+            Some(apart) => Some(apart.paid),
+            None => None,
+        }
+    }
+}
+
+/// Appends a row.
+fn put_shown(alloc: Global, out: &mut Vec<u8>, shown: &Shown) -> Result<(), AllocError>
+    ensures { OnOk result (AddsRow Csv out.old out.new (shown_row (shown_seen shown.now))) }
+{
+    let digits = auth_text(alloc, shown.auth)?;
     let fields = [
-        Field::word(b"finding", word),
-        Field::text(b"authorization", &digits),
-        Field::number_or_nothing(b"counted_cents", counted),
-        Field::number_or_nothing(b"paid_cents", paid),
-        Field::flag(b"on_its_way", on_its_way),
+        Field::word(b"finding", shown.word),
+        Field::text(b"authorization", digits.as_slice()),
+        Field::number_or_nothing(b"counted_cents", shown.counted),
+        Field::number_or_nothing(b"paid_cents", shown.paid),
+        Field::flag(b"on_its_way", shown.on_its_way),
+        Field::word(b"figure", shown.figure()),
+        Field::number_or_nothing(b"counted_figure", shown.counted_figure()),
+        Field::number_or_nothing(b"paid_figure", shown.paid_figure()),
     ];
-    put_row(out, Style::Csv, &fields)?;
-    Ok(on_its_way)
+    put_row(out, Style::Csv, &fields)
 }
 
 /// Appends the names of the columns.
-fn put_names(out: &mut Vec<u8>) -> Result<(), AllocError> {
+fn put_names(out: &mut Vec<u8>) -> Result<(), AllocError>
+    ensures { OnOk result (Adds out.old out.new (head_text finding_names)) }
+{
     put_head(
         out,
         &[
@@ -168,6 +231,9 @@ fn put_names(out: &mut Vec<u8>) -> Result<(), AllocError> {
             b"counted_cents",
             b"paid_cents",
             b"on_its_way",
+            b"figure",
+            b"counted_figure",
+            b"paid_figure",
         ],
     )
 }

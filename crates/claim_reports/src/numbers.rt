@@ -1,25 +1,32 @@
 //! Numbers as tables of reports have them.
 
+ghost use Rattle.std.specs.Prelude.{◌≡◌, decimal, IfOk};
+ghost use Rattle.claim_reports.specs.Compared.{auth_digits};
+
 use input_text::put_decimal;
 use std::alloc::{AllocError, Global};
 
 /// How many digits an authorization number has.
 const DIGITS: usize = 16;
 
-/// The digits of an authorization number.
-pub(crate) fn auth_text(number: u64) -> [u8; DIGITS] {
-    let mut digits = [b'0'; DIGITS];
-    let mut left = number;
-    for byte in digits.iter_mut().rev() {
-        *byte = digit(left);
-        left /= 10;
-    }
-    digits
+/// The digits of an authorization number: filled with zeros to 16.
+pub(crate) fn auth_text(alloc: Global, number: u64) -> Result<Vec<u8>, AllocError>
+    ensures { IfOk result (λ text. text.items ≡ auth_digits number) }
+{
+    let digits = number_text(alloc, number)?;
+    let mut text = Vec::new(alloc);
+    text.resize(DIGITS.saturating_sub(digits.len()), b'0')?;
+    text.extend_from_slice(digits.as_slice())?;
+    Ok(text)
 }
 
-/// The last digit of a number.
-fn digit(number: u64) -> u8 {
-    b'0' + (number % 10) as u8
+/// The digits of a number.
+fn number_text(alloc: Global, number: u64) -> Result<Vec<u8>, AllocError>
+    ensures { IfOk result (λ text. text.items ≡ decimal number) }
+{
+    let mut text = Vec::new(alloc);
+    put_decimal(&mut text, number)?;
+    Ok(text)
 }
 
 /// Cents that were taken back, as a number below zero.

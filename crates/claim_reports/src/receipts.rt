@@ -51,13 +51,12 @@ pub fn receipts_beside(
     let mut text = Vec::new(alloc);
     put_head(&mut text, &[b"finding", b"number"])?;
     let mut agrees = true;
-    for place in 0..table.count() {
-        if let Some(row) = table.row(place) {
-            if row.number(of)? == pharmacy {
-                let number = row.number(number)?;
-                let told = bytes_of(alloc, &row, answer)?;
-                agrees &= put_finding(&mut text, &run, number, told.as_slice())?;
-            }
+    for (place, record) in table.rows().iter().enumerate() {
+        let row = table.row(place, record);
+        if row.number(of)? == pharmacy {
+            let number = row.number(number)?;
+            let told = bytes_of(alloc, &row, answer)?;
+            agrees &= put_finding(&mut text, &run, number, told.as_slice())?;
         }
     }
     Ok(Comparison { text, agrees })
@@ -70,12 +69,11 @@ fn entries_in(alloc: Global, text: &[u8], wanted: u64) -> Result<BTreeMap<u64, b
     let number = table.column("number")?;
     let state = table.column("state")?;
     let mut entries = BTreeMap::new(alloc);
-    for place in 0..table.count() {
-        if let Some(row) = table.row(place) {
-            if row.number(pharmacy)? == wanted {
-                let open = row.word(state, b"answered", b"open")?;
-                entries.insert(row.number(number)?, open)?;
-            }
+    for (place, record) in table.rows().iter().enumerate() {
+        let row = table.row(place, record);
+        if row.number(pharmacy)? == wanted {
+            let open = row.word(state, b"answered", b"open")?;
+            entries.insert(row.number(number)?, open)?;
         }
     }
     Ok(entries)
@@ -91,12 +89,11 @@ fn answers_in(
     let columns = Columns::of(&table)?;
     let node = node_text(alloc, wanted)?;
     let mut answers = BTreeMap::new(alloc);
-    for place in 0..table.count() {
-        if let Some(row) = table.row(place) {
-            let is_answer = row.text(columns.carries) == b"answer".as_slice();
-            if is_answer && row.text(columns.to) == node.as_slice() {
-                take_answer(alloc, &mut answers, &row, &columns, wanted)?;
-            }
+    for (place, record) in table.rows().iter().enumerate() {
+        let row = table.row(place, record);
+        let is_answer = row.text(columns.carries) == b"answer".as_slice();
+        if is_answer && row.text(columns.to) == node.as_slice() {
+            take_answer(alloc, &mut answers, &row, &columns, wanted)?;
         }
     }
     Ok(answers)

@@ -150,10 +150,9 @@ fn rulings_in(
         moves: Vec::new(alloc),
         up_to: 0,
     };
-    for place in 0..table.count() {
-        if let Some(row) = table.row(place) {
-            take_row(&mut rulings, place, &row, columns, asked)?;
-        }
+    for (place, record) in table.rows().iter().enumerate() {
+        let row = table.row(place, record);
+        take_row(&mut rulings, place, &row, columns, asked)?;
     }
     Ok(rulings)
 }
@@ -205,7 +204,8 @@ fn put_lines(
     for line in &rulings.lines {
         let moved = ledger.take_all(passed, &[line.moves])?;
         passed = passed.saturating_add(1);
-        if let Some(row) = table.row(line.place) {
+        if let Some(record) = table.rows().get(line.place) {
+            let row = table.row(line.place, record);
             put_line(out, &row, columns, asked, line, moved)?;
         }
     }
@@ -227,7 +227,7 @@ fn put_line(
         prescription: row.number(columns.prescription)?,
     };
     let (kind, auth) = kind_of(line.moves);
-    let digits = auth_text(auth);
+    let digits = auth_text(*out.allocator(), auth)?;
     let back = taken_back(*out.allocator(), moved.reversed)?;
     let cents = cents_field(line.moves, moved, back.as_slice());
     put_fields(
@@ -236,7 +236,7 @@ fn put_line(
         line.ruling,
         numbers,
         kind,
-        &digits,
+        digits.as_slice(),
         row.text(columns.day),
         cents,
     )?;

@@ -50,10 +50,9 @@ fn requests_of(alloc: Global, table: &Table) -> Result<Vec<Request>, ReportFault
     let payer = table.column("payer")?;
     let named = Named::of(table)?;
     let mut requests = Vec::new(alloc);
-    for place in 0..table.count() {
-        if let Some(row) = table.row(place) {
-            requests.push(named.request(&row, row.number(payer)?)?)?;
-        }
+    for (place, record) in table.rows().iter().enumerate() {
+        let row = table.row(place, record);
+        requests.push(named.request(&row, row.number(payer)?)?)?;
     }
     Ok(requests)
 }
@@ -66,14 +65,13 @@ fn taken_in(alloc: Global, text: &[u8]) -> Result<Vec<Taken>, ReportFault> {
     let carries = table.column("carries")?;
     let named = Named::of(&table)?;
     let mut taken = Vec::new(alloc);
-    for place in 0..table.count() {
-        if let Some(row) = table.row(place) {
-            if row.text(carries) == b"request".as_slice() {
-                if let Some(payer) = payer_named(row.text(node)) {
-                    let request = named.request(&row, payer)?;
-                    let time = row.optional_number(time)?;
-                    taken.push(Taken { request, time })?;
-                }
+    for (place, record) in table.rows().iter().enumerate() {
+        let row = table.row(place, record);
+        if row.text(carries) == b"request".as_slice() {
+            if let Some(payer) = payer_named(row.text(node)) {
+                let request = named.request(&row, payer)?;
+                let time = row.optional_number(time)?;
+                taken.push(Taken { request, time })?;
             }
         }
     }

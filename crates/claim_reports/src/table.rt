@@ -1,11 +1,12 @@
 //! Tables as they are read: rows of fields under the names of columns.
 
-ghost use Rattle.std.specs.Prelude.{◌≡◌, map, IfOk};
-ghost use Rattle.csv.specs.Reading.{AreRecords, default_config, strip_bom};
+ghost use Rattle.std.specs.Prelude.{◌≡◌, ℕ, List, map, IfOk, Some, bytes_eq};
+ghost use Rattle.std.specs.List.{position_from};
 ghost use Rattle.csv.specs.Records.{fields_of};
-ghost use Rattle.csv.specs.declared.parser.State.TheVariants as state;
+ghost use Rattle.claim_reports.specs.Tables.{AreRecordsOf, rows_of, column_of, cell, number_in, optional_in, word_in};
 
 use crate::fault::ReportFault;
+use crate::wider::field_at;
 use csv::{ByteRecord, Error, ErrorKind, ReaderBuilder};
 use input_text::read_decimal;
 use std::alloc::Global;
@@ -41,7 +42,7 @@ pub(crate) struct TableRow<'a> {
 fn records_of(alloc: Global, number: u64, text: &[u8]) -> Result<Vec<ByteRecord>, ReportFault>
     // They are those that a reader of CSV gives, each and in order.
     ensures { IfOk result (λ records.
-        AreRecords default_config state.StartRecord (strip_bom text.now) (map fields_of records.items)) }
+        AreRecordsOf text.now (map fields_of records.items)) }
 {
     let reader = ReaderBuilder::new()
         .has_headers(false)
@@ -68,22 +69,30 @@ impl Table {
     /// The table of this number among those that were given.
     pub(crate) fn read(alloc: Global, number: u64, text: &[u8]) -> Result<Table, ReportFault>
         ensures { IfOk result (λ table.
-            AreRecords default_config state.StartRecord (strip_bom text.now) (map fields_of table.records.items)) }
+            AreRecordsOf text.now (map fields_of table.records.items)) }
     {
         let records = records_of(alloc, number, text)?;
         Ok(Table { number, records })
     }
 
     /// The column of a name.
-    pub(crate) fn column(&self, name: &'static str) -> Result<Column, ReportFault> {
-        if let Some(names) = self.records.first() {
-            for place in 0..names.len() {
-                if is_field(names.get(place), name.as_bytes()) {
-                    return Ok(Column { place, name });
-                }
-            }
+    pub(crate) fn column(&self, name: &'static str) -> Result<Column, ReportFault>
+        ensures { IfOk result (λ column. column_of (map fields_of self.now.records.items) name.now ≡ Some column.place) }
+    {
+        match self.place(name.as_bytes()) {
+            Some(place) => Ok(Column { place, name }),
+            None => Err(ReportFault::NoColumn(self.number, name)),
         }
-        Err(ReportFault::NoColumn(self.number, name))
+    }
+
+    /// The place of the first column of a name.
+    fn place(&self, name: &[u8]) -> Option<usize>
+        ensures { result ≡ column_of (map fields_of self.now.records.items) name.now }
+    {
+        match self.records.as_slice() {
+            [names, ..] => place_of(names, name),
+            [] => None,
+        }
     }
 
     /// That it has no column of a name.
@@ -101,38 +110,52 @@ impl Table {
         self.records.as_slice()
     }
 
-    /// How many rows it has behind the names.
-    pub(crate) fn count(&self) -> usize {
-        self.records.len().saturating_sub(1)
+    /// Its rows, behind the names.
+    pub(crate) fn rows(&self) -> &[ByteRecord]
+        ensures { map fields_of result.now ≡ rows_of (map fields_of self.now.records.items) }
+    {
+        match self.records.as_slice() {
+            [_, rows @ ..] => rows,
+            [] => &[],
+        }
     }
 
     /// The row at a place behind the names, from 0.
-    pub(crate) fn row(&self, place: usize) -> Option<TableRow<'_>> {
-        let record = self.records.get(place.saturating_add(1))?;
-        Some(TableRow {
+    pub(crate) fn row<'a>(&self, place: usize, record: &'a ByteRecord) -> TableRow<'a>
+        ensures { result.record.now ≡ record.now }
+    {
+        TableRow {
             table: self.number,
             number: (place as u64).saturating_add(1),
             record,
-        })
+        }
     }
 }
 
-/// Whether there is a field, and it is this.
-fn is_field(field: Option<&[u8]>, wanted: &[u8]) -> bool {
-    match field {
-        Some(field) => field == wanted,
-        None => false,
+/// The place of the first of some fields that is a name.
+fn place_of(names: &ByteRecord, name: &[u8]) -> Option<usize>
+    ensures { result ≡ position_from (λ (field : List ℕ). bytes_eq field name.now) 0 (fields_of names.now) }
+{
+    for place in 0..names.len() {
+        if field_at(names, place) == name {
+            return Some(place);
+        }
     }
+    None
 }
 
 impl<'a> TableRow<'a> {
     /// The text of a column; of a column that is not there it is empty.
-    pub(crate) fn text(&self, column: Column) -> &'a [u8] {
-        self.record.get(column.place).unwrap_or(b"")
+    pub(crate) fn text(&self, column: Column) -> &'a [u8]
+        ensures { result.now ≡ cell column.place (fields_of self.now.record.now) }
+    {
+        field_at(self.record, column.place)
     }
 
     /// The number of a column.
-    pub(crate) fn number(&self, column: Column) -> Result<u64, ReportFault> {
+    pub(crate) fn number(&self, column: Column) -> Result<u64, ReportFault>
+        ensures { IfOk result (λ number. number_in column.place (fields_of self.now.record.now) ≡ Some number) }
+    {
         match read_decimal(self.text(column), DIGITS) {
             Some(number) => Ok(number),
             None => Err(self.bad(column)),
@@ -140,7 +163,9 @@ impl<'a> TableRow<'a> {
     }
 
     /// The number of a column that may be empty.
-    pub(crate) fn optional_number(&self, column: Column) -> Result<Option<u64>, ReportFault> {
+    pub(crate) fn optional_number(&self, column: Column) -> Result<Option<u64>, ReportFault>
+        ensures { IfOk result (λ number. optional_in column.place (fields_of self.now.record.now) ≡ Some number) }
+    {
         if self.text(column).is_empty() {
             return Ok(None);
         }
@@ -153,7 +178,9 @@ impl<'a> TableRow<'a> {
         column: Column,
         first: &[u8],
         second: &[u8],
-    ) -> Result<bool, ReportFault> {
+    ) -> Result<bool, ReportFault>
+        ensures { IfOk result (λ is. word_in column.place first.now second.now (fields_of self.now.record.now) ≡ Some is) }
+    {
         let text = self.text(column);
         if text == second {
             return Ok(true);

@@ -1,5 +1,13 @@
 //! Totals of a table of payments, as a table.
 
+ghost use Rattle.std.specs.Prelude.{◌≡◌, ◌++◌, map, Some, None, IfOk, OnOk};
+ghost use Rattle.std.specs.BTreeMap.{IsOrdered};
+ghost use Rattle.csv.specs.Records.{fields_of};
+ghost use Rattle.claim_reports.specs.Totals.{key_cmp};
+ghost use Rattle.claim_reports.specs.Totalled.{day_name, by_name, AreColumns, day_in, paid_in, ArePaid, total_row, totals_text, IsTotalled};
+ghost use Rattle.table_text.specs.Adding.{AddsRow};
+ghost use Rattle.table_text.specs.declared.layout.Style.TheVariants.{Csv};
+
 use crate::choice::{Choice, Paid, chosen};
 use crate::fault::ReportFault;
 use crate::ruled_rows::RULED_ON;
@@ -39,31 +47,37 @@ pub fn totals_table(
     by: By,
     days: Days,
     choice: &Choice,
-) -> Result<Vec<u8>, ReportFault> {
+) -> Result<Vec<u8>, ReportFault>
+    // What is written is, row by row, the totals of the payments that a reader of CSV finds in the table.
+    ensures { IfOk result (λ text. IsTotalled payments.now by days choice.now text.items) }
+{
     let table = Table::read(alloc, 1, payments)?;
     let paid = paid_in(alloc, &table, days)?;
     let kept = chosen(alloc, choice, paid.as_slice())?;
     let totals = totals_of(alloc, by, kept.as_slice())?;
     let mut out = Vec::new(alloc);
-    put_totals(&mut out, by.name(days), &totals)?;
+    put_totals(&mut out, by.name(days).as_bytes(), &totals)?;
     Ok(out)
 }
 
 /// The payments of a table.
-fn paid_in(alloc: Global, table: &Table, days: Days) -> Result<Vec<Paid>, ReportFault> {
+fn paid_in(alloc: Global, table: &Table, days: Days) -> Result<Vec<Paid>, ReportFault>
+    ensures { IfOk result (λ paid. ArePaid days (map fields_of table.now.records.items) paid.items) }
+{
     let columns = Columns::of(table, days)?;
     let mut paid = Vec::new(alloc);
-    for place in 0..table.count() {
-        if let Some(row) = table.row(place) {
-            paid.push(columns.paid(&row, days)?)?;
-        }
+    for (place, record) in table.rows().iter().enumerate() {
+        let row = table.row(place, record);
+        paid.push(columns.paid(&row, days)?)?;
     }
     Ok(paid)
 }
 
 impl Columns {
     /// Those of a table.
-    fn of(table: &Table, days: Days) -> Result<Columns, ReportFault> {
+    fn of(table: &Table, days: Days) -> Result<Columns, ReportFault>
+        ensures { IfOk result (λ columns. AreColumns days (map fields_of table.now.records.items) columns) }
+    {
         Ok(Columns {
             payer: table.column("payer")?,
             pharmacy: table.column("pharmacy")?,
@@ -74,7 +88,10 @@ impl Columns {
     }
 
     /// The payment of a row.
-    fn paid(&self, row: &TableRow<'_>, days: Days) -> Result<Paid, ReportFault> {
+    #[tactic(auto, unfolding(crate::specs::Totalled::paid_in))]
+    fn paid(&self, row: &TableRow<'_>, days: Days) -> Result<Paid, ReportFault>
+        ensures { IfOk result (λ paid. paid_in days self.now (fields_of row.now.record.now) ≡ Some paid) }
+    {
         Ok(Paid {
             payer: row.number(self.payer)?,
             pharmacy: row.number(self.pharmacy)?,
@@ -88,13 +105,16 @@ impl Columns {
 /// Appends totals.
 fn put_totals(
     out: &mut Vec<u8>,
-    name: &'static str,
+    name: &'static [u8],
     totals: &BTreeMap<Option<u64>, Sums>,
-) -> Result<(), AllocError> {
+) -> Result<(), AllocError>
+    ensures text { OnOk result (out.new.items ≡ out.old.items ++ totals_text name.now totals.now.entries) }
+    ensures ordered { OnOk result (IsOrdered key_cmp totals.now) }
+{
     put_head(
         out,
         &[
-            name.as_bytes(),
+            name,
             b"payments",
             b"cents",
             b"reversed_payments",
@@ -108,14 +128,17 @@ fn put_totals(
 }
 
 /// Appends the sums of a number, which stands under a name.
+#[tactic(auto, unfolding(crate::specs::Totalled::total_row))]
 fn put_total(
     out: &mut Vec<u8>,
-    name: &'static str,
+    name: &'static [u8],
     number: Option<u64>,
     sums: &Sums,
-) -> Result<(), AllocError> {
+) -> Result<(), AllocError>
+    ensures { OnOk result (AddsRow Csv out.old out.new (total_row name.now number sums.now)) }
+{
     let fields = [
-        Field::number_or_nothing(name.as_bytes(), number),
+        Field::number_or_nothing(name, number),
         Field::number(b"payments", sums.count),
         Field::number(b"cents", sums.cents),
         Field::number(b"reversed_payments", sums.reversed_count),
@@ -126,7 +149,9 @@ fn put_total(
 
 impl By {
     /// The name of its column.
-    fn name(self, days: Days) -> &'static str {
+    fn name(self, days: Days) -> &'static str
+        ensures { result.now ≡ by_name self days }
+    {
         match self {
             By::Payer => "payer",
             By::Pharmacy => "pharmacy",
@@ -137,7 +162,9 @@ impl By {
 
 impl Days {
     /// The name of its column.
-    fn name(self) -> &'static str {
+    fn name(self) -> &'static str
+        ensures { result.now ≡ day_name self }
+    {
         match self {
             Days::Service => "date_of_service",
             Days::Ruling => RULED_ON,
@@ -145,7 +172,9 @@ impl Days {
     }
 
     /// The day of a row, which its column has; that of ruling may not be known.
-    fn day(self, row: &TableRow<'_>, column: Column) -> Result<Option<u64>, ReportFault> {
+    fn day(self, row: &TableRow<'_>, column: Column) -> Result<Option<u64>, ReportFault>
+        ensures { IfOk result (λ day. day_in self column.place (fields_of row.now.record.now) ≡ Some day) }
+    {
         match self {
             Days::Service => Ok(Some(row.number(column)?)),
             Days::Ruling => row.optional_number(column),

@@ -44,7 +44,7 @@ fn wider_fields<'a>(
 }
 
 /// The field at a place, which the record has.
-fn field_at(row: &ByteRecord, place: usize) -> &[u8]
+pub(crate) fn field_at(row: &ByteRecord, place: usize) -> &[u8]
     ensures { result.now ≡ get_or (fields_of row.now) place [] }
 {
     match row.get(place) {

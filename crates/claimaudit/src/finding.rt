@@ -3,7 +3,7 @@
 use claim_reports::ReportFault;
 use kept_logs::LogFault;
 use log_audit::AuditFault;
-use log_turning::JoinFault;
+use log_turning::{JoinFault, RestFault};
 use thiserror::Error;
 
 /// Why there is no verdict.
@@ -18,6 +18,9 @@ pub(crate) enum Finding {
     /// The log of this name does not go on where the one before it ends, or is none.
     #[error("{0}: {1}")]
     Joining(String, JoinFault),
+    /// The log of this name begins with another rest than its node left behind the one before it.
+    #[error("{0}: {1}")]
+    Rest(String, RestFault),
     /// The settings are refused: what is wrong in them.
     #[error("settings refused: {0}")]
     Settings(String),

@@ -216,6 +216,7 @@ fn had<T: Drop>(
         Err(WholeFault::File(name, error)) => Err(End::of_file(rt.alloc(), name.as_str(), error)),
         Err(WholeFault::Logs(_, JoinFault::Settings)) => Err(End::Own(why_refused(rt, words)?)),
         Err(WholeFault::Logs(name, fault)) => Err(End::Own(Finding::Joining(name, fault))),
+        Err(WholeFault::Rest(name, fault)) => Err(End::Own(Finding::Rest(name, fault))),
     }
 }
 

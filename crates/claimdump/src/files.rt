@@ -7,7 +7,7 @@ use crate::recorded::{Recorded, number_of};
 use kept_logs::{SettingsDigest, write_log};
 use node_log::NodeLog;
 use node_state::{PayerNode, PharmacyNode};
-use schedule::{ScheduleFault, divide, read_schedule};
+use schedule::{ScheduleFault, divide, read_living_schedule};
 use settings_digest::said;
 use std::alloc::{AllocError, Global};
 use world_core::World;
@@ -22,7 +22,7 @@ use world_setup::{Event, Fault, Node, WorldFault};
 pub(crate) fn dump(alloc: Global, input: &[u8]) -> Result<Vec<DumpFile>, DumpFault> {
     let parts = divide(alloc, input)?;
     let (world, digest) = opened(alloc, parts.settings.as_slice())?;
-    let events = match read_schedule(alloc, parts.schedule) {
+    let events = match read_living_schedule(alloc, parts.schedule) {
         Ok(events) => events,
         Err(ScheduleFault::OutOfMemory) => return Err(DumpFault::OutOfMemory),
         Err(ScheduleFault::Line(number)) => return Err(DumpFault::Line(number)),

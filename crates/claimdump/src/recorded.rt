@@ -85,10 +85,12 @@ fn addressee(world: &World, event: &Event) -> Node {
     match event {
         Event::Submit { pharmacy, .. } => Node::Pharmacy(*pharmacy),
         Event::Tick { pharmacy } => Node::Pharmacy(*pharmacy),
-        Event::Deliver { packet } => match packet_of(world, *packet) {
-            Some(packet) => packet.to,
-            None => Node::Switch(0),
-        },
+        Event::Deliver { packet } | Event::Adjudicate { packet, .. } => {
+            match packet_of(world, *packet) {
+                Some(packet) => packet.to,
+                None => Node::Switch(0),
+            }
+        }
         Event::Stop(node) => *node,
         Event::Start(node) => *node,
         Event::Plan { payer, .. } => Node::Payer(*payer),
@@ -107,6 +109,10 @@ fn call_of(world: &World, event: &Event) -> Result<Option<Call>, AllocError> {
         Event::Stop(_) => Ok(Some(Call::Stop)),
         Event::Start(_) => Ok(Some(Call::Start)),
         Event::Plan { product, price, .. } => plan(product, *price),
+        Event::Adjudicate { packet, advice } => match packet_of(world, *packet) {
+            Some(packet) => adjudicating(packet.from, &packet.bytes, advice),
+            None => Ok(None),
+        },
     }
 }
 
@@ -114,6 +120,17 @@ fn call_of(world: &World, event: &Event) -> Result<Option<Call>, AllocError> {
 fn taking(from: Node, bytes: &Octets) -> Result<Option<Call>, AllocError> {
     let bytes = bytes.copy()?;
     Ok(Some(Call::Take { from, bytes }))
+}
+
+/// The taking of a packet with an advice.
+fn adjudicating(from: Node, bytes: &Octets, advice: &Octets) -> Result<Option<Call>, AllocError> {
+    let bytes = bytes.copy()?;
+    let advice = advice.copy()?;
+    Ok(Some(Call::Adjudicate {
+        from,
+        bytes,
+        advice,
+    }))
 }
 
 /// A change of a plan.

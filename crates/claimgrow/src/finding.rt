@@ -1,7 +1,7 @@
 //! What the program alone can find wrong.
 
 use log_growth::GrowthFault;
-use log_turning::JoinFault;
+use log_turning::{JoinFault, RestFault};
 use thiserror::Error;
 
 /// What the program alone can find wrong.
@@ -22,6 +22,9 @@ pub(crate) enum Finding {
     /// The log of this name does not go on where the one before it ends, or is none.
     #[error("{0}: {1}")]
     Joining(String, JoinFault),
+    /// The log of this name begins with another rest than its node left behind the one before it.
+    #[error("{0}: {1}")]
+    Rest(String, RestFault),
     /// Some log does not go over.
     #[error("no log was changed, since not all go over")]
     SomeStay,

@@ -14,7 +14,7 @@ mod words;
 use crate::copies::put_in_place;
 use crate::finding::Finding;
 use crate::locked::{Locked, lock_all};
-use crate::telling::put_line;
+use crate::telling::{hint_for, put_line};
 use crate::words::{Words, words_of};
 use command_line::{End, given_words, read_file};
 use log_growth::{Gone, Grown, GrowthFault, OverFault, go_over, grows};
@@ -25,7 +25,6 @@ use std::alloc::Global;
 use std::io::Write;
 use std::process::ExitCode;
 use world_settings::living_settings_fault;
-use world_setup::Node;
 
 /// Why the program ends before each log is one of the new settings.
 type Ungone = End<Finding>;
@@ -95,8 +94,8 @@ fn judge(
     for name in &words.logs {
         let bytes = read_log(rt, old, new, name)?;
         let becomes = go_over(alloc, &grown.old, &grown.new, new, bytes.as_slice());
-        let routed = is_routed_now(alloc, &grown.old, old, bytes.as_slice(), &becomes);
-        put_line(alloc, &mut lines, name, &becomes, routed)?;
+        let hint = hint_of(alloc, grown, old, bytes.as_slice(), &becomes);
+        put_line(alloc, &mut lines, name, &becomes, hint)?;
         match becomes {
             Ok(one) => gone.push(one)?,
             Err(OverFault::OutOfMemory) => return Err(End::OutOfMemory),
@@ -114,7 +113,7 @@ fn judge(
 /// The log of a node under one of these settings; where it goes on behind closed ones, which stand beside it, all of them as one.
 fn read_log(rt: &HostRuntime, old: &[u8], new: &[u8], name: &str) -> Result<Vec<u8>, Ungone> {
     let read = match whole_log(rt, old, name) {
-        Err(WholeFault::Logs(_, _)) => whole_log(rt, new, name),
+        Err(WholeFault::Logs(_, _) | WholeFault::Rest(_, _)) => whole_log(rt, new, name),
         read => read,
     };
     match read {
@@ -122,29 +121,40 @@ fn read_log(rt: &HostRuntime, old: &[u8], new: &[u8], name: &str) -> Result<Vec<
         Err(WholeFault::OutOfMemory) => Err(End::OutOfMemory),
         Err(WholeFault::File(name, error)) => Err(End::of_file(rt.alloc(), name.as_str(), error)),
         Err(WholeFault::Logs(name, fault)) => Err(End::Own(Finding::Joining(name, fault))),
+        Err(WholeFault::Rest(name, fault)) => Err(End::Own(Finding::Rest(name, fault))),
     }
 }
 
-/// Whether a switch would not be served from its log for a request that it rejected, and that has a route now. Where it makes
-/// its log under the old settings it can be for nothing else.
-fn is_routed_now(
+/// For what a node would not be served from its log. Where it makes its log under the old settings it is for the routes alone:
+/// a switch for a request that it rejected and that has a route now; and where new providers have other payers, a switch or a
+/// payer for a request of one of them, which it took before it went over.
+fn hint_of(
     alloc: Global,
-    digests: &Digests,
+    grown: &Grown,
     old: &[u8],
     bytes: &[u8],
     becomes: &Result<Gone, OverFault>,
-) -> bool
+) -> &'static str
+    requires { AreOf old.now grown.now.old }
+{
+    let hint = match becomes {
+        Err(OverFault::Refused(node, ServiceFault::NotMade(_))) => hint_for(*node, grown.moves),
+        _ => "",
+    };
+    if hint.is_empty() || !makes_log(alloc, &grown.old, old, bytes) {
+        return "";
+    }
+    hint
+}
+
+/// Whether a log is one of the old settings, under which its node makes it.
+fn makes_log(alloc: Global, digests: &Digests, old: &[u8], bytes: &[u8]) -> bool
     requires { AreOf old.now digests.now }
 {
-    match becomes {
-        Err(OverFault::Refused(Node::Switch(_), ServiceFault::NotMade(_))) => {
-            matches!(
-                go_over(alloc, digests, digests, old, bytes),
-                Ok(Gone::Already(_))
-            )
-        }
-        _ => false,
-    }
+    matches!(
+        go_over(alloc, digests, digests, old, bytes),
+        Ok(Gone::Already(_))
+    )
 }
 
 /// Writes to standard output.

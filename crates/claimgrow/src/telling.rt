@@ -5,19 +5,32 @@ use node_service::ServiceFault;
 use std::alloc::{AllocError, Global};
 use world_setup::Node;
 
-/// Appends the line of a log of this name: its node, and what becomes of it or why it stays, which may be a request that was
-/// rejected and has a route now.
+/// For what in the routes a node does not make its log under the new settings, where these may lead new providers to other
+/// payers; nothing, where it can be for none of them.
+pub(crate) fn hint_for(node: Node, moves: bool) -> &'static str {
+    match (node, moves) {
+        (Node::Switch(_), false) => ": a request that it rejected has a route now",
+        (Node::Switch(_), true) => {
+            ": a request that it rejected has a route now, or one that it took has another payer"
+        }
+        (Node::Payer(_), true) => ": a request that it took has another payer now",
+        _ => "",
+    }
+}
+
+/// Appends the line of a log of this name: its node, and what becomes of it or why it stays, with a hint at what in the routes
+/// it is for.
 pub(crate) fn put_line(
     alloc: Global,
     lines: &mut Vec<u8>,
     name: &str,
     becomes: &Result<Gone, OverFault>,
-    routed: bool,
+    hint: &str,
 ) -> Result<(), AllocError> {
     let line = match becomes {
         Ok(Gone::Over(node, _)) => over(alloc, name, *node, "goes over")?,
         Ok(Gone::Already(node)) => over(alloc, name, *node, "is under the new settings already")?,
-        Err(OverFault::Refused(node, fault)) => refused(alloc, name, *node, fault, routed)?,
+        Err(OverFault::Refused(node, fault)) => refused(alloc, name, *node, fault, hint)?,
         Err(fault) => stays(alloc, name, fault)?,
     };
     lines.extend_from_slice(line.as_bytes())
@@ -35,14 +48,9 @@ fn refused(
     name: &str,
     node: Node,
     fault: &ServiceFault,
-    routed: bool,
+    hint: &str,
 ) -> Result<String, AllocError> {
     let (kind, number) = named(node);
-    let hint = if routed {
-        ": a request that it rejected has a route now"
-    } else {
-        ""
-    };
     format!(in alloc; "{name}: {kind} {number} does not go over: {fault}{hint}\n")
 }
 

@@ -1,6 +1,7 @@
 //! The file of a node's log.
 
 use crate::finding::Finding;
+use crate::turning::leave_mark;
 use command_line::End;
 use log_turning::{BEFORE_REST, rest_size};
 use node_process::{mark_of_failed_sync, sync_folder};
@@ -47,8 +48,19 @@ pub(crate) fn open_log(rt: &HostRuntime, path: &str) -> Result<Opened, End<Findi
         Ok(file) => file,
         Err(error) => return Err(End::of_file(rt.alloc(), path, error)),
     };
-    sync_folder(rt, path)?;
+    sync_name(rt, path)?;
     taken(rt, path, file)
+}
+
+/// Has the name of a log on disk. Where that fails it leaves a mark, as a log does whose sync failed.
+pub(crate) fn sync_name(rt: &HostRuntime, path: &str) -> Result<(), End<Finding>> {
+    match sync_folder(rt, path) {
+        Ok(()) => Ok(()),
+        Err(error) => {
+            let _ = leave_mark(rt, path);
+            Err(End::Io(error))
+        }
+    }
 }
 
 /// Opens the file of a log that is there, and takes it for this process.

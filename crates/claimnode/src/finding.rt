@@ -1,6 +1,6 @@
 //! What the program alone can find wrong.
 
-use log_turning::JoinFault;
+use log_turning::{JoinFault, RestFault};
 use node_service::ServiceFault;
 use thiserror::Error;
 
@@ -34,7 +34,7 @@ pub(crate) enum Finding {
     /// The settings are refused: what is wrong in them.
     #[error("settings refused: {0}")]
     Settings(String),
-    /// The log has fewer calls than it was known to have: so many.
+    /// The log, and the closed ones before it, have fewer calls than they were known to have: so many.
     #[error("the log has {0} calls, fewer than it is known to have")]
     FewCalls(u64),
     /// The node left no record.
@@ -43,6 +43,9 @@ pub(crate) enum Finding {
     /// The logs of a node do not go on one behind another: what is wrong with which file.
     #[error("{0}: {1}")]
     Joining(String, JoinFault),
+    /// A log of a node begins with another rest than the node left: which file.
+    #[error("{0}: {1}")]
+    Rest(String, RestFault),
     /// The settings, the node or its log are refused.
     #[error("{0}")]
     Service(ServiceFault),

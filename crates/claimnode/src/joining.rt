@@ -47,5 +47,6 @@ fn had<T: Drop>(alloc: Global, read: Result<T, WholeFault>) -> Result<T, End<Fin
         Err(WholeFault::OutOfMemory) => Err(End::OutOfMemory),
         Err(WholeFault::File(name, error)) => Err(End::of_file(alloc, name.as_str(), error)),
         Err(WholeFault::Logs(name, fault)) => Err(End::Own(Finding::Joining(name, fault))),
+        Err(WholeFault::Rest(name, fault)) => Err(End::Own(Finding::Rest(name, fault))),
     }
 }

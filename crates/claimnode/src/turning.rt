@@ -1,11 +1,11 @@
 //! A log that is closed, so that its node goes on in a new one.
 
-use crate::file::{Opened, check_mark, open_found};
+use crate::file::{Opened, check_mark, open_found, sync_name};
 use crate::finding::Finding;
 use crate::words::Words;
 use command_line::End;
 use log_turning::{TurnFault, Turned, closed_name, turn_log, write_file};
-use node_process::{keep_end, mark_of_failed_sync, sync_folder};
+use node_process::{keep_end, mark_of_failed_sync};
 use std::alloc::Global;
 use std::fs::OpenOptions;
 use std::io::{Read, Write};
@@ -87,7 +87,7 @@ fn close(
 }
 
 /// Leaves the mark of a log whose sync failed.
-fn leave_mark(rt: &HostRuntime, path: &str) -> io::Result<()> {
+pub(crate) fn leave_mark(rt: &HostRuntime, path: &str) -> io::Result<()> {
     let name = mark_of_failed_sync(rt.alloc(), path)?;
     let mut file = private_file().open(rt, name.as_str())?;
     file.write_all(b"a sync of the log failed\n")?;
@@ -108,9 +108,9 @@ fn replace(rt: &HostRuntime, path: &str, calls: u64) -> Result<String, End<Findi
     if let Err(error) = fs::hard_link(rt, path, closed.as_str()) {
         return Err(End::of_file(rt.alloc(), closed.as_str(), error));
     }
-    sync_folder(rt, path)?;
+    sync_name(rt, path)?;
     fs::rename(rt, next.as_str(), path)?;
-    sync_folder(rt, path)?;
+    sync_name(rt, path)?;
     Ok(closed)
 }
 

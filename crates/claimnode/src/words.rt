@@ -17,7 +17,7 @@ pub(crate) struct Words<'a> {
     pub(crate) node: Node,
     /// The file of the node's log.
     pub(crate) log: &'a str,
-    /// How many calls the log is known to have.
+    /// How many calls the logs are known to have, the closed ones too.
     pub(crate) least: u64,
     /// Whether the log is not served: what stands behind its damage is told.
     pub(crate) repair: bool,
@@ -81,7 +81,7 @@ fn command<'a>(alloc: Global) -> Result<Command<'a>, AllocError> {
         .arg(join(alloc)?)
 }
 
-/// How many calls the log is known to have.
+/// How many calls the logs are known to have, the closed ones too.
 fn least<'a>(alloc: Global) -> Arg<'a> {
     Arg::new(alloc, "at-least")
         .long("at-least")

@@ -65,7 +65,9 @@ fn draw(rt: &HostRuntime, extent: Extent) -> Result<(), Stopped> {
         Ok(()) => Ok(()),
         Err(fault) => {
             let why = match reader.kept() {
-                Some(input) => why_refused(alloc, Spelled::Events, input, fault).unwrap_or(None),
+                Some(input) => why_refused(alloc, Spelled::LivingEvents, input, fault).unwrap_or(
+                    None,
+                ),
                 None => None,
             };
             Err(Stopped {

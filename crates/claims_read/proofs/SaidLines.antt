@@ -10,7 +10,7 @@ use Rattle.claim_model.specs.declared.refusal.Fault.{Fault}
 use Rattle.claim_model.specs.declared.refusal.Fault.TheVariants.{OutOfMemory, Refused}
 use Rattle.claim_model.specs.Rows.{Row, Book}
 use Rattle.claim_model.specs.Bytes.{bytes_with}
-use Rattle.claim_model.specs.Book.{Answered, answered}
+use Rattle.claim_model.specs.Book.{Answered, answered, unadvised}
 use Rattle.claim_model.proofs.Lists.{get_exists}
 use Rattle.payer_book.specs.Answers.{Refuses}
 use Rattle.payer_book.specs.Placing.{AnswersAt}
@@ -26,7 +26,7 @@ use Rattle.claims_read.specs.Said.{answer_of, said_text}
 
 -- the same text, unless memory ran out
 pub said_is_told : (maps : RouteMaps) (before : Book) (id : Txn) (request : List ℕ) (said : Result Placed Fault) (after : Book)
-    → AnswersAt maps before id request after said → Refuses maps before id request said → (said ≡ Err OutOfMemory → ⊥) → said_text after.rows said ≡ told (answered (bytes_with maps) before id request)
+    → AnswersAt maps before id request after said → Refuses maps before unadvised id request said → (said ≡ Err OutOfMemory → ⊥) → said_text after.rows said ≡ told (answered (bytes_with maps) before unadvised id request)
 said_is_told maps before id request (Ok placed) after is why known =
     let row = get_exists after.rows placed.place is.within in ap (λ (o : Option Row). codes " " ++ printed (answer_of o)) row.1 ∙ sym (ap told (is.ruled row.0 row.1))
 said_is_told maps before id request (Err OutOfMemory) after is why known = absurd (known refl)
@@ -34,8 +34,8 @@ said_is_told maps before id request (Err (Refused refusal)) after is why known =
 
 -- the book that is left, unless memory ran out
 pub book_is_left : (maps : RouteMaps) (before : Book) (id : Txn) (request : List ℕ) (said : Result Placed Fault) (after : Book)
-    → AnswersAt maps before id request after said → Refuses maps before id request said → OnErr said (after ≡ before) → (said ≡ Err OutOfMemory → ⊥)
-    → after ≡ book_after before (answered (bytes_with maps) before id request)
+    → AnswersAt maps before id request after said → Refuses maps before unadvised id request said → OnErr said (after ≡ before) → (said ≡ Err OutOfMemory → ⊥)
+    → after ≡ book_after before (answered (bytes_with maps) before unadvised id request)
 book_is_left maps before id request (Ok placed) after is why same known = let row = get_exists after.rows placed.place is.within in sym (ap (book_after before) (is.ruled row.0 row.1))
 book_is_left maps before id request (Err OutOfMemory) after is why same known = absurd (known refl)
 book_is_left maps before id request (Err (Refused refusal)) after is why same known = same ∙ sym (ap (book_after before) why)

@@ -5,7 +5,7 @@ use Rattle.bin_routes.specs.Table.{RouteMaps}
 use Rattle.claim_model.specs.declared.refusal.Refusal.{Refusal}
 use Rattle.claim_model.specs.Refusal.{refusal_name}
 use Rattle.claim_model.specs.Rows.{Book}
-use Rattle.claim_model.specs.Book.{Answered, answered}
+use Rattle.claim_model.specs.Book.{Answered, answered, unadvised}
 use Rattle.claim_model.specs.Bytes.{bytes_with}
 use Rattle.program_io.specs.declared.fault.InputFault.{InputFault}
 use Rattle.claims_read.specs.Entries.{Entry, entries_of}
@@ -27,7 +27,7 @@ book_after book (Err refusal) = book
 
 -- what the book says to a request
 abbrev pub said_to : RouteMaps → Book → Entry → Result Answered Refusal
-said_to maps book e = answered (bytes_with maps) book e.id e.request
+said_to maps book e = answered (bytes_with maps) book unadvised e.id e.request
 
 -- the line of an entry, by what this book says to it
 abbrev pub entry_line : RouteMaps → Book → Entry → List ℕ

@@ -10,3 +10,15 @@ pub mod Appending
 pub mod Candidates
 pub mod Closing
 pub mod Stepping
+pub mod Caps
+pub mod Lighter
+pub mod Lightness
+pub mod Ways
+pub mod Explaining
+pub mod Telling
+pub mod Tracking
+pub mod Taking
+pub mod Storied
+pub mod Deciding
+pub mod Handed
+pub mod Filed

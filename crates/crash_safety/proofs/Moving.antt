@@ -6,9 +6,9 @@ use Rattle.std.proofs.lemmas.List.{append-nil, take-append-drop}
 use Rattle.claim_model.specs.Context.{Context}
 use Rattle.claim_model.specs.Numbered.{numbered}
 use Rattle.claim_model.specs.Node.{Node, Call, Sent, Outcome, Done, Refused}
-use Rattle.claim_model.specs.World.{World, Packet, Event, Submission, Ticking, Delivery, Stopping, Starting, PlanChange, step, world_after, run}
+use Rattle.claim_model.specs.World.{World, Packet, Event, Submission, Ticking, Delivery, Stopping, Starting, PlanChange, Adjudication, step, world_after, run}
 use Rattle.claim_model.specs.Settings.{WorldSettings, opening}
-use Rattle.claim_model.specs.Nodes.{AnyNode, node_step, node_at, Asked, taking, asked}
+use Rattle.claim_model.specs.Nodes.{AnyNode, node_step, node_at, Asked, taking, adjudicating, asked}
 use Rattle.claim_model.specs.Logs.{Logged, log_in, node_after, replay, Makes, posted_by, is_from}
 use Rattle.claim_model.specs.Interleavings.{IsDone}
 use Rattle.claim_model.proofs.Lists.{numbered_append, numbered_more, all_at, all_from, all_append, all_filter}
@@ -92,6 +92,13 @@ taken_again packets wire k a among e =
     let same : taking t.0 ≡ a = t.2 in
     record { event = Delivery there.number; asks = ap (option_map taking) there.is ∙ ap (λ (x : Asked). Some x) same }
 
+advised_again : (packets : List Packet) (wire : List Packet) (k : ℕ) (advice : List ℕ) (a : Asked) → ((j : ℕ) (p : Packet) → numbered wire j ≡ Some p → IsAmong packets p) → asked wire (Adjudication k advice) ≡ Some a → Comes packets a.node a.call
+advised_again packets wire k advice a among e =
+    let t = map_some (adjudicating advice) (numbered wire k) a e in
+    let there = among k t.0 t.1 in
+    let same : adjudicating advice t.0 ≡ a = t.2 in
+    record { event = Adjudication there.number advice; asks = ap (option_map (adjudicating advice)) there.is ∙ ap (λ (x : Asked). Some x) same }
+
 comes_again : (packets : List Packet) (wire : List Packet) (event : Event) (a : Asked) → ((j : ℕ) (p : Packet) → numbered wire j ≡ Some p → IsAmong packets p) → asked wire event ≡ Some a → Comes packets a.node a.call
 comes_again packets wire (Submission n text) a among e = record { event = Submission n text; asks = e }
 comes_again packets wire (Ticking n) a among e = record { event = Ticking n; asks = e }
@@ -99,6 +106,7 @@ comes_again packets wire (Delivery k) a among e = taken_again packets wire k a a
 comes_again packets wire (Stopping node) a among e = record { event = Stopping node; asks = e }
 comes_again packets wire (Starting node) a among e = record { event = Starting node; asks = e }
 comes_again packets wire (PlanChange n product price) a among e = record { event = PlanChange n product price; asks = e }
+comes_again packets wire (Adjudication k advice) a among e = advised_again packets wire k advice a among e
 
 calling_on : (ctx : Context) (s : WorldSettings) (n : Network) (events : List Event) (event : Event) (o : Option Asked) → IsSound ctx s n events → asked n.wire event ≡ o → Further ctx s (calling ctx n o) events
 calling_on ctx s n events event None i e = as_it_was ctx s n events i

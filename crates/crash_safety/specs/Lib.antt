@@ -4,3 +4,10 @@ pub mod Runs
 pub mod Kept
 pub mod Steps
 pub mod Fenced
+pub mod Diskless
+pub mod Explained
+pub mod Told
+pub mod Greedy
+pub mod Story
+pub mod Explains
+pub mod Handing

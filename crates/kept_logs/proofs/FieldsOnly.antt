@@ -4,14 +4,14 @@ use Rattle.std.proofs.lemmas.Bool.Decides.{nat_tests}
 use Rattle.std.proofs.lemmas.Option.{some_pair_parts, same_Some}
 use Rattle.std.proofs.lemmas.List.{take-append-drop, length-take-le}
 use Rattle.std.specs.Int.{w16, w32, w64, to_be_bytes}
-use Rattle.claim_model.specs.Node.{Node, Pharmacy, Switch, Payer, Sent, Call, Submit, Tick, Take, Stop, Start, Reprice}
+use Rattle.claim_model.specs.Node.{Node, Pharmacy, Switch, Payer, Sent, Call, Submit, Tick, Take, Stop, Start, Reprice, Adjudicate}
 use Rattle.claim_model.specs.Logs.{Logged}
 use Rattle.kept_records.specs.Fields.{u8_at, u16_at, u32_at, u64_at}
 use Rattle.kept_records.specs.Options.{◌>>=◌}
 use Rattle.kept_records.proofs.Chains.{option_then}
 use Rattle.kept_records.proofs.FieldsOnly.{AreBytes, drop_bytes, IsTaken, u8_at_taken, u16_at_taken, u32_at_taken, u64_at_taken}
 use Rattle.kept_logs.specs.Fields.{bytes_at, text_of, text_at, node_text, node_of, node_at}
-use Rattle.kept_logs.specs.Calls.{call_text, call_of, call_at, submit_at, take_at, unplan_at, plan_at}
+use Rattle.kept_logs.specs.Calls.{call_text, call_of, call_at, submit_at, take_at, adjudicate_at, unplan_at, plan_at}
 use Rattle.kept_logs.specs.Records.{sent_text, sent_at, sents_text, sents_in, logged_text, logged_in}
 
 -- two pieces, one behind the other
@@ -109,6 +109,19 @@ take_taken bytes call rest are h =
     let second : IsTaken from.0.1 (text_of packet.0.0) packet.0.1 = text_at_taken from.0.1 packet.0.0 packet.0.1 first.rest_bytes packet.1 in
     spelled 2 bytes (node_text from.0.0 ++ text_of packet.0.0) packet.0.1 (Take from.0.0 packet.0.0) call rest refl parts.0 parts.1 (both_taken bytes (node_text from.0.0) from.0.1 (text_of packet.0.0) packet.0.1 first second)
 
+adjudicate_taken : (bytes : List ℕ) (call : Call) (rest : List ℕ) → AreBytes bytes → adjudicate_at bytes ≡ Some (call, rest) → Spells 8 bytes call rest
+unfolding adjudicate_at call_text
+adjudicate_taken bytes call rest are h =
+    let from = option_then (node_at bytes) (λ (n : Node × List ℕ). text_at n.1 >>= λ (t : List ℕ × List ℕ). text_at t.1 >>= λ (a : List ℕ × List ℕ). Some (Adjudicate n.0 t.0 a.0, a.1)) (call, rest) h in
+    let packet = option_then (text_at from.0.1) (λ (t : List ℕ × List ℕ). text_at t.1 >>= λ (a : List ℕ × List ℕ). Some (Adjudicate from.0.0 t.0 a.0, a.1)) (call, rest) from.2 in
+    let advice = option_then (text_at packet.0.1) (λ (a : List ℕ × List ℕ). Some (Adjudicate from.0.0 packet.0.0 a.0, a.1)) (call, rest) packet.2 in
+    let parts = some_pair_parts (Adjudicate from.0.0 packet.0.0 advice.0.0) call advice.0.1 rest advice.2 in
+    let first : IsTaken bytes (node_text from.0.0) from.0.1 = node_at_taken bytes from.0.0 from.0.1 are from.1 in
+    let second : IsTaken from.0.1 (text_of packet.0.0) packet.0.1 = text_at_taken from.0.1 packet.0.0 packet.0.1 first.rest_bytes packet.1 in
+    let third : IsTaken packet.0.1 (text_of advice.0.0) advice.0.1 = text_at_taken packet.0.1 advice.0.0 advice.0.1 second.rest_bytes advice.1 in
+    spelled 8 bytes (node_text from.0.0 ++ (text_of packet.0.0 ++ text_of advice.0.0)) advice.0.1 (Adjudicate from.0.0 packet.0.0 advice.0.0) call rest refl parts.0 parts.1
+    (both_taken bytes (node_text from.0.0) from.0.1 (text_of packet.0.0 ++ text_of advice.0.0) advice.0.1 first (both_taken from.0.1 (text_of packet.0.0) packet.0.1 (text_of advice.0.0) advice.0.1 second third))
+
 plan_taken : (bytes : List ℕ) (call : Call) (rest : List ℕ) → AreBytes bytes → plan_at bytes ≡ Some (call, rest) → Spells 6 bytes call rest
 unfolding plan_at call_text
 plan_taken bytes call rest are h =
@@ -135,7 +148,9 @@ by_kind (suc (suc (suc zero))) bytes call rest are h = alone 3 bytes Stop call r
 by_kind (suc (suc (suc (suc zero)))) bytes call rest are h = alone 4 bytes Start call rest refl h
 by_kind (suc (suc (suc (suc (suc zero))))) bytes call rest are h = unplan_taken bytes call rest are h
 by_kind (suc (suc (suc (suc (suc (suc zero)))))) bytes call rest are h = plan_taken bytes call rest are h
-by_kind (suc (suc (suc (suc (suc (suc (suc kind))))))) bytes call rest are h = cc
+by_kind (suc (suc (suc (suc (suc (suc (suc zero))))))) bytes call rest are h = cc
+by_kind (suc (suc (suc (suc (suc (suc (suc (suc zero)))))))) bytes call rest are h = adjudicate_taken bytes call rest are h
+by_kind (suc (suc (suc (suc (suc (suc (suc (suc (suc kind))))))))) bytes call rest are h = cc
 
 pub call_at_taken : (bytes : List ℕ) (call : Call) (rest : List ℕ) → AreBytes bytes → call_at bytes ≡ Some (call, rest) → IsTaken bytes (call_text call) rest
 unfolding call_at

@@ -2,14 +2,14 @@
 use Rattle.std.proofs.Common.{◌≡◌, ℕ, zero, suc, ◌<◌, ◌^◌, List, [], ◌∷◌, length, Option, Some, None, ap, ◌∙◌, sym, subst}
 use Rattle.std.proofs.lemmas.Option.{some_pair_parts, same_Some}
 use Rattle.std.specs.List.{AllByRecursion}
-use Rattle.claim_model.specs.Node.{Node, Pharmacy, Switch, Payer, Sent, Call, Submit, Tick, Take, Stop, Start, Reprice}
+use Rattle.claim_model.specs.Node.{Node, Pharmacy, Switch, Payer, Sent, Call, Submit, Tick, Take, Stop, Start, Reprice, Adjudicate}
 use Rattle.claim_model.specs.Logs.{Logged}
 use Rattle.kept_records.specs.Fields.{u8_at, u16_at, u32_at, u64_at}
 use Rattle.kept_records.specs.Options.{◌>>=◌}
 use Rattle.kept_records.proofs.Chains.{option_then}
 use Rattle.kept_records.proofs.FieldsOnly.{AreBytes, IsTaken, u8_at_taken, u16_at_taken, u32_at_taken, u64_at_taken}
 use Rattle.kept_logs.specs.Fields.{bytes_at, text_at, node_of, node_at, node_text, text_of}
-use Rattle.kept_logs.specs.Calls.{call_of, call_at, submit_at, take_at, unplan_at, plan_at}
+use Rattle.kept_logs.specs.Calls.{call_of, call_at, submit_at, take_at, adjudicate_at, unplan_at, plan_at}
 use Rattle.kept_logs.specs.Records.{sent_at, sents_in, logged_in, sent_text}
 use Rattle.kept_logs.specs.Fits.{FitsNode, FitsCall, FitsSent, FitsLogged}
 use Rattle.kept_logs.proofs.FieldsOnly.{bytes_at_taken, text_at_taken, node_at_taken, mapped, call_at_taken, sent_at_taken}
@@ -64,6 +64,17 @@ take_fits bytes call rest are h =
     let first : IsTaken bytes (node_text from.0.0) from.0.1 = node_at_taken bytes from.0.0 from.0.1 are from.1 in
     subst FitsCall parts.0 (node_fits bytes from.0.0 from.0.1 are from.1, text_fits from.0.1 packet.0.0 packet.0.1 first.rest_bytes packet.1)
 
+adjudicate_fits : (bytes : List ℕ) (call : Call) (rest : List ℕ) → AreBytes bytes → adjudicate_at bytes ≡ Some (call, rest) → FitsCall call
+unfolding adjudicate_at
+adjudicate_fits bytes call rest are h =
+    let from = option_then (node_at bytes) (λ (n : Node × List ℕ). text_at n.1 >>= λ (t : List ℕ × List ℕ). text_at t.1 >>= λ (a : List ℕ × List ℕ). Some (Adjudicate n.0 t.0 a.0, a.1)) (call, rest) h in
+    let packet = option_then (text_at from.0.1) (λ (t : List ℕ × List ℕ). text_at t.1 >>= λ (a : List ℕ × List ℕ). Some (Adjudicate from.0.0 t.0 a.0, a.1)) (call, rest) from.2 in
+    let advice = option_then (text_at packet.0.1) (λ (a : List ℕ × List ℕ). Some (Adjudicate from.0.0 packet.0.0 a.0, a.1)) (call, rest) packet.2 in
+    let parts = some_pair_parts (Adjudicate from.0.0 packet.0.0 advice.0.0) call advice.0.1 rest advice.2 in
+    let first : IsTaken bytes (node_text from.0.0) from.0.1 = node_at_taken bytes from.0.0 from.0.1 are from.1 in
+    let second : IsTaken from.0.1 (text_of packet.0.0) packet.0.1 = text_at_taken from.0.1 packet.0.0 packet.0.1 first.rest_bytes packet.1 in
+    subst FitsCall parts.0 (node_fits bytes from.0.0 from.0.1 are from.1, text_fits from.0.1 packet.0.0 packet.0.1 first.rest_bytes packet.1, text_fits packet.0.1 advice.0.0 advice.0.1 second.rest_bytes advice.1)
+
 plan_fits : (bytes : List ℕ) (call : Call) (rest : List ℕ) → AreBytes bytes → plan_at bytes ≡ Some (call, rest) → FitsCall call
 unfolding plan_at
 plan_fits bytes call rest are h =
@@ -85,7 +96,9 @@ by_kind (suc (suc (suc zero))) bytes call rest are h = alone bytes Stop call res
 by_kind (suc (suc (suc (suc zero)))) bytes call rest are h = alone bytes Start call rest tt h
 by_kind (suc (suc (suc (suc (suc zero))))) bytes call rest are h = unplan_fits bytes call rest are h
 by_kind (suc (suc (suc (suc (suc (suc zero)))))) bytes call rest are h = plan_fits bytes call rest are h
-by_kind (suc (suc (suc (suc (suc (suc (suc kind))))))) bytes call rest are h = cc
+by_kind (suc (suc (suc (suc (suc (suc (suc zero))))))) bytes call rest are h = cc
+by_kind (suc (suc (suc (suc (suc (suc (suc (suc zero)))))))) bytes call rest are h = adjudicate_fits bytes call rest are h
+by_kind (suc (suc (suc (suc (suc (suc (suc (suc (suc kind))))))))) bytes call rest are h = cc
 
 pub call_fits : (bytes : List ℕ) (call : Call) (rest : List ℕ) → AreBytes bytes → call_at bytes ≡ Some (call, rest) → FitsCall call
 unfolding call_at

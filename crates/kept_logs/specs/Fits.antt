@@ -1,7 +1,7 @@
 -- Logs whose numbers are numbers of a machine.
 use Rattle.std.specs.Prelude.{◌≡◌, ⊤, ℕ, ◌<◌, ◌^◌, true, length, Some, None}
 use Rattle.std.specs.List.{AllByRecursion}
-use Rattle.claim_model.specs.Node.{Node, Pharmacy, Switch, Payer, Sent, Call, Submit, Tick, Take, Stop, Start, Reprice}
+use Rattle.claim_model.specs.Node.{Node, Pharmacy, Switch, Payer, Sent, Call, Submit, Tick, Take, Stop, Start, Reprice, Adjudicate}
 use Rattle.claim_model.specs.Logs.{Logged}
 use Rattle.kept_logs.specs.Stamps.{Stamped, KeptLog, stamped_text}
 use Rattle.kept_logs.specs.Frames.{is_size}
@@ -24,6 +24,7 @@ FitsCall Stop = ⊤
 FitsCall Start = ⊤
 FitsCall (Reprice product None) = length product < 2 ^ 64
 FitsCall (Reprice product (Some price)) = (length product < 2 ^ 64) × (price < 2 ^ 32)
+FitsCall (Adjudicate from bytes advice) = FitsNode from × (length bytes < 2 ^ 64) × (length advice < 2 ^ 64)
 
 -- a packet's numbers
 pub record FitsSent (sent : Sent) : Type 0 where

@@ -2,9 +2,9 @@
 
 ghost use Rattle.std.specs.Prelude.{◌≡◌, ◌++◌, OnOk, IfOk};
 ghost use Rattle.std.specs.Option.{option_map};
-ghost use Rattle.claim_model.specs.Node.{Submit, Take, Reprice};
+ghost use Rattle.claim_model.specs.Node.{Submit, Take, Reprice, Adjudicate};
 ghost use Rattle.world_setup.specs.Seen.{node_seen, call_seen};
-ghost use Rattle.kept_logs.specs.Calls.{call_text, call_at, call_of, submit_at, take_at, unplan_at, plan_at};
+ghost use Rattle.kept_logs.specs.Calls.{call_text, call_at, call_of, submit_at, take_at, adjudicate_at, unplan_at, plan_at};
 ghost use Rattle.kept_logs.specs.Fits.{FitsCall};
 
 use crate::fields::{take_node, take_text};
@@ -27,6 +27,11 @@ pub(crate) fn put_call(out: &mut Vec<u8>, call: &Call) -> Result<(), AllocError>
         Call::Stop => put_u8(out, 3),
         Call::Start => put_u8(out, 4),
         Call::Plan { product, price } => put_plan(out, product, *price),
+        Call::Adjudicate {
+            from,
+            bytes,
+            advice,
+        } => put_adjudicate(out, *from, bytes, advice),
     }
 }
 
@@ -49,6 +54,24 @@ fn put_take(out: &mut Vec<u8>, from: Node, bytes: &Octets) -> Result<(), AllocEr
     put_u8(out, 2)?;
     put_node(out, from)?;
     put_text(out, bytes.as_slice())
+}
+
+/// Puts the taking of a packet with an advice.
+#[tactic(auto, unfolding(crate::specs::Calls::call_text))]
+fn put_adjudicate(
+    out: &mut Vec<u8>,
+    from: Node,
+    bytes: &Octets,
+    advice: &Octets,
+) -> Result<(), AllocError>
+    ensures text { OnOk result (out.new.items
+        ≡ out.old.items ++ call_text (Adjudicate (node_seen from) bytes.now advice.now)) }
+    ensures fits { OnOk result (FitsCall (Adjudicate (node_seen from) bytes.now advice.now)) }
+{
+    put_u8(out, 8)?;
+    put_node(out, from)?;
+    put_text(out, bytes.as_slice())?;
+    put_text(out, advice.as_slice())
 }
 
 /// Puts a change of a plan.
@@ -93,6 +116,7 @@ fn call_of(alloc: Global, kind: u8, bytes: &[u8]) -> Result<Option<(Call, &[u8])
         4 => Ok(Some((Call::Start, bytes))),
         5 => take_unplan(alloc, bytes),
         6 => take_plan(alloc, bytes),
+        8 => take_adjudicate(alloc, bytes),
         _ => Ok(None),
     }
 }
@@ -122,6 +146,32 @@ fn take_take(alloc: Global, bytes: &[u8]) -> Result<Option<(Call, &[u8])>, Alloc
     };
     let bytes = Octets::copy_of(alloc, packet)?;
     Ok(Some((Call::Take { from, bytes }, rest)))
+}
+
+/// The taking of a packet with an advice, and what follows it.
+#[tactic(auto, unfolding(crate::specs::Calls::adjudicate_at))]
+fn take_adjudicate(alloc: Global, bytes: &[u8]) -> Result<Option<(Call, &[u8])>, AllocError>
+    ensures { IfOk result (λ o. option_map (λ taken. (call_seen taken.0, taken.1.now)) o ≡ adjudicate_at bytes.now) }
+{
+    let Some((from, rest)) = take_node(bytes) else {
+        return Ok(None);
+    };
+    let Some((packet, rest)) = take_text(rest) else {
+        return Ok(None);
+    };
+    let Some((said, rest)) = take_text(rest) else {
+        return Ok(None);
+    };
+    let bytes = Octets::copy_of(alloc, packet)?;
+    let advice = Octets::copy_of(alloc, said)?;
+    Ok(Some((
+        Call::Adjudicate {
+            from,
+            bytes,
+            advice,
+        },
+        rest,
+    )))
 }
 
 /// A product that is taken off a plan, and what follows it.

@@ -4,7 +4,7 @@ use Rattle.std.specs.List.{flat_map}
 use Rattle.bin_routes.specs.Table.{RouteMaps}
 use Rattle.claim_model.specs.Bytes.{bytes_with}
 use Rattle.claim_model.specs.Context.{Context}
-use Rattle.claim_model.specs.Node.{Node, Call, Submit, Tick, Take, Stop, Start, Reprice}
+use Rattle.claim_model.specs.Node.{Node, Call, Submit, Tick, Take, Stop, Start, Reprice, Adjudicate}
 use Rattle.kept_logs.specs.Stamps.{Stamped, KeptLog}
 use Rattle.kept_logs.specs.Logs.{kept_in}
 use Rattle.settings_digest.specs.Digests.{digest_under}
@@ -24,6 +24,7 @@ call_word (Take from bytes) = codes "packet"
 call_word Stop = codes "stop"
 call_word Start = codes "start"
 call_word (Reprice product price) = codes "price"
+call_word (Adjudicate from bytes advice) = codes "packet"
 
 -- how many submissions a call is
 abbrev pub submissions_in : Call → ℕ
@@ -33,6 +34,7 @@ submissions_in (Take from bytes) = 0
 submissions_in Stop = 0
 submissions_in Start = 0
 submissions_in (Reprice product price) = 0
+submissions_in (Adjudicate from bytes advice) = 0
 
 abbrev pub no_load : Load
 no_load = record { kind = []; pharmacy = None; number = None }
@@ -45,6 +47,7 @@ call_load ctx node submissions (Take from bytes) = load_of (ctx.read_envelope by
 call_load ctx node submissions Stop = no_load
 call_load ctx node submissions Start = no_load
 call_load ctx node submissions (Reprice product price) = no_load
+call_load ctx node submissions (Adjudicate from bytes advice) = load_of (ctx.read_envelope bytes)
 
 -- when a call was made; nothing, where the host did not say
 abbrev pub time_said : ℕ → Option ℕ
@@ -62,6 +65,7 @@ sender_member (Take from bytes) = node_member (codes "from") from
 sender_member Stop = nobody
 sender_member Start = nobody
 sender_member (Reprice product price) = nobody
+sender_member (Adjudicate from bytes advice) = node_member (codes "from") from
 
 -- the row of a record with this load, which stands at this place of a node's log, from 1
 unfoldable pub noted_row : Node → ℕ → Stamped → Load → Row

@@ -16,9 +16,11 @@ pub record CountedShown : Type 0 where
   pub fee : ℕ
   pub copay : ℕ
   pub paid : ℕ
+  pub prescription : ℕ
+  pub fill : ℕ
 
 abbrev pub counted_seen : CountedTexts → CountedShown
-counted_seen t = record { pharmacy = t.pharmacy; payer = t.payer; authorization = t.authorization.now; cost = t.cost; fee = t.fee; copay = t.copay; paid = t.paid }
+counted_seen t = record { pharmacy = t.pharmacy; payer = t.payer; authorization = t.authorization.now; cost = t.cost; fee = t.fee; copay = t.copay; paid = t.paid; prescription = t.prescription; fill = t.fill }
 
 -- its row
 unfoldable pub counted_shown_row : CountedShown → Row
@@ -29,7 +31,9 @@ counted_shown_row s =
     number_member (codes "cost_cents") s.cost ∷
     number_member (codes "fee_cents") s.fee ∷
     number_member (codes "copay_cents") s.copay ∷
-    number_member (codes "paid_cents") s.paid ∷ []
+    number_member (codes "paid_cents") s.paid ∷
+    number_member (codes "prescription") s.prescription ∷
+    number_member (codes "fill") s.fill ∷ []
 
 abbrev pub counted_row : ℕ → Counted → Row
 counted_row pharmacy c = counted_shown_row (record {
@@ -40,6 +44,8 @@ counted_row pharmacy c = counted_shown_row (record {
   fee = c.amounts.fee;
   copay = c.amounts.copay;
   paid = c.amounts.total;
+  prescription = c.fill.prescription;
+  fill = c.fill.fill;
 })
 
 -- the rows of some payments that a pharmacy counts

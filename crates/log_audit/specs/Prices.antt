@@ -2,8 +2,8 @@
 use Rattle.std.specs.Prelude.{ℕ, ◌+◌, ◌-◌, ◌==◌, ◌&&◌, cond, List, [], ◌∷◌, ◌++◌, slice_get, bytes_eq, codes, Option, Some, None}
 use Rattle.std.specs.List.{flat_map}
 use Rattle.claim_model.specs.Logs.{Logged, NodeLog}
-use Rattle.claim_model.specs.Node.{Node, Pharmacy, Switch, Payer, Call, Submit, Tick, Take, Stop, Start, Reprice}
-use Rattle.claim_model.specs.World.{Event, Submission, Ticking, Delivery, Stopping, Starting, PlanChange}
+use Rattle.claim_model.specs.Node.{Node, Pharmacy, Switch, Payer, Call, Submit, Tick, Take, Stop, Start, Reprice, Adjudicate}
+use Rattle.claim_model.specs.World.{Event, Submission, Ticking, Delivery, Stopping, Starting, PlanChange, Adjudication}
 use Rattle.plan_rules.specs.Prices.{Prices}
 use Rattle.table_text.specs.Members.{Row}
 use Rattle.table_text.specs.Rows.{rows_text, head_text}
@@ -30,6 +30,7 @@ event_change number (Ticking pharmacy) = []
 event_change number (Delivery packet) = []
 event_change number (Stopping node) = []
 event_change number (Starting node) = []
+event_change number (Adjudication packet advice) = []
 event_change number (PlanChange payer product price) = record { payer = payer; place = number; product = product; price = price } ∷ []
 
 -- those of events that are numbered from here on
@@ -44,6 +45,7 @@ call_change payer number Tick = []
 call_change payer number (Take from bytes) = []
 call_change payer number Stop = []
 call_change payer number Start = []
+call_change payer number (Adjudicate from bytes advice) = []
 call_change payer number (Reprice product price) = record { payer = payer; place = number; product = product; price = price } ∷ []
 
 abbrev pub call_changes : ℕ → ℕ → List Logged → List Change

@@ -93,7 +93,8 @@ table_names Rows =
     codes "prescription" ∷ codes "date_of_service" ∷ codes "paid_cents" ∷ []
 table_names Packets = codes "packet" ∷ codes "event" ∷ codes "from" ∷ codes "to" ∷ codes "carries" ∷ codes "pharmacy" ∷ codes "number" ∷ codes "bytes" ∷ []
 table_names CountedTable =
-    codes "pharmacy" ∷ codes "payer" ∷ codes "authorization" ∷ codes "cost_cents" ∷ codes "fee_cents" ∷ codes "copay_cents" ∷ codes "paid_cents" ∷ []
+    codes "pharmacy" ∷ codes "payer" ∷ codes "authorization" ∷ codes "cost_cents" ∷ codes "fee_cents" ∷ codes "copay_cents" ∷ codes "paid_cents" ∷
+    codes "prescription" ∷ codes "fill" ∷ []
 
 -- the names of the columns of a row
 abbrev pub names_in : Row → List (List ℕ)

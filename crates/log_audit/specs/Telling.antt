@@ -9,7 +9,8 @@ use Rattle.claim_model.specs.Settings.{opening}
 use Rattle.claim_model.specs.World.{World, Event, run}
 use Rattle.claim_model.specs.Logs.{NodeLog}
 use Rattle.schedule.specs.Division.{ends_in_newline, scheduled_lines, settings_text}
-use Rattle.schedule.specs.Reading.{events_of}
+use Rattle.schedule.specs.Events.{have_no_advice}
+use Rattle.schedule.specs.Reading.{events_of, living_events_of}
 use Rattle.world_setup.specs.Seen.{event_seen, settings_seen}
 use Rattle.world_setup.specs.declared.event.Event.{Event as Kept}
 use Rattle.world_setup.specs.declared.settings.WorldSettings.{WorldSettings}
@@ -104,13 +105,15 @@ pub record IsDivided (text settings written : List ℕ) : Type 0 where
   pub kept : KeepsSettings (settings_text text) settings
   pub divides : scheduled_lines text ≡ lines written
 
--- the input of a replay of events: the settings, a line that divides, and lines, which are those of the schedule and spell these events
+-- the input of a replay of events: the settings, a line that divides, and lines, which are those of the schedule and spell these events; also where no
+-- payer may ask, if none of them is an adjudication
 pub record IsSchedule (settings : List ℕ) (events : List Event) (text : List ℕ) : Type 0 where
   pub written : List ℕ
   pub kept : List Kept
   pub is : text ≡ settings ++ (divider settings ++ written)
   pub divided : IsDivided text settings written
-  pub spell : events_of (lines written) ≡ Ok kept
+  pub spell : living_events_of (lines written) ≡ Ok kept
+  pub plain : have_no_advice kept ≡ true → events_of (lines written) ≡ Ok kept
   pub are : map event_seen kept ≡ events
 
 -- a text is told of these events in this form

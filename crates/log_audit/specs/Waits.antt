@@ -4,7 +4,7 @@ use Rattle.std.specs.Cmp.Lexicographic.{pointwise}
 use Rattle.std.specs.List.{list_any, list_all}
 use Rattle.claim_model.specs.Context.{Context}
 use Rattle.claim_model.specs.Words.{Kind, Request, Response, Envelope, EnvelopeFault}
-use Rattle.claim_model.specs.Node.{Node, Sent, Call, Submit, Tick, Take, Stop, Start, Reprice}
+use Rattle.claim_model.specs.Node.{Node, Sent, Call, Submit, Tick, Take, Stop, Start, Reprice, Adjudicate}
 use Rattle.claim_model.specs.Nodes.{same_node}
 use Rattle.claim_model.specs.Logs.{Logged, NodeLog}
 use Rattle.log_audit.specs.Sentences.{Piece, Words, Number, Named, sentence, told_lines}
@@ -40,6 +40,7 @@ waits ps node (Take from bytes) = not (list_any (sent_before from node bytes) ps
 waits ps node Stop = false
 waits ps node Start = false
 waits ps node (Reprice product price) = false
+waits ps node (Adjudicate from bytes advice) = not (list_any (sent_before from node bytes) ps)
 
 -- the next call of a log
 abbrev pub next_of : Progress → Option Logged
@@ -79,11 +80,16 @@ sent_words later = cond later (codes " is sent by a later call alone") (codes " 
 abbrev pub sender_pieces : Node → Bool → List Piece
 sender_pieces from later = Words (codes " from ") ∷ Named from ∷ Words (sent_words later) ∷ []
 
+-- the packet that a node waits for, and who sent it
+abbrev pub taken_text : Context → List Progress → Node → Node → List ℕ → List ℕ
+taken_text ctx ps node from bytes = sentence (packet_pieces ctx bytes) ++ sentence (sender_pieces from (list_any (sent_ever from node bytes) ps))
+
 -- what is said of a call that waits
 abbrev pub wait_text : Context → List Progress → Node → Call → List ℕ
 wait_text ctx ps node (Submit text) = codes "no event makes this call on such a node"
 wait_text ctx ps node Tick = codes "no event makes this call on such a node"
-wait_text ctx ps node (Take from bytes) = sentence (packet_pieces ctx bytes) ++ sentence (sender_pieces from (list_any (sent_ever from node bytes) ps))
+wait_text ctx ps node (Take from bytes) = taken_text ctx ps node from bytes
+wait_text ctx ps node (Adjudicate from bytes advice) = taken_text ctx ps node from bytes
 wait_text ctx ps node Stop = codes "no event makes this call on such a node"
 wait_text ctx ps node Start = codes "no event makes this call on such a node"
 wait_text ctx ps node (Reprice product price) = codes "no event makes this call on such a node"

@@ -137,7 +137,12 @@ fn submissions_in(call: &Call) -> u64
 {
     match call {
         Call::Submit(_) => 1,
-        Call::Tick | Call::Take { .. } | Call::Stop | Call::Start | Call::Plan { .. } => 0,
+        Call::Tick
+        | Call::Take { .. }
+        | Call::Stop
+        | Call::Start
+        | Call::Plan { .. }
+        | Call::Adjudicate { .. } => 0,
     }
 }
 
@@ -197,6 +202,7 @@ fn call_word(call: &Call) -> &'static [u8]
         Call::Submit(_) => b"submission",
         Call::Tick => b"tick",
         Call::Take { .. } => b"packet",
+        Call::Adjudicate { .. } => b"packet",
         Call::Stop => b"stop",
         Call::Start => b"start",
         Call::Plan { .. } => b"price",
@@ -209,6 +215,7 @@ fn sender_field<'a>(call: &Call) -> Field<'a>
 {
     match call {
         Call::Take { from, .. } => node_field(b"from", *from),
+        Call::Adjudicate { from, .. } => node_field(b"from", *from),
         Call::Submit(_) | Call::Tick | Call::Stop | Call::Start | Call::Plan { .. } => {
             Field::number_or_nothing(b"from", None)
         }
@@ -227,6 +234,7 @@ fn load_of(node: Node, submissions: u64, call: &Call) -> Carried
             number: Some(submissions),
         },
         Call::Take { bytes, .. } => carried_in(bytes.as_slice()),
+        Call::Adjudicate { bytes, .. } => carried_in(bytes.as_slice()),
         Call::Tick | Call::Stop | Call::Start | Call::Plan { .. } => Carried {
             kind: b"",
             pharmacy: None,

@@ -88,6 +88,7 @@ fn push_event<'a>(
         Event::Deliver { .. } => Ok(()),
         Event::Stop(_) => Ok(()),
         Event::Start(_) => Ok(()),
+        Event::Adjudicate { .. } => Ok(()),
     }
 }
 
@@ -164,6 +165,7 @@ fn push_call<'a>(
         Call::Take { .. } => Ok(()),
         Call::Stop => Ok(()),
         Call::Start => Ok(()),
+        Call::Adjudicate { .. } => Ok(()),
     }
 }
 

@@ -1,10 +1,11 @@
 //! A legal run as the input of a replay.
 
-ghost use Rattle.std.specs.Prelude.{◌≡◌, ◌++◌, Ok, map, IsTrue, IfOk, OnOk};
+ghost use Rattle.std.specs.Prelude.{◌≡◌, ◌++◌, true, Ok, map, IsTrue, IfOk, OnOk};
 ghost use Rattle.std.specs.List.{list_any};
 ghost use Rattle.std.specs.Str.Lines.{lines};
 ghost use Rattle.schedule.specs.Division.{ends_in_newline};
-ghost use Rattle.schedule.specs.Reading.{events_of};
+ghost use Rattle.schedule.specs.Events.{have_no_advice};
+ghost use Rattle.schedule.specs.Reading.{events_of, living_events_of};
 ghost use Rattle.world_setup.specs.Seen.{event_seen};
 ghost use Rattle.table_text.specs.Adding.{Adds};
 ghost use Rattle.log_audit.specs.Telling.{divider, is_return, whole, IsDivided, IsSchedule, KeepsSettings};
@@ -37,7 +38,9 @@ pub(crate) fn scheduled(
 
 /// A line for each event.
 fn lines_of(alloc: Global, events: &[Event]) -> Result<Vec<u8>, AuditFault>
-    ensures { IfOk result (λ text. events_of (lines text.items) ≡ Ok events.now) }
+    ensures read { IfOk result (λ text. living_events_of (lines text.items) ≡ Ok events.now) }
+    ensures plain { IfOk result (λ text. have_no_advice events.now ≡ true
+        → events_of (lines text.items) ≡ Ok events.now) }
 {
     match events_text(alloc, events) {
         Ok(text) => Ok(text),

@@ -10,7 +10,7 @@ ghost use Rattle.node_log.specs.LogSeen.{log_seen, logs_seen};
 ghost use Rattle.table_text.specs.Adding.{Adds};
 ghost use Rattle.log_audit.specs.Adding.{Tells};
 ghost use Rattle.log_audit.specs.Sentences.{sentence, told_line, told_lines};
-ghost use Rattle.log_audit.specs.Waits.{Progress as ProgressSeen, is_packet, has_sent, sent_before, sent_ever, waits, next_waits, is_held, has_next, is_stuck, kind_words, packet_pieces, sent_words, sender_pieces, wait_text, wait_line, held_lines, unordered, waiting_lines, IsWaitingText};
+ghost use Rattle.log_audit.specs.Waits.{Progress as ProgressSeen, is_packet, has_sent, sent_before, sent_ever, waits, next_waits, is_held, has_next, is_stuck, kind_words, packet_pieces, sent_words, sender_pieces, taken_text, wait_text, wait_line, held_lines, unordered, waiting_lines, IsWaitingText};
 ghost use Rattle.log_audit.specs.WaitsSeen.{progress_seen};
 
 use crate::sentences::{Manner, Piece, put_pieces, put_told};
@@ -123,6 +123,7 @@ fn waits(lines: &[Progress<'_>], node: Node, call: &Call) -> bool
 {
     match call {
         Call::Take { from, bytes } => !was_sent(lines, *from, node, bytes),
+        Call::Adjudicate { from, bytes, .. } => !was_sent(lines, *from, node, bytes),
         Call::Submit(_) => false,
         Call::Tick => false,
         Call::Stop => false,
@@ -212,16 +213,29 @@ fn put_reason(
         (λ ctx. wait_text ctx (map progress_seen lines.now) (node_seen node) (call_seen call.now)) result }
 {
     match call {
-        Call::Take { from, bytes } => {
-            put_packet(line, bytes.as_slice())?;
-            put_sender(line, *from, is_sent(lines, *from, node, bytes))
-        }
+        Call::Take { from, bytes } => put_taken(line, lines, node, *from, bytes),
+        Call::Adjudicate { from, bytes, .. } => put_taken(line, lines, node, *from, bytes),
         Call::Submit(_) => put_no_event(line),
         Call::Tick => put_no_event(line),
         Call::Stop => put_no_event(line),
         Call::Start => put_no_event(line),
         Call::Plan { .. } => put_no_event(line),
     }
+}
+
+/// Appends a packet that a node waits for, and who sent it.
+fn put_taken(
+    line: &mut Vec<u8>,
+    lines: &[Progress<'_>],
+    node: Node,
+    from: Node,
+    bytes: &Octets,
+) -> Result<(), AllocError>
+    ensures { Tells line.old line.new
+        (λ ctx. taken_text ctx (map progress_seen lines.now) (node_seen node) (node_seen from) bytes.now) result }
+{
+    put_packet(line, bytes.as_slice())?;
+    put_sender(line, from, is_sent(lines, from, node, bytes))
 }
 
 /// Appends that no event makes a call on a node of its kind.

@@ -69,10 +69,10 @@ impl<'a> Walk<'a> {
         let Some(one) = log.records().get(*made) else {
             return Ok(false);
         };
-        if let Call::Take { from, bytes } = one.call() {
+        if let Some((from, bytes)) = taken_by(one.call()) {
             if !self
                 .sent
-                .contains(&key_of(self.alloc, *from, log.node(), bytes)?)
+                .contains(&key_of(self.alloc, from, log.node(), bytes)?)
             {
                 return Ok(false);
             }
@@ -91,6 +91,14 @@ impl<'a> Walk<'a> {
             }
         }
         Ok(())
+    }
+}
+
+/// The packet that a call takes, and who sent it.
+fn taken_by(call: &Call) -> Option<(Node, &Octets)> {
+    match call {
+        Call::Take { from, bytes } | Call::Adjudicate { from, bytes, .. } => Some((*from, bytes)),
+        Call::Submit(_) | Call::Tick | Call::Stop | Call::Start | Call::Plan { .. } => None,
     }
 }
 

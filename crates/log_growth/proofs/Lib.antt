@@ -1,5 +1,7 @@
 mod Counts
 mod NodesGrown
+mod TableRows
+mod RangedRows
 mod RoutesGrown
 mod GrownTo
 mod Moved

@@ -1,5 +1,5 @@
 -- What the theorems on settings that grow say of a log is what its start says.
-use Rattle.std.proofs.Common.{◌≡◌, ℕ, zero, suc, List, [], ◌∷◌, length, Option, Some, None, Ok, Result, sym, ap, ◌∙◌, subst}
+use Rattle.std.proofs.Common.{◌≡◌, ℕ, zero, suc, List, [], ◌∷◌, length, Option, Some, None, Ok, Result, refl, sym, ap, ◌∙◌, subst}
 use Rattle.settings_digest.specs.Digests.{digest_in, digest_under}
 use Rattle.settings_digest.proofs.Keeping.{keeps_new}
 use Rattle.claim_model.specs.Context.{Context}
@@ -16,13 +16,15 @@ use Rattle.node_log.specs.Fits.{FitsBy}
 use Rattle.node_log.specs.Misfits.{BreaksAt}
 use Rattle.kept_logs.specs.declared.fault.LogFault.{LogFault}
 use Rattle.kept_logs.specs.Stamps.{KeptLog, bare_calls}
-use Rattle.kept_logs.specs.Logs.{KeptReading, kept_text, kept_in}
+use Rattle.kept_logs.specs.Logs.{KeptReading, kept_text, kept_in, KeptAs}
 use Rattle.node_service.specs.Opened.{Spells}
 use Rattle.node_service.specs.Refused.{IsRefused, IsUnserved}
 use Rattle.node_service.specs.declared.fault.ServiceFault.TheVariants.{NotMade}
 use Rattle.settings_growth.specs.Growth.{with_cap}
-use Rattle.settings_growth.proofs.Replayed.{goes_over}
-use Rattle.log_growth.specs.Made.{WasMade}
+use Rattle.settings_growth.specs.GoingOver.{GoesOver}
+use Rattle.settings_growth.proofs.Replayed.{goes_over, goes_over_lasting}
+use Rattle.log_growth.specs.Compared.{reading_of}
+use Rattle.log_growth.specs.Made.{WasMade, WasMadeWithRoutes}
 
 -- a log that is made breaks nowhere
 
@@ -47,17 +49,26 @@ same_reading a b e = cc
 abbrev context_in : Document → Context
 context_in d = bytes_with (routes_of d.routes)
 
+-- a log that goes over to the settings that the text spells
+record Goes (text : List ℕ) (log : KeptLog) : Type 0 where
+  before : WorldSettings
+  after : WorldSettings
+  spells : Spells text after
+  node : AnyNode
+  over : GoesOver (reading_of before) (reading_of after) (settings_seen after) log.node node (bare_calls log.calls)
+  back : KeptAs (digest_in text) (kept_text (digest_in text) log) log
+
 -- under the settings of the refusal the log is made
 
-made_under : (text : List ℕ) (log : KeptLog) (w : WasMade text log) (t : WorldSettings) → Spells text t → (before : AnyNode) → node_at (opening (settings_seen t)) log.node ≡ Some before → Makes (bytes_with (routes_of t.routes.items)) before (bare_calls log.calls)
+made_under : (text : List ℕ) (log : KeptLog) (w : Goes text log) (t : WorldSettings) → Spells text t → (before : AnyNode) → node_at (opening (settings_seen t)) log.node ≡ Some before → Makes (bytes_with (routes_of t.routes.items)) before (bare_calls log.calls)
 made_under text log w t s before opens =
     let d = same_document (document_seen w.after) (document_seen t) (sym w.spells.spelled ∙ s.spelled) in
-    let g = goes_over (bytes_with (routes_of w.before.routes.items)) (bytes_with (routes_of w.after.routes.items)) (settings_seen w.before) (settings_seen w.after) log.node w.node (bare_calls log.calls) w.grows w.opens w.stays w.makes in
+    let g = w.over in
     let there : ◌≡◌ {A = Option AnyNode} (Some (with_cap g.cap w.node)) (Some before) = sym g.opens ∙ (ap (λ (x : Document). node_at (opening x.world) log.node) d ∙ opens) in
     let same : with_cap g.cap w.node ≡ before = cc in
     subst (λ (x : Document). Makes (context_in x) before (bare_calls log.calls)) d (subst (λ (n : AnyNode). Makes (context_in (document_seen w.after)) n (bare_calls log.calls)) same g.makes)
 
-refuted : (text : List ℕ) (log : KeptLog) (place : ℕ) (settings : WorldSettings) → WasMade text log → Spells text settings → IsUnserved (digest_under text (kept_text (digest_in text) log)) settings log.node None (kept_text (digest_in text) log) (NotMade place) → ⊥
+refuted : (text : List ℕ) (log : KeptLog) (place : ℕ) (settings : WorldSettings) → Goes text log → Spells text settings → IsUnserved (digest_under text (kept_text (digest_in text) log)) settings log.node None (kept_text (digest_in text) log) (NotMade place) → ⊥
 refuted text log place settings w spells r =
     let digest = digest_in text in
     let bytes = kept_text digest log in
@@ -69,4 +80,11 @@ refuted text log place settings w spells r =
     (subst (λ (l : KeptLog). BreaksAt (bytes_with (routes_of settings.routes.items)) r.breaks.before (bare_calls l.calls) r.breaks.count) is r.breaks.breaks)
 
 pub never_refused : (text : List ℕ) (log : KeptLog) (place : ℕ) → WasMade text log → IsRefused text log.node None (kept_text (digest_in text) log) (NotMade place) → ⊥
-never_refused text log place w r = refuted text log place r.settings w r.spells r.refused
+never_refused text log place w r =
+    let over = goes_over (reading_of w.before) (reading_of w.after) (settings_seen w.before) (settings_seen w.after) log.node w.node (bare_calls log.calls) w.grows w.opens w.stays w.makes in
+    refuted text log place r.settings (record { before = w.before; after = w.after; spells = w.spells; node = w.node; over = over; back = w.back }) r.spells r.refused
+
+pub never_refused_with_routes : (text : List ℕ) (log : KeptLog) (place : ℕ) → WasMadeWithRoutes text log → IsRefused text log.node None (kept_text (digest_in text) log) (NotMade place) → ⊥
+never_refused_with_routes text log place w r =
+    let over = goes_over_lasting (reading_of w.before) (reading_of w.after) (settings_seen w.before) (settings_seen w.after) log.node w.node (bare_calls log.calls) refl w.grows w.opens w.last w.stays w.makes in
+    refuted text log place r.settings (record { before = w.before; after = w.after; spells = w.spells; node = w.node; over = over; back = w.back }) r.spells r.refused

@@ -1,5 +1,6 @@
 -- The comparison of nodes is exact.
 use Rattle.std.proofs.Common.{◌≡◌, ◌↔◌, ℕ, ◌+◌, ◌≤◌, Bool, true, false, ◌&&◌, ◌==◌, cond, List, [], ◌∷◌, Option, Some, None, refl, sym, ap, ◌∙◌, arith}
+use mathlib.Core.Bool.{beq}
 use Rattle.std.specs.Prelude.{nat_le, bytes_eq}
 use Rattle.std.specs.Option.{option_or, option_map}
 use Rattle.std.proofs.lemmas.Bool.{and_parts}
@@ -93,31 +94,46 @@ prices_self : (a : List (List ℕ × ℕ)) → same_prices a a ≡ true
 prices_self [] = refl
 prices_self (p ∷ a) = both (bytes_eq p.0 p.0 && (p.1 == p.1)) (same_prices a a) (both (bytes_eq p.0 p.0) (p.1 == p.1) (bytes_self p.0) (nat_self p.1)) (prices_self a)
 
-abbrev opened : ℕ → ℕ → ℕ → ℕ → List (List ℕ × ℕ) → PayerSettings
-opened serial cap fee copay prices = record { book = record { serial = serial; cap = cap }; plan = record { fee = fee; copay = copay; prices = prices } }
+abbrev opened : ℕ → ℕ → Bool → ℕ → ℕ → List (List ℕ × ℕ) → PayerSettings
+opened serial cap asks fee copay prices = record { book = record { serial = serial; cap = cap; asks = asks }; plan = record { fee = fee; copay = copay; prices = prices } }
+
+asks_same : (a b : Bool) → beq a b ≡ true → a ≡ b
+asks_same true true e = refl
+asks_same true false e = absurd cc
+asks_same false true e = absurd cc
+asks_same false false e = refl
+
+asks_self : (a b : Bool) → b ≡ a → beq a b ≡ true
+asks_self true true e = refl
+asks_self true false e = absurd cc
+asks_self false true e = absurd cc
+asks_self false false e = refl
 
 pub payer_to : (a b : PayerSettings) → payer_grows a b ≡ true → PayerGrows a b
 payer_to a b e =
     let s = and_parts (a.book.serial == b.book.serial) _ e in
-    let c = and_parts (nat_le a.book.cap b.book.cap) _ s.1 in
+    let k = and_parts (beq a.book.asks b.book.asks) _ s.1 in
+    let c = and_parts (nat_le a.book.cap b.book.cap) _ k.1 in
     let f = and_parts (a.plan.fee == b.plan.fee) _ c.1 in
     let p = and_parts (a.plan.copay == b.plan.copay) _ f.1 in
     record {
       same =
-          ap (λ (x : ℕ). opened x b.book.cap b.plan.fee b.plan.copay b.plan.prices) (sym (nat_same a.book.serial b.book.serial s.0))
-          ∙ (ap (λ (x : ℕ). opened a.book.serial b.book.cap x b.plan.copay b.plan.prices) (sym (nat_same a.plan.fee b.plan.fee f.0))
-          ∙ (ap (λ (x : ℕ). opened a.book.serial b.book.cap a.plan.fee x b.plan.prices) (sym (nat_same a.plan.copay b.plan.copay p.0))
-          ∙ ap (λ (xs : List (List ℕ × ℕ)). opened a.book.serial b.book.cap a.plan.fee a.plan.copay xs) (prices_same a.plan.prices b.plan.prices p.1)));
+          ap (λ (x : ℕ). opened x b.book.cap b.book.asks b.plan.fee b.plan.copay b.plan.prices) (sym (nat_same a.book.serial b.book.serial s.0))
+          ∙ (ap (λ (x : Bool). opened a.book.serial b.book.cap x b.plan.fee b.plan.copay b.plan.prices) (sym (asks_same a.book.asks b.book.asks k.0))
+          ∙ (ap (λ (x : ℕ). opened a.book.serial b.book.cap a.book.asks x b.plan.copay b.plan.prices) (sym (nat_same a.plan.fee b.plan.fee f.0))
+          ∙ (ap (λ (x : ℕ). opened a.book.serial b.book.cap a.book.asks a.plan.fee x b.plan.prices) (sym (nat_same a.plan.copay b.plan.copay p.0))
+          ∙ ap (λ (xs : List (List ℕ × ℕ)). opened a.book.serial b.book.cap a.book.asks a.plan.fee a.plan.copay xs) (prices_same a.plan.prices b.plan.prices p.1))));
       cap = at_most a.book.cap b.book.cap c.0;
     }
 
 pub payer_from : (a b : PayerSettings) → PayerGrows a b → payer_grows a b ≡ true
 payer_from a b g =
     both (a.book.serial == b.book.serial) _ (same_number a.book.serial b.book.serial (ap (λ (x : PayerSettings). x.book.serial) g.same))
+    (both (beq a.book.asks b.book.asks) _ (asks_self a.book.asks b.book.asks (ap (λ (x : PayerSettings). x.book.asks) g.same))
     (both (nat_le a.book.cap b.book.cap) _ (is_at_most a.book.cap b.book.cap g.cap)
     (both (a.plan.fee == b.plan.fee) _ (same_number a.plan.fee b.plan.fee (ap (λ (x : PayerSettings). x.plan.fee) g.same))
     (both (a.plan.copay == b.plan.copay) _ (same_number a.plan.copay b.plan.copay (ap (λ (x : PayerSettings). x.plan.copay) g.same))
-    (ap (same_prices a.plan.prices) (ap (λ (x : PayerSettings). x.plan.prices) g.same) ∙ prices_self a.plan.prices))))
+    (ap (same_prices a.plan.prices) (ap (λ (x : PayerSettings). x.plan.prices) g.same) ∙ prices_self a.plan.prices)))))
 
 -- all nodes
 

@@ -1,287 +1,203 @@
 -- Where no row is gone and no new one takes claims from an old one, what had a route has it still.
-use Rattle.std.proofs.Common.{◌≡◌, ◌⊎◌, ℕ, ◌+◌, Bool, true, false, not, ◌&&◌, ◌||◌, ◌==◌, cond, List, [], ◌∷◌, ◌++◌, map, length, Option, Some, None, is_none, inl, inr, refl, sym, ap, ◌∙◌, subst}
-use Rattle.std.specs.Prelude.{bytes_eq}
+use Rattle.std.proofs.Common.{◌≡◌, ℕ, zero, suc, Bool, true, false, not, ◌&&◌, ◌||◌, ◌==◌, cond, List, [], ◌∷◌, map, Option, Some, None, is_none, inl, inr, refl, sym, ap, ◌∙◌}
+use Rattle.std.specs.Prelude.{bytes_eq, slice_get}
 use Rattle.std.specs.Option.{option_or, option_map}
 use Rattle.std.specs.List.{list_any, filter_map, cons_option, position_from}
-use Rattle.std.specs.Ordering.{nat_cmp, eq_by_cmp}
-use Rattle.std.specs.Cmp.{IsTotalOrder, both_tied}
-use Rattle.std.specs.Cmp.Lexicographic.{slice_cmp, texts_ties, nat_list_cmp_total}
-use Rattle.std.proofs.lemmas.Cmp.{then_total, on_total}
+use Rattle.std.specs.Ordering.{eq_by_cmp}
+use Rattle.std.specs.Cmp.Lexicographic.{nat_list_cmp_total}
 use Rattle.std.specs.FinMap.{find, get, from_entries, get-from_entries}
-use Rattle.std.proofs.lemmas.Bool.{and_parts}
-use Rattle.bin_routes.specs.declared.fault.RoutesFault.{RoutesFault}
-use Rattle.bin_routes.specs.declared.fault.RoutesFault.TheVariants.{SameRow}
-use Rattle.bin_routes.specs.Row.{Row, filled, filled_row, same_pcn, same_key}
-use Rattle.bin_routes.specs.Fault.{text_fault, row_fault, is_taken, fault_behind, first_fault}
-use Rattle.bin_routes.specs.Table.{bin_cmp, processor_cmp, exact_entry, other_entry, routes_of, payer_at}
-use Rattle.claim_model.proofs.Tests.{bytes_same, bytes_self, nat_same}
-use Rattle.log_growth.specs.Compared.{same_row, takes_by, takes_from, route_ungrown}
+use Rattle.bin_routes.specs.Key.{RouteKey}
+use Rattle.bin_routes.specs.Providers.{Providers, have, has_provider}
+use Rattle.bin_routes.specs.Row.{Row, filled, filled_row}
+use Rattle.bin_routes.specs.Fault.{fault_behind, first_fault}
+use Rattle.bin_routes.specs.Table.{bin_cmp, processor_cmp, is_ranged, exact_entry, other_entry, routes_of, fits, ranged_payer, payer_of}
+use Rattle.claim_model.proofs.Tests.{bytes_self, nat_same}
+use Rattle.claim_model.specs.Journal.{PharmacySettings}
+use Rattle.claim_model.specs.Numbered.{numbered}
+use Rattle.claim_model.specs.Settings.{WorldSettings}
+use Rattle.settings_growth.specs.Growth.{IsOfPharmacy}
+use Rattle.log_growth.specs.Compared.{same_row, takes_by, takes_from, takes_claims, is_new_range, has_bin, is_in_row, is_in_ranges, takes_range, has_new_range, route_ungrown}
 use Rattle.log_growth.specs.declared.ungrown.Ungrown.{Ungrown}
 use Rattle.log_growth.specs.declared.ungrown.Ungrown.TheVariants as ungrown
+use Rattle.log_growth.proofs.TableRows.{Found, In, among, clash, exact_first, exact_found, exact_in, exact_is, exact_row, free_plain, from_plain, none_any, none_at, none_of_none, not_false, other_found, other_in, other_is, other_row, plain, processors_total, to_plain}
+use Rattle.log_growth.proofs.RangedRows.{alike, both_true, fitting, ranged_in, ranged_nowhere, ranged_row, ranged_some, ranged_there}
 
--- a row is one of these
-abbrev In : Row → List Row → Type 0
-In r [] = ⊥
-In r (x ∷ xs) = (x ≡ r) ⊎ In r xs
+-- a row for all is found, or one before it
+exact_either : (x : Row) (t : Bool) (rest : Option ℕ) → Found rest → Found (cond t (Some x.payer) rest)
+exact_either x true rest f = record { value = x.payer; is = refl }
+exact_either x false rest f = f
 
-in_more : (r : Row) (xs ys : List Row) → In r xs → In r (xs ++ ys)
-in_more r [] ys i = absurd i
-in_more r (x ∷ xs) ys (inl e) = inl e
-in_more r (x ∷ xs) ys (inr i) = inr (in_more r xs ys i)
+exact_more : (x : Row) (rows : List Row) (b q : List ℕ) (o : Option (List ℕ)) → Found (find processor_cmp (b, q) (exact_in rows))
+    → Found (find processor_cmp (b, q) (cons_option (option_map (λ (p : List ℕ). ((x.bin, p), x.payer)) o) (exact_in rows)))
+exact_more x rows b q None f = f
+exact_more x rows b q (Some p) f = exact_either x (eq_by_cmp processor_cmp (b, q) (x.bin, p)) (find processor_cmp (b, q) (exact_in rows)) f
 
-in_last : (r : Row) (xs : List Row) → In r (xs ++ r ∷ [])
-in_last r [] = inl refl
-in_last r (x ∷ xs) = inr (in_last r xs)
-
--- tests of lists
-
-neither_bool : (a b : Bool) → (a || b) ≡ false → (a ≡ false) × (b ≡ false)
-neither_bool true b e = absurd cc
-neither_bool false b e = (refl, e)
-
-none_any : (test : Row → Bool) (xs : List Row) (r : Row) → list_any test xs ≡ false → In r xs → test r ≡ false
-none_any test [] r e i = absurd i
-none_any test (x ∷ xs) r e (inl same) = ap test (sym same) ∙ (neither_bool (test x) (list_any test xs) e).0
-none_any test (x ∷ xs) r e (inr i) = none_any test xs r (neither_bool (test x) (list_any test xs) e).1 i
-
-none_filled : (test : Row → Bool) (xs : List Row) (r : Row) → list_any test (map filled_row xs) ≡ false → In r xs → test (filled_row r) ≡ false
-none_filled test [] r e i = absurd i
-none_filled test (x ∷ xs) r e (inl same) = ap (λ (z : Row). test (filled_row z)) (sym same) ∙ (neither_bool (test (filled_row x)) (list_any test (map filled_row xs)) e).0
-none_filled test (x ∷ xs) r e (inr i) = none_filled test xs r (neither_bool (test (filled_row x)) (list_any test (map filled_row xs)) e).1 i
-
-next_place : (t : Bool) (n : ℕ) (o : Option ℕ) → cond t (Some n) o ≡ None → (t ≡ false) × (o ≡ None)
-next_place true n o e = absurd cc
-next_place false n o e = (refl, e)
-
-none_at : (test : Row → Bool) (n : ℕ) (xs : List Row) (r : Row) → position_from test n xs ≡ None → In r xs → test r ≡ false
-none_at test n [] r e i = absurd i
-none_at test n (x ∷ xs) r e (inl same) = ap test (sym same) ∙ (next_place (test x) n (position_from test (n + 1) xs) e).0
-none_at test n (x ∷ xs) r e (inr i) = none_at test (n + 1) xs r (next_place (test x) n (position_from test (n + 1) xs) e).1 i
-
--- the same row
-
-same_pcns : (a b : Option (List ℕ)) → same_pcn a b ≡ true → b ≡ a
-same_pcns None None e = refl
-same_pcns None (Some b) e = absurd cc
-same_pcns (Some a) None e = absurd cc
-same_pcns (Some a) (Some b) e = ap (λ (p : List ℕ). Some p) (sym (bytes_same a b e))
-
-abbrev row : List ℕ → Option (List ℕ) → ℕ → Row
-row bin pcn payer = record { bin = bin; pcn = pcn; payer = payer }
-
-same_rows : (a b : Row) → same_row a b ≡ true → b ≡ a
-same_rows a b e =
-    let k = and_parts (same_key a b) (a.payer == b.payer) e in
-    let p = and_parts (bytes_eq a.bin b.bin) (same_pcn a.pcn b.pcn) k.0 in
-    ap (λ (x : List ℕ). row x b.pcn b.payer) (sym (bytes_same a.bin b.bin p.0))
-    ∙ (ap (λ (x : Option (List ℕ)). row a.bin x b.payer) (same_pcns a.pcn b.pcn p.1) ∙ ap (λ (x : ℕ). row a.bin a.pcn x) (sym (nat_same a.payer b.payer k.1)))
-
-among_by : (r x : Row) (xs : List Row) (t : Bool) → (list_any (same_row r) xs ≡ true → In r xs) → same_row r x ≡ t → (t || list_any (same_row r) xs) ≡ true → In r (x ∷ xs)
-among_by r x xs true later is all = inl (same_rows r x is)
-among_by r x xs false later is all = inr (later all)
-
-among : (r : Row) (xs : List Row) → list_any (same_row r) xs ≡ true → In r xs
-among r [] e = absurd cc
-among r (x ∷ xs) e = among_by r x xs (same_row r x) (among r xs) refl e
-
-not_false : (b : Bool) → not b ≡ false → b ≡ true
-not_false true e = refl
-not_false false e = absurd cc
-
--- ---- rows of a table without a fault have keys of their own
-
-first_none : (a b : Option RoutesFault) → option_or a b ≡ None → (a ≡ None) × (b ≡ None)
-first_none None b e = (refl, e)
-first_none (Some f) b e = absurd cc
-
-not_taken : (o : Option RoutesFault) (same : Bool) (place : ℕ) → option_or o (cond same (Some (SameRow place)) None) ≡ None → same ≡ false
-not_taken None false place e = refl
-not_taken None true place e = absurd cc
-not_taken (Some f) same place e = absurd cc
-
-free_of : (payers : ℕ) (earlier rows : List Row) (r e : Row) → fault_behind payers earlier rows ≡ None → In r rows → In e earlier → same_key (filled_row r) (filled_row e) ≡ false
-free_of payers earlier [] r e none i j = absurd i
-free_of payers earlier (x ∷ rows) r e none (inl same) j =
-    let here = first_none (row_fault payers (length earlier) x (is_taken earlier x)) (fault_behind payers (earlier ++ x ∷ []) rows) none in
-    let taken : is_taken earlier x ≡ false = not_taken (text_fault payers (length earlier) x) (is_taken earlier x) (length earlier) here.0 in
-    subst (λ (z : Row). same_key (filled_row z) (filled_row e) ≡ false) same (none_filled (same_key (filled_row x)) earlier e taken j)
-free_of payers earlier (x ∷ rows) r e none (inr i) j =
-    let here = first_none (row_fault payers (length earlier) x (is_taken earlier x)) (fault_behind payers (earlier ++ x ∷ []) rows) none in
-    free_of payers (earlier ++ x ∷ []) rows r e here.1 i (in_more e earlier (x ∷ []) j)
-
--- ---- a row of BIN and processor control number
-
-processor_tied : (a b : List ℕ × List ℕ) → (bytes_eq a.0 b.0 && bytes_eq a.1 b.1) ≡ eq_by_cmp processor_cmp a b
-processor_tied a b = both_tied _ _ (slice_cmp nat_cmp a.0 b.0) (slice_cmp nat_cmp a.1 b.1) (texts_ties a.0 b.0) (texts_ties a.1 b.1)
-
-processors_total : IsTotalOrder processor_cmp
-processors_total = then_total (on_total (λ (t : List ℕ × List ℕ). t.0) nat_list_cmp_total) (on_total (λ (t : List ℕ × List ℕ). t.1) nat_list_cmp_total)
-
-abbrev exact_in : List Row → List ((List ℕ × List ℕ) × ℕ)
-exact_in rows = filter_map exact_entry (map filled_row rows)
-
-record Exact (rows : List Row) (b q : List ℕ) (payer : ℕ) : Type 0 where
-  row : Row
-  is_in : In row rows
-  bin : row.bin ≡ b
-  pcn : option_map filled row.pcn ≡ Some q
-  pays : row.payer ≡ payer
-
-exact_later : (x : Row) (rows : List Row) (b q : List ℕ) (payer : ℕ) → Exact rows b q payer → Exact (x ∷ rows) b q payer
-exact_later x rows b q payer e = record { row = e.row; is_in = inr e.is_in; bin = e.bin; pcn = e.pcn; pays = e.pays }
-
-exact_test : (x : Row) (rows : List Row) (b q p : List ℕ) (payer : ℕ) (t : Bool) (rest : Option ℕ) → (rest ≡ Some payer → Exact rows b q payer) → option_map filled x.pcn ≡ Some p → eq_by_cmp processor_cmp (b, q) (x.bin, p) ≡ t
-    → cond t (Some x.payer) rest ≡ Some payer → Exact (x ∷ rows) b q payer
-exact_test x rows b q p payer true rest later is same e =
-    let parts = and_parts (bytes_eq b x.bin) (bytes_eq q p) (processor_tied (b, q) (x.bin, p) ∙ same) in
-    record { row = x; is_in = inl refl; bin = sym (bytes_same b x.bin parts.0); pcn = is ∙ ap (λ (z : List ℕ). Some z) (sym (bytes_same q p parts.1)); pays = cc }
-exact_test x rows b q p payer false rest later is same e = exact_later x rows b q payer (later e)
-
-exact_by : (x : Row) (rows : List Row) (b q : List ℕ) (payer : ℕ) (o : Option (List ℕ)) → (find processor_cmp (b, q) (exact_in rows) ≡ Some payer → Exact rows b q payer) → option_map filled x.pcn ≡ o
-    → find processor_cmp (b, q) (cons_option (option_map (λ (p : List ℕ). ((x.bin, p), x.payer)) o) (exact_in rows)) ≡ Some payer → Exact (x ∷ rows) b q payer
-exact_by x rows b q payer None later is e = exact_later x rows b q payer (later e)
-exact_by x rows b q payer (Some p) later is e = exact_test x rows b q p payer (eq_by_cmp processor_cmp (b, q) (x.bin, p)) (find processor_cmp (b, q) (exact_in rows)) later is refl e
-
-exact_row : (rows : List Row) (b q : List ℕ) (payer : ℕ) → find processor_cmp (b, q) (exact_in rows) ≡ Some payer → Exact rows b q payer
-exact_row [] b q payer e = absurd cc
-exact_row (x ∷ rows) b q payer e = exact_by x rows b q payer (option_map filled x.pcn) (exact_row rows b q payer) refl e
-
--- ---- a row of a BIN alone
-
-record Other (rows : List Row) (b : List ℕ) (payer : ℕ) : Type 0 where
-  row : Row
-  is_in : In row rows
-  bin : row.bin ≡ b
-  pcn : row.pcn ≡ None
-  pays : row.payer ≡ payer
-
-abbrev other_in : List Row → List (List ℕ × ℕ)
-other_in rows = filter_map other_entry (map filled_row rows)
-
-other_later : (x : Row) (rows : List Row) (b : List ℕ) (payer : ℕ) → Other rows b payer → Other (x ∷ rows) b payer
-other_later x rows b payer e = record { row = e.row; is_in = inr e.is_in; bin = e.bin; pcn = e.pcn; pays = e.pays }
-
-none_of_none : (o : Option (List ℕ)) → option_map filled o ≡ None → o ≡ None
-none_of_none None e = refl
-none_of_none (Some p) e = absurd cc
-
-other_test : (x : Row) (rows : List Row) (b : List ℕ) (payer : ℕ) (t : Bool) (rest : Option ℕ) → (rest ≡ Some payer → Other rows b payer) → option_map filled x.pcn ≡ None → eq_by_cmp bin_cmp b x.bin ≡ t
-    → cond t (Some x.payer) rest ≡ Some payer → Other (x ∷ rows) b payer
-other_test x rows b payer true rest later is same e =
-    record { row = x; is_in = inl refl; bin = sym (bytes_same b x.bin (texts_ties b x.bin ∙ same)); pcn = none_of_none x.pcn is; pays = cc }
-other_test x rows b payer false rest later is same e = other_later x rows b payer (later e)
-
-other_by : (x : Row) (rows : List Row) (b : List ℕ) (payer : ℕ) (o : Option (List ℕ)) → (find bin_cmp b (other_in rows) ≡ Some payer → Other rows b payer) → option_map filled x.pcn ≡ o
-    → find bin_cmp b (cons_option (cond (is_none o) (Some (x.bin, x.payer)) None) (other_in rows)) ≡ Some payer → Other (x ∷ rows) b payer
-other_by x rows b payer None later is e = other_test x rows b payer (eq_by_cmp bin_cmp b x.bin) (find bin_cmp b (other_in rows)) later is refl e
-other_by x rows b payer (Some p) later is e = other_later x rows b payer (later e)
-
-other_row : (rows : List Row) (b : List ℕ) (payer : ℕ) → find bin_cmp b (other_in rows) ≡ Some payer → Other rows b payer
-other_row [] b payer e = absurd cc
-other_row (x ∷ rows) b payer e = other_by x rows b payer (option_map filled x.pcn) (other_row rows b payer) refl e
-
--- ---- a row is found under its key
-
-same_key_true : (r x : Row) (p : Option (List ℕ)) → bytes_eq r.bin x.bin ≡ true → same_pcn (option_map filled r.pcn) (option_map filled x.pcn) ≡ true → same_key (filled_row r) (filled_row x) ≡ true
-same_key_true r x p e f = ap (λ (t : Bool). t && same_pcn (option_map filled r.pcn) (option_map filled x.pcn)) e ∙ f
-
-clash : (A : Type 0) (b : Bool) → b ≡ true → b ≡ false → A
-clash A b e f = let wrong : true ≡ false = sym e ∙ f in absurd cc
-
-exact_here : (x : Row) (rows : List Row) (b q : List ℕ) (t : Bool) (rest : Option ℕ) → t ≡ true → cond t (Some x.payer) rest ≡ Some x.payer
-exact_here x rows b q t rest e = ap (λ (s : Bool). cond s (Some x.payer) rest) e
-
-exact_first : (x : Row) (rows : List Row) (b q : List ℕ) (o : Option (List ℕ)) → x.bin ≡ b → o ≡ Some q → find processor_cmp (b, q) (cons_option (option_map (λ (p : List ℕ). ((x.bin, p), x.payer)) o) (exact_in rows)) ≡ Some x.payer
-exact_first x rows b q None bin e = absurd cc
-exact_first x rows b q (Some p) bin e =
-    let same : p ≡ q = cc in
-    exact_here x rows b q (eq_by_cmp processor_cmp (b, q) (x.bin, p)) (find processor_cmp (b, q) (exact_in rows))
-    (sym (processor_tied (b, q) (x.bin, p)) ∙ (ap (λ (z : List ℕ). bytes_eq b z && bytes_eq q p) bin ∙ (ap (λ (z : List ℕ). bytes_eq b b && bytes_eq q z) same ∙ (ap (λ (t : Bool). t && bytes_eq q q) (bytes_self b) ∙ bytes_self q))))
-
-exact_skips : (x r : Row) (b q p : List ℕ) (t : Bool) (rest : Option ℕ) (payer : ℕ) → r.bin ≡ b → option_map filled r.pcn ≡ Some q → option_map filled x.pcn ≡ Some p → same_key (filled_row r) (filled_row x) ≡ false → eq_by_cmp processor_cmp (b, q) (x.bin, p) ≡ t
-    → rest ≡ Some payer → cond t (Some x.payer) rest ≡ Some payer
-exact_skips x r b q p true rest payer bin rq xp free same e =
-    let parts = and_parts (bytes_eq b x.bin) (bytes_eq q p) (processor_tied (b, q) (x.bin, p) ∙ same) in
-    clash (Some x.payer ≡ Some payer) (same_key (filled_row r) (filled_row x))
-    (same_key_true r x None (ap (λ (z : List ℕ). bytes_eq z x.bin) bin ∙ parts.0) (ap (λ (z : Option (List ℕ)). same_pcn z (option_map filled x.pcn)) rq ∙ (ap (same_pcn (Some q)) xp ∙ parts.1)))
-    free
-exact_skips x r b q p false rest payer bin rq xp free same e = e
-
-exact_next : (x r : Row) (rows : List Row) (b q : List ℕ) (payer : ℕ) (o : Option (List ℕ)) → r.bin ≡ b → option_map filled r.pcn ≡ Some q → option_map filled x.pcn ≡ o → same_key (filled_row r) (filled_row x) ≡ false
-    → find processor_cmp (b, q) (exact_in rows) ≡ Some payer → find processor_cmp (b, q) (cons_option (option_map (λ (p : List ℕ). ((x.bin, p), x.payer)) o) (exact_in rows)) ≡ Some payer
-exact_next x r rows b q payer None bin rq xp free e = e
-exact_next x r rows b q payer (Some p) bin rq xp free e = exact_skips x r b q p (eq_by_cmp processor_cmp (b, q) (x.bin, p)) (find processor_cmp (b, q) (exact_in rows)) payer bin rq xp free refl e
-
-exact_found : (payers : ℕ) (earlier rows : List Row) (r : Row) (b q : List ℕ) → fault_behind payers earlier rows ≡ None → In r rows → r.bin ≡ b → option_map filled r.pcn ≡ Some q → find processor_cmp (b, q) (exact_in rows) ≡ Some r.payer
-exact_found payers earlier [] r b q none i bin pcn = absurd i
-exact_found payers earlier (x ∷ rows) r b q none (inl same) bin pcn =
-    subst (λ (z : Row). find processor_cmp (b, q) (exact_in (x ∷ rows)) ≡ Some z.payer) same
-    (exact_first x rows b q (option_map filled x.pcn) (ap (λ (z : Row). z.bin) same ∙ bin) (ap (λ (z : Row). option_map filled z.pcn) same ∙ pcn))
-exact_found payers earlier (x ∷ rows) r b q none (inr i) bin pcn =
-    let here = first_none (row_fault payers (length earlier) x (is_taken earlier x)) (fault_behind payers (earlier ++ x ∷ []) rows) none in
-    exact_next x r rows b q r.payer (option_map filled x.pcn) bin pcn refl (free_of payers (earlier ++ x ∷ []) rows r x here.1 i (in_last x earlier))
-    (exact_found payers (earlier ++ x ∷ []) rows r b q here.1 i bin pcn)
-
-other_first : (x : Row) (rows : List Row) (b : List ℕ) (o : Option (List ℕ)) → x.bin ≡ b → o ≡ None → find bin_cmp b (cons_option (cond (is_none o) (Some (x.bin, x.payer)) None) (other_in rows)) ≡ Some x.payer
-other_first x rows b (Some p) bin e = absurd cc
-other_first x rows b None bin e =
-    exact_here x rows b b (eq_by_cmp bin_cmp b x.bin) (find bin_cmp b (other_in rows)) (sym (texts_ties b x.bin) ∙ (ap (bytes_eq b) bin ∙ bytes_self b))
-
-other_skips : (x r : Row) (b : List ℕ) (t : Bool) (rest : Option ℕ) (payer : ℕ) → r.bin ≡ b → option_map filled r.pcn ≡ None → option_map filled x.pcn ≡ None → same_key (filled_row r) (filled_row x) ≡ false → eq_by_cmp bin_cmp b x.bin ≡ t
-    → rest ≡ Some payer → cond t (Some x.payer) rest ≡ Some payer
-other_skips x r b true rest payer bin rq xp free same e =
-    clash (Some x.payer ≡ Some payer) (same_key (filled_row r) (filled_row x))
-    (same_key_true r x None (ap (λ (z : List ℕ). bytes_eq z x.bin) bin ∙ (texts_ties b x.bin ∙ same)) (ap (λ (z : Option (List ℕ)). same_pcn z (option_map filled x.pcn)) rq ∙ ap (same_pcn None) xp))
-    free
-other_skips x r b false rest payer bin rq xp free same e = e
-
-other_next : (x r : Row) (rows : List Row) (b : List ℕ) (payer : ℕ) (o : Option (List ℕ)) → r.bin ≡ b → option_map filled r.pcn ≡ None → option_map filled x.pcn ≡ o → same_key (filled_row r) (filled_row x) ≡ false
-    → find bin_cmp b (other_in rows) ≡ Some payer → find bin_cmp b (cons_option (cond (is_none o) (Some (x.bin, x.payer)) None) (other_in rows)) ≡ Some payer
-other_next x r rows b payer None bin rq xp free e = other_skips x r b (eq_by_cmp bin_cmp b x.bin) (find bin_cmp b (other_in rows)) payer bin rq xp free refl e
-other_next x r rows b payer (Some p) bin rq xp free e = e
-
-other_found : (payers : ℕ) (earlier rows : List Row) (r : Row) (b : List ℕ) → fault_behind payers earlier rows ≡ None → In r rows → r.bin ≡ b → r.pcn ≡ None → find bin_cmp b (other_in rows) ≡ Some r.payer
-other_found payers earlier [] r b none i bin pcn = absurd i
-other_found payers earlier (x ∷ rows) r b none (inl same) bin pcn =
-    subst (λ (z : Row). find bin_cmp b (other_in (x ∷ rows)) ≡ Some z.payer) same
-    (other_first x rows b (option_map filled x.pcn) (ap (λ (z : Row). z.bin) same ∙ bin) (ap (λ (z : Row). option_map filled z.pcn) same ∙ ap (option_map filled) pcn))
-other_found payers earlier (x ∷ rows) r b none (inr i) bin pcn =
-    let here = first_none (row_fault payers (length earlier) x (is_taken earlier x)) (fault_behind payers (earlier ++ x ∷ []) rows) none in
-    other_next x r rows b r.payer (option_map filled x.pcn) bin (ap (option_map filled) pcn) refl (free_of payers (earlier ++ x ∷ []) rows r x here.1 i (in_last x earlier))
-    (other_found payers (earlier ++ x ∷ []) rows r b here.1 i bin pcn)
+exact_some : (rows : List Row) (r : Row) (b q : List ℕ) → In r rows → r.bin ≡ b → option_map filled r.pcn ≡ Some q → Found (find processor_cmp (b, q) (exact_in rows))
+exact_some [] r b q i bin pcn = absurd i
+exact_some (x ∷ rows) r b q (inl same) bin pcn =
+    record { value = x.payer; is = exact_first x rows b q (option_map filled x.pcn) (ap (λ (z : Row). z.bin) same ∙ bin) (ap (λ (z : Row). option_map filled z.pcn) same ∙ pcn) }
+exact_some (x ∷ rows) r b q (inr i) bin pcn = exact_more x rows b q (option_map filled x.pcn) (exact_some rows r b q i bin pcn)
 
 -- ---- the tables
 
-payer_is : (rows : List Row) (b q : List ℕ) → payer_at (routes_of rows) b q ≡ option_or (find processor_cmp (b, q) (exact_in rows)) (find bin_cmp b (other_in rows))
-unfolding payer_at routes_of
-payer_is rows b q =
-    ap (λ (o : Option ℕ). option_or o (get (from_entries {R = bin_cmp} (other_in rows)) b)) (get-from_entries processors_total (exact_in rows) (b, q))
-    ∙ ap (option_or (find processor_cmp (b, q) (exact_in rows))) (get-from_entries nat_list_cmp_total (other_in rows) b)
+-- the payer of a key, by the rows
+abbrev paid_by : List Row → RouteKey → Option ℕ
+paid_by rows key =
+    option_or (ranged_payer (ranged_in rows) (Some key.pcn) key) (option_or (find processor_cmp (key.bin, key.pcn) (exact_in (plain rows)))
+    (option_or (ranged_payer (ranged_in rows) None key) (find bin_cmp key.bin (other_in (plain rows)))))
+
+payer_is : (rows : List Row) (key : RouteKey) → payer_of (routes_of rows) key ≡ paid_by rows key
+unfolding payer_of routes_of
+payer_is rows key =
+    let first = ranged_payer (ranged_in rows) (Some key.pcn) key in
+    let third = ranged_payer (ranged_in rows) None key in
+    let exact : get (from_entries {R = processor_cmp} (filter_map exact_entry (map filled_row rows))) (key.bin, key.pcn) ≡ find processor_cmp (key.bin, key.pcn) (exact_in (plain rows)) =
+    get-from_entries processors_total (filter_map exact_entry (map filled_row rows)) (key.bin, key.pcn) ∙ ap (find processor_cmp (key.bin, key.pcn)) (exact_is rows) in
+    let other : get (from_entries {R = bin_cmp} (filter_map other_entry (map filled_row rows))) key.bin ≡ find bin_cmp key.bin (other_in (plain rows)) =
+    get-from_entries nat_list_cmp_total (filter_map other_entry (map filled_row rows)) key.bin ∙ ap (find bin_cmp key.bin) (other_is rows) in
+    ap (λ (o : Option ℕ). option_or first (option_or o (option_or third (get (from_entries {R = bin_cmp} (filter_map other_entry (map filled_row rows))) key.bin)))) exact
+    ∙ ap (λ (o : Option ℕ). option_or first (option_or (find processor_cmp (key.bin, key.pcn) (exact_in (plain rows))) (option_or third o))) other
 
 -- no new row takes claims of another payer's
-same_pays : (r o : Row) (p : Option (List ℕ)) (q : List ℕ) → r.pcn ≡ p → option_map filled p ≡ Some q → o.pcn ≡ None → r.bin ≡ o.bin → takes_from r o ≡ false → r.payer ≡ o.payer
-same_pays r o None q rp fq op bin e = absurd cc
-same_pays r o (Some p) q rp fq op bin e =
-    let t : (bytes_eq r.bin o.bin && not (r.payer == o.payer)) ≡ false = sym (ap (λ (z : Option (List ℕ)). takes_by z o.pcn r o) rp ∙ ap (λ (z : Option (List ℕ)). takes_by (Some p) z r o) op) ∙ e in
+same_pays : (r o : Row) (p : Option (List ℕ)) (q : List ℕ) → r.providers ≡ None → r.pcn ≡ p → option_map filled p ≡ Some q → o.pcn ≡ None → r.bin ≡ o.bin → takes_from r o ≡ false → r.payer ≡ o.payer
+same_pays r o None q rn rp fq op bin e = absurd cc
+same_pays r o (Some p) q rn rp fq op bin e =
+    let t : (bytes_eq r.bin o.bin && not (r.payer == o.payer)) ≡ false =
+    sym (ap (λ (z : Option Providers). is_none z && takes_by r.pcn o.pcn r o) rn ∙ (ap (λ (z : Option (List ℕ)). takes_by z o.pcn r o) rp ∙ ap (λ (z : Option (List ℕ)). takes_by (Some p) z r o) op)) ∙ e in
     nat_same r.payer o.payer (not_false (r.payer == o.payer) (sym (ap (λ (s : Bool). s && not (r.payer == o.payer)) (ap (λ (z : List ℕ). bytes_eq r.bin z) (sym bin) ∙ bytes_self r.bin)) ∙ t))
 
-either_way : (old new : List Row) (b q : List ℕ) (payer : ℕ) (o : Option ℕ) → find processor_cmp (b, q) (exact_in new) ≡ o → ((z : ℕ) → o ≡ Some z → z ≡ payer) → find bin_cmp b (other_in new) ≡ Some payer → option_or o (find bin_cmp b (other_in new)) ≡ Some payer
-either_way old new b q payer None is same e = e
-either_way old new b q payer (Some z) is same e = ap (λ (n : ℕ). Some n) (same z refl)
+-- what is found first has the payer too
+first_too : (payer : ℕ) (o rest : Option ℕ) → ((z : ℕ) → o ≡ Some z → z ≡ payer) → rest ≡ Some payer → option_or o rest ≡ Some payer
+first_too payer None rest same e = e
+first_too payer (Some z) rest same e = ap (λ (n : ℕ). Some n) (same z refl)
 
-routed_still : (payers : ℕ) (old new : List Row) (b q : List ℕ) (payer : ℕ) (o : Option ℕ) → fault_behind payers [] new ≡ None → ((r : Row) → In r old → In r new) → ((r e : Row) → In r new → In e old → takes_from r e ≡ false)
-    → find processor_cmp (b, q) (exact_in old) ≡ o → option_or o (find bin_cmp b (other_in old)) ≡ Some payer → option_or (find processor_cmp (b, q) (exact_in new)) (find bin_cmp b (other_in new)) ≡ Some payer
-routed_still payers old new b q payer (Some z) none stays takes is e =
-    let x = exact_row old b q z is in
-    let f = exact_found payers [] new x.row b q none (stays x.row x.is_in) x.bin x.pcn in
-    ap (λ (o : Option ℕ). option_or o (find bin_cmp b (other_in new))) f ∙ (ap (λ (n : ℕ). Some n) x.pays ∙ e)
-routed_still payers old new b q payer None none stays takes is e =
-    let x = other_row old b payer e in
-    let f = other_found payers [] new x.row b none (stays x.row x.is_in) x.bin x.pcn ∙ ap (λ (n : ℕ). Some n) x.pays in
-    either_way old new b q payer (find processor_cmp (b, q) (exact_in new)) refl
-    (λ z found. let y = exact_row new b q z found in
-    sym y.pays ∙ (same_pays y.row x.row y.row.pcn q refl y.pcn x.pcn (y.bin ∙ sym x.bin) (takes y.row x.row y.is_in x.is_in) ∙ x.pays))
-    f
+-- what is asked of the rows of old and new settings, for a key
+record Kept (payers : ℕ) (old new : List Row) (key : RouteKey) : Type 0 where
+  none : fault_behind payers [] new ≡ None
+  stays : (r : Row) → In r old → In r new
+  takes : (r e : Row) → In r new → In e old → (In r old → ⊥) → takes_from r e ≡ false
+  own : (y : Row) (pcn : Option (List ℕ)) → In y new → is_ranged y ≡ true → fits pcn key (filled_row y) ≡ true → In y old
+
+-- a row for some providers that was found is found
+ranged_still : (payers : ℕ) (old new : List Row) (key : RouteKey) (pcn : Option (List ℕ)) (payer : ℕ) → Kept payers old new key → ranged_payer (ranged_in old) pcn key ≡ Some payer → ranged_payer (ranged_in new) pcn key ≡ Some payer
+ranged_still payers old new key pcn payer k e =
+    let x = ranged_row old pcn key payer e in
+    let i = k.stays x.row x.is_in in
+    ranged_there new x.row pcn key i x.ranged x.fit
+    (λ y j r f. ap (λ (z : Row). z.payer) (alike payers [] new y x.row pcn key k.none j i (fitting pcn key y f) (fitting pcn key x.row x.fit)))
+    ∙ ap (λ (n : ℕ). Some n) x.pays
+
+-- where none was found, none is
+unfit_by : (payers : ℕ) (old new : List Row) (key : RouteKey) (pcn : Option (List ℕ)) (y : Row) (t : Bool) → Kept payers old new key → ranged_payer (ranged_in old) pcn key ≡ None → In y new → is_ranged y ≡ true → fits pcn key (filled_row y) ≡ t → t ≡ false
+unfit_by payers old new key pcn y false k e i r f = refl
+unfit_by payers old new key pcn y true k e i r f =
+    let found = ranged_some old y pcn key (k.own y pcn i r f) r f in
+    let wrong : ◌≡◌ {A = Option ℕ} None (Some found.value) = sym e ∙ found.is in
+    absurd cc
+
+ranged_never : (payers : ℕ) (old new : List Row) (key : RouteKey) (pcn : Option (List ℕ)) → Kept payers old new key → ranged_payer (ranged_in old) pcn key ≡ None → ranged_payer (ranged_in new) pcn key ≡ None
+ranged_never payers old new key pcn k e = ranged_nowhere new pcn key (λ y i r. unfit_by payers old new key pcn y (fits pcn key (filled_row y)) k e i r refl)
+
+-- a row for all that none of the old ones is before
+fresh : (old : List Row) (y : Row) (bin q : List ℕ) → find processor_cmp (bin, q) (exact_in (plain old)) ≡ None → y.providers ≡ None → y.bin ≡ bin → option_map filled y.pcn ≡ Some q → In y old → ⊥
+fresh old y bin q none for_all is pcn i =
+    let found = exact_some (plain old) y bin q (to_plain y old i for_all) is pcn in
+    let wrong : ◌≡◌ {A = Option ℕ} None (Some found.value) = sym none ∙ found.is in
+    absurd cc
+
+by_other : (payers : ℕ) (old new : List Row) (key : RouteKey) (payer : ℕ) → Kept payers old new key → find processor_cmp (key.bin, key.pcn) (exact_in (plain old)) ≡ None → ranged_payer (ranged_in old) None key ≡ None → find bin_cmp key.bin (other_in (plain old)) ≡ Some payer
+    → option_or (find processor_cmp (key.bin, key.pcn) (exact_in (plain new))) (option_or (ranged_payer (ranged_in new) None key) (find bin_cmp key.bin (other_in (plain new)))) ≡ Some payer
+by_other payers old new key payer k first none e =
+    let x = other_row (plain old) key.bin payer e in
+    let o = from_plain x.row old x.is_in in
+    let i = k.stays x.row o.0 in
+    let found : find bin_cmp key.bin (other_in (plain new)) ≡ Some payer = other_found (plain new) x.row key.bin (free_plain payers [] new k.none) (to_plain x.row new i o.1) x.bin x.pcn ∙ ap (λ (n : ℕ). Some n) x.pays in
+    first_too payer (find processor_cmp (key.bin, key.pcn) (exact_in (plain new))) _
+    (λ z there. let y = exact_row (plain new) key.bin key.pcn z there in
+    let j = from_plain y.row new y.is_in in
+    sym y.pays ∙ (same_pays y.row x.row y.row.pcn key.pcn j.1 refl y.pcn x.pcn (y.bin ∙ sym x.bin) (k.takes y.row x.row j.0 o.0 (fresh old y.row key.bin key.pcn first j.1 y.bin y.pcn)) ∙ x.pays))
+    (ap (λ (r : Option ℕ). option_or r (find bin_cmp key.bin (other_in (plain new)))) (ranged_never payers old new key None k none) ∙ found)
+
+by_range : (payers : ℕ) (old new : List Row) (key : RouteKey) (payer : ℕ) → Kept payers old new key → find processor_cmp (key.bin, key.pcn) (exact_in (plain old)) ≡ None → ranged_payer (ranged_in old) None key ≡ Some payer
+    → option_or (find processor_cmp (key.bin, key.pcn) (exact_in (plain new))) (option_or (ranged_payer (ranged_in new) None key) (find bin_cmp key.bin (other_in (plain new)))) ≡ Some payer
+by_range payers old new key payer k first e =
+    let x = ranged_row old None key payer e in
+    let f = fitting None key x.row x.fit in
+    first_too payer (find processor_cmp (key.bin, key.pcn) (exact_in (plain new))) _
+    (λ z there. let y = exact_row (plain new) key.bin key.pcn z there in
+    let j = from_plain y.row new y.is_in in
+    sym y.pays ∙ (same_pays y.row x.row y.row.pcn key.pcn j.1 refl y.pcn (none_of_none x.row.pcn f.same) (y.bin ∙ sym f.bin) (k.takes y.row x.row j.0 x.is_in (fresh old y.row key.bin key.pcn first j.1 y.bin y.pcn)) ∙ x.pays))
+    (ap (λ (r : Option ℕ). option_or r (find bin_cmp key.bin (other_in (plain new)))) (ranged_still payers old new key None payer k e))
+
+by_third : (payers : ℕ) (old new : List Row) (key : RouteKey) (payer : ℕ) (o : Option ℕ) → Kept payers old new key → find processor_cmp (key.bin, key.pcn) (exact_in (plain old)) ≡ None → ranged_payer (ranged_in old) None key ≡ o → option_or o (find bin_cmp key.bin (other_in (plain old))) ≡ Some payer
+    → option_or (find processor_cmp (key.bin, key.pcn) (exact_in (plain new))) (option_or (ranged_payer (ranged_in new) None key) (find bin_cmp key.bin (other_in (plain new)))) ≡ Some payer
+by_third payers old new key payer None k first is e = by_other payers old new key payer k first is e
+by_third payers old new key payer (Some z) k first is e = by_range payers old new key payer k first (is ∙ e)
+
+by_second : (payers : ℕ) (old new : List Row) (key : RouteKey) (payer : ℕ) (o : Option ℕ) → Kept payers old new key → find processor_cmp (key.bin, key.pcn) (exact_in (plain old)) ≡ o
+    → option_or o (option_or (ranged_payer (ranged_in old) None key) (find bin_cmp key.bin (other_in (plain old)))) ≡ Some payer
+    → option_or (find processor_cmp (key.bin, key.pcn) (exact_in (plain new))) (option_or (ranged_payer (ranged_in new) None key) (find bin_cmp key.bin (other_in (plain new)))) ≡ Some payer
+by_second payers old new key payer None k is e = by_third payers old new key payer (ranged_payer (ranged_in old) None key) k is refl e
+by_second payers old new key payer (Some z) k is e =
+    let x = exact_row (plain old) key.bin key.pcn z is in
+    let o = from_plain x.row old x.is_in in
+    let f = exact_found (plain new) x.row key.bin key.pcn (free_plain payers [] new k.none) (to_plain x.row new (k.stays x.row o.0) o.1) x.bin x.pcn in
+    ap (λ (p : Option ℕ). option_or p (option_or (ranged_payer (ranged_in new) None key) (find bin_cmp key.bin (other_in (plain new))))) f ∙ (ap (λ (n : ℕ). Some n) x.pays ∙ e)
+
+by_first : (payers : ℕ) (old new : List Row) (key : RouteKey) (payer : ℕ) (o : Option ℕ) → Kept payers old new key → ranged_payer (ranged_in old) (Some key.pcn) key ≡ o
+    → option_or o (option_or (find processor_cmp (key.bin, key.pcn) (exact_in (plain old))) (option_or (ranged_payer (ranged_in old) None key) (find bin_cmp key.bin (other_in (plain old))))) ≡ Some payer
+    → paid_by new key ≡ Some payer
+by_first payers old new key payer (Some z) k is e =
+    ap (λ (p : Option ℕ). option_or p (option_or (find processor_cmp (key.bin, key.pcn) (exact_in (plain new))) (option_or (ranged_payer (ranged_in new) None key) (find bin_cmp key.bin (other_in (plain new))))))
+    (ranged_still payers old new key (Some key.pcn) z k is) ∙ e
+by_first payers old new key payer None k is e =
+    ap (λ (p : Option ℕ). option_or p (option_or (find processor_cmp (key.bin, key.pcn) (exact_in (plain new))) (option_or (ranged_payer (ranged_in new) None key) (find bin_cmp key.bin (other_in (plain new))))))
+    (ranged_never payers old new key (Some key.pcn) k is)
+    ∙ by_second payers old new key payer (find processor_cmp (key.bin, key.pcn) (exact_in (plain old))) k refl e
+
+-- ---- what has a route has a row of its BIN
+
+record OfBin (rows : List Row) (bin : List ℕ) : Type 0 where
+  row : Row
+  is_in : In row rows
+  bin_is : row.bin ≡ bin
+
+bin_of_ranged : (rows : List Row) (pcn : Option (List ℕ)) (key : RouteKey) (payer : ℕ) → ranged_payer (ranged_in rows) pcn key ≡ Some payer → OfBin rows key.bin
+bin_of_ranged rows pcn key payer e =
+    let x = ranged_row rows pcn key payer e in
+    record { row = x.row; is_in = x.is_in; bin_is = (fitting pcn key x.row x.fit).bin }
+
+bin_third : (rows : List Row) (key : RouteKey) (payer : ℕ) (o : Option ℕ) → ranged_payer (ranged_in rows) None key ≡ o → option_or o (find bin_cmp key.bin (other_in (plain rows))) ≡ Some payer → OfBin rows key.bin
+bin_third rows key payer (Some z) is e = bin_of_ranged rows None key z is
+bin_third rows key payer None is e =
+    let x = other_row (plain rows) key.bin payer e in
+    record { row = x.row; is_in = (from_plain x.row rows x.is_in).0; bin_is = x.bin }
+
+bin_second : (rows : List Row) (key : RouteKey) (payer : ℕ) (o : Option ℕ) → find processor_cmp (key.bin, key.pcn) (exact_in (plain rows)) ≡ o
+    → option_or o (option_or (ranged_payer (ranged_in rows) None key) (find bin_cmp key.bin (other_in (plain rows)))) ≡ Some payer → OfBin rows key.bin
+bin_second rows key payer (Some z) is e =
+    let x = exact_row (plain rows) key.bin key.pcn z is in
+    record { row = x.row; is_in = (from_plain x.row rows x.is_in).0; bin_is = x.bin }
+bin_second rows key payer None is e = bin_third rows key payer (ranged_payer (ranged_in rows) None key) refl e
+
+bin_first : (rows : List Row) (key : RouteKey) (payer : ℕ) (o : Option ℕ) → ranged_payer (ranged_in rows) (Some key.pcn) key ≡ o
+    → option_or o (option_or (find processor_cmp (key.bin, key.pcn) (exact_in (plain rows))) (option_or (ranged_payer (ranged_in rows) None key) (find bin_cmp key.bin (other_in (plain rows))))) ≡ Some payer → OfBin rows key.bin
+bin_first rows key payer (Some z) is e = bin_of_ranged rows (Some key.pcn) key z is
+bin_first rows key payer None is e = bin_second rows key payer (find processor_cmp (key.bin, key.pcn) (exact_in (plain rows))) refl e
+
+or_true : (a b : Bool) → b ≡ true → (a || b) ≡ true
+or_true true b e = refl
+or_true false b e = e
+
+any_true : (test : Row → Bool) (xs : List Row) (r : Row) → In r xs → test r ≡ true → list_any test xs ≡ true
+any_true test [] r i e = absurd i
+any_true test (x ∷ xs) r (inl same) e = ap (λ (t : Bool). t || list_any test xs) (ap test same ∙ e)
+any_true test (x ∷ xs) r (inr i) e = or_true (test x) (list_any test xs) (any_true test xs r i e)
+
+has_old_bin : (rows : List Row) (y : Row) (bin : List ℕ) → y.bin ≡ bin → OfBin rows bin → list_any (has_bin y) rows ≡ true
+has_old_bin rows y bin is o = any_true (has_bin y) rows o.row o.is_in (ap (λ (z : List ℕ). bytes_eq z o.row.bin) (is ∙ sym o.bin_is) ∙ bytes_self o.row.bin)
+
+-- ---- what nothing is found of
 
 neither : (a b : Option Ungrown) → option_or a b ≡ None → (a ≡ None) × (b ≡ None)
 neither None b e = (refl, e)
@@ -291,12 +207,80 @@ none_mapped : (f : ℕ → Ungrown) (o : Option ℕ) → option_map f o ≡ None
 none_mapped f None e = refl
 none_mapped f (Some x) e = absurd cc
 
-pub routes_widen : (payers : ℕ) (old new : List Row) → first_fault payers new ≡ None → route_ungrown old new ≡ None → (b q : List ℕ) (payer : ℕ) → payer_at (routes_of old) b q ≡ Some payer → payer_at (routes_of new) b q ≡ Some payer
+second_false : (a b : Bool) → a ≡ true → (a && b) ≡ false → b ≡ false
+second_false true b e f = f
+second_false false b e f = absurd cc
+
+-- a row that is none of the old ones takes claims from none of them
+taken_by : (old : List Row) (r e : Row) (s : Bool) → list_any (same_row r) old ≡ s → takes_claims old r ≡ false → In e old → (In r old → ⊥) → takes_from r e ≡ false
+taken_by old r e true is none j new_one = absurd (new_one (among r old is))
+taken_by old r e false is none j new_one = none_any (takes_from r) old e (second_false (not (list_any (same_row r) old)) (list_any (takes_from r) old) (ap not is) none) j
+
+-- a row for some providers of an old BIN that is none of the old rows is for newcomers
+old_by : (old : List Row) (y : Row) (s : Bool) → list_any (same_row y) old ≡ s → is_ranged y ≡ true → (is_new_range old y ≡ true → In y old) → In y old
+old_by old y true is ranged new = among y old is
+old_by old y false is ranged new = new (both_true (is_ranged y) (not (list_any (same_row y) old)) ranged (ap not is))
+
+abbrev Own : List Row → List Row → RouteKey → Type 0
+Own old new key = (y : Row) (pcn : Option (List ℕ)) → In y new → is_ranged y ≡ true → fits pcn key (filled_row y) ≡ true → In y old
+
+routes_last : (payers : ℕ) (pharmacies : List PharmacySettings) (old new : List Row) → first_fault payers new ≡ None → route_ungrown pharmacies old new ≡ None → (key : RouteKey) (payer : ℕ) → (OfBin old key.bin → Own old new key)
+    → payer_of (routes_of old) key ≡ Some payer → payer_of (routes_of new) key ≡ Some payer
 unfolding first_fault
-routes_widen payers old new none grown b q payer e =
+routes_last payers pharmacies old new none grown key payer own e =
     let g = neither (option_map ungrown.RouteGone (position_from (λ (row : Row). not (list_any (same_row row) new)) 0 old)) _ grown in
-    payer_is new b q
-    ∙ routed_still payers old new b q payer (find processor_cmp (b, q) (exact_in old)) none
-    (λ r i. among r new (not_false (list_any (same_row r) new) (none_at (λ (row : Row). not (list_any (same_row row) new)) 0 old r (none_mapped ungrown.RouteGone _ g.0) i)))
-    (λ r x i j. none_any (takes_from r) old x (none_at (λ (row : Row). list_any (takes_from row) old) 0 new r (none_mapped ungrown.RouteTaken _ g.1) i) j)
-    refl (sym (payer_is old b q) ∙ e)
+    let h = neither (option_map ungrown.RouteTaken (position_from (λ (row : Row). takes_claims old row) 0 new)) _ g.1 in
+    let before : paid_by old key ≡ Some payer = sym (payer_is old key) ∙ e in
+    payer_is new key
+    ∙ by_first payers old new key payer (ranged_payer (ranged_in old) (Some key.pcn) key)
+    (record {
+      none = none;
+      stays = λ r i. among r new (not_false (list_any (same_row r) new) (none_at (λ (row : Row). not (list_any (same_row row) new)) 0 old r (none_mapped ungrown.RouteGone _ g.0) i));
+      takes = λ r x i j new_one. taken_by old r x (list_any (same_row r) old) refl (none_at (λ (row : Row). takes_claims old row) 0 new r (none_mapped ungrown.RouteTaken _ h.0) i) j new_one;
+      own = own (bin_first old key payer (ranged_payer (ranged_in old) (Some key.pcn) key) refl before);
+    }) refl before
+
+ranges_left : (pharmacies : List PharmacySettings) (old new : List Row) → route_ungrown pharmacies old new ≡ None → position_from (λ (row : Row). takes_range pharmacies old row) 0 new ≡ None
+ranges_left pharmacies old new grown =
+    let g = neither (option_map ungrown.RouteGone (position_from (λ (row : Row). not (list_any (same_row row) new)) 0 old)) _ grown in
+    let h = neither (option_map ungrown.RouteTaken (position_from (λ (row : Row). takes_claims old row) 0 new)) _ g.1 in
+    none_mapped ungrown.RangeTaken _ h.1
+
+-- all keys, where no row is new for some providers of an old BIN
+pub routes_widen : (payers : ℕ) (pharmacies : List PharmacySettings) (old new : List Row) → first_fault payers new ≡ None → route_ungrown pharmacies old new ≡ None → has_new_range old new ≡ false
+    → (key : RouteKey) (payer : ℕ) → payer_of (routes_of old) key ≡ Some payer → payer_of (routes_of new) key ≡ Some payer
+routes_widen payers pharmacies old new none grown plainly key payer e =
+    routes_last payers pharmacies old new none grown key payer
+    (λ o y pcn i r f. old_by old y (list_any (same_row y) old) refl r
+    (λ new_one. clash (In y old) (is_new_range old y && list_any (has_bin y) old)
+    (both_true (is_new_range old y) (list_any (has_bin y) old) new_one (has_old_bin old y key.bin (fitting pcn key y f).bin o))
+    (none_any (λ row. is_new_range old row && list_any (has_bin row) old) new y plainly i)))
+    e
+
+-- a pharmacy of a list
+in_list : (ps : List PharmacySettings) (test : PharmacySettings → Bool) (p : PharmacySettings) (k : ℕ) → slice_get ps k ≡ Some p → test p ≡ true → list_any test ps ≡ true
+in_list [] test p k at e = absurd cc
+in_list (q ∷ ps) test p zero at e = let same : q ≡ p = cc in ap (λ (t : Bool). t || list_any test ps) (ap test same ∙ e)
+in_list (q ∷ ps) test p (suc k) at e = or_true (test q) (list_any test ps) (in_list ps test p k at e)
+
+in_pharmacies : (ps : List PharmacySettings) (test : PharmacySettings → Bool) (p : PharmacySettings) (n : ℕ) → numbered ps n ≡ Some p → test p ≡ true → list_any test ps ≡ true
+in_pharmacies ps test p zero at e = absurd cc
+in_pharmacies ps test p (suc k) at e = in_list ps test p k at e
+
+range_has : (o : Option Providers) (p : PharmacySettings) (key : RouteKey) → p.qualifier ≡ key.qualifier → p.provider ≡ key.provider → has_provider o key.qualifier key.provider ≡ true → is_in_ranges o p ≡ true
+range_has None p key q r e = absurd cc
+range_has (Some range) p key q r e = ap (λ (z : List ℕ). have range z p.provider) q ∙ (ap (have range key.qualifier) r ∙ e)
+
+-- the keys of the old pharmacies
+pub routes_widen_for : (payers : ℕ) (s : WorldSettings) (old new : List Row) → first_fault payers new ≡ None → route_ungrown s.pharmacies old new ≡ None
+    → (key : RouteKey) (payer : ℕ) → IsOfPharmacy s key.qualifier key.provider → payer_of (routes_of old) key ≡ Some payer → payer_of (routes_of new) key ≡ Some payer
+routes_widen_for payers s old new none grown key payer who e =
+    routes_last payers s.pharmacies old new none grown key payer
+    (λ o y pcn i r f. old_by old y (list_any (same_row y) old) refl r
+    (λ new_one. let g = fitting pcn key y f in
+    clash (In y old) (takes_range s.pharmacies old y)
+    (both_true (is_new_range old y) _ new_one
+    (both_true (list_any (has_bin y) old) (list_any (is_in_row y) s.pharmacies) (has_old_bin old y key.bin g.bin o)
+    (in_pharmacies s.pharmacies (is_in_row y) who.pharmacy who.number who.at (range_has y.providers who.pharmacy key who.qualifier_is who.provider_is g.has))))
+    (none_at (λ (row : Row). takes_range s.pharmacies old row) 0 new y (ranges_left s.pharmacies old new grown) i)))
+    e

@@ -1,16 +1,18 @@
 -- Settings beside those that they are to have grown to: the first thing that is neither as it was nor grown.
-use Rattle.std.specs.Prelude.{◌≡◌, ℕ, ◌+◌, Bool, true, false, cond, ◌&&◌, ◌==◌, not, nat_le, List, [], ◌∷◌, Option, Some, None, bytes_eq}
+use Rattle.std.specs.Prelude.{◌≡◌, ℕ, ◌+◌, Bool, true, false, cond, ◌&&◌, ◌==◌, not, nat_le, List, [], ◌∷◌, Option, Some, None, is_none, bytes_eq}
+use mathlib.Core.Bool.{beq}
 use Rattle.std.specs.List.{list_any, position_from}
 use Rattle.std.specs.Option.{option_or, option_map}
-use Rattle.bin_routes.specs.Row.{Row, same_key}
-use Rattle.bin_routes.specs.Table.{routes_of}
+use Rattle.bin_routes.specs.Providers.{Providers, have}
+use Rattle.bin_routes.specs.Row.{Row, same_pcn}
+use Rattle.bin_routes.specs.Table.{routes_of, is_ranged}
 use Rattle.claim_model.specs.Context.{Context}
 use Rattle.claim_model.specs.Bytes.{bytes_with}
 use Rattle.claim_model.specs.Journal.{PharmacySettings}
 use Rattle.claim_model.specs.Settings.{PayerSettings, WorldSettings}
 use Rattle.world_setup.specs.Seen.{settings_seen}
 use Rattle.world_setup.specs.declared.settings.WorldSettings.{WorldSettings as Opened}
-use Rattle.settings_growth.specs.Growth.{PharmacyGrows, PayerGrows, Extends, Grows}
+use Rattle.settings_growth.specs.Growth.{PharmacyGrows, PayerGrows, Extends, Grows, GrowsFor}
 use Rattle.log_growth.specs.declared.ungrown.Ungrown.{Ungrown}
 use Rattle.log_growth.specs.declared.ungrown.Ungrown.TheVariants as ungrown
 
@@ -29,8 +31,8 @@ same_prices (p ∷ old) (q ∷ new) = (bytes_eq p.0 q.0 && (p.1 == q.1)) && same
 -- the same payer, whose book may have as many rows or more
 abbrev pub payer_grows : PayerSettings → PayerSettings → Bool
 payer_grows old new =
-    (old.book.serial == new.book.serial) && (nat_le old.book.cap new.book.cap && ((old.plan.fee == new.plan.fee)
-    && ((old.plan.copay == new.plan.copay) && same_prices old.plan.prices new.plan.prices)))
+    (old.book.serial == new.book.serial) && (beq old.book.asks new.book.asks && (nat_le old.book.cap new.book.cap && ((old.plan.fee == new.plan.fee)
+    && ((old.plan.copay == new.plan.copay) && same_prices old.plan.prices new.plan.prices))))
 
 -- the number of the first node, from this one on, that is not there any more or has not grown
 abbrev pub first_other : {A : Type 0} → (A → A → Bool) → ℕ → List A → List A → Option ℕ
@@ -53,28 +55,72 @@ pub record NodesGrow (old new : WorldSettings) : Type 0 where
 
 -- ---- routes
 
+-- the same providers
+abbrev pub same_range : Providers → Providers → Bool
+same_range a b = bytes_eq a.qualifier b.qualifier && (bytes_eq a.first b.first && bytes_eq a.last b.last)
+
+-- or all of them
+abbrev pub same_ranges : Option Providers → Option Providers → Bool
+same_ranges None None = true
+same_ranges None (Some b) = false
+same_ranges (Some a) None = false
+same_ranges (Some a) (Some b) = same_range a b
+
 -- the same row
 abbrev pub same_row : Row → Row → Bool
-same_row a b = same_key a b && (a.payer == b.payer)
+same_row a b = (bytes_eq a.bin b.bin && same_pcn a.pcn b.pcn) && (same_ranges a.providers b.providers && (a.payer == b.payer))
 
--- a row that names a processor control number takes claims from one of its BIN alone, which leads to another payer
+-- a row for all providers that names a processor control number takes claims from one of its BIN alone, which leads to another payer
 abbrev pub takes_by : Option (List ℕ) → Option (List ℕ) → Row → Row → Bool
 takes_by (Some pcn) None a b = bytes_eq a.bin b.bin && not (a.payer == b.payer)
 takes_by (Some pcn) (Some other) a b = false
 takes_by None other a b = false
 
 abbrev pub takes_from : Row → Row → Bool
-takes_from a b = takes_by a.pcn b.pcn a b
+takes_from a b = is_none a.providers && takes_by a.pcn b.pcn a b
 
--- the first row that is not there any more, and else the first new row that takes claims from an old one
-abbrev pub route_ungrown : List Row → List Row → Option Ungrown
-route_ungrown old new =
+-- a row that is none of the old ones takes claims from one of them
+abbrev pub takes_claims : List Row → Row → Bool
+takes_claims old row = not (list_any (same_row row) old) && list_any (takes_from row) old
+
+-- a row for some providers that is none of these
+abbrev pub is_new_range : List Row → Row → Bool
+is_new_range old row = is_ranged row && not (list_any (same_row row) old)
+
+-- two rows have the same BIN
+abbrev pub has_bin : Row → Row → Bool
+has_bin row other = bytes_eq row.bin other.bin
+
+-- a pharmacy is one of these providers
+abbrev pub is_in_range : Providers → PharmacySettings → Bool
+is_in_range providers p = have providers p.qualifier p.provider
+
+abbrev pub is_in_ranges : Option Providers → PharmacySettings → Bool
+is_in_ranges None p = false
+is_in_ranges (Some providers) p = is_in_range providers p
+
+abbrev pub is_in_row : Row → PharmacySettings → Bool
+is_in_row row p = is_in_ranges row.providers p
+
+-- such a row takes claims where an old row has its BIN, and an old pharmacy is one of its providers
+abbrev pub takes_range : List PharmacySettings → List Row → Row → Bool
+takes_range pharmacies old row = is_new_range old row && (list_any (has_bin row) old && list_any (is_in_row row) pharmacies)
+
+-- the first row that is not there any more, and else the first new row that takes claims from an old one, and else the first for some providers that does
+abbrev pub route_ungrown : List PharmacySettings → List Row → List Row → Option Ungrown
+route_ungrown pharmacies old new =
     option_or (option_map ungrown.RouteGone (position_from (λ (row : Row). not (list_any (same_row row) new)) 0 old))
-    (option_map ungrown.RouteTaken (position_from (λ (row : Row). list_any (takes_from row) old) 0 new))
+    (option_or (option_map ungrown.RouteTaken (position_from (λ (row : Row). takes_claims old row) 0 new))
+    (option_map ungrown.RangeTaken (position_from (λ (row : Row). takes_range pharmacies old row) 0 new)))
 
 -- the first thing that has not grown
 abbrev pub first_ungrown : Opened → Opened → Option Ungrown
-first_ungrown old new = option_or (node_ungrown (settings_seen old) (settings_seen new)) (route_ungrown old.routes.items new.routes.items)
+first_ungrown old new =
+    option_or (node_ungrown (settings_seen old) (settings_seen new)) (route_ungrown old.pharmacies.items old.routes.items new.routes.items)
+
+-- whether some new row is for some providers of a BIN that an old row has
+abbrev pub has_new_range : List Row → List Row → Bool
+has_new_range old new = list_any (λ row. is_new_range old row && list_any (has_bin row) old) new
 
 -- how nodes of these settings read bytes
 abbrev pub reading_of : Opened → Context
@@ -83,3 +129,12 @@ reading_of s = bytes_with (routes_of s.routes.items)
 -- settings grow to others
 abbrev pub GrowsTo : Opened → Opened → Type 0
 GrowsTo old new = Grows (reading_of old) (reading_of new) (settings_seen old) (settings_seen new)
+
+-- and for the pharmacies that there were: new providers may have other payers
+abbrev pub GrowsToFor : Opened → Opened → Type 0
+GrowsToFor old new = GrowsFor (reading_of old) (reading_of new) (settings_seen old) (settings_seen new)
+
+-- settings have grown: for the pharmacies that there were, and for all where no row is new for some providers of an old BIN
+pub record HasGrownTo (old new : Opened) : Type 0 where
+  pub own : GrowsToFor old new
+  pub all : has_new_range old.routes.items new.routes.items ≡ false → GrowsTo old new

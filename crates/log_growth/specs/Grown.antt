@@ -4,7 +4,7 @@ use Rattle.world_setup.specs.declared.settings.WorldSettings.{WorldSettings}
 use Rattle.world_settings.specs.Document.{living_in}
 use Rattle.node_service.specs.Opened.{Spells}
 use Rattle.node_service.specs.Refused.{SpellsNoWorld}
-use Rattle.log_growth.specs.Compared.{GrowsTo, first_ungrown}
+use Rattle.log_growth.specs.Compared.{HasGrownTo, first_ungrown}
 use Rattle.log_growth.specs.declared.growth.GrowthFault.{GrowthFault}
 use Rattle.log_growth.specs.declared.growth.GrowthFault.TheVariants.{OutOfMemory, OldSettings, NewSettings, NotGrown}
 use Rattle.log_growth.specs.declared.ungrown.Ungrown.{Ungrown}
@@ -15,7 +15,7 @@ pub record HasGrown (old new : List ℕ) : Type 0 where
   pub after : WorldSettings
   pub first : Spells old before
   pub second : Spells new after
-  pub grows : GrowsTo before after
+  pub grows : HasGrownTo before after
 
 -- both spell settings that a world takes, and this is the first thing that has not grown
 pub record HasNotGrown (old new : List ℕ) (found : Ungrown) : Type 0 where

@@ -2,33 +2,57 @@
 
 ghost use Rattle.std.specs.Prelude.{◌≡◌, None};
 ghost use Rattle.world_setup.specs.Seen.{settings_seen};
-ghost use Rattle.log_growth.specs.Compared.{GrowsTo, first_ungrown, node_ungrown};
+ghost use Rattle.log_growth.specs.Compared.{HasGrownTo, first_ungrown, node_ungrown, route_ungrown};
 
 use crate::payers::first_payer;
 use crate::pharmacies::first_pharmacy;
-use crate::rows::{first_gone, first_taking};
+use crate::rows::{first_gone, first_range, first_taking};
 use crate::switches::first_switch;
 use crate::ungrown::Ungrown;
+use bin_routes::RouteRow;
+use pharmacy_journal::PharmacySettings;
 use world_setup::{CheckedSettings, WorldSettings};
 
 /// The first thing of these settings that has not grown to what it is in the new ones; where there is none, the new ones
 /// have grown from these. The new ones are such as a world takes.
 ///
 /// Of nodes the answer is exact. Of routes it is on the safe side: a new route of BIN and processor control number under an
-/// old one of the BIN alone has to lead to the same payer.
+/// old one of the BIN alone has to lead to the same payer. A new route for some providers may have another payer than they
+/// had where no old pharmacy is one of them.
 pub(crate) fn first_ungrown(old: &WorldSettings, new: &CheckedSettings) -> Option<Ungrown>
     ensures first { result ≡ first_ungrown old.now new.now }
-    ensures grows { result ≡ None → GrowsTo old.now new.now }
+    ensures grows { result ≡ None → HasGrownTo old.now new.now }
 {
     let later = new.settings();
     if let Some(found) = first_node(old, later) {
         return Some(found);
     }
-    if let Some(place) = first_gone(old.routes.as_slice(), later.routes.as_slice()) {
+    match first_route(
+        old.pharmacies.as_slice(),
+        old.routes.as_slice(),
+        later.routes.as_slice(),
+    ) {
+        Some(found) => Some(found),
+        None => None,
+    }
+}
+
+/// The first route that has not grown, where these were the pharmacies.
+fn first_route(
+    pharmacies: &[PharmacySettings],
+    old: &[RouteRow],
+    new: &[RouteRow],
+) -> Option<Ungrown>
+    ensures { result ≡ route_ungrown pharmacies.now old.now new.now }
+{
+    if let Some(place) = first_gone(old, new) {
         return Some(Ungrown::RouteGone(place));
     }
-    match first_taking(old.routes.as_slice(), later.routes.as_slice()) {
-        Some(place) => Some(Ungrown::RouteTaken(place)),
+    if let Some(place) = first_taking(old, new) {
+        return Some(Ungrown::RouteTaken(place));
+    }
+    match first_range(pharmacies, old, new) {
+        Some(place) => Some(Ungrown::RangeTaken(place)),
         None => None,
     }
 }

@@ -9,6 +9,7 @@ ghost use Rattle.log_growth.specs.declared.growth.Untaken.TheVariants.{Settings}
 
 use crate::comparing::first_ungrown;
 use crate::reason::reason;
+use crate::rows::has_new_range;
 use crate::ungrown::Ungrown;
 use settings_digest::Digests;
 use std::alloc::{AllocError, Global};
@@ -41,6 +42,8 @@ pub struct Grown {
     pub old: Digests,
     /// The digests of the new ones.
     pub new: Digests,
+    /// Whether the new ones lead providers who are no pharmacy yet to another payer than the old ones did.
+    pub moves: bool,
 }
 
 /// Whether the settings that the first text spells have grown to those of the second: all that a node did under the first it
@@ -71,6 +74,7 @@ pub fn grows(alloc: Global, old: &[u8], new: &[u8]) -> Result<Grown, GrowthFault
         None => Ok(Grown {
             old: Digests::of(alloc, earlier, old)?,
             new: Digests::of(alloc, later, new)?,
+            moves: has_new_range(earlier.routes.as_slice(), later.routes.as_slice()),
         }),
     }
 }

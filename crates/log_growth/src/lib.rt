@@ -16,6 +16,8 @@ mod switches;
 mod ungrown;
 
 pub use growth::{Grown, GrowthFault, grows};
-pub use laws::{made_logs_go_over, nodes_are_compared_exactly};
+pub use laws::{
+    made_logs_go_over, made_logs_with_their_routes_go_over, nodes_are_compared_exactly,
+};
 pub use over::{Gone, OverFault, go_over};
 pub use ungrown::Ungrown;

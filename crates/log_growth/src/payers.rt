@@ -27,6 +27,7 @@ fn payer_grows(old: &PayerSettings, new: &PayerSettings) -> bool
     ensures { result ≡ payer_grows (payer_seen old.now) (payer_seen new.now) }
 {
     old.book.serial() == new.book.serial()
+        && old.book.asks() == new.book.asks()
         && old.book.cap() <= new.book.cap()
         && old.plan.fee() == new.plan.fee()
         && old.plan.copay() == new.plan.copay()

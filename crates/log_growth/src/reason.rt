@@ -14,6 +14,7 @@ pub(crate) fn reason(old: &WorldSettings, new: &WorldSettings, found: Ungrown) -
         Ungrown::Payer(number) => payers(old, new, number.saturating_sub(1)),
         Ungrown::RouteGone(_) => "is gone, or leads to another payer",
         Ungrown::RouteTaken(_) => "takes claims from a route of its BIN alone",
+        Ungrown::RangeTaken(_) => "takes claims of an old pharmacy, which is one of its providers",
     }
 }
 
@@ -65,6 +66,9 @@ fn of_payer(old: &PayerSettings, new: &PayerSettings) -> &'static str {
     }
     if old.book.serial() != new.book.serial() {
         return "has another serial";
+    }
+    if old.book.asks() != new.book.asks() {
+        return "has another asks";
     }
     of_plan(&old.plan, &new.plan)
 }

@@ -13,7 +13,8 @@ pub enum Ungrown {
     /// The switch of this number is gone, or has another cap: the entries that a full table forgets hang on it.
     #[error("switch {0}")]
     Switch(usize),
-    /// The payer of this number is gone, has a smaller cap, or another first serial, fee, copay or price.
+    /// The payer of this number is gone, has a smaller cap, or another first serial, fee, copay or price, or asks and did not,
+    /// or the other way round.
     #[error("payer {0}")]
     Payer(usize),
     /// The route at this place of the old settings is not in the new ones, or leads to another payer there.
@@ -22,4 +23,8 @@ pub enum Ungrown {
     /// The route at this place of the new settings takes claims from an old one of its BIN alone, for another payer.
     #[error("row {0} of the new routes")]
     RouteTaken(usize),
+    /// The route at this place of the new settings is new and for some providers, of which one is an old pharmacy; and an old
+    /// route has its BIN.
+    #[error("row {0} of the new routes")]
+    RangeTaken(usize),
 }

@@ -2,4 +2,5 @@ pub mod Lines
 pub mod Closing
 pub mod GoingOn
 pub mod Parts
+pub mod Compared
 pub mod FilesBack

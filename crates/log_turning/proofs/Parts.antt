@@ -1,5 +1,5 @@
 -- Parts that were read, and the first that is none.
-use Rattle.std.proofs.Common.{◌≡◌, ℕ, suc, ◌+◌, ◌<◌, ◌≤◌, drop, get_or, map, take, List, [], ◌∷◌, ◌++◌, length, Option, Some, None, Ok, refl, sym, ap, ◌∙◌, subst, append_assoc, append-nil, add-zero, add_assoc, length-append, arith}
+use Rattle.std.proofs.Common.{◌≡◌, ℕ, suc, ◌+◌, ◌<◌, ◌≤◌, ◌-◌, drop, get_or, map, take, List, [], ◌∷◌, ◌++◌, length, Option, Some, None, Ok, refl, sym, ap, ◌∙◌, subst, append_assoc, append-nil, add-zero, add_assoc, length-append, arith}
 use Rattle.std.specs.Prelude.{◌≢◌, ◌⊎◌, false, Err}
 use Rattle.std.proofs.Common.{inl, inr}
 use Rattle.std.proofs.lemmas.List.{drop_more, length-map, length-take-le, map-append, take-append-drop}
@@ -15,7 +15,7 @@ use Rattle.kept_logs.specs.Digests.{version_of}
 use Rattle.kept_logs.specs.Frames.{frame_text}
 use Rattle.kept_logs.specs.Rests.{behind, calls_before}
 use Rattle.settings_digest.specs.Digests.{digest_in, turned_in, turned_under}
-use Rattle.log_turning.specs.Joined.{AreParts, GoesOn, IsPart, IsPartBehind, Part}
+use Rattle.log_turning.specs.Joined.{AreParts, GoesOn, IsEnd, IsEndOf, IsPart, IsPartBehind, Part, last_part}
 use Rattle.log_turning.specs.Unjoined.{IsNoPart, IsOthers, IsUnjoined, SpellsNone, StopsAt, last_log}
 use Rattle.log_turning.specs.declared.fault.JoinFault.{JoinFault}
 use Rattle.log_turning.specs.declared.fault.JoinFault.TheVariants.{OutOfMemory, Settings, Log, OtherNode, NotNext}
@@ -35,7 +35,18 @@ pub last_more : (last : Option (List ℕ)) (ps : List Part) (p : Part) → last_
 last_more last [] p = refl
 last_more last (q ∷ ps) p = last_more (Some q.log) ps p
 
+pub last_part_more : (last : Option Part) (ps : List Part) (p : Part) → last_part last (ps ++ p ∷ []) ≡ Some p
+last_part_more last [] p = refl
+last_part_more last (q ∷ ps) p = last_part_more (Some q) ps p
+
+-- the bytes behind the last part are those behind one part more
+pub ends_more : (text : List ℕ) (done longer : List Part) (p : Part) (left : ℕ) → longer ≡ done ++ p ∷ [] → IsEndOf text p left → IsEnd text (last_part None longer) left
+ends_more text done longer p left is end = subst (λ (last : Option Part). IsEnd text last left) (sym (ap (last_part None) is ∙ last_part_more None done p)) end
+
 -- ---- a part that was read
+
+pub end_is : (text : List ℕ) (p : Part) (digest : List ℕ) (log : KeptLog) (whole left : ℕ) → digest ≡ turned_under text p.rest p.log → kept_in digest p.log ≡ Ok (record { log = log; whole = whole }) → left ≡ length p.log - whole → IsEndOf text p left
+end_is text p digest log whole left under reads is = record { log = log; whole = whole; reads = ap (λ (d : List ℕ). kept_in d p.log) (sym under) ∙ reads; is = is }
 
 pub part_is : (text : List ℕ) (node : Node) (p : Part) (digest : List ℕ) (log : KeptLog) (whole : ℕ) → digest ≡ turned_under text p.rest p.log → kept_in digest p.log ≡ Ok (record { log = log; whole = whole }) → log.node ≡ node → IsPart text node p log.calls
 part_is text node p digest log whole under reads own = record {

@@ -1,10 +1,10 @@
 -- Logs that go on one behind another, as one log.
-use Rattle.std.specs.Prelude.{◌≡◌, ℕ, ◌+◌, ◌==◌, ◌&&◌, Bool, bytes_eq, List, [], ◌∷◌, ◌++◌, length, Option, Some, None, Ok}
+use Rattle.std.specs.Prelude.{◌≡◌, ℕ, ◌+◌, ◌==◌, ◌&&◌, Bool, bytes_eq, List, [], ◌∷◌, ◌++◌, ◌-◌, length, replicate, Option, Some, None, Ok}
 use Rattle.std.specs.Option.{option_copied}
 use Rattle.sha2.specs.Sha256.{sha256}
 use Rattle.claim_model.specs.Node.{Node}
 use Rattle.claim_model.specs.Nodes.{same_node}
-use Rattle.kept_logs.specs.Stamps.{Stamped}
+use Rattle.kept_logs.specs.Stamps.{Stamped, KeptLog}
 use Rattle.kept_logs.specs.Logs.{calls_text, kept_text, kept_in}
 use Rattle.kept_logs.specs.Rests.{Rest, calls_before, rest_in}
 use Rattle.settings_digest.specs.Digests.{turned_in, turned_under}
@@ -57,8 +57,27 @@ AreParts text node begins before last [] calls = calls ≡ []
 AreParts text node begins before last (p ∷ more) calls =
     GoesOn node begins before last p × ((own : List Stamped) × (behind : List Stamped) × (IsPart text node p own × (AreParts text node begins (before + length own) (Some p.log) more behind × (calls ≡ own ++ behind))))
 
--- bytes are the text of one log that begins so, with all records of the parts, and what was noted in them
+-- so many bytes stand behind the whole records of a part: of one that was cut off, or zeros
+pub record IsEndOf (text : List ℕ) (p : Part) (left : ℕ) : Type 0 where
+  pub log : KeptLog
+  pub whole : ℕ
+  pub reads : kept_in (turned_under text p.rest p.log) p.log ≡ Ok (record { log = log; whole = whole })
+  pub is : left ≡ length p.log - whole
+
+abbrev pub IsEnd : List ℕ → Option Part → ℕ → Type 0
+IsEnd text None left = left ≡ 0
+IsEnd text (Some p) left = IsEndOf text p left
+
+-- the last of some parts, where there are some
+abbrev pub last_part : Option Part → List Part → Option Part
+last_part last [] = last
+last_part last (p ∷ more) = last_part (Some p) more
+
+-- bytes are the text of one log that begins so, with all records of the parts, and what was noted in them; and behind it as many zeros as bytes stand
+-- behind the whole records of the last part, which are read as the end of a log that was cut off
 pub record IsJoined (text : List ℕ) (node : Node) (begins : Option (List ℕ)) (parts : List Part) (joined : List ℕ) : Type 0 where
   pub calls : List Stamped
   pub parted : AreParts text node begins (calls_before begins) None parts calls
-  pub is : joined ≡ kept_text (turned_in text begins) (record { node = node; calls = calls })
+  pub left : ℕ
+  pub ends : IsEnd text (last_part None parts) left
+  pub is : joined ≡ kept_text (turned_in text begins) (record { node = node; calls = calls }) ++ replicate left 0

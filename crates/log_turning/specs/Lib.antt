@@ -2,4 +2,5 @@
 pub mod Turned
 pub mod Joined
 pub mod Unjoined
+pub mod Left
 pub mod Files

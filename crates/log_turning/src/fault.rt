@@ -1,4 +1,4 @@
-//! Why a log is not turned over, and why logs are not joined.
+//! Why a log is not turned over, and why logs are not joined, or begin with what was not left.
 
 use kept_logs::LogFault;
 use node_service::ServiceFault;
@@ -67,5 +67,28 @@ impl From<AllocError> for JoinFault {
 
     fn from(_refused: AllocError) -> JoinFault {
         JoinFault::OutOfMemory
+    }
+}
+
+/// Why logs are not those that their node left; the place is that of a log among them, from 0. Want of memory may stand in place of any
+/// answer.
+#[derive(Clone, Copy, Debug, PartialEq, Eq, Error)]
+pub enum RestFault {
+    /// Memory was refused.
+    #[error("out of memory")]
+    OutOfMemory,
+    /// The log begins with another rest than its node left behind the one before it.
+    #[error("the log does not begin with what its closed logs left")]
+    Other(usize),
+}
+
+impl From<AllocError> for RestFault {
+    ghost use Rattle.std.specs.Prelude.{◌≡◌};
+    ghost use Rattle.log_turning.specs.declared.fault.RestFault.TheVariants.{OutOfMemory};
+
+    ghost from_gives = { λ _ e. e ≡ OutOfMemory };
+
+    fn from(_refused: AllocError) -> RestFault {
+        RestFault::OutOfMemory
     }
 }

@@ -1,13 +1,13 @@
 //! Logs that go on one behind another, joined as if none had been closed.
 
-ghost use Rattle.std.specs.Prelude.{◌≡◌, ◌≢◌, ◌⊎◌, ◌↔◌, ℕ, List, IfErr, IfOk, IsTrue, map};
+ghost use Rattle.std.specs.Prelude.{◌≡◌, ◌≢◌, ◌⊎◌, ◌↔◌, ◌++◌, ℕ, List, IfErr, IfOk, IsTrue, OnOk, map, replicate};
 ghost use Rattle.std.specs.Option.{option_copied};
 ghost use Rattle.world_setup.specs.Seen.{node_seen};
 ghost use Rattle.kept_logs.specs.RestSeen.{rest_seen};
 ghost use Rattle.kept_logs.specs.declared.fault.LogFault.TheVariants as LogFault;
 ghost use Rattle.settings_digest.specs.Digests.{AreOf, turned_in};
 ghost use Rattle.log_turning.specs.declared.fault.JoinFault.TheVariants as JoinFault;
-ghost use Rattle.log_turning.specs.Joined.{GoesOn, IsJoined, IsPartBehind, Names, are_these, part_seen};
+ghost use Rattle.log_turning.specs.Joined.{GoesOn, IsEndOf, IsJoined, IsPartBehind, Names, are_these, part_seen};
 ghost use Rattle.log_turning.specs.Unjoined.{IsNoPart, IsUnjoined, SpellsNone};
 
 use crate::fault::JoinFault;
@@ -32,7 +32,7 @@ pub struct Part<'a> {
 
 /// The logs of a node, in the order in which it made them, as one log, which begins as the first of them does: with this rest, or as
 /// the settings open the node. Each but the first begins with a rest that names the digest of the one before it, and how many calls
-/// there were.
+/// there were. Where the last one ends with a record that was cut off, or with zeros, as many zeros stand at the end.
 ///
 /// # Errors
 /// `Settings`, or of the first log that is refused why.
@@ -55,6 +55,7 @@ pub fn join_logs(
     let mut joined = write_log(alloc, &digest, &NodeLog::new(alloc, node))?;
     let mut calls: u64 = 0;
     let mut last: Option<&[u8]> = None;
+    let mut left: usize = 0;
     for (place, part) in parts.iter().enumerate() {
         let Some(all) = before.checked_add(calls) else {
             return Err(JoinFault::OutOfMemory);
@@ -62,9 +63,10 @@ pub fn join_logs(
         if !goes_on(alloc, node, begins, all, last, part)? {
             return Err(JoinFault::NotNext(place));
         }
-        calls = append_part(alloc, &digests, node, part, place, calls, &mut joined)?;
+        (calls, left) = append_part(alloc, &digests, node, part, place, calls, &mut joined)?;
         last = Some(part.log);
     }
+    put_zeros(alloc, &mut joined, left)?;
     Ok(joined)
 }
 
@@ -154,7 +156,16 @@ fn are_these(node: Node, calls: u64, closed: &[u8], rest: &Rest<'_>) -> bool
         && rest.closed == Sha256::digest(closed).as_slice()
 }
 
-/// Appends the records of a part, where it is a log of this node, behind so many; and says how many there are then.
+/// Appends so many zeros.
+fn put_zeros(alloc: Global, text: &mut Vec<u8>, count: usize) -> Result<(), AllocError>
+    ensures { OnOk result (text.new.items ≡ text.old.items ++ replicate count 0) }
+{
+    let zeros = Vec::from_elem(alloc, 0u8, count)?;
+    text.extend_from_slice(zeros.as_slice())
+}
+
+/// Appends the records of a part, where it is a log of this node, behind so many; and says how many there are then, and how many bytes
+/// stand behind them in the part.
 fn append_part(
     alloc: Global,
     digests: &Digests,
@@ -163,9 +174,10 @@ fn append_part(
     place: usize,
     before: u64,
     joined: &mut Vec<u8>,
-) -> Result<u64, JoinFault>
-    ensures appended { (text : List ℕ) → AreOf text digests.now → IfOk result (λ calls.
-        IsPartBehind text (node_seen node) (part_seen part.now) before joined.old.items joined.new.items calls) }
+) -> Result<(u64, usize), JoinFault>
+    ensures appended { (text : List ℕ) → AreOf text digests.now → IfOk result (λ r.
+        IsPartBehind text (node_seen node) (part_seen part.now) before joined.old.items joined.new.items r.0) }
+    ensures ends { (text : List ℕ) → AreOf text digests.now → IfOk result (λ r. IsEndOf text (part_seen part.now) r.1) }
     ensures refused { (text : List ℕ) → AreOf text digests.now → IfErr result (λ why.
         IsNoPart text (node_seen node) (part_seen part.now) place why) }
 {
@@ -176,7 +188,7 @@ fn append_part(
                 return Err(JoinFault::OtherNode(place));
             }
             match before.checked_add(appended.calls) {
-                Some(calls) => Ok(calls),
+                Some(calls) => Ok((calls, part.log.len().saturating_sub(appended.whole))),
                 None => Err(JoinFault::OutOfMemory),
             }
         }

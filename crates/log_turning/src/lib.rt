@@ -6,13 +6,15 @@ mod fault;
 mod files;
 mod joining;
 mod laws;
+mod leaving;
 mod turning;
 mod whole;
 
-pub use fault::{JoinFault, TurnFault};
+pub use fault::{JoinFault, RestFault, TurnFault};
 pub use files::{BEFORE_REST, part_of, rest_size, write_file};
 pub use joining::{Part, join_logs};
 pub use laws::{files_have_their_parts, turned_logs_go_on};
+pub use leaving::check_rests;
 pub use turning::{Turned, turn_log};
 pub use whole::{
     LogBehind, LogFile, WholeFault, closed_name, join_files, log_behind, log_files, whole_log,

@@ -83,19 +83,19 @@ pub fn turn_log(
 
 /// A log that is closed.
 #[derive(Drop)]
-struct Closed {
+pub(crate) struct Closed {
     /// How many of its bytes stay.
-    kept: usize,
+    pub(crate) kept: usize,
     /// What is to be appended behind them.
-    closing: Vec<u8>,
+    pub(crate) closing: Vec<u8>,
     /// How many calls it has then.
-    calls: u64,
+    pub(crate) calls: u64,
     /// The references of the submissions of this log and of those before it.
-    references: Vec<Reference>,
+    pub(crate) references: Vec<Reference>,
     /// The record that its node left at rest, from which it was started.
-    record: Vec<u8>,
+    pub(crate) record: Vec<u8>,
     /// Whether the node was up.
-    was_up: bool,
+    pub(crate) was_up: bool,
 }
 
 /// Closes the log of a node.
@@ -113,7 +113,7 @@ fn close_log(
 }
 
 /// Closes the log of the node that is served, of whose bytes so many stay.
-fn end_log(alloc: Global, service: Service, kept: usize) -> Result<Closed, TurnFault>
+pub(crate) fn end_log(alloc: Global, service: Service, kept: usize) -> Result<Closed, TurnFault>
     ensures { (text : List ℕ) (node : model.Node) (rest : Option (List ℕ)) (bytes : List ℕ)
         → Serves text node rest bytes kept service
         → IfOk result (λ closed. IsClosed text node rest bytes closed) }

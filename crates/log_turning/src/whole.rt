@@ -1,8 +1,9 @@
 //! All logs of a node from their files, as one: the newest, and those that were closed before it, which stand beside it.
 
-use crate::fault::JoinFault;
+use crate::fault::{JoinFault, RestFault};
 use crate::files::part_of;
 use crate::joining::{Part, join_logs};
+use crate::leaving::check_rests;
 use kept_logs::{Rest, read_rest};
 use std::alloc::{AllocError, Global};
 use std::{fs, io};
@@ -33,6 +34,9 @@ pub enum WholeFault {
     /// The log in the file of this name does not go on where the one before it ends, or is none.
     #[error("{0}: {1}")]
     Logs(String, JoinFault),
+    /// The log in the file of this name begins with another rest than its node left behind the one before it.
+    #[error("{0}: {1}")]
+    Rest(String, RestFault),
 }
 
 impl From<AllocError> for WholeFault {
@@ -50,7 +54,7 @@ pub fn closed_name(alloc: Global, path: &str, calls: u64) -> Result<String, Allo
 /// the text spells.
 ///
 /// # Errors
-/// A file could not be read, or the logs do not go on one behind another.
+/// A file could not be read, or the logs do not go on one behind another, or with what their node left.
 pub fn whole_log(rt: &HostRuntime, text: &[u8], path: &str) -> Result<Vec<u8>, WholeFault> {
     let mut files = log_files(rt, path)?;
     match node_of(rt.alloc(), files.as_slice())? {
@@ -72,7 +76,7 @@ pub struct LogBehind {
 /// that the text spells; and what the first of them begins with.
 ///
 /// # Errors
-/// A file could not be read, or the logs do not go on one behind another.
+/// A file could not be read, or the logs do not go on one behind another, or with what their node left.
 pub fn log_behind(rt: &HostRuntime, text: &[u8], path: &str) -> Result<LogBehind, WholeFault> {
     let alloc = rt.alloc();
     let mut files = files_back(rt, path, Reach::There)?;
@@ -146,7 +150,7 @@ fn file_before(
 /// The logs of a node in these files, the newest first, as one log.
 ///
 /// # Errors
-/// `Logs` with the first that is refused.
+/// `Logs` with the first that is refused, or `Rest`.
 pub fn join_files(
     alloc: Global,
     text: &[u8],
@@ -169,9 +173,30 @@ fn join_behind(
         put(&mut parts, part_of(file.bytes.as_slice()))?;
     }
     match join_logs(alloc, text, node, begins, parts.as_slice()) {
-        Ok(joined) => Ok(joined),
+        Ok(joined) => {
+            compare_rests(alloc, text, node, files, parts.as_slice())?;
+            Ok(joined)
+        }
         Err(JoinFault::OutOfMemory) => Err(WholeFault::OutOfMemory),
         Err(fault) => Err(WholeFault::Logs(name_of(alloc, files, fault)?, fault)),
+    }
+}
+
+/// Compares what each log of a node begins with, whose logs were joined, with what the one before it left.
+fn compare_rests(
+    alloc: Global,
+    text: &[u8],
+    node: Node,
+    files: &[LogFile],
+    parts: &[Part<'_>],
+) -> Result<(), WholeFault> {
+    match check_rests(alloc, text, node, parts) {
+        Ok(()) => Ok(()),
+        Err(RestFault::OutOfMemory) => Err(WholeFault::OutOfMemory),
+        Err(RestFault::Other(place)) => Err(WholeFault::Rest(
+            name_at(alloc, files, place)?,
+            RestFault::Other(place),
+        )),
     }
 }
 
@@ -228,6 +253,11 @@ fn name_of(alloc: Global, files: &[LogFile], fault: JoinFault) -> Result<String,
         JoinFault::NotNext(place) => place,
         JoinFault::OutOfMemory | JoinFault::Settings => files.len(),
     };
+    name_at(alloc, files, place)
+}
+
+/// The name of the file of the log at a place among those of a node, from the first; none where there are fewer.
+fn name_at(alloc: Global, files: &[LogFile], place: usize) -> Result<String, AllocError> {
     let newest = files.len().saturating_sub(1).checked_sub(place);
     match newest.and_then(|at| files.get(at)) {
         Some(file) => {

@@ -1,7 +1,7 @@
 -- What the lines of requests and packets ask.
-use Rattle.std.proofs.Common.{◌≡◌, ℕ, ◌+◌, Bool, true, false, ◌&&◌, not, List, [], ◌∷◌, ◌++◌, length, take, drop, Some, None, Option, Ok, Err, IsSome, inr, codes, refl, ap, ◌∙◌, subst, arith, nat_lt, cond}
+use Rattle.std.proofs.Common.{◌≡◌, ℕ, ◌+◌, ◌^◌, ◌<◌, Bool, true, false, ◌&&◌, not, List, [], ◌∷◌, ◌++◌, length, take, drop, Some, None, Option, Ok, Err, IsSome, inr, codes, refl, ap, ◌∙◌, subst, arith, nat_lt, cond}
 use Rattle.std.specs.Prelude.{bytes_eq, if◌then◌else◌}
-use Rattle.std.specs.List.{list_all, position, position_or_len}
+use Rattle.std.specs.List.{All, list_all, position, position_or_len}
 use Rattle.std.specs.Option.{option_map}
 use Rattle.std.proofs.lemmas.Bool.{false≢true, lt-ltb}
 use Rattle.std.proofs.lemmas.List.{length-append}
@@ -9,14 +9,16 @@ use Rattle.std.proofs.Math.Seq.{take-append_seam, drop-append-add}
 use Rattle.input_text.specs.Words.{is_space, split_word}
 use Rattle.input_text.specs.Printing.{printed, unprinted}
 use Rattle.world_setup.specs.declared.node.Node.{Node}
-use Rattle.world_setup.specs.declared.call.Call.TheVariants.{Submit, Take}
+use Rattle.world_setup.specs.declared.call.Call.TheVariants.{Adjudicate, Submit, Take}
 use Rattle.schedule.specs.Nodes.{node_in}
 use Rattle.schedule.proofs.Names.{is_inner, name_inner}
-use Rattle.node_service.specs.Asking.{Call, Calls, asked_of, call_of, call_parted, call_with, named_of, named_parted, named_submission, noted_of, noted_parted, or_question, plain_call_of, taking, timed, unnoted}
+use Rattle.node_service.specs.Asking.{Call, Calls, adjudication, asked_of, call_of, call_parted, call_with, named_of, named_parted, named_submission, noted_of, noted_parted, or_question, plain_call_of, taking, timed, unnoted}
+use Rattle.node_service.specs.Payments.{word_of}
+use Rattle.node_service.proofs.Words.{word_back, word_inner}
 use Rattle.node_handle.specs.Saying.{Said}
 use Rattle.node_handle.specs.Hosting.{Hosting}
 use Rattle.node_handle.specs.Calls.{Serves}
-use Rattle.node_handle.specs.Typed.{Takes, submit_line, take_line}
+use Rattle.node_handle.specs.Typed.{Adjudicates, Takes, adjudicate_line, submit_line, take_line}
 
 first_space : (word rest : List ℕ) → list_all is_inner word ≡ true → position_or_len is_space (word ++ 32 ∷ rest) ≡ length word
 first_space [] rest inner = refl
@@ -68,3 +70,22 @@ asks_packet from node packet named back =
 pub takes_named : (old : Option Hosting) (from packet : List ℕ) (said : Said) (new : Option Hosting) → IsSome (node_in from) → Serves old (take_line from packet) said new → Takes old from packet said new
 takes_named old from packet (Ok made) new named serves = (named, serves)
 takes_named old from packet (Err why) new named serves = inr serves
+
+advised : (from : List ℕ) (node : Node) (packet advice : List ℕ) → node_in from ≡ Some node → unprinted (printed packet) ≡ Ok packet → All (λ b. b < 2 ^ 8) advice
+    → adjudication (from ++ 32 ∷ (word_of advice ++ 32 ∷ printed packet)) ≡ Some (Adjudicate node packet advice)
+unfolding adjudication
+advised from node packet advice named back are =
+    let behind : List ℕ = word_of advice ++ 32 ∷ printed packet in
+    rw (parted from behind (name_inner from node named)) (rw (named, parted (word_of advice) (printed packet) (word_inner advice)) (rw (word_back advice are, back) refl))
+
+pub asks_advised : (from : List ℕ) (node : Node) (packet advice : List ℕ) → node_in from ≡ Some node → unprinted (printed packet) ≡ Ok packet → All (λ b. b < 2 ^ 8) advice
+    → asked_of (adjudicate_line from packet advice) ≡ Some (Calls (plain_call_of (Adjudicate node packet advice)))
+asks_advised from node packet advice named back are =
+    let rest : List ℕ = from ++ 32 ∷ (word_of advice ++ 32 ∷ printed packet) in
+    asks_call (adjudicate_line from packet advice) (codes "adjudicate") rest (Adjudicate node packet advice) (parted (codes "adjudicate") rest refl) refl refl (advised from node packet advice named back are)
+
+-- the same of a packet with an advice
+pub adjudicates_named : (old : Option Hosting) (from packet advice : List ℕ) (said : Said) (new : Option Hosting) → IsSome (node_in from) → Serves old (adjudicate_line from packet advice) said new
+    → Adjudicates old from packet advice said new
+adjudicates_named old from packet advice (Ok made) new named serves = (named, serves)
+adjudicates_named old from packet advice (Err why) new named serves = inr serves

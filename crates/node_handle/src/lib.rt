@@ -30,4 +30,4 @@ pub use part::Part;
 pub use payments::PlainPayment;
 pub use reading::{print, texts_have_room, unprint};
 pub use refusal::{Refusal, number_of};
-pub use typed::{packets_are_asked, requests_are_asked};
+pub use typed::{advices_are_asked, packets_are_asked, requests_are_asked};

@@ -73,6 +73,15 @@ fn copy_call(call: &Call) -> Result<Call, AllocError>
             product: product.copy()?,
             price: *price,
         }),
+        Call::Adjudicate {
+            from,
+            bytes,
+            advice,
+        } => Ok(Call::Adjudicate {
+            from: *from,
+            bytes: bytes.copy()?,
+            advice: advice.copy()?,
+        }),
     }
 }
 

@@ -1,5 +1,6 @@
 -- Settings whose parts are the same.
-use Rattle.std.proofs.Common.{◌≡◌, ℕ, zero, suc, ◌+◌, List, [], ◌∷◌, take, slice_get, refl, ap, arith, subst}
+use Rattle.std.proofs.Common.{◌≡◌, ℕ, zero, suc, ◌+◌, List, [], ◌∷◌, take, slice_get, Some, refl, ap, arith, subst}
+use Rattle.bin_routes.specs.Providers.{Providers}
 use Rattle.bin_routes.specs.Row.{Row}
 use Rattle.plan_rules.specs.Terms.{Terms}
 use Rattle.claim_model.specs.Journal.{PharmacySettings}
@@ -11,11 +12,14 @@ same_pharmacy a b q p n g t c = λ i. record { qualifier = q i; provider = p i; 
 pub same_plan : (a b : Terms) → a.fee ≡ b.fee → a.copay ≡ b.copay → a.prices ≡ b.prices → a ≡ b
 same_plan a b f c p = λ i. record { fee = f i; copay = c i; prices = p i }
 
-pub same_payer : (a b : PayerSettings) → a.book.serial ≡ b.book.serial → a.book.cap ≡ b.book.cap → a.plan ≡ b.plan → a ≡ b
-same_payer a b s c p = λ i. record { book = record { serial = s i; cap = c i }; plan = p i; keys = tt }
+pub same_payer : (a b : PayerSettings) → a.book.serial ≡ b.book.serial → a.book.cap ≡ b.book.cap → a.book.asks ≡ b.book.asks → a.plan ≡ b.plan → a ≡ b
+same_payer a b s c k p = λ i. record { book = record { serial = s i; cap = c i; asks = k i }; plan = p i; keys = tt }
 
-pub same_row : (a b : Row) → a.bin ≡ b.bin → a.pcn ≡ b.pcn → a.payer ≡ b.payer → a ≡ b
-same_row a b n p y = λ i. record { bin = n i; pcn = p i; payer = y i }
+pub same_row : (a b : Row) → a.bin ≡ b.bin → a.pcn ≡ b.pcn → a.providers ≡ b.providers → a.payer ≡ b.payer → a ≡ b
+same_row a b n p r y = λ i. record { bin = n i; pcn = p i; providers = r i; payer = y i }
+
+pub same_range : (a b : Providers) → a.qualifier ≡ b.qualifier → a.first ≡ b.first → a.last ≡ b.last → Some a ≡ Some b
+same_range a b q f l = λ i. Some (record { qualifier = q i; first = f i; last = l i })
 
 -- lists that are the same up to a place, and there
 alike_next : {A : Type 0} (xs ys : List A) (k : ℕ) → slice_get xs k ≡ slice_get ys k → take k xs ≡ take k ys → take (suc k) xs ≡ take (suc k) ys

@@ -3,7 +3,7 @@
 ghost use Rattle.std.specs.Prelude.{◌≡◌, IsTrue, option_map};
 ghost use Rattle.node_logged.specs.Alike.{AreAlike, priced};
 
-use bin_routes::RouteRow;
+use bin_routes::{Providers, RouteRow};
 use pharmacy_journal::PharmacySettings;
 use plan_rules::Plan;
 use switch_node::SwitchSettings;
@@ -70,6 +70,7 @@ impl Alike for PayerSettings {
     fn is_alike(&self, other: &PayerSettings) -> bool {
         self.book.serial() == other.book.serial()
             && self.book.cap() == other.book.cap()
+            && self.book.asks() == other.book.asks()
             && is_same_plan(&self.plan, &other.plan)
     }
 }
@@ -79,6 +80,7 @@ impl Alike for RouteRow {
     fn is_alike(&self, other: &RouteRow) -> bool {
         is_same_text(self.bin(), other.bin())
             && is_same_number(self.pcn(), other.pcn())
+            && is_same_range(self.providers(), other.providers())
             && self.payer() == other.payer()
     }
 }
@@ -127,6 +129,24 @@ fn is_same_number(a: Option<&[u8]>, b: Option<&[u8]>) -> bool
     match a {
         Some(a) => match b {
             Some(b) => is_same_text(a, b),
+            None => false,
+        },
+        None => b.is_none(),
+    }
+}
+
+/// Whether two ranges of providers are the same, or both are none.
+#[tactic(auto, using(crate::proofs::Sameness::same_range))]
+fn is_same_range(a: Option<Providers>, b: Option<Providers>) -> bool
+    ensures { IsTrue result → a ≡ b }
+{
+    match a {
+        Some(a) => match b {
+            Some(b) => {
+                is_same_text(&a.qualifier, &b.qualifier)
+                    && is_same_text(&a.first, &b.first)
+                    && is_same_text(&a.last, &b.last)
+            }
             None => false,
         },
         None => b.is_none(),

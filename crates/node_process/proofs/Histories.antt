@@ -37,7 +37,7 @@ use Rattle.node_service.proofs.Lines.{bare_append, is_opened_serving, lines_bare
 use Rattle.node_service.proofs.Crashes.{longer_text}
 use Rattle.node_process.specs.Acts.{Act, Found, Cut, Append, Sync, Say, Hear, found, file, has_failed, kept, said}
 use Rattle.node_process.specs.Heard.{whole_lines}
-use Rattle.node_process.specs.Safe.{IsStartOf, asked, log_of, FitsInput, IsCovered, IsRead, GoesWell, IsSafe, IsUnopened, IsRun, Whose}
+use Rattle.node_process.specs.Safe.{IsStartOf, closed_calls, asked, log_of, FitsInput, IsCovered, IsRead, GoesWell, IsSafe, IsUnopened, IsRun, Whose}
 use Rattle.node_process.specs.Histories.{zeros, Happening, Does, Dies, acts_of, left_of, file_or, file_of, on_disk, IsLeft, IsHistory, HasCalls, ReadsCalls, IsAlive, IsToldBy, IsProcess, IsCourse}
 use Rattle.node_process.proofs.Bare.{HasKept, ReadsKept, bare_take, bare_has, bare_reads}
 use Rattle.node_process.proofs.Left.{IsTornOf, HasLeft, first_of, start_length, taken_length, untorn, torn_fits, torn_reads, zeros_read, text_cut, nothing_cut, begins_with, same_calls, left_reads, front_fits, same_reading, not_short, torn_second}
@@ -193,7 +193,7 @@ short_small digest node bytes calls d t short = by_end t.ends
 
 -- what was said is told by calls whose records are on the disk
 covered_told : (whose : Whose) (settings : Settings) (acts : List Act) (disk : List ℕ) (start : Serving) (whole : ℕ) (synced : List Stamped) → Spells whose.settings settings → turned_under whose.settings whose.rest (found acts) ≡ turned_in whose.settings whose.rest → (o : IsOpened whose.settings whose.node whose.rest (found acts) whole start)
-    → FitsKept (record { node = whose.node; calls = synced }) → HasKept (turned_in whose.settings whose.rest) whose.node disk synced → (kept acts ≡ []) ⊎ (kept acts ≡ disk) → (said acts ≡ []) ⊎ IsCovered start (take whole (found acts)) acts → IsToldBy whose.node (bare_calls synced) (said acts)
+    → FitsKept (record { node = whose.node; calls = synced }) → HasKept (turned_in whose.settings whose.rest) whose.node disk synced → (kept acts ≡ []) ⊎ (kept acts ≡ disk) → (said acts ≡ []) ⊎ IsCovered (closed_calls whose) start (take whole (found acts)) acts → IsToldBy whose.node (bare_calls synced) (said acts)
 covered_told whose settings acts disk start whole synced spells second o fits has keeps (inl silent) = told_nothing whose.node (bare_calls synced) (said acts) silent
 covered_told whose settings acts disk start whole synced spells second o fits has keeps (inr c) = by_disk has keeps
   where
@@ -227,7 +227,7 @@ covered_told whose settings acts disk start whole synced spells second o fits ha
         let first : calls ≡ take k synced = begins_with digest whose.node calls synced (length own) d text.1.fits fits refl (first_of own _ start_of) in
         let bare_are : bare_calls calls ≡ bare_calls text.0 ++ lines_calls start (whole_lines c.input) =
         bare_append text.0 (lines_kept start (whole_lines c.input)) ∙ ap (λ (x : List Logged). bare_calls text.0 ++ x) (lines_bare start (whole_lines c.input)) in
-        told_by whose.node start c.input (said acts) (bare_calls text.0) (bare_calls synced) k o.silent (sym bare_are ∙ (ap bare_calls first ∙ bare_take k synced)) c.sent
+        told_by whose.node (closed_calls whose) start c.input (said acts) (bare_calls text.0) (bare_calls synced) k o.silent (sym bare_are ∙ (ap bare_calls first ∙ bare_take k synced)) c.sent
 
 -- ---- what happens
 
@@ -598,7 +598,7 @@ module _ (whose : Whose) (settings : Settings) (spells : Spells whose.settings s
       is_second : (act : Act) → found (act ∷ t) ≡ left_of h → turned_under whose.settings whose.rest (found (act ∷ t)) ≡ digest
       is_second act is = ap (turned_under whose.settings whose.rest) is ∙ torn_second whose.settings whose.rest node (left_of h) i.first i.was
 
-      by_act : (act : Act) → found (act ∷ t) ≡ left_of h → (start : Serving) (whole : ℕ) → turned_under whose.settings whose.rest (found (act ∷ t)) ≡ digest → IsOpened whose.settings node whose.rest (found (act ∷ t)) whole start → IsSafe start (take whole (found (act ∷ t))) (act ∷ t) → GoesOn whose settings (Does act ∷ h) p
+      by_act : (act : Act) → found (act ∷ t) ≡ left_of h → (start : Serving) (whole : ℕ) → turned_under whose.settings whose.rest (found (act ∷ t)) ≡ digest → IsOpened whose.settings node whose.rest (found (act ∷ t)) whole start → IsSafe (closed_calls whose) start (take whole (found (act ∷ t))) (act ∷ t) → GoesOn whose settings (Does act ∷ h) p
       by_act (Found bytes) is start whole second o safe = found_step bytes safe.order is
       by_act (Cut size done) is start whole second o safe = cut_step size done start whole second o is safe.order.0 safe.order.1
       by_act (Append bytes done) is start whole second o safe =

@@ -4,7 +4,7 @@ use Rattle.std.proofs.lemmas.List.{map-append, take-append-drop}
 use Rattle.std.proofs.lemmas.Grind.{flat_map-append}
 use Rattle.std.specs.Prelude.{bytes_eq, codes, flat_map}
 use Rattle.std.specs.List.{AllByRecursion}
-use Rattle.claim_model.specs.Node.{Node, Call, Submit, Tick, Take, Stop, Start, Reprice, Sent, Outcome, Done, Refused}
+use Rattle.claim_model.specs.Node.{Node, Call, Submit, Tick, Take, Stop, Start, Reprice, Adjudicate, Sent, Outcome, Done, Refused}
 use Rattle.claim_model.specs.Nodes.{AnyNode, node_step}
 use Rattle.claim_model.specs.Numbered.{numbered}
 use Rattle.claim_model.specs.World.{Packet, packet_from}
@@ -17,11 +17,11 @@ use Rattle.node_logged.specs.Setting.{context_of}
 use Rattle.node_state.specs.Nodes.{request_of}
 use Rattle.kept_logs.specs.Stamps.{Stamp, bare_calls}
 use Rattle.node_service.specs.Asking.{Asked, Calls, Tells as Asks, asked_of}
-use Rattle.node_service.specs.Answering.{idle_line, known_line, ready_line, refused_line, sent_line, sent_lines}
+use Rattle.node_service.specs.Answering.{idle_line, known_line, refused_line, sent_line, sent_lines}
 use Rattle.node_service.specs.Serving.{Serving, saying, after_call, again, again_line, is_idle_call, known, making, making_once, after_asked, after_line, last_line, told_of}
 use Rattle.node_service.specs.Lines.{after_lines, kept_call, kept_making, kept_once, kept_asked, line_calls, lines_calls}
 use Rattle.node_process.specs.Heard.{whole_lines}
-use Rattle.node_process.specs.Safe.{IsStartOf, words_of}
+use Rattle.node_process.specs.Safe.{greeting, IsStartOf, words_of}
 use Rattle.node_process.specs.Histories.{Word, Sends, Tells, word_text, SendsNothing, IsReady, IsRefused, IsNoLine, IsReused, IsLast, IsIdle, IsKnown, IsTold, IsWordOf, IsToldBy}
 
 -- ---- packets of more calls
@@ -135,6 +135,7 @@ known_spoken node s (Take from bytes) number = no_word node [] s.out
 known_spoken node s Stop number = no_word node [] s.out
 known_spoken node s Start number = no_word node [] s.out
 known_spoken node s (Reprice product price) number = no_word node [] s.out
+known_spoken node s (Adjudicate from bytes advice) number = no_word node [] s.out
 
 once_spoken : (node : Node) (s : Serving) (stamp : Stamp) (call : Call) (o : Option ℕ) → IsSpoken node (bare_calls (kept_once s stamp call o)) s.out (making_once s stamp call o).out
 once_spoken node s stamp call (Some number) = known_spoken node s call number
@@ -167,17 +168,17 @@ lines_spoken node s (line ∷ lines) =
     }
 
 -- what begins the words of an input is told by calls that begin with those of the log and the input
-pub told_by : (node : Node) (start : Serving) (input text : List ℕ) (log synced : List Logged) (k : ℕ) → start.out ≡ [] → log ++ lines_calls start (whole_lines input) ≡ take k synced
-    → IsStartOf text (words_of start input) → IsToldBy node synced text
-told_by node start input text log synced k silent are begins =
+pub told_by : (node : Node) (before : ℕ) (start : Serving) (input text : List ℕ) (log synced : List Logged) (k : ℕ) → start.out ≡ [] → log ++ lines_calls start (whole_lines input) ≡ take k synced
+    → IsStartOf text (words_of before start input) → IsToldBy node synced text
+told_by node before start input text log synced k silent are begins =
     let calls = lines_calls start (whole_lines input) in
     let spoken = lines_spoken node start (whole_lines input) in
-    let ready = ready_line start.calls in
+    let ready = greeting before start.calls in
     let all : (log ++ calls) ++ drop k synced ≡ synced = ap (λ (x : List Logged). x ++ drop k synced) are ∙ take-append-drop k synced in
     record {
       words = Tells ready ∷ spoken.words;
       each = (
-        IsReady start.calls refl,
+        IsReady before start.calls refl,
         subst (λ (x : List Logged). AllByRecursion (IsWordOf node x) spoken.words) all
             (all_weaker (IsWordOf node (log ++ calls)) (IsWordOf node ((log ++ calls) ++ drop k synced)) (word_front node (log ++ calls) (drop k synced)) spoken.words
             (all_weaker (IsWordOf node calls) (IsWordOf node (log ++ calls)) (word_behind node log calls) spoken.words spoken.each)),

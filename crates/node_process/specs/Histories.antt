@@ -21,10 +21,10 @@ use Rattle.kept_logs.specs.Cuts.{IsTextOf}
 use Rattle.kept_logs.specs.Rests.{begins}
 use Rattle.settings_digest.specs.Digests.{turned_in}
 use Rattle.node_service.specs.Asking.{Asked, Calls, Tells as Asks}
-use Rattle.node_service.specs.Answering.{ready_line, sent_line, idle_line, known_line, refused_line}
+use Rattle.node_service.specs.Answering.{sent_line, idle_line, known_line, refused_line}
 use Rattle.node_service.specs.Serving.{last_line, told_of}
 use Rattle.node_process.specs.Acts.{Act, Found, Cut, Append, Sync, Say, Hear, found, file, has_failed, said}
-use Rattle.node_process.specs.Safe.{IsStartOf, IsUnopened, IsRun, Whose}
+use Rattle.node_process.specs.Safe.{greeting, IsStartOf, IsUnopened, IsRun, Whose}
 
 -- ---- bytes
 
@@ -129,10 +129,10 @@ abbrev pub IsAnswer : Context → AnyNode → Node → Asked → List ℕ → Ty
 IsAnswer ctx state node (Calls noted) text = ⊥
 IsAnswer ctx state node (Asks question) text = text ≡ told_of ctx state node question
 
--- the lines that send nothing: how many calls a log has, why a call was refused, that a line is none, that a reference has another request, how a call
+-- the lines that send nothing: how many calls a log has, and how many were made before it, why a call was refused, that a line is none, that a reference has another request, how a call
 -- ended, that a tick changes nothing, the number that a submission has already, and answers to questions
 pub data SendsNothing (text : List ℕ) : Type 0 where
-  IsReady : (calls : ℕ) → text ≡ ready_line calls → SendsNothing text
+  IsReady : (before calls : ℕ) → text ≡ greeting before calls → SendsNothing text
   IsRefused : (why : Refusal) → text ≡ refused_line (refusal_name why) → SendsNothing text
   IsNoLine : text ≡ refused_line (codes "Line") → SendsNothing text
   IsReused : text ≡ refused_line (codes "ReferenceReused") → SendsNothing text

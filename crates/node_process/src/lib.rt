@@ -7,6 +7,7 @@
 #![tactic(auto)]
 
 mod beside;
+mod greeting;
 mod host;
 mod laws;
 mod machine;

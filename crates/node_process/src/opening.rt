@@ -1,14 +1,15 @@
 //! From the file of a log to a node that is served.
 
 ghost use Rattle.std.specs.Prelude.{◌≡◌, ◌⊎◌, [], IfOk, OnOk};
-ghost use Rattle.node_service.specs.Answering.{ready_line};
 ghost use Rattle.node_service.specs.Serving.{cleared};
 ghost use Rattle.node_process.specs.Acts.{heard};
-ghost use Rattle.node_process.specs.Safe.{IsRun, IsUnopened, Serves, Begins, Heads, Reads, Trims, owner_seen};
+ghost use Rattle.node_process.specs.Safe.{IsRun, IsUnopened, Serves, Begins, Heads, Reads, Trims, closed_calls, greeting, owner_seen};
 
+use crate::greeting::{are_enough, greeting};
 use crate::machine::Machine;
 use crate::unserved::Unserved;
-use node_service::{Service, ready_line};
+use kept_logs::calls_before;
+use node_service::Service;
 use payer_book::HashKeys;
 use std::alloc::Global;
 use std::io;
@@ -23,11 +24,13 @@ pub struct Owner<'a> {
     pub node: Node,
     /// What the log begins with, where it goes on behind closed ones.
     pub rest: Option<&'a [u8]>,
-    /// How many calls its log is known to have: a log of fewer is an older copy, or was cut, and is not served.
+    /// How many calls its logs are known to have, the closed ones too: a log with which there are fewer is an older copy, or was
+    /// cut, and is not served.
     pub least: u64,
 }
 
-/// Reads the log, opens its node, and has on disk what stays of the log before a word is said: then how many calls it has.
+/// Reads the log, opens its node, and has on disk what stays of the log before a word is said: then how many calls it has, and how
+/// many were made before it.
 pub(crate) fn open<M: Machine>(
     alloc: Global,
     keys: &HashKeys,
@@ -52,8 +55,9 @@ pub(crate) fn open<M: Machine>(
         bytes.as_slice(),
     ) {
         Ok((service, whole)) => {
-            if service.calls() < owner.least {
-                return Err(Unserved::FewCalls(service.calls()));
+            let before = calls_before(alloc, owner.rest)?;
+            if !are_enough(before, service.calls(), owner.least) {
+                return Err(Unserved::FewCalls(before.saturating_add(service.calls())));
             }
             begin(alloc, owner, machine, service, whole, bytes.len())
         }
@@ -98,7 +102,8 @@ fn lay_down<M: Machine>(
         (Serves (owner_seen owner.now) (M.acts machine.new) (cleared service.now)) }
     ensures deaf { OnOk result (heard (M.acts machine.new) ≡ []) }
 {
-    let ready = ready_line(alloc, service.calls())?;
+    let before = calls_before(alloc, owner.rest)?;
+    let ready = greeting(alloc, before, service.calls())?;
     trim(owner, machine, service, whole, size)?;
     append_head(owner, machine, service, whole)?;
     settle(owner, machine, service, whole)?;
@@ -158,7 +163,7 @@ fn settle<M: Machine>(
     machine.sync()
 }
 
-/// Says that lines are served, and how many calls the log has.
+/// Says that lines are served, how many calls the log has, and how many were made before it.
 fn greet<M: Machine>(
     owner: &Owner<'_>,
     machine: &mut M,
@@ -167,7 +172,7 @@ fn greet<M: Machine>(
     ready: &[u8],
 ) -> io::Result<()>
     requires begun { Begins (owner_seen owner.now) (M.acts machine.old) whole service.now }
-    requires ready { ready.now ≡ ready_line service.now.calls }
+    requires ready { ready.now ≡ greeting (closed_calls (owner_seen owner.now)) service.now.calls }
     ensures each { IsRun (owner_seen owner.now) (M.acts machine.new) }
     ensures served { OnOk result
         (Serves (owner_seen owner.now) (M.acts machine.new) (cleared service.now)) }

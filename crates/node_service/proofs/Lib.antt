@@ -7,3 +7,4 @@ pub mod Crashes
 pub mod Refusals
 pub mod OpenEntries
 pub mod Pages
+pub mod Words

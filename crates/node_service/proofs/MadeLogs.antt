@@ -1,5 +1,5 @@
 -- A node that made its log as it was read is opened as one whose log was read first.
-use Rattle.std.proofs.Common.{◌≡◌, ℕ, List, [], ◌∷◌, ◌++◌, length, take, Option, Some, None, option_map, Result, Ok, Err, inl, inr, refl, sym, ap, ◌∙◌, subst, append-nil}
+use Rattle.std.proofs.Common.{◌≡◌, ℕ, List, [], ◌∷◌, ◌++◌, length, take, Option, Some, None, IfSome, option_map, Result, Ok, Err, inl, inr, refl, sym, ap, ◌∙◌, subst, append-nil}
 use Rattle.claim_model.specs.Node.{Node}
 use Rattle.claim_model.specs.Nodes.{AnyNode}
 use Rattle.claim_model.specs.Logs.{Makes, replay}
@@ -7,6 +7,7 @@ use Rattle.world_setup.specs.declared.settings.WorldSettings.{WorldSettings}
 use Rattle.node_logged.specs.Setting.{context_of}
 use Rattle.kept_logs.specs.declared.fault.LogFault.{LogFault}
 use Rattle.kept_logs.specs.declared.making.MadeLog.{MadeLog}
+use Rattle.kept_logs.specs.declared.rests.Beginning.{Beginning}
 use Rattle.kept_logs.specs.Cuts.{IsLogOf}
 use Rattle.kept_logs.specs.Digests.{version_of}
 use Rattle.kept_logs.specs.Logs.{KeptReading, Reading, calls_alone, kept_in, kept_text, log_in}
@@ -68,6 +69,20 @@ is_opened text settings node rest bytes before made stay s spells known is serve
   references = rw served.own (served.references ∙ (ap (λ rs. rs ++ made.references.items) known ∙ ap (λ rs. references_before rest ++ rs) is.referred));
   silent = served.silent;
 }
+
+-- what it begins with was found, its log was made as it was read, and it is served: so it is opened
+pub is_opened_from : (text : List ℕ) (settings : WorldSettings) (node : Node) (rest : Option (List ℕ)) (bytes digest : List ℕ) (found : Option Beginning) (b : Beginning) (read : Option MadeLog) (made : MadeLog) (log_version stay : ℕ) (s : Serving)
+    → Spells text settings → digest ≡ turned_under text rest bytes
+    → option_map (λ (x : Beginning). x.node) found ≡ begins settings node rest → IfSome found (λ (x : Beginning). x.references.items ≡ references_before rest) → found ≡ Some b
+    → ((r : Option (List ℕ)) → begins settings node r ≡ Some b.node → IsRead settings r digest node bytes read) → read ≡ Some made
+    → log_version ≡ version_of digest → IsServedAs settings node log_version b.references.items made stay s → IsOpened text node rest bytes stay s
+is_opened_from text settings node rest bytes digest found b read made log_version stay s spells turned starts references is_found reads is_read_as versioned served =
+    let known : b.references.items ≡ references_before rest = subst (λ (o : Option Beginning). IfSome o (λ (x : Beginning). x.references.items ≡ references_before rest)) is_found references in
+    let begun : begins settings node rest ≡ Some b.node = sym starts ∙ ap (option_map (λ (x : Beginning). x.node)) is_found in
+    let is : IsRead settings rest digest node bytes (Some made) = subst (λ (o : Option MadeLog). IsRead settings rest digest node bytes o) is_read_as (reads rest begun) in
+    is_opened text settings node rest bytes b.references.items made stay s spells known
+    (subst (λ (d : List ℕ). IsRead settings rest d node bytes (Some made)) turned is)
+    (subst (λ (v : ℕ). IsServedAs settings node v b.references.items made stay s) (versioned ∙ ap version_of turned) served)
 
 -- too few bytes for a log, its times and references aside, are too few with them
 unread_short : (digest bytes : List ℕ) → log_in digest bytes ≡ Err Short → kept_in digest bytes ≡ Err Short

@@ -8,7 +8,7 @@ use Rattle.input_text.specs.Decimals.{decimal_number}
 use Rattle.input_text.specs.Printing.{unprinted}
 use Rattle.schedule.specs.Events.{product_in, price_in}
 use Rattle.world_setup.specs.declared.call.Call as declared
-use Rattle.world_setup.specs.declared.call.Call.TheVariants.{Submit, Tick, Take, Stop, Start, Plan}
+use Rattle.world_setup.specs.declared.call.Call.TheVariants.{Submit, Tick, Take, Stop, Start, Plan, Adjudicate}
 use Rattle.schedule.specs.Nodes.{node_in}
 use Rattle.node_service.specs.declared.asking.Asked as value
 use Rattle.node_service.specs.declared.asking.Asked.TheVariants as asked
@@ -33,6 +33,20 @@ taking rest = do
   bytes ← result_ok (unprinted parts.1)
   Some (Take from bytes)
 
+-- the bytes that a text spells
+abbrev pub bytes_in : List ℕ → Option (List ℕ)
+bytes_in text = result_ok (unprinted text)
+
+-- the node that sent a packet, an advice as one word of printed bytes, and the packet in printed bytes, each behind one space
+unfoldable pub adjudication : List ℕ → Option Call
+adjudication rest = do
+  parts ← split_word rest
+  from ← node_in parts.0
+  words ← split_word parts.1
+  advice ← bytes_in words.0
+  bytes ← bytes_in words.1
+  Some (Adjudicate from bytes advice)
+
 -- a product and its price
 unfoldable pub plan_change : List ℕ → Option Call
 plan_change rest = do
@@ -53,6 +67,7 @@ abbrev pub call_with : List ℕ → List ℕ → Option Call
 call_with word rest =
     if bytes_eq word (codes "submit") then submission rest else
     if bytes_eq word (codes "take") then taking rest else
+    if bytes_eq word (codes "adjudicate") then adjudication rest else
     if bytes_eq word (codes "plan") then plan_change rest else None
 
 abbrev pub call_parted : List ℕ → Option (List ℕ × List ℕ) → Option Call

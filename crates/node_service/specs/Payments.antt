@@ -67,9 +67,13 @@ page number count payments = take count (drop (number - 1) payments)
 unfoldable pub word_byte : ℕ → List ℕ
 word_byte byte = if byte == 32 then codes "\\x20" else printed_byte byte
 
+-- bytes as a word
+abbrev pub word_of : List ℕ → List ℕ
+word_of bytes = flat_map word_byte bytes
+
 -- bytes as a word behind a space
 unfoldable pub text_behind : List ℕ → List ℕ
-text_behind bytes = 32 ∷ flat_map word_byte bytes
+text_behind bytes = 32 ∷ word_of bytes
 
 -- a number behind a space
 unfoldable pub number_behind : ℕ → List ℕ

@@ -1,7 +1,7 @@
 -- What a line makes of a node that is served: the node, the records for its log, and what is written.
 use Rattle.std.specs.Prelude.{ℕ, zero, ◌+◌, ◌&&◌, ◌==◌, Bool, false, cond, bytes_eq, nat_lt, List, [], ◌∷◌, ◌++◌, length, codes, Option, Some, None, if◌then◌else◌}
 use Rattle.claim_model.specs.Context.{Context}
-use Rattle.claim_model.specs.Node.{Node, Pharmacy, Switch, Payer, Sent, Call, Submit, Tick, Take, Stop, Start, Reprice, Outcome, Done, Refused}
+use Rattle.claim_model.specs.Node.{Node, Pharmacy, Switch, Payer, Sent, Call, Submit, Tick, Take, Stop, Start, Reprice, Adjudicate, Outcome, Done, Refused}
 use Rattle.claim_model.specs.Nodes.{AnyNode, node_step}
 use Rattle.node_state.specs.Nodes.{entries_of, request_of, held_of, is_idle_node}
 use Rattle.claim_model.specs.Refusal.{refusal_name}
@@ -39,6 +39,7 @@ last_line (Take from bytes) next = done_line
 last_line Stop next = done_line
 last_line Start next = done_line
 last_line (Reprice product price) next = done_line
+last_line (Adjudicate from bytes advice) next = done_line
 
 -- what is written of a call that was made
 abbrev pub made_lines : Call → List Sent → AnyNode → List ℕ
@@ -70,6 +71,7 @@ is_idle_call state (Take from bytes) = false
 is_idle_call state Stop = false
 is_idle_call state Start = false
 is_idle_call state (Reprice product price) = false
+is_idle_call state (Adjudicate from bytes advice) = false
 
 -- a call is made, or refused
 abbrev pub making : Serving → Stamp → Call → Serving
@@ -91,6 +93,7 @@ known references name (Take from bytes) = None
 known references name Stop = None
 known references name Start = None
 known references name (Reprice product price) = None
+known references name (Adjudicate from bytes advice) = None
 
 -- the number is told again, where the request is the same
 abbrev pub again_line : ℕ → List ℕ → Option (List ℕ) → List ℕ
@@ -104,6 +107,7 @@ again state (Take from bytes) number = []
 again state Stop number = []
 again state Start number = []
 again state (Reprice product price) number = []
+again state (Adjudicate from bytes advice) number = []
 
 -- a submission whose reference is known is not made again; all else is made
 abbrev pub making_once : Serving → Stamp → Call → Option ℕ → Serving

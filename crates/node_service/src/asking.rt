@@ -2,7 +2,7 @@
 
 ghost use Rattle.std.specs.Prelude.{◌≡◌, IfOk};
 ghost use Rattle.std.specs.Option.{option_map};
-ghost use Rattle.node_service.specs.Asking.{asked_of, asked_seen, call_of, call_with, named_of, named_submission, noted_of, noted_seen, plain_call, plain_question, plan_change, question_of, question_with, range_in, reference_in, reference_of, submission, taking, timed, unnoted};
+ghost use Rattle.node_service.specs.Asking.{adjudication, asked_of, asked_seen, bytes_in, call_of, call_with, named_of, named_submission, noted_of, noted_seen, plain_call, plain_question, plan_change, question_of, question_with, range_in, reference_in, reference_of, submission, taking, timed, unnoted};
 
 use input_text::{PrintedFault, read_decimal, split_word, unprint};
 use octets::Octets;
@@ -52,9 +52,9 @@ pub(crate) enum Question {
 
 /// What a line asks; `None` where it spells nothing.
 ///
-/// The lines: `submit TEXT`, `submit-as REFERENCE TEXT`, `tick`, `take FROM TEXT`, `stop`, `start`, `plan PRODUCT PRICE`, each also
-/// behind `at TIME`, and those that change nothing, `answer NUMBER`, `open NUMBER COUNT`, `count`, `row NUMBER`, `payments NUMBER
-/// COUNT`. Texts and references are printed bytes.
+/// The lines: `submit TEXT`, `submit-as REFERENCE TEXT`, `tick`, `take FROM TEXT`, `adjudicate FROM ADVICE TEXT`, `stop`, `start`,
+/// `plan PRODUCT PRICE`, each also behind `at TIME`, and those that change nothing, `answer NUMBER`, `open NUMBER COUNT`, `count`,
+/// `row NUMBER`, `payments NUMBER COUNT`. Texts, references and advices are printed bytes.
 ///
 /// # Errors
 /// Memory was refused.
@@ -254,6 +254,9 @@ fn call_with(alloc: Global, word: &[u8], rest: &[u8]) -> Result<Option<Call>, Al
     if word == b"take".as_slice() {
         return taking(alloc, rest);
     }
+    if word == b"adjudicate".as_slice() {
+        return adjudication(alloc, rest);
+    }
     if word == b"plan".as_slice() {
         return plan_change(alloc, rest);
     }
@@ -303,6 +306,44 @@ fn taking(alloc: Global, rest: &[u8]) -> Result<Option<Call>, AllocError>
             from,
             bytes: Octets::from_vec(bytes),
         })),
+        Err(PrintedFault::BadByte(_)) => Ok(None),
+        Err(PrintedFault::OutOfMemory) => Err(AllocError),
+    }
+}
+
+/// The taking of a packet with an advice, by its sender, the printed bytes of the advice as one word, and the packet's.
+#[tactic(auto, unfolding(crate::specs::Asking::adjudication))]
+fn adjudication(alloc: Global, rest: &[u8]) -> Result<Option<Call>, AllocError>
+    ensures { IfOk result (λ call. call ≡ adjudication rest.now) }
+{
+    let Some((word, behind)) = split_word(rest) else {
+        return Ok(None);
+    };
+    let Some(from) = node_in(word) else {
+        return Ok(None);
+    };
+    let Some((first, text)) = split_word(behind) else {
+        return Ok(None);
+    };
+    let Some(advice) = bytes_in(alloc, first)? else {
+        return Ok(None);
+    };
+    match bytes_in(alloc, text)? {
+        Some(bytes) => Ok(Some(Call::Adjudicate {
+            from,
+            bytes,
+            advice,
+        })),
+        None => Ok(None),
+    }
+}
+
+/// The bytes that a text spells; `None` where it spells none.
+fn bytes_in(alloc: Global, text: &[u8]) -> Result<Option<Octets>, AllocError>
+    ensures { IfOk result (λ bytes. bytes ≡ bytes_in text.now) }
+{
+    match unprint(alloc, text) {
+        Ok(bytes) => Ok(Some(Octets::from_vec(bytes))),
         Err(PrintedFault::BadByte(_)) => Ok(None),
         Err(PrintedFault::OutOfMemory) => Err(AllocError),
     }

@@ -18,5 +18,6 @@ pub(crate) fn is_idle_call(state: &NodeState, call: &Call) -> bool
         Call::Stop => false,
         Call::Start => false,
         Call::Plan { .. } => false,
+        Call::Adjudicate { .. } => false,
     }
 }

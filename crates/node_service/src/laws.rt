@@ -1,7 +1,9 @@
 //! What holds of every node that is served, as facts that a caller cites by a call.
 
-ghost use Rattle.std.specs.Prelude.{◌≡◌, ℕ, ◌≤◌, ◌++◌, List, length, take, Option};
-ghost use Rattle.std.specs.List.{AllByRecursion};
+ghost use Rattle.std.specs.Prelude.{◌≡◌, ℕ, ◌<◌, ◌≤◌, ◌^◌, ◌++◌, true, not, List, length, take, Option, Ok};
+ghost use Rattle.std.specs.List.{All, AllByRecursion, list_all};
+ghost use Rattle.input_text.specs.Printing.{unprinted};
+ghost use Rattle.input_text.specs.Words.{is_space};
 ghost use Rattle.claim_model.specs.Node.{Node};
 ghost use Rattle.world_settings.specs.Document.{document_seen};
 ghost use Rattle.crash_safety.specs.Network.{Process, file};
@@ -11,6 +13,7 @@ ghost use Rattle.kept_logs.specs.Cuts.{first_calls};
 ghost use Rattle.kept_logs.specs.Fits.{FitsKept, FitsStamped};
 ghost use Rattle.settings_digest.specs.Digests.{turned_under};
 ghost use Rattle.node_service.specs.Opened.{IsOpened};
+ghost use Rattle.node_service.specs.Payments.{word_of};
 ghost use Rattle.node_service.specs.Serving.{Serving, after_line, cleared};
 ghost use Rattle.node_service.specs.Lines.{IsRestart, IsSame, IsServing, after_lines, joined, lines_kept, with_records};
 
@@ -50,4 +53,11 @@ pub fn crashed_files_restart()
         → bare kept ≡ record { node = node; calls = file p } → FitsKept kept
         → length (kept_text (turned_under settings rest begun) (first_calls (length p.synced) kept)) ≤ n
         → IsRestart settings node rest p (take n (kept_text (turned_under settings rest begun) kept)) }
+{}
+
+/// What `put_word` writes is one word, and spells the bytes that it was given.
+#[tactic(auto, using(crate::proofs::Words::word_back, crate::proofs::Words::word_inner))]
+pub fn words_read_back()
+    ensures inner { (bytes : List ℕ) → list_all (λ b. not (is_space b)) (word_of bytes) ≡ true }
+    ensures back { (bytes : List ℕ) → All (λ b. b < 2 ^ 8) bytes → unprinted (word_of bytes) ≡ Ok bytes }
 {}

@@ -22,6 +22,9 @@ mod telling;
 
 pub use answering::ready_line;
 pub use fault::ServiceFault;
-pub use laws::{crashed_files_restart, lines_add, restarts_are_the_same, served_logs_grow};
+pub use laws::{
+    crashed_files_restart, lines_add, restarts_are_the_same, served_logs_grow, words_read_back,
+};
+pub use payment_lines::put_word;
 pub use payments::{NodePayment, payments_of};
 pub use service::Service;

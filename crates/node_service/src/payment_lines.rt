@@ -2,7 +2,7 @@
 
 ghost use Rattle.std.specs.Prelude.{◌≡◌, ◌++◌, OnOk};
 ghost use Rattle.std.specs.List.{flat_map};
-ghost use Rattle.node_service.specs.Payments.{amounts_behind, fill_behind, number_behind, payment_line, payment_lines, reversed_behind, text_behind, word_byte};
+ghost use Rattle.node_service.specs.Payments.{amounts_behind, fill_behind, number_behind, payment_line, payment_lines, reversed_behind, text_behind, word_byte, word_of};
 
 use crate::payments::NodePayment;
 use claim_profile::{Amounts, Fill};
@@ -86,12 +86,15 @@ fn put_text(out: &mut Vec<u8>, bytes: &[u8]) -> Result<(), AllocError>
     ensures { OnOk result (out.new.items ≡ out.old.items ++ text_behind bytes.now) }
 {
     out.push(b' ')?;
-    put_bytes(out, bytes)
+    put_word(out, bytes)
 }
 
-/// Appends bytes as a word.
-fn put_bytes(out: &mut Vec<u8>, bytes: &[u8]) -> Result<(), AllocError>
-    ensures { OnOk result (out.new.items ≡ out.old.items ++ flat_map word_byte bytes.now) }
+/// Appends bytes as a word of a line: printed bytes, and a space is none.
+///
+/// # Errors
+/// Memory was refused.
+pub fn put_word(out: &mut Vec<u8>, bytes: &[u8]) -> Result<(), AllocError>
+    ensures { OnOk result (out.new.items ≡ out.old.items ++ word_of bytes.now) }
 {
     for byte in bytes {
         put_byte(out, *byte)?;

@@ -52,6 +52,7 @@ fn put_last(
         Call::Stop => put_done(out),
         Call::Start => put_done(out),
         Call::Plan { .. } => put_done(out),
+        Call::Adjudicate { .. } => put_done(out),
     }
 }
 

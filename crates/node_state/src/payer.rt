@@ -4,16 +4,17 @@ ghost use Rattle.std.specs.Prelude.{◌≡◌, ◌≤◌, [], length, refl, IfOk
 ghost use Rattle.std.specs.Option.{option_copied};
 ghost use Rattle.bin_routes.specs.Table.{RouteMaps};
 ghost use Rattle.claim_model.specs.Bytes.{bytes_with};
-ghost use Rattle.claim_model.specs.Node.{Up, Reprice, payer_step};
+ghost use Rattle.claim_model.specs.Book.{unadvised};
+ghost use Rattle.claim_model.specs.Node.{Up, Reprice, Adjudicate, payer_step, payer_takes, advice_in};
 ghost use Rattle.claim_model.specs.Held.{book_in};
 ghost use Rattle.world_setup.specs.Seen.{node_seen};
 ghost use Rattle.node_state.specs.Outcomes.{Makes, Refuses, PayerMakes, PayerRefuses};
 ghost use Rattle.node_state.specs.Records.{book_record};
-ghost use Rattle.node_state.specs.Taking.{payer_handles, payer_answers, payer_reads};
+ghost use Rattle.node_state.specs.Taking.{payer_handles, payer_advised, payer_answers, payer_reads};
 
 use crate::book_bytes::BookBytes;
 use crate::book_reading::BookReading;
-use crate::opening::is_request;
+use crate::opening::{is_request, read_envelope};
 use crate::powered::{Kind, Powered, State};
 use bin_routes::{PayerNo, Routes};
 use envelope::Envelope;
@@ -62,15 +63,20 @@ impl Kind for Book {
         self.take(alloc, routes, from, envelope, packet)
     }
 
-    /// Changes its plan.
+    /// Changes its plan, or takes a packet with an advice.
     fn ask(
         &mut self,
         alloc: Global,
-        _routes: &Routes,
+        routes: &Routes,
         call: Call<&Octets>,
     ) -> Result<Vec<Sent>, Fault> {
         match call {
             Call::Plan { product, price } => change_plan(alloc, self, product.as_slice(), price),
+            Call::Adjudicate {
+                from,
+                bytes,
+                advice,
+            } => adjudicate(alloc, self, routes, from, bytes, advice),
             Call::Submit(_) | Call::Tick => Err(Fault::Refused(Refusal::NoSuchNode)),
             Call::Take { .. } | Call::Stop | Call::Start => unreachable!(),
         }
@@ -86,7 +92,7 @@ impl Kind for Book {
 
     fn down(call: Call<&Octets>) -> Fault {
         match call {
-            Call::Plan { .. } => Fault::Refused(Refusal::Down),
+            Call::Plan { .. } | Call::Adjudicate { .. } => Fault::Refused(Refusal::Down),
             _ => Fault::Refused(Refusal::NoSuchNode),
         }
     }
@@ -108,13 +114,102 @@ fn answer(
     from: Node,
     envelope: &Envelope<'_>,
 ) -> Result<Vec<Sent>, Fault>
-    ensures ok { Makes (payer_answers routes.now book.old (node_seen from) envelope.now) (Up book.new) result }
-    ensures fault { Refuses (payer_answers routes.now book.old (node_seen from) envelope.now) result }
+    ensures ok { Makes (payer_answers routes.now book.old unadvised (node_seen from) envelope.now) (Up book.new) result }
+    ensures fault { Refuses (payer_answers routes.now book.old unadvised (node_seen from) envelope.now) result }
     ensures few { IfOk result (λ sent. length sent.items ≤ 1) }
     ensures err { OnErr result (book.new ≡ book.old) }
 {
     let mut sent = Vec::with_capacity(alloc, 1)?;
     let bytes = book.answer_packet(routes, envelope.id(), envelope.payload())?;
+    sent.push_reserved(Sent { to: from, bytes });
+    Ok(sent)
+}
+
+/// Takes a packet with an advice, where the payer asks.
+fn adjudicate(
+    alloc: Global,
+    book: &mut Book,
+    routes: &Routes,
+    from: Node,
+    packet: &Octets,
+    advice: &Octets,
+) -> Result<Vec<Sent>, Fault>
+    ensures ok { PayerMakes routes.now (Up book.old) (Adjudicate (node_seen from) packet.now advice.now)
+        (Up book.new) result }
+    ensures fault { PayerRefuses routes.now (Up book.old) (Adjudicate (node_seen from) packet.now advice.now) result }
+    ensures few { IfOk result (λ sent. length sent.items ≤ 1) }
+    ensures err { OnErr result (book.new ≡ book.old) }
+{
+    if book.settings().asks() {
+        open_advised(alloc, book, routes, from, packet, advice.as_slice())
+    } else {
+        Err(Fault::Refused(Refusal::NotAsked))
+    }
+}
+
+/// Opens the packet that comes with an advice, and answers the request in it.
+fn open_advised(
+    alloc: Global,
+    book: &mut Book,
+    routes: &Routes,
+    from: Node,
+    packet: &Octets,
+    advice: &[u8],
+) -> Result<Vec<Sent>, Fault>
+    ensures ok { Makes (payer_takes (bytes_with routes.now) book.old (advice_in (bytes_with routes.now) advice.now)
+        (node_seen from) ((bytes_with routes.now).read_envelope packet.now)) (Up book.new) result }
+    ensures fault { Refuses (payer_takes (bytes_with routes.now) book.old (advice_in (bytes_with routes.now) advice.now)
+        (node_seen from) ((bytes_with routes.now).read_envelope packet.now)) result }
+    ensures few { IfOk result (λ sent. length sent.items ≤ 1) }
+    ensures err { OnErr result (book.new ≡ book.old) }
+{
+    match read_envelope(packet) {
+        Ok(envelope) => take_advised(alloc, book, routes, from, &envelope, advice),
+        Err(fault) => Err(Fault::Refused(Refusal::NoEnvelope(fault))),
+    }
+}
+
+/// Takes a request and nothing else.
+fn take_advised(
+    alloc: Global,
+    book: &mut Book,
+    routes: &Routes,
+    from: Node,
+    envelope: &Envelope<'_>,
+    advice: &[u8],
+) -> Result<Vec<Sent>, Fault>
+    ensures ok { Makes (payer_advised routes.now book.old (advice_in (bytes_with routes.now) advice.now)
+        (node_seen from) envelope.now) (Up book.new) result }
+    ensures fault { Refuses (payer_advised routes.now book.old (advice_in (bytes_with routes.now) advice.now)
+        (node_seen from) envelope.now) result }
+    ensures few { IfOk result (λ sent. length sent.items ≤ 1) }
+    ensures err { OnErr result (book.new ≡ book.old) }
+{
+    if is_request(envelope) {
+        answer_advised(alloc, book, routes, from, envelope, advice)
+    } else {
+        Err(Fault::Refused(Refusal::Unreadable))
+    }
+}
+
+/// Answers a request with an advice. The room for what is sent is had first.
+fn answer_advised(
+    alloc: Global,
+    book: &mut Book,
+    routes: &Routes,
+    from: Node,
+    envelope: &Envelope<'_>,
+    advice: &[u8],
+) -> Result<Vec<Sent>, Fault>
+    ensures ok { Makes (payer_answers routes.now book.old (advice_in (bytes_with routes.now) advice.now) (node_seen from)
+        envelope.now) (Up book.new) result }
+    ensures fault { Refuses (payer_answers routes.now book.old (advice_in (bytes_with routes.now) advice.now)
+        (node_seen from) envelope.now) result }
+    ensures few { IfOk result (λ sent. length sent.items ≤ 1) }
+    ensures err { OnErr result (book.new ≡ book.old) }
+{
+    let mut sent = Vec::with_capacity(alloc, 1)?;
+    let bytes = book.advised_packet(routes, envelope.id(), envelope.payload(), advice)?;
     sent.push_reserved(Sent { to: from, bytes });
     Ok(sent)
 }

@@ -69,7 +69,7 @@ pub trait Kind: Drop + Sized {
             (λ sent. length sent.items ≤ most (Up self.old) (Take (node_seen from) packet.now)) }
         ensures err { OnErr result (self.new ≡ self.old) };
 
-    /// Makes a call that is no packet, and neither stops nor starts it; gives what it sent.
+    /// Makes a call that is no packet alone, and neither stops nor starts it; gives what it sent.
     fn ask(
         &mut self,
         alloc: Global,

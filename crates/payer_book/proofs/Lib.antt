@@ -9,7 +9,6 @@ pub mod Places
 pub mod Growth
 pub mod RulingLemmas
 pub mod Keeping
-pub mod PaidAmounts
 pub mod Tellable
 pub mod Numbers
 pub mod Replies

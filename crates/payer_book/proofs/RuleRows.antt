@@ -1,6 +1,6 @@
 -- What is added to a book are the rows that follow the rules.
-use Rattle.std.proofs.Common.{◌≡◌, ℕ, zero, suc, ◌+◌, ◌<◌, ◌≤◌, Bool, true, false, ◌&&◌, cond, List, [], ◌∷◌, ◌++◌, map, length, Option, Some, None, Result, Ok, Err, slice_get, inl, inr, refl, sym, ap, ◌∙◌, subst, append_assoc, arith, ltb-true, length-append}
-use Rattle.std.specs.Prelude.{bytes_eq, nat_lt, is_none, ⊤}
+use Rattle.std.proofs.Common.{◌≡◌, ℕ, suc, ◌+◌, ◌<◌, ◌≤◌, Bool, true, false, ◌&&◌, ◌==◌, cond, List, [], ◌∷◌, ◌++◌, map, length, Option, Some, None, Result, slice_get, inl, inr, refl, sym, ap, ◌∙◌, subst, append_assoc, arith, ltb-true, length-append}
+use Rattle.std.specs.Prelude.{bytes_eq, nat_lt, is_none}
 use Rattle.std.specs.List.{AllByRecursion, list_all}
 use Rattle.std.proofs.lemmas.Bool.{and_parts}
 use Rattle.std.proofs.lemmas.List.{append-nil, map-append}
@@ -8,30 +8,30 @@ use Rattle.std.proofs.lemmas.Option.{same_Some as same_some}
 use Rattle.bin_routes.specs.Table.{RouteMaps, routes_of}
 use Rattle.claim_profile.specs.Readable.{readable_header}
 use Rattle.claim_profile.specs.Answer.{answer_text}
-use Rattle.claim_model.specs.Words.{TxnId, RequestHeader, AcceptedStatus, Amounts, Claim, Reversal, Order, Bills, Reverses, Code, DuplicateClaim, Plan, Ruling, Duplicate, Rejected, Answer}
-use Rattle.claim_model.specs.Laws.{Laws, IsAmounts, IsRuling}
+use Rattle.claim_model.specs.Words.{TxnId, RequestHeader, AcceptedStatus, Amounts, Claim, Order, Code, Plan, Ruling, Paid, Duplicate, Reversed, Rejected, Answer}
+use Rattle.claim_model.specs.Laws.{Laws, IsAmounts, IsRejects, IsVerdict, AdvisesWell, IsClaimOf, IsOrderOf, IsRuling}
 use Rattle.claim_model.specs.Bytes.{bytes_with}
 use Rattle.claim_model.specs.Readable.{readable}
 use Rattle.claim_model.specs.Numbered.{numbered}
-use Rattle.claim_model.specs.Payments.{Payment as Paying}
 use Rattle.claim_model.specs.Ruled.{Ruled, ruled}
 use Rattle.claim_model.specs.Rows.{Row, Book, BookSettings, ruled_rows}
-use Rattle.claim_model.specs.Judgement.{same_claim, Judged, Unpriced, ToPrice, judged, judged_claim, judged_reversal, standing_for, payment_to_reverse, next_auth, priced}
+use Rattle.claim_model.specs.Judgement.{Judged, Unpriced, ToPrice, judged, next_auth, Verdict, Pays, Rejects, planned, verdict_in, priced}
 use Rattle.claim_model.specs.Book.{row_of, serial_fits}
-use Rattle.claim_model.proofs.BytesLaws.{readable_alike, AmountsInRange}
-use Rattle.payer_book.specs.Ledger.{Ledger}
-use Rattle.payer_book.specs.Changes.{changes_by, payments_after}
-use Rattle.payer_book.specs.Drafts.{amounts_in, AsKept, rulings_on}
-use Rattle.payer_book.specs.Books.{reading, IsBook}
+use Rattle.claim_model.proofs.BytesLaws.{readable_alike}
+use Rattle.payer_book.specs.declared.book.payment.Payment.{Payment}
+use Rattle.payer_book.specs.Ledger.{Ledger, standing_in}
+use Rattle.payer_book.specs.Changes.{change_by, changes_by, payments_after}
+use Rattle.payer_book.specs.Drafts.{judged_on, amounts_in, kept_verdict, AsKept, price_at, ruling_by, rulings_on}
+use Rattle.payer_book.specs.Books.{reading, payments_of, IsBook}
 use Rattle.payer_book.specs.Added.{KeptRow, answer_under, kept_answer, kept_row, kept_ruling_of, kept_ruling, kept_rulings_from, kept_rulings, with_row, with_answer, with_kept, added, added_all}
-use Rattle.payer_book.specs.Made.{PaysAmounts, IsMade}
+use Rattle.payer_book.specs.Made.{IsTold, IsMade}
 use Rattle.payer_book.specs.Entries.{with_plan}
-use Rattle.payer_book.specs.Following.{FollowsRules, AllFollow, RowStands, IsKeptBook, KeepsRows}
-use Rattle.claim_model.proofs.Tests.{bytes_same}
+use Rattle.payer_book.specs.Following.{MayReject, FollowsRules, AllFollow, RowStands, IsKeptBook, KeepsRows}
+use Rattle.claim_model.proofs.Tests.{bytes_same, nat_self}
 use Rattle.payer_book.proofs.Keeping.{rulings_by_on, get_front}
 use Rattle.payer_book.proofs.RulingLemmas.{length_rulings}
-use Rattle.payer_book.proofs.PaidAmounts.{PaysSo, at_place, said_pays}
-use Rattle.payer_book.proofs.Tellable.{rulings_told, prices_fit}
+use Rattle.payer_book.proofs.Growth.{payments_more, judged_same, standing_more}
+use Rattle.payer_book.proofs.Tellable.{settled_told, change_told}
 use Rattle.payer_book.proofs.Entered.{book_more}
 use Rattle.payer_book.proofs.KeptRows.{added_kept}
 use Rattle.payer_book.proofs.Grown.{row_stands, made_after, no_row}
@@ -46,29 +46,45 @@ none_there : (o : Option Row) → is_none o ≡ true → o ≡ None
 none_there None e = refl
 none_there (Some r) e = absurd cc
 
-numbered_pays : (said : List Ruling) (place : ℕ) (m : Amounts) → PaysAmounts said → amounts_in (numbered said place) ≡ Some m → IsAmounts m
-numbered_pays said zero m pays e = absurd cc
-numbered_pays said (suc k) m pays e = pays k m e
-
-kept_follows : (b : Book) (before : List Ruled) (said : List Ruling) (place : ℕ) (j : Judged) → PaysAmounts said → FollowsRules b before j (kept_ruling_of b before (numbered said place) j)
-kept_follows b before said place (Unpriced settled) pays = refl
-kept_follows b before said place (ToPrice c) pays = by_case (amounts_in (numbered said place)) (λ m e. numbered_pays said place m pays e)
+-- codes that an answer says
+codes_follow : (b : Book) (before : List Ruled) (c : Claim) (o : Option Ruling) → ((claimed : ℕ) (v : Verdict) → verdict_in claimed o ≡ Some v → IsVerdict v) → (asks : Bool) → b.settings.asks ≡ asks → FollowsRules b before (ToPrice c) (priced (next_auth b before) c (kept_verdict asks c.fill.prescription o))
+codes_follow b before c o well true is = by_verdict (verdict_in c.fill.prescription o) (λ v e. well c.fill.prescription v e)
   where
-    by_case : (o : Option Amounts) → ((m : Amounts) → o ≡ Some m → IsAmounts m) → FollowsRules b before (ToPrice c) (priced (next_auth b before) c o)
-    by_case None f = inl refl
-    by_case (Some m) f = inr (m, f m refl, refl)
+    rejects : (codes : List Code) → IsRejects codes → MayReject b.settings.asks codes
+    rejects codes r = subst (λ (t : Bool). MayReject t codes) (sym is) r
 
-ruling_follows : (b : Book) (before : List Ruled) (said : List Ruling) (place : ℕ) (order : Result Order (List Code)) → PaysAmounts said → FollowsRules b before (judged before order) (kept_ruling b before (numbered said place) order)
+    by_verdict : (v : Option Verdict) → ((w : Verdict) → v ≡ Some w → IsVerdict w) → FollowsRules b before (ToPrice c) (priced (next_auth b before) c v)
+    by_verdict None f = inl (Code.NotCovered ∷ [], rejects (Code.NotCovered ∷ []) (record { some = omega arith; few = omega arith }), refl)
+    by_verdict (Some (Rejects codes)) f = inl (codes, rejects codes (f (Rejects codes) refl), refl)
+    by_verdict (Some (Pays m)) f = inr (m, f (Pays m) refl, refl)
+codes_follow b before c o well false is = by_amounts (amounts_in o) (λ m e. pays_well o m well e)
+  where
+    pays_well : (p : Option Ruling) (m : Amounts) → ((claimed : ℕ) (v : Verdict) → verdict_in claimed p ≡ Some v → IsVerdict v) → amounts_in p ≡ Some m → IsAmounts m
+    pays_well None m f e = absurd cc
+    pays_well (Some (Paid auth n x)) m f e = subst IsAmounts (same_some x m e) (f n (Pays x) (ap (λ (t : Bool). cond t (Some (Pays x)) None) (nat_self n)))
+    pays_well (Some (Duplicate auth n x)) m f e = absurd cc
+    pays_well (Some (Reversed auth n)) m f e = absurd cc
+    pays_well (Some (Rejected codes)) m f e = absurd cc
+
+    by_amounts : (p : Option Amounts) → ((m : Amounts) → p ≡ Some m → IsAmounts m) → FollowsRules b before (ToPrice c) (priced (next_auth b before) c (Some (planned p)))
+    by_amounts None f = inl (Code.NotCovered ∷ [], subst (λ (t : Bool). MayReject t (Code.NotCovered ∷ [])) (sym is) refl, refl)
+    by_amounts (Some m) f = inr (m, f m refl, refl)
+
+kept_follows : (b : Book) (before : List Ruled) (said : List Ruling) (place : ℕ) (j : Judged) → AdvisesWell said → FollowsRules b before j (kept_ruling_of b before (numbered said place) j)
+kept_follows b before said place (Unpriced settled) well = refl
+kept_follows b before said place (ToPrice c) well = codes_follow b before c (numbered said place) (λ claimed v e. well place claimed v e) b.settings.asks refl
+
+ruling_follows : (b : Book) (before : List Ruled) (said : List Ruling) (place : ℕ) (order : Result Order (List Code)) → AdvisesWell said → FollowsRules b before (judged before order) (kept_ruling b before (numbered said place) order)
 unfolding kept_ruling
-ruling_follows b before said place order pays = kept_follows b before said place (judged before order) pays
+ruling_follows b before said place order well = kept_follows b before said place (judged before order) well
 
-all_follow : (b : Book) (before : List Ruled) (id : TxnId) (place : ℕ) (orders : List (Result Order (List Code))) (said : List Ruling) → PaysAmounts said → AllFollow b before id place orders (kept_rulings_from b before id place orders said)
+all_follow : (b : Book) (before : List Ruled) (id : TxnId) (place : ℕ) (orders : List (Result Order (List Code))) (said : List Ruling) → AdvisesWell said → AllFollow b before id place orders (kept_rulings_from b before id place orders said)
 all_follow b before id place [] said pays = tt
 all_follow b before id place (order ∷ orders) said pays =
     let r : Ruling = kept_ruling b before (numbered said place) order in
     (ruling_follows b before said place order pays, all_follow b (before ++ ruled id place order r ∷ []) id (place + 1) orders said pays)
 
-module _ (amounts : AmountsInRange) (b : Book) (id : TxnId) (request answer : List ℕ) (after : Book) where
+module _ (laws : (routes : RouteMaps) → Laws (bytes_with routes)) (b : Book) (id : TxnId) (request answer : List ℕ) (after : Book) where
   with_stands : length b.rows < b.settings.cap → row_of id b.rows ≡ None → (o : Option RequestHeader) (p : Option Answer) → readable_header request ≡ o → reading.read_answer answer ≡ p → with_answer b id request answer o p ≡ Some after
       → RowStands b id request answer after
   with_stands room fresh None p reads says e = absurd cc
@@ -83,7 +99,7 @@ module _ (amounts : AmountsInRange) (b : Book) (id : TxnId) (request answer : Li
         header = h;
         reads = reads;
         rulings = rulings;
-        follow = all_follow b (ruled_rows reading b.rows) id 1 (reading.orders request) said.rulings (said_pays amounts answer said says);
+        follow = all_follow b (ruled_rows reading b.rows) id 1 (reading.orders request) said.rulings ((laws (routes_of [])).sayings answer said says);
         fit = t.0;
         text = sym (bytes_same (answer_text h AcceptedStatus rulings) answer t.1);
         book = sym (same_some _ after c.1);
@@ -100,8 +116,16 @@ module _ (amounts : AmountsInRange) (b : Book) (id : TxnId) (request answer : Li
 
 again_one : (b : Book) (before : List Ruled) (j : Judged) (r : Ruling) → FollowsRules b before j r → kept_ruling_of b before (Some r) j ≡ r
 again_one b before (Unpriced settled) r f = sym f
-again_one b before (ToPrice c) r (inl e) = ap (λ (x : Ruling). priced (next_auth b before) c (amounts_in (Some x))) e ∙ sym e
-again_one b before (ToPrice c) r (inr p) = ap (λ (x : Ruling). priced (next_auth b before) c (amounts_in (Some x))) p.2 ∙ sym p.2
+again_one b before (ToPrice c) r (inl e) = ap (λ (x : Ruling). priced (next_auth b before) c (kept_verdict b.settings.asks c.fill.prescription (Some x))) e.2 ∙ (by_asks b.settings.asks e.1 ∙ sym e.2)
+  where
+    by_asks : (t : Bool) → MayReject t e.0 → priced (next_auth b before) c (kept_verdict t c.fill.prescription (Some (Rejected e.0))) ≡ Rejected e.0
+    by_asks true m = refl
+    by_asks false m = ap (λ (codes : List Code). Rejected codes) (sym m)
+again_one b before (ToPrice c) r (inr p) = ap (λ (x : Ruling). priced (next_auth b before) c (kept_verdict b.settings.asks c.fill.prescription (Some x))) p.2 ∙ (by_asks b.settings.asks ∙ sym p.2)
+  where
+    by_asks : (t : Bool) → priced (next_auth b before) c (kept_verdict t c.fill.prescription (Some (Paid (next_auth b before) c.fill.prescription p.0))) ≡ Paid (next_auth b before) c.fill.prescription p.0
+    by_asks true = ap (λ (t : Bool). priced (next_auth b before) c (cond t (Some (Pays p.0)) None)) (nat_self c.fill.prescription)
+    by_asks false = refl
 
 ruled_again : (b : Book) (before : List Ruled) (order : Result Order (List Code)) (r : Ruling) → FollowsRules b before (judged before order) r → kept_ruling b before (Some r) order ≡ r
 unfolding kept_ruling
@@ -119,41 +143,43 @@ again_from b before id place (order ∷ orders) said front (r ∷ rulings) e at 
     ap (λ (x : Ruling). x ∷ kept_rulings_from b (before ++ ruled id place order x ∷ []) id (place + 1) orders said) same
     ∙ ap (λ (rs : List Ruling). r ∷ rs) (again_from b (before ++ ruled id place order r ∷ []) id (place + 1) orders said (front ++ r ∷ []) rulings (e ∙ sym (append_assoc front (r ∷ []) rulings)) next all.1)
 
--- what they pay can be written
+-- and can be told in an answer
 
-abbrev Unpaid : Judged → Type 0
-Unpaid (Unpriced settled) = amounts_in (Some settled) ≡ None
-Unpaid (ToPrice c) = ⊤
+may_reject : (asks : Bool) (codes : List Code) → MayReject asks codes → IsRejects codes
+may_reject true codes m = m
+may_reject false codes m = subst IsRejects (sym m) (record { some = omega arith; few = omega arith })
 
-claim_unpaid : (c : Claim) (o : Option Paying) → Unpaid (judged_claim c o)
-claim_unpaid c None = tt
-claim_unpaid c (Some p) = by_test (same_claim p.claim c)
+told_one : (b : Book) (before : List Ruled) (h : RequestHeader) (order : Result Order (List Code)) (r : Ruling) → 1 ≤ b.payer → b.payer ≤ 9999 → 1 ≤ b.settings.serial → AllByRecursion IsTold (standing_in (payments_of before))
+    → IsOrderOf h order → FollowsRules b before (judged before order) r → serial_fits r ≡ true → IsRuling r
+told_one b before h order r payer payer_fits serial told of_it f fits = by_judged (judged before order) (judged_same before order) f
   where
-    by_test : (t : Bool) → Unpaid (cond t (Unpriced (Duplicate p.auth c.fill.prescription p.amounts)) (Unpriced (Rejected (DuplicateClaim ∷ []))))
-    by_test true = refl
-    by_test false = refl
+    -- it is ruled so where an answer says this
+    said_so : (said : List Ruling) → ((c : Claim) (v : Verdict) → IsClaimOf h c → price_at (AsKept true said) 0 c ≡ Some v → IsVerdict v) → ruling_by (next_auth b before) (AsKept true said) 0 (judged_on (standing_in (payments_of before)) order) ≡ r → IsRuling r
+    said_so said verdicts same =
+        subst IsRuling same
+        (settled_told (next_auth b before) payer payer_fits (omega (arith, serial)) (AsKept true said) 0 h verdicts (standing_in (payments_of before)) told order of_it (ap serial_fits same ∙ fits))
 
-reversal_unpaid : (v : Reversal) (o : Option Paying) → Unpaid (judged_reversal v o)
-reversal_unpaid v None = refl
-reversal_unpaid v (Some p) = refl
+    by_judged : (j : Judged) → j ≡ judged_on (standing_in (payments_of before)) order → FollowsRules b before j r → IsRuling r
+    by_judged (Unpriced given) e g = said_so [] (λ c v of_claim k. absurd cc) (ap (ruling_by (next_auth b before) (AsKept true []) 0) (sym e) ∙ sym g)
+    by_judged (ToPrice c) e (inl g) =
+        said_so (Rejected g.0 ∷ []) (λ d v of_claim k. subst IsVerdict (same_some (Rejects g.0) v k) (may_reject b.settings.asks g.0 g.1)) (ap (ruling_by (next_auth b before) (AsKept true (Rejected g.0 ∷ [])) 0) (sym e) ∙ sym g.2)
+    by_judged (ToPrice c) e (inr p) =
+        said_so (Paid (next_auth b before) c.fill.prescription p.0 ∷ []) (λ d v of_claim k. subst IsVerdict (same_some (Pays p.0) v (cond_some (c.fill.prescription == d.fill.prescription) (Some (Pays p.0)) v k).1) p.1)
+        (ap (ruling_by (next_auth b before) (AsKept true (Paid (next_auth b before) c.fill.prescription p.0 ∷ [])) 0) (sym e)
+        ∙ (ap (λ (t : Bool). priced (next_auth b before) c (cond t (Some (Pays p.0)) None)) (nat_self c.fill.prescription) ∙ sym p.2))
 
-unpaid : (before : List Ruled) (order : Result Order (List Code)) → Unpaid (judged before order)
-unfolding judged
-unpaid before (Err codes) = refl
-unpaid before (Ok (Bills c)) = claim_unpaid c (standing_for c.fill before)
-unpaid before (Ok (Reverses v)) = reversal_unpaid v (payment_to_reverse v before)
-
-follows_pays : (b : Book) (before : List Ruled) (j : Judged) (r : Ruling) → FollowsRules b before j r → Unpaid j → PaysSo r
-follows_pays b before (Unpriced settled) r f u = subst PaysSo (sym f) (λ m e. let g : None ≡ Some m = sym u ∙ e in absurd cc)
-follows_pays b before (ToPrice c) r (inl e) u = subst PaysSo (sym e) (λ m h. absurd cc)
-follows_pays b before (ToPrice c) r (inr p) u = subst PaysSo (sym p.2) (λ m h. subst IsAmounts (same_some p.0 m h) p.1)
-
-all_pay : (b : Book) (before : List Ruled) (id : TxnId) (place : ℕ) (orders : List (Result Order (List Code))) (rulings : List Ruling) → AllFollow b before id place orders rulings → AllByRecursion PaysSo rulings
-all_pay b before id place [] [] all = tt
-all_pay b before id place [] (r ∷ rulings) all = absurd all
-all_pay b before id place (order ∷ orders) [] all = absurd all
-all_pay b before id place (order ∷ orders) (r ∷ rulings) all =
-    (follows_pays b before (judged before order) r all.0 (unpaid before order), all_pay b (before ++ ruled id place order r ∷ []) id (place + 1) orders rulings all.1)
+all_told : (b : Book) (before : List Ruled) (h : RequestHeader) (id : TxnId) (place : ℕ) (orders : List (Result Order (List Code))) (rulings : List Ruling) → 1 ≤ b.payer → b.payer ≤ 9999 → 1 ≤ b.settings.serial
+    → AllByRecursion IsTold (standing_in (payments_of before)) → AllByRecursion (IsOrderOf h) orders → AllFollow b before id place orders rulings → list_all serial_fits rulings ≡ true → AllByRecursion IsRuling rulings
+all_told b before h id place [] [] payer payer_fits serial told of_it all fit = tt
+all_told b before h id place [] (r ∷ rulings) payer payer_fits serial told of_it all fit = absurd all
+all_told b before h id place (order ∷ orders) [] payer payer_fits serial told of_it all fit = tt
+all_told b before h id place (order ∷ orders) (r ∷ rulings) payer payer_fits serial told of_it all fit =
+    let fits = and_parts (serial_fits r) (list_all serial_fits rulings) fit in
+    let is : IsRuling r = told_one b before h order r payer payer_fits serial told of_it.0 all.0 fits.0 in
+    let x : Ruled = ruled id place order r in
+    let next : AllByRecursion IsTold (standing_in (payments_of (before ++ x ∷ []))) =
+    subst (AllByRecursion IsTold) (sym (ap standing_in (payments_more before x) ∙ standing_more id (payments_of before) (change_by order r))) (change_told order r (standing_in (payments_of before)) is told) in
+    (is, all_told b (before ++ x ∷ []) h id (place + 1) orders rulings payer payer_fits serial next of_it.1 all.1 fits.1)
 
 -- a book with the payments that its rows come to
 record HasLedger (b : Book) : Type 0 where
@@ -167,22 +193,16 @@ module _ (laws : (routes : RouteMaps) → Laws (bytes_with routes)) where
     ruled_so : rulings ≡ kept_rulings b id request rulings
     ruled_so = sym (again_from b (ruled_rows reading b.rows) id 1 (reading.orders request) rulings [] rulings refl refl follow)
 
-    ruled_on : rulings ≡ rulings_on has.ledger (AsKept rulings) [] (reading.orders request)
-    ruled_on = ruled_so ∙ rulings_by_on b has.ledger has.book id request (AsKept rulings)
+    ruled_on : rulings ≡ rulings_on has.ledger (AsKept b.settings.asks rulings) [] (reading.orders request)
+    ruled_on = ruled_so ∙ rulings_by_on b has.ledger has.book id request (AsKept b.settings.asks rulings) refl
 
     read_so : readable reading request ≡ Some h
     read_so = readable_alike (routes_of []) request ∙ reads
 
     told_so : AllByRecursion IsRuling rulings
     told_so =
-        let l = has.ledger in
-        let serial : 1 ≤ l.first = omega (arith, has.book.from_serial, has.made.some_serial) in
-        let some_payer : 1 ≤ l.payer = omega (arith, has.book.of_payer, has.made.some_payer) in
-        let payer_fits : l.payer ≤ 9999 = omega (arith, has.book.of_payer, has.made.payer_fits) in
-        let pays : PaysAmounts rulings = at_place rulings (all_pay b (ruled_rows reading b.rows) id 1 (reading.orders request) rulings follow) in
-        subst (AllByRecursion IsRuling) (sym ruled_on)
-        (rulings_told l (AsKept rulings) h some_payer payer_fits serial (prices_fit (laws (routes_of [])).prices h (AsKept rulings) pays) [] (reading.orders request) has.made.told
-        ((laws (routes_of [])).orders request h read_so) (ap (list_all serial_fits) (sym ruled_on) ∙ fit))
+        all_told b (ruled_rows reading b.rows) h id 1 (reading.orders request) rulings has.made.some_payer has.made.payer_fits has.made.some_serial
+        (subst (λ (ps : List Payment). AllByRecursion IsTold (standing_in ps)) has.book.kept.payments has.made.told) ((laws (routes_of [])).orders request h read_so) follow fit
 
     abbrev row_so : Row
     row_so = record { id = id; request = request; rulings = rulings }
@@ -190,7 +210,7 @@ module _ (laws : (routes : RouteMaps) → Laws (bytes_with routes)) where
     stands_so : (plan : Plan) → with_kept (with_plan b plan) id request (kept_answer row_so) ≡ Some (with_row (with_plan b plan) row_so)
     stands_so =
         let count : length rulings ≡ h.count =
-        ap (λ (rs : List Ruling). length rs) ruled_on ∙ (length_rulings has.ledger (AsKept rulings) [] (reading.orders request) ∙ (laws (routes_of [])).groups request h read_so) in
+        ap (λ (rs : List Ruling). length rs) ruled_on ∙ (length_rulings has.ledger (AsKept b.settings.asks rulings) [] (reading.orders request) ∙ (laws (routes_of [])).groups request h read_so) in
         row_stands laws b row_so h reads count told_so ruled_so fit
 
   stands_added : (b : Book) (id : TxnId) (request answer : List ℕ) (after : Book) → HasLedger b → RowStands b id request answer after → added b id request answer ≡ Some after
@@ -215,14 +235,14 @@ module _ (laws : (routes : RouteMaps) → Laws (bytes_with routes)) where
             l m refl changes refl id (b.rows ++ row ∷ []) refl refl;
       })
 
-  module _ (amounts : AmountsInRange) where
+  module _ where
     all_grown : (rows : List KeptRow) (b after : Book) → HasLedger b → added_all (Some b) rows ≡ Some after → HasLedger after
     all_grown [] b after has e = subst HasLedger (same_some b after e) has
     all_grown (k ∷ rows) b after has e = by_case (added b k.id k.request k.answer) refl (λ x more f. all_grown rows x after more f) e
       where
         by_case : (o : Option Book) → added b k.id k.request k.answer ≡ o → ((x : Book) → HasLedger x → added_all (Some x) rows ≡ Some after → HasLedger after) → added_all o rows ≡ Some after → HasLedger after
         by_case None is later f = absurd cc
-        by_case (Some x) is later f = later x (grown b k.id k.request k.answer x has (added_stands amounts b k.id k.request k.answer x is)) f
+        by_case (Some x) is later f = later x (grown b k.id k.request k.answer x has (added_stands laws b k.id k.request k.answer x is)) f
 
     nothing_ruled : (payer : ℕ) (settings : BookSettings) (plan : Plan) → 1 ≤ payer → payer ≤ 9999 → 1 ≤ settings.serial → HasLedger (record { payer = payer; settings = settings; plan = plan; rows = [] })
     nothing_ruled payer settings plan some fits serial = record {
@@ -247,23 +267,23 @@ last_kept b after id request answer s =
     ap (λ (x : Book). map kept_row x.rows) s.book
     ∙ (map-append kept_row b.rows (row ∷ []) ∙ ap (λ (t : List ℕ). let k : KeptRow = record { id = id; request = request; answer = t } in map kept_row b.rows ++ k ∷ []) text)
 
-pub row_kept : AmountsInRange → (b : Book) (id : TxnId) (request answer : List ℕ) (after : Book) → added b id request answer ≡ Some after → KeepsRows b (record { id = id; request = request; answer = answer } ∷ []) after
-row_kept amounts b id request answer after e =
-    let s = added_stands amounts b id request answer after e in record {
+pub row_kept : ((routes : RouteMaps) → Laws (bytes_with routes)) → (b : Book) (id : TxnId) (request answer : List ℕ) (after : Book) → added b id request answer ≡ Some after → KeepsRows b (record { id = id; request = request; answer = answer } ∷ []) after
+row_kept laws b id request answer after e =
+    let s = added_stands laws b id request answer after e in record {
       payer = ap (λ (x : Book). x.payer) s.book;
       settings = ap (λ (x : Book). x.settings) s.book;
       plan = ap (λ (x : Book). x.plan) s.book;
       rows = last_kept b after id request answer s;
     }
 
-pub rows_kept : AmountsInRange → (b : Book) (rows : List KeptRow) (after : Book) → added_all (Some b) rows ≡ Some after → KeepsRows b rows after
-rows_kept amounts b [] after e = subst (KeepsRows b []) (same_some b after e) (record { payer = refl; settings = refl; plan = refl; rows = sym (append-nil (map kept_row b.rows)) })
-rows_kept amounts b (k ∷ rows) after e = by_case (added b k.id k.request k.answer) refl (λ x f. rows_kept amounts x rows after f) e
+pub rows_kept : ((routes : RouteMaps) → Laws (bytes_with routes)) → (b : Book) (rows : List KeptRow) (after : Book) → added_all (Some b) rows ≡ Some after → KeepsRows b rows after
+rows_kept laws b [] after e = subst (KeepsRows b []) (same_some b after e) (record { payer = refl; settings = refl; plan = refl; rows = sym (append-nil (map kept_row b.rows)) })
+rows_kept laws b (k ∷ rows) after e = by_case (added b k.id k.request k.answer) refl (λ x f. rows_kept laws x rows after f) e
   where
     by_case : (o : Option Book) → added b k.id k.request k.answer ≡ o → ((x : Book) → added_all (Some x) rows ≡ Some after → KeepsRows x rows after) → added_all o rows ≡ Some after → KeepsRows b (k ∷ rows) after
     by_case None is later f = absurd cc
     by_case (Some x) is later f =
-        let one = row_kept amounts b k.id k.request k.answer x is in
+        let one = row_kept laws b k.id k.request k.answer x is in
         let all = later x f in
         record {
           payer = all.payer ∙ one.payer;

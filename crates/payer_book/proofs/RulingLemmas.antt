@@ -1,6 +1,6 @@
 -- The rulings of the model are those over the payments that the code keeps.
 use Rattle.std.proofs.Common.{◌≡◌, ℕ, suc, ◌+◌, Bool, true, false, cond, List, [], ◌∷◌, ◌++◌, length, Option, Some, None, Result, Ok, Err, refl, sym, ap, ◌∙◌, subst, append_assoc, arith, length-append}
-use Rattle.std.specs.Prelude.{find, filter, count_by, IsSome, is_some}
+use Rattle.std.specs.Prelude.{find, filter, count_by, IsSome, is_some, slice_get, ◌&&◌}
 use Rattle.std.specs.List.{AllByRecursion}
 use Rattle.std.proofs.lemmas.List.{append-nil, length-map}
 use Rattle.std.proofs.lemmas.Bool.{cond-true, cond-false}
@@ -10,13 +10,13 @@ use Rattle.bin_routes.specs.Table.{RouteMaps}
 use Rattle.plan_rules.specs.Pricing.{paid}
 use Rattle.claim_profile.specs.declared.ruling.HeaderStatus.TheVariants.{Accepted}
 use Rattle.claim_profile.specs.Answer.{IsPrescription, IsWritable, AreWritable}
-use Rattle.claim_model.specs.Words.{TxnId, Auth, Amounts, Claim, Reversal, Order, Bills, Reverses, Code, Ruling, Duplicate, Rejected, RequestHeader}
+use Rattle.claim_model.specs.Words.{TxnId, Auth, Claim, Reversal, Order, Bills, Reverses, Code, Ruling, Duplicate, Rejected, RequestHeader}
 use Rattle.claim_model.specs.Context.{Context}
 use Rattle.claim_model.specs.Laws.{IsOrderOf}
 use Rattle.claim_model.specs.Bytes.{bytes_with}
 use Rattle.claim_model.specs.Ruled.{Ruled, ruled, ruled_from}
 use Rattle.claim_model.specs.Rows.{Book}
-use Rattle.claim_model.specs.Judgement.{only, same_claim, is_paid, Judged, Unpriced, ToPrice, next_auth, priced, ruling_of, ruling, rulings_from}
+use Rattle.claim_model.specs.Judgement.{only, same_claim, is_paid, Judged, Unpriced, ToPrice, judged, next_auth, Verdict, Pays as PaysOut, Rejects, planned, verdict_in, verdict_of, priced, ruling_of, ruling, rulings_from, is_advised, all_advised}
 use Rattle.claim_model.specs.Payments.{same_auth}
 use Rattle.payer_book.specs.declared.book.payment.Standing.{Standing}
 use Rattle.payer_book.specs.declared.book.payment.Payment.{Payment}
@@ -24,16 +24,17 @@ use Rattle.payer_book.specs.declared.ruling.changes.Change.{Change}
 use Rattle.payer_book.specs.declared.ruling.changes.Change.TheVariants.{Pays, Reverses as ReversesPayment, Keeps as KeepsAll}
 use Rattle.payer_book.specs.Ledger.{Ledger, standing_in, standing_of, is_for_payment, after_reversal, HasFillNumber}
 use Rattle.payer_book.specs.Changes.{change_by, changes_by, pays, standing_with, standing_after, payments_with, payments_after, IsPossible, ArePossible}
-use Rattle.payer_book.specs.Drafts.{claim_on, reversal_on, judged_on, Pricing, ByPlan, price_at, auth_after, ruling_by, ruling_on, rulings_on}
+use Rattle.payer_book.specs.Drafts.{claim_on, reversal_on, judged_on, Pricing, ByPlan, AsKept, pricing_of, price_at, auth_after, ruling_by, ruling_on, rulings_on, advised_by, advised_on, all_advised_on}
 use Rattle.payer_book.specs.Books.{payments_of, count_paid, Keeps, OrderNumbered}
 use Rattle.payer_book.proofs.Growth.{payments_more, standing_more, after_more, judged_same}
 use Rattle.claim_model.proofs.Tests.{auth_self}
 
 -- a ruling pays where its change does
 
-priced_pays : (auth : Auth) (c : Claim) (o : Option Amounts) → is_paid (priced auth c o) ≡ pays (change_by (Ok (Bills c)) (priced auth c o))
+priced_pays : (auth : Auth) (c : Claim) (o : Option Verdict) → is_paid (priced auth c o) ≡ pays (change_by (Ok (Bills c)) (priced auth c o))
 priced_pays auth c None = refl
-priced_pays auth c (Some m) = refl
+priced_pays auth c (Some (Rejects codes)) = refl
+priced_pays auth c (Some (PaysOut m)) = refl
 
 claim_pays : (auth : Auth) (prices : Pricing) (k : ℕ) (c : Claim) (o : Option Standing) → is_paid (ruling_by auth prices k (claim_on c o)) ≡ pays (change_by (Ok (Bills c)) (ruling_by auth prices k (claim_on c o)))
 claim_pays auth prices k c None = priced_pays auth c (price_at prices k c)
@@ -67,45 +68,88 @@ count_more before x changes change same =
 
 -- the model's ruling
 
-module _ (routes : RouteMaps) (b : Book) (l : Ledger) (payer : l.payer ≡ b.payer) where
+-- the standing payments, one ruling on
+pub next_stands : (l : Ledger) (id : TxnId) (place : ℕ) (before : List Ruled) (changes : List Change) (order : Result Order (List Code)) (r : Ruling) → standing_in (payments_of before) ≡ standing_after (standing_in l.payments) changes
+    → standing_in (payments_of (before ++ ruled id place order r ∷ [])) ≡ standing_after (standing_in l.payments) (changes ++ change_by order r ∷ [])
+next_stands l id place before changes order r stands =
+    ap standing_in (payments_more before (ruled id place order r))
+    ∙ (standing_more id (payments_of before) (change_by order r)
+    ∙ (ap (λ (ss : List Standing). standing_with ss (change_by order r)) stands ∙ sym (after_more (standing_in l.payments) changes (change_by order r))))
+
+pub auth_same : (b : Book) (l : Ledger) → l.payer ≡ b.payer → (before : List Ruled) (changes : List Change) → b.settings.serial + count_paid before ≡ l.first + length l.payments + count_by pays changes → next_auth b before ≡ auth_after l changes
+auth_same b l payer before changes e = let p : b.payer ≡ l.payer = sym payer in λ i. record { payer = p i; serial = e i }
+
+-- a book's verdicts are those of its pricing
+
+pub verdict_same : (routes : RouteMaps) (b : Book) (advice : List Ruling) (k : ℕ) (c : Claim) → verdict_of (bytes_with routes) b advice (suc k) c ≡ price_at (pricing_of b advice) k c
+verdict_same routes b advice k c = by_asks b.settings.asks
+  where
+    by_asks : (t : Bool) → cond t (verdict_in c.fill.prescription (slice_get advice k)) (Some (planned (paid b.plan c))) ≡ price_at (cond t (AsKept true advice) (ByPlan b.plan)) k c
+    by_asks true = refl
+    by_asks false = refl
+
+module _ (routes : RouteMaps) (b : Book) (l : Ledger) (payer : l.payer ≡ b.payer) (advice : List Ruling) (prices : Pricing)
+    (verdicts : (k : ℕ) (c : Claim) → verdict_of (bytes_with routes) b advice (suc k) c ≡ price_at prices k c) where
   abbrev ctx : Context
   ctx = bytes_with routes
 
-  settled_same : (before : List Ruled) (auth : Auth) (k : ℕ) (j : Judged) → next_auth b before ≡ auth → ruling_of ctx b before j ≡ ruling_by auth (ByPlan b.plan) k j
+  settled_same : (before : List Ruled) (auth : Auth) (k : ℕ) (j : Judged) → next_auth b before ≡ auth → ruling_of ctx b advice before (suc k) j ≡ ruling_by auth prices k j
   settled_same before auth k (Unpriced r) is = refl
-  settled_same before auth k (ToPrice c) is = ap (λ (a : Auth). priced a c (paid b.plan c)) is
+  settled_same before auth k (ToPrice c) is = ap (λ (a : Auth). priced a c (verdict_of ctx b advice (suc k) c)) is ∙ ap (priced auth c) (verdicts k c)
 
-  pub auth_same : (before : List Ruled) (changes : List Change) → b.settings.serial + count_paid before ≡ l.first + length l.payments + count_by pays changes → next_auth b before ≡ auth_after l changes
-  auth_same before changes e = let p : b.payer ≡ l.payer = sym payer in λ i. record { payer = p i; serial = e i }
+  judged_advised : (k : ℕ) (j : Judged) → is_advised ctx b advice (suc k) j ≡ advised_by prices k j
+  judged_advised k (Unpriced r) = refl
+  judged_advised k (ToPrice c) = ap is_some (verdicts k c)
 
   pub ruling_same : (before : List Ruled) (changes : List Change) (order : Result Order (List Code)) → standing_in (payments_of before) ≡ standing_after (standing_in l.payments) changes
-      → b.settings.serial + count_paid before ≡ l.first + length l.payments + count_by pays changes → ruling ctx b before order ≡ ruling_on l (ByPlan b.plan) changes order
+      → b.settings.serial + count_paid before ≡ l.first + length l.payments + count_by pays changes → ruling ctx b advice before (suc (length changes)) order ≡ ruling_on l prices changes order
   unfolding ruling ruling_on
   ruling_same before changes order stands count =
-      ap (ruling_of ctx b before) (judged_same before order ∙ ap (λ (ss : List Standing). judged_on ss order) stands)
-      ∙ settled_same before (auth_after l changes) (length changes) (judged_on (standing_after (standing_in l.payments) changes) order) (auth_same before changes count)
+      ap (ruling_of ctx b advice before (suc (length changes))) (judged_same before order ∙ ap (λ (ss : List Standing). judged_on ss order) stands)
+      ∙ settled_same before (auth_after l changes) (length changes) (judged_on (standing_after (standing_in l.payments) changes) order) (auth_same b l payer before changes count)
 
-  -- the standing payments and the count, one ruling on
-  pub next_stands : (id : TxnId) (place : ℕ) (before : List Ruled) (changes : List Change) (order : Result Order (List Code)) (r : Ruling) → standing_in (payments_of before) ≡ standing_after (standing_in l.payments) changes
-      → standing_in (payments_of (before ++ ruled id place order r ∷ [])) ≡ standing_after (standing_in l.payments) (changes ++ change_by order r ∷ [])
-  next_stands id place before changes order r stands =
-      ap standing_in (payments_more before (ruled id place order r))
-      ∙ (standing_more id (payments_of before) (change_by order r)
-      ∙ (ap (λ (ss : List Standing). standing_with ss (change_by order r)) stands ∙ sym (after_more (standing_in l.payments) changes (change_by order r))))
+  advised_same : (before : List Ruled) (changes : List Change) (order : Result Order (List Code)) → standing_in (payments_of before) ≡ standing_after (standing_in l.payments) changes
+      → is_advised ctx b advice (suc (length changes)) (judged before order) ≡ advised_on l prices changes order
+  unfolding advised_on
+  advised_same before changes order stands =
+      ap (is_advised ctx b advice (suc (length changes))) (judged_same before order ∙ ap (λ (ss : List Standing). judged_on ss order) stands)
+      ∙ judged_advised (length changes) (judged_on (standing_after (standing_in l.payments) changes) order)
 
-  pub rulings_same : (id : TxnId) (place : ℕ) (before : List Ruled) (changes : List Change) (orders : List (Result Order (List Code))) → standing_in (payments_of before) ≡ standing_after (standing_in l.payments) changes
-      → b.settings.serial + count_paid before ≡ l.first + length l.payments + count_by pays changes → rulings_from ctx b before id place orders ≡ rulings_on l (ByPlan b.plan) changes orders
-  rulings_same id place before changes [] stands count = refl
-  rulings_same id place before changes (order ∷ orders) stands count =
-      let r : Ruling = ruling ctx b before order in
-      let s : Ruling = ruling_on l (ByPlan b.plan) changes order in
-      let same : r ≡ s = ruling_same before changes order stands count in
+  pub rulings_same : (id : TxnId) (place : ℕ) (before : List Ruled) (changes : List Change) (orders : List (Result Order (List Code))) → place ≡ suc (length changes)
+      → standing_in (payments_of before) ≡ standing_after (standing_in l.payments) changes → b.settings.serial + count_paid before ≡ l.first + length l.payments + count_by pays changes
+      → rulings_from ctx b advice before id place orders ≡ rulings_on l prices changes orders
+  rulings_same id place before changes [] at stands count = refl
+  rulings_same id place before changes (order ∷ orders) at stands count =
+      let r : Ruling = ruling ctx b advice before place order in
+      let s : Ruling = ruling_on l prices changes order in
+      let same : r ≡ s = ap (λ (n : ℕ). ruling ctx b advice before n order) at ∙ ruling_same before changes order stands count in
       let x : Ruled = ruled id place order r in
-      let pay : is_paid r ≡ pays (change_by order r) = subst (λ (y : Ruling). is_paid y ≡ pays (change_by order y)) (sym same) (ruling_pays l (ByPlan b.plan) changes order) in
+      let pay : is_paid r ≡ pays (change_by order r) = subst (λ (y : Ruling). is_paid y ≡ pays (change_by order y)) (sym same) (ruling_pays l prices changes order) in
       let more = count_more before x changes (change_by order r) pay in
-      let rest : rulings_from ctx b (before ++ x ∷ []) id (place + 1) orders ≡ rulings_on l (ByPlan b.plan) (changes ++ change_by order r ∷ []) orders =
-      rulings_same id (place + 1) (before ++ x ∷ []) (changes ++ change_by order r ∷ []) orders (next_stands id place before changes order r stands) (omega (arith, count, more)) in
-      ap (λ (rs : List Ruling). r ∷ rs) rest ∙ ap (λ (y : Ruling). y ∷ rulings_on l (ByPlan b.plan) (changes ++ change_by order y ∷ []) orders) same
+      let next : place + 1 ≡ suc (length (changes ++ change_by order r ∷ [])) = omega (arith, at, length-append changes (change_by order r ∷ [])) in
+      let rest : rulings_from ctx b advice (before ++ x ∷ []) id (place + 1) orders ≡ rulings_on l prices (changes ++ change_by order r ∷ []) orders =
+      rulings_same id (place + 1) (before ++ x ∷ []) (changes ++ change_by order r ∷ []) orders next (next_stands l id place before changes order r stands) (omega (arith, count, more)) in
+      ap (λ (rs : List Ruling). r ∷ rs) rest ∙ ap (λ (y : Ruling). y ∷ rulings_on l prices (changes ++ change_by order y ∷ []) orders) same
+
+  -- and so is whether each wanted verdict is there
+  pub all_advised_same : (id : TxnId) (place : ℕ) (before : List Ruled) (changes : List Change) (orders : List (Result Order (List Code))) → place ≡ suc (length changes)
+      → standing_in (payments_of before) ≡ standing_after (standing_in l.payments) changes → b.settings.serial + count_paid before ≡ l.first + length l.payments + count_by pays changes
+      → all_advised ctx b advice before id place orders ≡ all_advised_on l prices changes orders
+  all_advised_same id place before changes [] at stands count = refl
+  all_advised_same id place before changes (order ∷ orders) at stands count =
+      let r : Ruling = ruling ctx b advice before place order in
+      let s : Ruling = ruling_on l prices changes order in
+      let same : r ≡ s = ap (λ (n : ℕ). ruling ctx b advice before n order) at ∙ ruling_same before changes order stands count in
+      let x : Ruled = ruled id place order r in
+      let pay : is_paid r ≡ pays (change_by order r) = subst (λ (y : Ruling). is_paid y ≡ pays (change_by order y)) (sym same) (ruling_pays l prices changes order) in
+      let more = count_more before x changes (change_by order r) pay in
+      let next : place + 1 ≡ suc (length (changes ++ change_by order r ∷ [])) = omega (arith, at, length-append changes (change_by order r ∷ [])) in
+      let here : is_advised ctx b advice place (judged before order) ≡ advised_on l prices changes order = ap (λ (n : ℕ). is_advised ctx b advice n (judged before order)) at ∙ advised_same before changes order stands in
+      let rest : all_advised ctx b advice (before ++ x ∷ []) id (place + 1) orders ≡ all_advised_on l prices (changes ++ change_by order r ∷ []) orders =
+      all_advised_same id (place + 1) (before ++ x ∷ []) (changes ++ change_by order r ∷ []) orders next (next_stands l id place before changes order r stands) (omega (arith, count, more)) in
+      ap (λ (t : Bool). t && all_advised ctx b advice (before ++ x ∷ []) id (place + 1) orders) here
+      ∙ (ap (λ (t : Bool). advised_on l prices changes order && t) rest
+      ∙ ap (λ (y : Ruling). advised_on l prices changes order && all_advised_on l prices (changes ++ change_by order y ∷ []) orders) same)
 
 -- what is entered can be entered
 
@@ -127,9 +171,10 @@ only_some (t ∷ []) s e =
 only_some (t ∷ u ∷ more) s e = absurd cc
 
 module _ (payer first : ℕ) (ps : List Payment) (auth : Auth) (next : auth ≡ record { payer = payer; serial = first + length ps }) (prices : Pricing) (k : ℕ) where
-  priced_possible : (c : Claim) (o : Option Amounts) → HasFillNumber c → standing_of c.fill (standing_in ps) ≡ None → IsPossible payer first ps (change_by (Ok (Bills c)) (priced auth c o))
+  priced_possible : (c : Claim) (o : Option Verdict) → HasFillNumber c → standing_of c.fill (standing_in ps) ≡ None → IsPossible payer first ps (change_by (Ok (Bills c)) (priced auth c o))
   priced_possible c None number none = tt
-  priced_possible c (Some m) number none = (next, number, none)
+  priced_possible c (Some (Rejects codes)) number none = tt
+  priced_possible c (Some (PaysOut m)) number none = (next, number, none)
 
   claim_possible : (c : Claim) (o : Option Standing) → HasFillNumber c → standing_of c.fill (standing_in ps) ≡ o → IsPossible payer first ps (change_by (Ok (Bills c)) (ruling_by auth prices k (claim_on c o)))
   claim_possible c None number e = priced_possible c (price_at prices k c) number e
@@ -215,9 +260,10 @@ keeps_more l m prices id before orders rulings k is after =
 claim_writable : (auth : Auth) (prices : Pricing) (k : ℕ) (c : Claim) (o : Option Standing) → IsPrescription c.fill.prescription → IsWritable (ruling_by auth prices k (claim_on c o))
 claim_writable auth prices k c None n = by_price (price_at prices k c)
   where
-    by_price : (o : Option Amounts) → IsWritable (priced auth c o)
+    by_price : (o : Option Verdict) → IsWritable (priced auth c o)
     by_price None = tt
-    by_price (Some m) = n
+    by_price (Some (Rejects codes)) = tt
+    by_price (Some (PaysOut m)) = n
 claim_writable auth prices k c (Some s) n = by_test (same_claim s.claim c)
   where
     by_test : (b : Bool) → IsWritable (ruling_by auth prices k (cond b (Unpriced (Duplicate s.auth c.fill.prescription s.amounts)) (Unpriced (Rejected (Code.DuplicateClaim ∷ [])))))

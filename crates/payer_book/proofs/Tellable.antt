@@ -1,13 +1,15 @@
 -- The rulings of a request can be told in an answer, and so can the payments that they leave standing.
-use Rattle.std.proofs.Common.{◌≡◌, ℕ, ◌≤◌, Bool, true, false, not, cond, List, [], ◌∷◌, ◌++◌, length, Option, Some, None, Result, Ok, Err, refl, sym, subst, arith, leb-true}
-use Rattle.std.specs.Prelude.{filter}
+use Rattle.std.proofs.Common.{◌≡◌, ℕ, suc, ◌≤◌, Bool, true, false, not, cond, List, [], ◌∷◌, ◌++◌, length, Option, Some, None, Result, Ok, Err, refl, sym, ap, subst, arith, leb-true}
+use Rattle.std.specs.Prelude.{filter, slice_get}
+use Rattle.std.proofs.lemmas.Option.{same_Some as same_some}
 use Rattle.std.specs.List.{AllByRecursion, list_all}
 use Rattle.std.proofs.lemmas.Bool.{and_parts}
+use Rattle.claim_model.proofs.Tests.{nat_self}
 use Rattle.plan_rules.specs.Pricing.{paid}
 use Rattle.claim_model.specs.Words.{TxnId, Auth, Amounts, Claim, Reversal, Order, Bills, Reverses, Code, NotCovered, DuplicateClaim, ReversalNotProcessed, Plan, Ruling, Paid, Duplicate, Reversed, Rejected, RequestHeader}
 use Rattle.claim_model.specs.Payments.{same_auth}
-use Rattle.claim_model.specs.Judgement.{only, same_claim, Unpriced, priced}
-use Rattle.claim_model.specs.Laws.{IsAmounts, IsClaimOf, IsOrderOf, IsPrescription, IsRuling}
+use Rattle.claim_model.specs.Judgement.{only, same_claim, Unpriced, Verdict, Pays, Rejects, planned, verdict_in, priced}
+use Rattle.claim_model.specs.Laws.{IsAmounts, IsVerdict, IsClaimOf, IsOrderOf, IsPrescription, IsRuling}
 use Rattle.claim_model.specs.Book.{serial_fits, last_serial}
 use Rattle.claim_model.proofs.Lists.{all_append, all_filter, find_all}
 use Rattle.claim_model.proofs.Written.{only_all}
@@ -16,7 +18,7 @@ use Rattle.payer_book.specs.declared.book.payment.Payment.{Payment}
 use Rattle.payer_book.specs.declared.ruling.changes.Change.{Change}
 use Rattle.payer_book.specs.Ledger.{Ledger, standing_in, standing_of, is_of, is_for_payment}
 use Rattle.payer_book.specs.Changes.{change_by, changes_by, standing_with, standing_after, payments_with, payments_after}
-use Rattle.payer_book.specs.Drafts.{claim_on, reversal_on, judged_on, Pricing, ByPlan, AsKept, price_at, auth_after, ruling_by, ruling_on, rulings_on}
+use Rattle.payer_book.specs.Drafts.{claim_on, reversal_on, judged_on, Pricing, ByPlan, AsKept, amounts_in, kept_verdict, price_at, auth_after, ruling_by, ruling_on, rulings_on}
 use Rattle.payer_book.specs.Made.{IsTold, ArePrices}
 use Rattle.payer_book.proofs.Growth.{standing_more, after_more}
 
@@ -26,11 +28,12 @@ one_code code = record { some = omega arith; few = omega arith }
 
 -- a draft's ruling
 module _ (auth : Auth) (payer : 1 ≤ auth.payer) (payer_fits : auth.payer ≤ 9999) (serial : 1 ≤ auth.serial) (prices : Pricing) (k : ℕ) (h : RequestHeader)
-    (amounts : (c : Claim) (m : Amounts) → IsClaimOf h c → price_at prices k c ≡ Some m → IsAmounts m) (standing : List Standing) (told : AllByRecursion IsTold standing) where
-  priced_told : (c : Claim) (o : Option Amounts) → IsClaimOf h c → price_at prices k c ≡ o → serial_fits (priced auth c o) ≡ true → IsRuling (priced auth c o)
+    (verdicts : (c : Claim) (v : Verdict) → IsClaimOf h c → price_at prices k c ≡ Some v → IsVerdict v) (standing : List Standing) (told : AllByRecursion IsTold standing) where
+  priced_told : (c : Claim) (o : Option Verdict) → IsClaimOf h c → price_at prices k c ≡ o → serial_fits (priced auth c o) ≡ true → IsRuling (priced auth c o)
   priced_told c None of_it e fits = one_code NotCovered
-  priced_told c (Some m) of_it e fits =
-      (record { payer = omega (arith, payer); payer_fits = payer_fits; serial = omega (arith, serial); serial_fits = leb-true auth.serial last_serial fits }, of_it.prescription, amounts c m of_it e)
+  priced_told c (Some (Rejects codes)) of_it e fits = verdicts c (Rejects codes) of_it e
+  priced_told c (Some (Pays m)) of_it e fits =
+      (record { payer = omega (arith, payer); payer_fits = payer_fits; serial = omega (arith, serial); serial_fits = leb-true auth.serial last_serial fits }, of_it.prescription, verdicts c (Pays m) of_it e)
 
   claim_told : (c : Claim) (o : Option Standing) → IsClaimOf h c → standing_of c.fill standing ≡ o → serial_fits (ruling_by auth prices k (claim_on c o)) ≡ true → IsRuling (ruling_by auth prices k (claim_on c o))
   claim_told c None of_it e fits = priced_told c (price_at prices k c) of_it refl fits
@@ -44,13 +47,13 @@ module _ (auth : Auth) (payer : 1 ≤ auth.payer) (payer_fits : auth.payer ≤ 9
   reversal_told v None n e = one_code ReversalNotProcessed
   reversal_told v (Some s) n e = ((only_all IsTold (filter (is_for_payment v) standing) s (all_filter IsTold (is_for_payment v) standing told) e).auth, n)
 
-  settled_told : (order : Result Order (List Code)) → IsOrderOf h order → serial_fits (ruling_by auth prices k (judged_on standing order)) ≡ true → IsRuling (ruling_by auth prices k (judged_on standing order))
+  pub settled_told : (order : Result Order (List Code)) → IsOrderOf h order → serial_fits (ruling_by auth prices k (judged_on standing order)) ≡ true → IsRuling (ruling_by auth prices k (judged_on standing order))
   settled_told (Err codes) of_it fits = of_it
   settled_told (Ok (Bills c)) of_it fits = claim_told c (standing_of c.fill standing) of_it refl fits
   settled_told (Ok (Reverses v)) of_it fits = reversal_told v (only (filter (is_for_payment v) standing)) of_it.prescription refl
 
 -- what stands after a ruling that can be told
-change_told : (order : Result Order (List Code)) (r : Ruling) (standing : List Standing) → IsRuling r → AllByRecursion IsTold standing → AllByRecursion IsTold (standing_with standing (change_by order r))
+pub change_told : (order : Result Order (List Code)) (r : Ruling) (standing : List Standing) → IsRuling r → AllByRecursion IsTold standing → AllByRecursion IsTold (standing_with standing (change_by order r))
 change_told (Ok (Bills c)) (Paid auth n m) standing is told = all_append IsTold standing _ told (record { auth = is.0; amounts = is.2 }, tt)
 change_told (Ok (Reverses v)) (Paid auth n m) standing is told = told
 change_told (Err codes) (Paid auth n m) standing is told = told
@@ -59,7 +62,7 @@ change_told order (Reversed auth n) standing is told = all_filter IsTold (λ (s 
 change_told order (Rejected codes) standing is told = told
 
 abbrev pub PricesFit : RequestHeader → Pricing → Type 0
-PricesFit h prices = (k : ℕ) (c : Claim) (m : Amounts) → IsClaimOf h c → price_at prices k c ≡ Some m → IsAmounts m
+PricesFit h prices = (k : ℕ) (c : Claim) (v : Verdict) → IsClaimOf h c → price_at prices k c ≡ Some v → IsVerdict v
 
 -- the rulings of a request
 module _ (l : Ledger) (prices : Pricing) (h : RequestHeader) (payer : 1 ≤ l.payer) (payer_fits : l.payer ≤ 9999) (serial : 1 ≤ l.first) (amounts : PricesFit h prices) where
@@ -89,7 +92,24 @@ after_told id ps (order ∷ orders) (r ∷ rulings) told all =
     after_told id (payments_with id ps (change_by order r)) orders rulings
     (subst (AllByRecursion IsTold) (sym (standing_more id ps (change_by order r))) (change_told order r (standing_in ps) all.0 told)) all.1
 
--- prices of a plan, and those of a kept answer
+-- verdicts of a plan, and those of an answer
+
+planned_fits : (law : (plan : Plan) (h : RequestHeader) (c : Claim) (m : Amounts) → IsClaimOf h c → paid plan c ≡ Some m → IsAmounts m) (plan : Plan) (h : RequestHeader) (c : Claim) → IsClaimOf h c → (o : Option Amounts) → paid plan c ≡ o → IsVerdict (planned o)
+planned_fits law plan h c of_it None e = record { some = omega arith; few = omega arith }
+planned_fits law plan h c of_it (Some m) e = law plan h c m of_it e
+
+-- what an answer pays is a verdict of it
+pays_fit : (o : Option Ruling) → ((claimed : ℕ) (v : Verdict) → verdict_in claimed o ≡ Some v → IsVerdict v) → IsVerdict (planned (amounts_in o))
+pays_fit None well = record { some = omega arith; few = omega arith }
+pays_fit (Some (Paid auth n m)) well = well n (Pays m) (ap (λ (t : Bool). cond t (Some (Pays m)) None) (nat_self n))
+pays_fit (Some (Duplicate auth n m)) well = record { some = omega arith; few = omega arith }
+pays_fit (Some (Reversed auth n)) well = record { some = omega arith; few = omega arith }
+pays_fit (Some (Rejected codes)) well = record { some = omega arith; few = omega arith }
+
+kept_fits : (asks : Bool) (claimed : ℕ) (o : Option Ruling) (v : Verdict) → ((n : ℕ) (w : Verdict) → verdict_in n o ≡ Some w → IsVerdict w) → kept_verdict asks claimed o ≡ Some v → IsVerdict v
+kept_fits true claimed o v well e = well claimed v e
+kept_fits false claimed o v well e = subst IsVerdict (same_some (planned (amounts_in o)) v e) (pays_fit o well)
+
 pub prices_fit : ((plan : Plan) (h : RequestHeader) (c : Claim) (m : Amounts) → IsClaimOf h c → paid plan c ≡ Some m → IsAmounts m) → (h : RequestHeader) (prices : Pricing) → ArePrices prices → PricesFit h prices
-prices_fit law h (ByPlan plan) are k c m of_it e = law plan h c m of_it e
-prices_fit law h (AsKept said) are k c m of_it e = are k m e
+prices_fit law h (ByPlan plan) are k c v of_it e = subst IsVerdict (same_some (planned (paid plan c)) v e) (planned_fits law plan h c of_it (paid plan c) refl)
+prices_fit law h (AsKept asks said) are k c v of_it e = kept_fits asks c.fill.prescription (slice_get said k) v (λ n w at. are (suc k) n w at) e

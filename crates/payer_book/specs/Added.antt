@@ -9,7 +9,7 @@ use Rattle.claim_model.specs.Ruled.{Ruled, ruled}
 use Rattle.claim_model.specs.Rows.{Row, Book, ruled_rows}
 use Rattle.claim_model.specs.Judgement.{Judged, Unpriced, ToPrice, judged, next_auth, priced}
 use Rattle.claim_model.specs.Book.{row_of, serial_fits}
-use Rattle.payer_book.specs.Drafts.{amounts_in}
+use Rattle.payer_book.specs.Drafts.{kept_verdict}
 use Rattle.payer_book.specs.Books.{reading}
 
 -- a row as it is kept: its id, its request and its answer's bytes
@@ -31,10 +31,11 @@ kept_answer row = answer_under (readable_header row.request) row.rulings
 abbrev pub kept_row : Row → KeptRow
 kept_row row = record { id = row.id; request = row.request; answer = kept_answer row }
 
--- a judgement as the kept answer has it: what is to be priced is paid as it says, and rejected with 70 where it pays nothing
+-- a judgement as the kept answer has it: what is to be priced is paid as it says, and rejected with 70 where it pays nothing; of a payer
+-- that asks, rejected with the codes that it says
 abbrev pub kept_ruling_of : Book → List Ruled → Option Ruling → Judged → Ruling
 kept_ruling_of b before said (Unpriced ruling) = ruling
-kept_ruling_of b before said (ToPrice c) = priced (next_auth b before) c (amounts_in said)
+kept_ruling_of b before said (ToPrice c) = priced (next_auth b before) c (kept_verdict b.settings.asks c.fill.prescription said)
 
 -- the ruling of an order over what was ruled before it, where the kept answer says this of it
 unfoldable pub kept_ruling : Book → List Ruled → Option Ruling → Result Order (List Code) → Ruling

@@ -1,16 +1,17 @@
 -- The rulings of a request over the payments of a book, and what they change, place by place.
-use Rattle.std.specs.Prelude.{◌≡◌, ℕ, ◌+◌, ◌<◌, ◌≤◌, true, false, cond, List, [], ◌∷◌, ◌++◌, length, filter, count_by, slice_get, Option, Some, None, MatchOption, Result, Ok, Err}
+use Rattle.std.specs.Prelude.{◌≡◌, ℕ, ◌+◌, ◌<◌, ◌≤◌, Bool, true, false, cond, ◌&&◌, is_some, List, [], ◌∷◌, ◌++◌, length, filter, count_by, slice_get, Option, Some, None, MatchOption, Result, Ok, Err}
 use Rattle.claim_profile.specs.declared.order_reading.OrderFault.{OrderFault}
 use Rattle.claim_model.specs.Words.{Auth, Amounts, Claim, Reversal, Order, Bills, Reverses, Code, DuplicateClaim, ReversalNotProcessed, Ruling, Paid, Duplicate, Reversed, Rejected, Plan}
-use Rattle.claim_model.specs.Judgement.{same_claim, only, Judged, Unpriced, ToPrice, priced}
+use Rattle.claim_model.specs.Judgement.{same_claim, only, Judged, Unpriced, ToPrice, Verdict, Pays, Rejects, planned, verdict_in, priced}
 use Rattle.plan_rules.specs.Pricing.{paid}
 use Rattle.payer_book.specs.declared.book.payment.Standing.{Standing}
 use Rattle.payer_book.specs.declared.ruling.changes.Change.{Change}
 use Rattle.claim_model.specs.Bytes.{order_in}
+use Rattle.claim_model.specs.Rows.{Book}
 use Rattle.claim_model.specs.Book.{serial_fits, last_serial}
 use Rattle.std.specs.List.{list_all}
 use Rattle.payer_book.specs.declared.ruling.drafting.Draft.{Draft}
-use Rattle.payer_book.specs.declared.ruling.judging.Verdict.{Verdict}
+use Rattle.payer_book.specs.declared.ruling.judging.Verdict.{Verdict as Judgement}
 use Rattle.payer_book.specs.declared.ruling.judging.Verdict.TheVariants.{Unpriced as IsUnpriced, ToPrice as IsToPrice}
 use Rattle.payer_book.specs.declared.ruling.pricing.Prices.{Prices}
 use Rattle.payer_book.specs.declared.ruling.pricing.Prices.TheVariants.{Plan as OfPlan, Kept as OfAnswer}
@@ -42,18 +43,19 @@ judged_on standing (Err codes) = Unpriced (Rejected codes)
 judged_on standing (Ok (Bills c)) = claim_on c (standing_of c.fill standing)
 judged_on standing (Ok (Reverses v)) = reversal_on v (only (filter (is_for_payment v) standing))
 
-abbrev pub verdict : Verdict → Judged
+abbrev pub verdict : Judgement → Judged
 verdict (IsUnpriced ruling) = Unpriced ruling
 verdict (IsToPrice c) = ToPrice c.now
 
--- where prices come from: a plan, or the rulings of a kept answer
+-- where verdicts come from: a plan, or the rulings of an answer: a kept one of a book whose payer does not ask, or one that is kept by a payer
+-- that asks or that advises it
 pub data Pricing : Type 0 where
   ByPlan : Plan → Pricing
-  AsKept : List Ruling → Pricing
+  AsKept : (asks : Bool) → List Ruling → Pricing
 
 abbrev pub pricing : Prices → Pricing
 pricing (OfPlan plan) = ByPlan plan.now
-pricing (OfAnswer rulings) = AsKept rulings.now
+pricing (OfAnswer asks rulings) = AsKept asks rulings.now
 
 -- what a ruling paid
 abbrev pub amounts_in : Option Ruling → Option Amounts
@@ -63,10 +65,29 @@ amounts_in (Some (Duplicate auth prescription amounts)) = None
 amounts_in (Some (Reversed auth prescription)) = None
 amounts_in (Some (Rejected codes)) = None
 
--- what is paid for the claim at a place
-abbrev pub price_at : Pricing → ℕ → Claim → Option Amounts
-price_at (ByPlan plan) place c = paid plan c
-price_at (AsKept rulings) place c = amounts_in (slice_get rulings place)
+-- the verdict that an answer has on the claim of a prescription: the amounts that it pays, and else a rejection with 70; of a payer that asks,
+-- what it says of that prescription
+abbrev pub kept_verdict : Bool → ℕ → Option Ruling → Option Verdict
+kept_verdict asks claimed said = cond asks (verdict_in claimed said) (Some (planned (amounts_in said)))
+
+-- the verdict on the claim at a place
+abbrev pub price_at : Pricing → ℕ → Claim → Option Verdict
+price_at (ByPlan plan) place c = Some (planned (paid plan c))
+price_at (AsKept asks rulings) place c = kept_verdict asks c.fill.prescription (slice_get rulings place)
+
+-- the verdict as the code has it
+abbrev pub price_seen : Result Amounts (List Code) → Verdict
+price_seen (Ok amounts) = Pays amounts
+price_seen (Err codes) = Rejects codes
+
+-- the pricing is that of a book whose payer asks, or does not
+abbrev pub Suits : Pricing → Bool → Type 0
+Suits (ByPlan plan) asks = asks ≡ false
+Suits (AsKept own said) asks = own ≡ asks
+
+-- where a book has its verdicts from, with an advice
+abbrev pub pricing_of : Book → List Ruling → Pricing
+pricing_of b advice = cond b.settings.asks (AsKept true advice) (ByPlan b.plan)
 
 -- the authorization of the next payment after some changes
 abbrev pub auth_after : Ledger → List Change → Auth
@@ -93,9 +114,27 @@ ruling_by auth prices place (ToPrice c) = priced auth c (price_at prices place c
 unfoldable pub ruling_on : Ledger → Pricing → List Change → Result Order (List Code) → Ruling
 ruling_on l prices changes order = ruling_by (auth_after l changes) prices (length changes) (judged_on (standing_after (standing_in l.payments) changes) order)
 
+abbrev pub advised_by : Pricing → ℕ → Judged → Bool
+advised_by prices place (Unpriced ruling) = true
+advised_by prices place (ToPrice c) = is_some (price_at prices place c)
+
+-- there is a verdict at the next place, if one is wanted
+unfoldable pub advised_on : Ledger → Pricing → List Change → Result Order (List Code) → Bool
+advised_on l prices changes order = advised_by prices (length changes) (judged_on (standing_after (standing_in l.payments) changes) order)
+
+-- and at each
+abbrev pub all_advised_on : Ledger → Pricing → List Change → List (Result Order (List Code)) → Bool
+all_advised_on l prices changes [] = true
+all_advised_on l prices changes (order ∷ orders) =
+    advised_on l prices changes order && all_advised_on l prices (changes ++ change_by order (ruling_on l prices changes order) ∷ []) orders
+
 -- the ruling of the next place of a draft
 abbrev pub next_ruling : Draft → Ledger → Prices → Result Order OrderFault → Ruling
 next_ruling d l prices order = ruling_on l (pricing prices) d.changes.items (order_in order)
+
+-- whether that place has the verdict that it wants
+abbrev pub next_advised : Draft → Ledger → Prices → Result Order OrderFault → Bool
+next_advised d l prices order = advised_on l (pricing prices) d.changes.items (order_in order)
 
 -- it stands behind the rulings of the places before, and what it changes behind what they change
 abbrev pub AddsRuling : Draft → Ledger → Prices → Result Order OrderFault → Draft → Type 0
@@ -116,3 +155,5 @@ pub record IsDraft (l : Ledger) (prices : Pricing) (orders : List (Result Order 
   pub ruled : d.rulings.items ≡ rulings_on l prices [] orders
   pub changed : d.changes.items ≡ changes_by orders d.rulings.items
   pub fit : list_all serial_fits d.rulings.items ≡ true
+  -- there is a verdict on each claim that is to be priced
+  pub advised : d.advised ≡ all_advised_on l prices [] orders

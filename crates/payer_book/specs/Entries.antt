@@ -5,7 +5,7 @@ use Rattle.claim_model.specs.Words.{TxnId, Ruling, Plan}
 use Rattle.claim_model.specs.Laws.{IsRuling}
 use Rattle.claim_model.specs.Rows.{Row, Book, ruled_rows}
 use Rattle.claim_model.specs.Judgement.{rulings_from}
-use Rattle.claim_model.specs.Book.{serial_fits}
+use Rattle.claim_model.specs.Book.{serial_fits, unadvised}
 use Rattle.payer_book.specs.declared.ruling.changes.Change.{Change}
 use Rattle.payer_book.specs.Changes.{changes_by}
 use Rattle.payer_book.specs.Drafts.{Pricing, ByPlan, AsKept}
@@ -18,8 +18,8 @@ with_plan b plan = record { payer = b.payer; settings = b.settings; plan = plan;
 
 -- the rulings of a request after the rows of a book, by where its prices come from
 abbrev pub rulings_by : Pricing → Book → TxnId → List ℕ → List Ruling
-rulings_by (ByPlan plan) b id request = rulings_from reading (with_plan b plan) (ruled_rows reading b.rows) id 1 (reading.orders request)
-rulings_by (AsKept said) b id request = kept_rulings b id request said
+rulings_by (ByPlan plan) b id request = rulings_from reading (with_plan b plan) unadvised (ruled_rows reading b.rows) id 1 (reading.orders request)
+rulings_by (AsKept asks said) b id request = kept_rulings b id request said
 
 -- the row that a request of an id gets at these prices
 abbrev pub row_by : Pricing → Book → TxnId → List ℕ → Row

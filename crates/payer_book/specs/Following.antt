@@ -1,10 +1,10 @@
 -- The kept rows that stand in a book, told without reading their answers.
-use Rattle.std.specs.Prelude.{◌≡◌, ◌⊎◌, ℕ, ◌+◌, ◌<◌, ◌≤◌, true, List, [], ◌∷◌, ◌++◌, map, length, Some, None, Result, ⊤}
+use Rattle.std.specs.Prelude.{◌≡◌, ◌⊎◌, ℕ, ◌+◌, ◌<◌, ◌≤◌, Bool, true, false, List, [], ◌∷◌, ◌++◌, map, length, Some, None, Result, ⊤}
 use Rattle.std.specs.List.{list_all}
 use Rattle.claim_profile.specs.Readable.{readable_header}
 use Rattle.claim_profile.specs.Answer.{answer_text}
 use Rattle.claim_model.specs.Words.{TxnId, RequestHeader, AcceptedStatus, Amounts, Order, Code, NotCovered, Ruling, Paid, Rejected}
-use Rattle.claim_model.specs.Laws.{IsAmounts}
+use Rattle.claim_model.specs.Laws.{IsAmounts, IsRejects}
 use Rattle.claim_model.specs.Ruled.{Ruled, ruled}
 use Rattle.claim_model.specs.Rows.{Book, ruled_rows}
 use Rattle.claim_model.specs.Judgement.{Judged, Unpriced, ToPrice, judged, next_auth}
@@ -12,11 +12,17 @@ use Rattle.claim_model.specs.Book.{row_of, serial_fits}
 use Rattle.payer_book.specs.Books.{reading}
 use Rattle.payer_book.specs.Added.{KeptRow, kept_row, with_row, added_all}
 
--- a ruling that the rules give for some plan, where the order was judged so: what is settled; or, of a claim that is to be priced, a
--- rejection with 70, or a payment under the next authorization in any amounts that can be written
+-- codes that may reject a claim which is to be priced: 70; of a payer that asks, any one to five
+abbrev pub MayReject : Bool → List Code → Type 0
+MayReject true codes = IsRejects codes
+MayReject false codes = codes ≡ NotCovered ∷ []
+
+-- a ruling that the rules give for some plan, or for some advice, where the order was judged so: what is settled; or, of a claim that is to be
+-- priced, such a rejection, or a payment under the next authorization in any amounts that can be written
 abbrev pub FollowsRules : Book → List Ruled → Judged → Ruling → Type 0
 FollowsRules b before (Unpriced ruling) r = r ≡ ruling
-FollowsRules b before (ToPrice c) r = (r ≡ Rejected (NotCovered ∷ [])) ⊎ ((m : Amounts) × IsAmounts m × (r ≡ Paid (next_auth b before) c.fill.prescription m))
+FollowsRules b before (ToPrice c) r =
+    ((codes : List Code) × MayReject b.settings.asks codes × (r ≡ Rejected codes)) ⊎ ((m : Amounts) × IsAmounts m × (r ≡ Paid (next_auth b before) c.fill.prescription m))
 
 -- one such ruling for each order from a place on, each over all rows before and the earlier places of its own request
 abbrev pub AllFollow : Book → List Ruled → TxnId → ℕ → List (Result Order (List Code)) → List Ruling → Type 0

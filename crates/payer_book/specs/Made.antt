@@ -1,12 +1,12 @@
 -- What holds of a book beside its payments: it is made by adding its rows, and what stands in it can be told in an answer.
-use Rattle.std.specs.Prelude.{◌≡◌, ℕ, ◌≤◌, List, [], map, length, slice_get, Some, ⊤}
+use Rattle.std.specs.Prelude.{◌≡◌, ℕ, ◌≤◌, List, [], map, length, Some, ⊤}
 use Rattle.std.specs.List.{AllByRecursion}
-use Rattle.claim_model.specs.Words.{Amounts, Ruling, Plan}
-use Rattle.claim_model.specs.Laws.{IsAuth, IsAmounts}
+use Rattle.claim_model.specs.Words.{Plan}
+use Rattle.claim_model.specs.Laws.{IsAuth, IsAmounts, AdvisesWell}
 use Rattle.claim_model.specs.Rows.{Row, BookSettings}
 use Rattle.payer_book.specs.declared.book.payment.Standing.{Standing}
 use Rattle.payer_book.specs.Ledger.{Ledger, standing_in}
-use Rattle.payer_book.specs.Drafts.{amounts_in, Pricing, ByPlan, AsKept}
+use Rattle.payer_book.specs.Drafts.{Pricing, ByPlan, AsKept}
 use Rattle.payer_book.specs.Added.{kept_row, added_all}
 
 -- a payment that an answer can tell of
@@ -14,14 +14,10 @@ pub record IsTold (s : Standing) : Type 0 where
   pub auth : IsAuth s.auth
   pub amounts : IsAmounts s.amounts
 
--- all amounts that some rulings pay can be written
-abbrev pub PaysAmounts : List Ruling → Type 0
-PaysAmounts said = (place : ℕ) (m : Amounts) → amounts_in (slice_get said place) ≡ Some m → IsAmounts m
-
--- prices that give amounts which can be written
+-- verdicts that can be written
 abbrev pub ArePrices : Pricing → Type 0
 ArePrices (ByPlan plan) = ⊤
-ArePrices (AsKept said) = PaysAmounts said
+ArePrices (AsKept asks said) = AdvisesWell said
 
 -- the book of some rows is what adding them, in order, to an empty book makes, whatever its plan is
 abbrev pub MadeByAdding : ℕ → BookSettings → List Row → Type 0

@@ -7,10 +7,10 @@ ghost use Rattle.payer_book.specs.Added.{KeptRow, added, added_all};
 ghost use Rattle.payer_book.specs.Following.{RowStands, IsKeptBook, KeepsRows};
 
 use claim_model::bytes_keep_laws;
-use overpunch::amount_in_range;
 
 /// The rows that `BookAtRest::add` takes are those that follow the rules: at each place the ruling is the one that is
-/// settled, or, of a claim that is to be priced, a rejection with 70 or a payment in any amounts that can be written.
+/// settled, or, of a claim that is to be priced, a rejection with 70, or with any codes where the payer asks, or a payment
+/// in any amounts that can be written.
 pub fn kept_rows_follow_rules()
     ensures only { (b : Book) (id : TxnId) (request answer : List ℕ) (after : Book)
         → added b id request answer ≡ Some after → RowStands b id request answer after }
@@ -18,7 +18,6 @@ pub fn kept_rows_follow_rules()
         → IsKeptBook b → RowStands b id request answer after → added b id request answer ≡ Some after }
 {
     bytes_keep_laws();
-    amount_in_range();
 }
 
 /// What was added to a book stands behind its rows as it was kept, and nothing else is changed.
@@ -29,5 +28,5 @@ pub fn added_rows_are_kept()
     ensures all { (b : Book) (rows : List KeptRow) (after : Book)
         → added_all (Some b) rows ≡ Some after → KeepsRows b rows after }
 {
-    amount_in_range();
+    bytes_keep_laws();
 }

@@ -1,6 +1,6 @@
 //! What a book is opened with, beside its payer and its plan.
 
-ghost use Rattle.std.specs.Prelude.{◌≡◌, ◌≤◌};
+ghost use Rattle.std.specs.Prelude.{◌≡◌, ◌≤◌, true};
 ghost use Rattle.claim_model.specs.Limits.{most_entries};
 ghost use Rattle.claim_profile.specs.Authorization.{largest_serial};
 ghost use Rattle.payer_book.specs.Settings.{settings_of, settings_within};
@@ -12,11 +12,13 @@ use std::marker::Model;
 /// The largest serial number of an authorization, in twelve digits (own).
 pub const LAST_SERIAL: u64 = 999_999_999_999;
 
-/// The first serial number and the most rows of a book (own).
+/// The first serial number and the most rows of a book, and whether its payer asks for a verdict on each claim that is
+/// to be priced (own).
 #[derive(Clone, Copy, PartialEq, Eq)]
 pub struct BookSettings {
     serial: u64,
     cap: u32,
+    asks: bool,
 }
 
 impl Model for BookSettings {
@@ -25,11 +27,11 @@ impl Model for BookSettings {
 
     ghost Value = { SettingParts };
 
-    ghost view = { λ s. record { serial = s.serial; cap = s.cap } };
+    ghost view = { λ s. record { serial = s.serial; cap = s.cap; asks = s.asks } };
 
     ghost invariant = { λ s. IsSettings s.serial s.cap };
 
-    ghost inverse = { λ s. record { serial = s.serial; cap = s.cap } };
+    ghost inverse = { λ s. record { serial = s.serial; cap = s.cap; asks = s.asks } };
 }
 
 impl BookSettings {
@@ -48,7 +50,29 @@ impl BookSettings {
         if serial == 0 || serial > LAST_SERIAL || cap == 0 || cap > limits.entries() {
             return Err(SettingFault::BadSetting);
         }
-        Ok(BookSettings { serial, cap })
+        Ok(BookSettings {
+            serial,
+            cap,
+            asks: false,
+        })
+    }
+
+    /// The same, of a payer that asks.
+    pub fn asking(self) -> BookSettings
+        ensures { result ≡ record { serial = self.serial; cap = self.cap; asks = true } }
+    {
+        BookSettings {
+            serial: self.serial,
+            cap: self.cap,
+            asks: true,
+        }
+    }
+
+    /// Whether the payer asks for a verdict on each claim that is to be priced, in place of pricing it by its plan.
+    pub fn asks(&self) -> bool
+        ensures { result ≡ self.now.asks }
+    {
+        self.asks
     }
 
     /// The serial number of the first payment.

@@ -16,12 +16,12 @@ use Rattle.world_setup.specs.declared.world_fault.WorldFault.TheVariants as faul
 use Rattle.world_core.specs.Parts.{WorldParts}
 use Rattle.world_settings.specs.Document.{document_seen}
 use Rattle.schedule.specs.Division.{settings_text, schedule_lines}
-use Rattle.schedule.specs.Reading.{events_of}
+use Rattle.schedule.specs.Reading.{living_events_of}
 use Rattle.world_settings.specs.declared.fault.SettingsFault.{SettingsFault as ReadingFault}
 use Rattle.world_settings.specs.declared.fault.SettingsFault.TheVariants as settings
 use Rattle.program_io.specs.declared.fault.InputFault.{InputFault}
 use Rattle.program_io.specs.declared.fault.InputFault.TheVariants.{Line}
-use Rattle.program_io.specs.Scheduled.{is_taken, opened_world, opened_by, world_in, scheduled_from, scheduled_of, OpensNone}
+use Rattle.program_io.specs.Scheduled.{is_taken, opened_world, opened_by, living_world_in, scheduled_from, living_scheduled_of, OpensNone}
 use Rattle.program_io.specs.Stops.{RefusedFor, settings_told}
 
 none_both : (a : Option SettingsFault) (b : Option RoutesFault) → option_or (option_map named a) (option_map fault.BadRoute b) ≡ None → (is_none a && is_none b) ≡ true
@@ -48,21 +48,21 @@ opened_nowhere s why some =
     ap (λ (b : Bool). if b then Some (opened_world (document_seen s)) else None) (test_is s ∙ some_one (settings_fault (settings_seen s)) (first_fault (length s.payers.items) s.routes.items) why some)
 
 -- an input whose settings open a world and whose lines spell events
-pub scheduled_is : (input : List ℕ) (w : WorldParts) (events : List Event) → world_in (settings_text input) ≡ Some w → events_of (schedule_lines (lines input)) ≡ Ok events
-    → scheduled_of input ≡ Ok (w, events)
-unfolding scheduled_of
+pub scheduled_is : (input : List ℕ) (w : WorldParts) (events : List Event) → living_world_in (settings_text input) ≡ Some w → living_events_of (schedule_lines (lines input)) ≡ Ok events
+    → living_scheduled_of input ≡ Ok (w, events)
+unfolding living_scheduled_of
 scheduled_is input w events opens spells =
-    ap (λ (o : Option WorldParts). scheduled_from o (events_of (schedule_lines (lines input)))) opens ∙ ap (scheduled_from (Some w)) spells
+    ap (λ (o : Option WorldParts). scheduled_from o (living_events_of (schedule_lines (lines input)))) opens ∙ ap (scheduled_from (Some w)) spells
 
 -- a line that spells none
-pub scheduled_stops : (input : List ℕ) (w : WorldParts) (number : ℕ) → world_in (settings_text input) ≡ Some w → events_of (schedule_lines (lines input)) ≡ Err number
-    → scheduled_of input ≡ Err (Line number)
-unfolding scheduled_of
+pub scheduled_stops : (input : List ℕ) (w : WorldParts) (number : ℕ) → living_world_in (settings_text input) ≡ Some w → living_events_of (schedule_lines (lines input)) ≡ Err number
+    → living_scheduled_of input ≡ Err (Line number)
+unfolding living_scheduled_of
 scheduled_stops input w number opens spells =
-    ap (λ (o : Option WorldParts). scheduled_from o (events_of (schedule_lines (lines input)))) opens ∙ ap (scheduled_from (Some w)) spells
+    ap (λ (o : Option WorldParts). scheduled_from o (living_events_of (schedule_lines (lines input)))) opens ∙ ap (scheduled_from (Some w)) spells
 
 -- settings that open none
-pub scheduled_never : (input : List ℕ) (why : ReadingFault) → OpensNone why (world_in (settings_text input)) → RefusedFor (settings_told why) (scheduled_of input)
-unfolding scheduled_of
+pub scheduled_never : (input : List ℕ) (why : ReadingFault) → OpensNone why (living_world_in (settings_text input)) → RefusedFor (settings_told why) (living_scheduled_of input)
+unfolding living_scheduled_of
 scheduled_never input settings.OutOfMemory none = tt
-scheduled_never input settings.Settings none = ap (λ (o : Option WorldParts). scheduled_from o (events_of (schedule_lines (lines input)))) none
+scheduled_never input settings.Settings none = ap (λ (o : Option WorldParts). scheduled_from o (living_events_of (schedule_lines (lines input)))) none

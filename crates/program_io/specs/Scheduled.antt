@@ -7,11 +7,11 @@ use Rattle.claim_model.specs.Settings.{settings_fault, opening}
 use Rattle.world_setup.specs.declared.event.Event.{Event}
 use Rattle.world_setup.specs.declared.settings.WorldSettings.{WorldSettings}
 use Rattle.world_core.specs.Parts.{WorldParts}
-use Rattle.world_settings.specs.Document.{Document, document_seen, settings_in}
+use Rattle.world_settings.specs.Document.{Document, document_seen, settings_in, living_in}
 use Rattle.world_settings.specs.declared.fault.SettingsFault.{SettingsFault}
 use Rattle.world_settings.specs.declared.fault.SettingsFault.TheVariants as settings
 use Rattle.schedule.specs.Division.{settings_text, schedule_lines}
-use Rattle.schedule.specs.Reading.{events_of}
+use Rattle.schedule.specs.Reading.{events_of, living_events_of}
 use Rattle.program_io.specs.declared.fault.InputFault.{InputFault}
 use Rattle.program_io.specs.declared.fault.InputFault.TheVariants.{Settings, Line}
 
@@ -34,6 +34,10 @@ opened_if (Some d) = opened_by d
 unfoldable pub world_in : List ℕ → Option WorldParts
 world_in text = opened_if (settings_in text)
 
+-- the same of wide settings
+unfoldable pub living_world_in : List ℕ → Option WorldParts
+living_world_in text = opened_if (living_in text)
+
 -- a text spells these settings, and a world takes them
 abbrev pub Opens : List ℕ → WorldSettings → Type 0
 Opens text settings = world_in text ≡ Some (opened_world (document_seen settings))
@@ -52,3 +56,7 @@ scheduled_from (Some w) (Err number) = Err (Line number)
 -- what an input begins with, which is settings, a line `---`, and a schedule; or what is bad in it
 unfoldable pub scheduled_of : List ℕ → Result (WorldParts × List Event) InputFault
 scheduled_of input = scheduled_from (world_in (settings_text input)) (events_of (schedule_lines (lines input)))
+
+-- the same of wide settings, under which payers may ask
+unfoldable pub living_scheduled_of : List ℕ → Result (WorldParts × List Event) InputFault
+living_scheduled_of input = scheduled_from (living_world_in (settings_text input)) (living_events_of (schedule_lines (lines input)))

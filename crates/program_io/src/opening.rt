@@ -2,12 +2,12 @@
 
 ghost use Rattle.std.specs.Prelude.{◌≡◌, Some, IfOk, IfErr};
 ghost use Rattle.world_settings.specs.Document.{document_seen};
-ghost use Rattle.program_io.specs.Scheduled.{world_in, opened_by, opened_world, Opens, OpensNone};
+ghost use Rattle.program_io.specs.Scheduled.{world_in, living_world_in, opened_by, opened_world, Opens, OpensNone};
 
 use payer_book::HashKeys;
 use std::alloc::Global;
 use world_core::World;
-use world_settings::{SettingsFault, read_settings};
+use world_settings::{SettingsFault, read_living_settings, read_settings};
 use world_setup::{CheckedSettings, WorldFault, WorldSettings};
 
 /// The opening world of the settings that a text spells. The maps of its books hash with these keys.
@@ -36,6 +36,40 @@ pub fn taken_settings(
     ensures fault { IfErr result (λ fault. OpensNone fault (world_in text.now)) }
 {
     match read_settings(alloc, text) {
+        Ok(settings) => taken(alloc, settings.with_keys(keys)),
+        Err(SettingsFault::OutOfMemory) => Err(SettingsFault::OutOfMemory),
+        Err(SettingsFault::Settings) => Err(SettingsFault::Settings),
+    }
+}
+
+/// The opening world of the wide settings that a text spells. The maps of its books hash with these keys.
+///
+/// # Errors
+/// Those of `opened`.
+pub(crate) fn living_opened(
+    alloc: Global,
+    keys: &HashKeys,
+    text: &[u8],
+) -> Result<World, SettingsFault>
+    ensures made { IfOk result (λ world. living_world_in text.now ≡ Some world) }
+    ensures fault { IfErr result (λ fault. OpensNone fault (living_world_in text.now)) }
+{
+    let settings = living_taken(alloc, keys, text)?;
+    Ok(World::opening(alloc, settings)?)
+}
+
+/// The wide settings that a text spells, where a world takes them.
+#[tactic(auto, unfolding(crate::specs::Scheduled::living_world_in))]
+fn living_taken(
+    alloc: Global,
+    keys: &HashKeys,
+    text: &[u8],
+) -> Result<CheckedSettings, SettingsFault>
+    ensures opens { IfOk result (λ settings. living_world_in text.now
+        ≡ Some (opened_world (document_seen settings))) }
+    ensures fault { IfErr result (λ fault. OpensNone fault (living_world_in text.now)) }
+{
+    match read_living_settings(alloc, text) {
         Ok(settings) => taken(alloc, settings.with_keys(keys)),
         Err(SettingsFault::OutOfMemory) => Err(SettingsFault::OutOfMemory),
         Err(SettingsFault::Settings) => Err(SettingsFault::Settings),

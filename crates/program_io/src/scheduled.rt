@@ -1,16 +1,17 @@
-//! What a schedule over the nodes of its settings begins with, for programs that have an output of their own for it.
+//! What a schedule over the nodes of its settings begins with, for programs that have an output of their own for it. The
+//! settings may be wide ones, and their payers may ask.
 
 ghost use Rattle.std.specs.Prelude.{◌≡◌, ◌≢◌, ◌+◌, ◌≤◌, Ok, IfOk, IfErr, IfSome, IsErrOf, OnOk};
 ghost use Rattle.program_io.specs.Serving.{StopsSoundly};
-ghost use Rattle.program_io.specs.Scheduled.{scheduled_of};
+ghost use Rattle.program_io.specs.Scheduled.{living_scheduled_of};
 ghost use Rattle.program_io.specs.Stops.{IsTaken, IsUnread, RefusedFor};
 
 use crate::fault::{CheckFault, InputFault, ProgramFault};
 use crate::input::{MOST_CALLS, read_all};
-use crate::opening::opened;
+use crate::opening::living_opened;
 use crate::source::Source;
 use payer_book::HashKeys;
-use schedule::{ScheduleFault, divide, read_schedule};
+use schedule::{ScheduleFault, divide, read_living_schedule};
 use std::alloc::Global;
 use world_core::World;
 use world_setup::Event;
@@ -27,12 +28,12 @@ pub struct Scheduled {
 /// # Errors
 /// `Settings` where the settings are none; then `Line` of the first line that spells no event; `OutOfMemory`.
 fn begin(alloc: Global, keys: &HashKeys, input: Vec<u8>) -> Result<Scheduled, CheckFault>
-    ensures begins { IfOk result (λ s. scheduled_of input.items ≡ Ok (s.world, s.events.items)) }
-    ensures fault { IfErr result (λ fault. RefusedFor fault (scheduled_of input.items)) }
+    ensures begins { IfOk result (λ s. living_scheduled_of input.items ≡ Ok (s.world, s.events.items)) }
+    ensures fault { IfErr result (λ fault. RefusedFor fault (living_scheduled_of input.items)) }
 {
     let parts = divide(alloc, input.as_slice())?;
-    let world = opened(alloc, keys, parts.settings.as_slice())?;
-    match read_schedule(alloc, parts.schedule) {
+    let world = living_opened(alloc, keys, parts.settings.as_slice())?;
+    match read_living_schedule(alloc, parts.schedule) {
         Ok(events) => Ok(Scheduled { world, events }),
         Err(ScheduleFault::OutOfMemory) => Err(CheckFault::OutOfMemory),
         Err(ScheduleFault::Line(number)) => Err(CheckFault::Input(InputFault::Line(number))),
@@ -46,13 +47,13 @@ fn begin(alloc: Global, keys: &HashKeys, input: Vec<u8>) -> Result<Scheduled, Ch
 /// `Read`, then `Settings`, then `Line` of the first line that spells no event; `OutOfMemory`.
 pub fn read_scheduled<S: Source>(alloc: Global, source: &mut S) -> Result<Scheduled, ProgramFault>
     ensures begins { IfOk result (λ s. IfSome (S.remaining source.old)
-        (λ input. scheduled_of input ≡ Ok (s.world, s.events.items))) }
+        (λ input. living_scheduled_of input ≡ Ok (s.world, s.events.items))) }
     // A call of the source failed, or the input is too long.
     ensures read { IsErrOf result ProgramFault.Read → IsUnread (S.has_failed source.new) (S.remaining source.old) }
     // What is taken was read to its end, and is not too long.
-    ensures taken { OnOk result (IfSome (S.remaining source.old) (λ input. IsTaken input (scheduled_of input))) }
+    ensures taken { OnOk result (IfSome (S.remaining source.old) (λ input. IsTaken input (living_scheduled_of input))) }
     // Settings are refused only where they open no world, and a line only where it is the first that spells no event.
-    ensures stops { StopsSoundly scheduled_of result (S.remaining source.old) }
+    ensures stops { StopsSoundly living_scheduled_of result (S.remaining source.old) }
     // Nothing is written.
     ensures faults { IfErr result (λ fault. fault ≢ ProgramFault.Write) }
     ensures calls { S.calls source.new ≤ S.calls source.old + MOST_CALLS }

@@ -2,16 +2,18 @@
 
 use crate::fault::{InputFault, ProgramFault};
 use input_text::Lines;
-use schedule::{command_fault, divide, event_fault};
+use schedule::{command_fault, divide, event_fault, living_event_fault};
 use std::alloc::{AllocError, Global};
 use std::fmt::Display;
-use world_settings::settings_fault;
+use world_settings::{living_settings_fault, settings_fault};
 
 /// What the lines of a schedule spell.
 #[derive(Clone, Copy, Debug, PartialEq, Eq)]
 pub enum Spelled {
-    /// Events, as `replay` and pictures make them.
+    /// Events, as `replay` makes them.
     Events,
+    /// Events under wide settings, whose payers may ask, as pictures show them.
+    LivingEvents,
     /// Faults of links and commands, as `run` does them.
     Commands,
 }
@@ -27,7 +29,7 @@ pub fn why_refused(
     match fault {
         ProgramFault::Input(InputFault::Settings) => {
             let parts = divide(alloc, input)?;
-            settings_fault(alloc, parts.settings.as_slice())
+            settings_told(alloc, spelled, parts.settings.as_slice())
         }
         ProgramFault::Input(InputFault::Line(number)) => {
             let schedule = divide(alloc, input)?.schedule;
@@ -37,10 +39,23 @@ pub fn why_refused(
     }
 }
 
+/// What is wrong in settings.
+fn settings_told(
+    alloc: Global,
+    spelled: Spelled,
+    text: &[u8],
+) -> Result<Option<String>, AllocError> {
+    match spelled {
+        Spelled::Events | Spelled::Commands => settings_fault(alloc, text),
+        Spelled::LivingEvents => living_settings_fault(alloc, text),
+    }
+}
+
 /// What is wrong in a line.
 fn line_told(alloc: Global, spelled: Spelled, line: &[u8]) -> Result<Option<String>, AllocError> {
     match spelled {
         Spelled::Events => told(alloc, event_fault(alloc, line)?),
+        Spelled::LivingEvents => told(alloc, living_event_fault(alloc, line)?),
         Spelled::Commands => told(alloc, command_fault(alloc, line)?),
     }
 }

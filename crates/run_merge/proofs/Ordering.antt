@@ -4,8 +4,8 @@ use Rattle.std.specs.Prelude.{option_map}
 use Rattle.std.proofs.lemmas.Bool.{cond-true, cond-false}
 use Rattle.claim_model.specs.Numbered.{numbered}
 use Rattle.claim_model.specs.Node.{Node}
-use Rattle.claim_model.specs.World.{Packet, Event, Submission, Ticking, Delivery, Stopping, Starting, PlanChange, packet_from, posted}
-use Rattle.claim_model.specs.Nodes.{same_node, Asked, taking, asked}
+use Rattle.claim_model.specs.World.{Packet, Event, Submission, Ticking, Delivery, Stopping, Starting, PlanChange, Adjudication, packet_from, posted}
+use Rattle.claim_model.specs.Nodes.{same_node, Asked, taking, adjudicating, asked}
 use Rattle.claim_model.specs.Logs.{Logged}
 use Rattle.run_merge.specs.Order.{advanced, Asks, Leads, Stuck, none_left}
 use Rattle.claim_model.proofs.Lists.{numbered_append}
@@ -118,6 +118,11 @@ stays_delivery : (k : ℕ) (packets many : List Packet) (a : Asked) (o : Option 
 stays_delivery k packets many a None all is h = absurd cc
 stays_delivery k packets many a (Some p) all is h = let r = all k p is in (Delivery r.0, ap (option_map taking) r.1 ∙ h)
 
+stays_adjudication : (k : ℕ) (advice : List ℕ) (packets many : List Packet) (a : Asked) (o : Option Packet) → AllIn packets many → numbered packets k ≡ o → option_map (adjudicating advice) o ≡ Some a
+    → (f : Event) × (asked many f ≡ Some a)
+stays_adjudication k advice packets many a None all is h = absurd cc
+stays_adjudication k advice packets many a (Some p) all is h = let r = all k p is in (Adjudication r.0 advice, ap (option_map (adjudicating advice)) r.1 ∙ h)
+
 -- a call that an event makes stays one that an event makes, where more packets were sent, in whatever order
 pub stays : (packets many : List Packet) (e : Event) (a : Asked) → AllIn packets many → asked packets e ≡ Some a → (f : Event) × (asked many f ≡ Some a)
 stays packets many (Submission n text) a all h = (Submission n text, h)
@@ -126,6 +131,7 @@ stays packets many (Delivery k) a all h = stays_delivery k packets many a (numbe
 stays packets many (Stopping node) a all h = (Stopping node, h)
 stays packets many (Starting node) a all h = (Starting node, h)
 stays packets many (PlanChange n product price) a all h = (PlanChange n product price, h)
+stays packets many (Adjudication k advice) a all h = stays_adjudication k advice packets many a (numbered packets k) all refl h
 
 -- a stuck order is finished, where any order is
 

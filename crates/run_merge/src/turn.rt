@@ -1,7 +1,7 @@
 //! Which event makes a call.
 
 ghost use Rattle.std.specs.Prelude.{IfOk};
-ghost use Rattle.claim_model.specs.Node.{Submit, Tick, Take, Stop, Start, Reprice};
+ghost use Rattle.claim_model.specs.Node.{Submit, Tick, Take, Stop, Start, Reprice, Adjudicate};
 ghost use Rattle.world_setup.specs.Seen.{node_seen, call_seen};
 ghost use Rattle.run_merge.specs.Found.{EventFor};
 
@@ -26,6 +26,11 @@ pub(crate) fn event_for<'a>(
         Call::Stop => Ok(Some(Event::Stop(node))),
         Call::Start => Ok(Some(Event::Start(node))),
         Call::Plan { product, price } => plan(posted, node, product, *price),
+        Call::Adjudicate {
+            from,
+            bytes,
+            advice,
+        } => adjudicate(posted, node, *from, bytes, advice),
     }
 }
 
@@ -61,6 +66,25 @@ fn deliver<'a>(posted: &Posted<'a>, node: Node, from: Node, bytes: &'a Octets) -
     match posted.find(from, node, bytes) {
         Some(packet) => Some(Event::Deliver { packet }),
         None => None,
+    }
+}
+
+/// A delivery with an advice, of a packet that was sent.
+fn adjudicate<'a>(
+    posted: &Posted<'a>,
+    node: Node,
+    from: Node,
+    bytes: &'a Octets,
+    advice: &Octets,
+) -> Result<Option<Event>, AllocError>
+    ensures { IfOk result (λ o. EventFor posted.now (node_seen node) (Adjudicate (node_seen from) bytes.now advice.now) o) }
+{
+    match posted.find(from, node, bytes) {
+        Some(packet) => {
+            let advice = advice.copy()?;
+            Ok(Some(Event::Adjudicate { packet, advice }))
+        }
+        None => Ok(None),
     }
 }
 

@@ -3,7 +3,7 @@ use Rattle.std.specs.Prelude.{◌≡◌, ℕ, List, [], ◌∷◌, ◌++◌, map
 use Rattle.claim_model.specs.Context.{Context}
 use Rattle.claim_model.specs.Node.{Node, Outcome, Done, Refused}
 use Rattle.claim_model.specs.Settings.{WorldSettings, opening}
-use Rattle.claim_model.specs.World.{World, Packet, Event, Delivery, Submission, Ticking, Stopping, Starting, PlanChange, step, world_after, run}
+use Rattle.claim_model.specs.World.{World, Packet, Event, Delivery, Submission, Ticking, Stopping, Starting, PlanChange, Adjudication, step, world_after, run}
 use Rattle.run_picture.specs.Marks.{Mark, Submitted, Ticked, Arrived, Stopped, Started, Priced, Sent, Turned, marks_from}
 
 -- who sent a packet to whom
@@ -35,7 +35,7 @@ arrow (Priced event payer) = None
 arrow (Sent event packet from to) = None
 arrow (Turned event name) = None
 
--- the packet that an event delivered, where it was made
+-- the packet that an event delivered, with an advice or without, where it was made
 abbrev pub delivered_by : Event → Outcome World → List ℕ
 delivered_by (Delivery packet) (Done next sent) = packet ∷ []
 delivered_by (Delivery packet) (Refused why) = []
@@ -44,6 +44,8 @@ delivered_by (Ticking n) o = []
 delivered_by (Stopping node) o = []
 delivered_by (Starting node) o = []
 delivered_by (PlanChange n product price) o = []
+delivered_by (Adjudication packet advice) (Done next sent) = packet ∷ []
+delivered_by (Adjudication packet advice) (Refused why) = []
 
 -- the packets of the deliveries that a run makes, in order; one that is delivered twice stands there twice
 abbrev pub deliveries : Context → World → List Event → List ℕ

@@ -2,7 +2,7 @@
 use Rattle.std.specs.Prelude.{ℕ, ◌+◌, List, [], ◌∷◌, ◌++◌, drop, length}
 use Rattle.claim_model.specs.Context.{Context}
 use Rattle.claim_model.specs.Node.{Node, Outcome, Done, Refused}
-use Rattle.claim_model.specs.World.{World, Packet, Event, Submission, Ticking, Delivery, Stopping, Starting, PlanChange, step, world_after}
+use Rattle.claim_model.specs.World.{World, Packet, Event, Submission, Ticking, Delivery, Stopping, Starting, PlanChange, Adjudication, step, world_after}
 use Rattle.claim_model.specs.Refusal.{refusal_name}
 
 -- a mark of a picture, with the number of its event; a refusal by its name
@@ -24,6 +24,7 @@ made_mark number (Delivery k) = Arrived number k
 made_mark number (Stopping node) = Stopped number node
 made_mark number (Starting node) = Started number node
 made_mark number (PlanChange n product price) = Priced number n
+made_mark number (Adjudication k advice) = Arrived number k
 
 -- the marks of packets that an event sent, numbered from one on
 abbrev pub sent_marks : ℕ → ℕ → List Packet → List Mark

@@ -2,7 +2,7 @@
 
 ghost use Rattle.std.specs.Prelude.{◌≡◌, ◌≢◌, ◌+◌, ◌≤◌, IfOk, IfErr, IsTrue, IsErrOf, OnOk};
 ghost use Rattle.program_io.specs.Serving.{StopsSoundly};
-ghost use Rattle.program_io.specs.Scheduled.{scheduled_of};
+ghost use Rattle.program_io.specs.Scheduled.{living_scheduled_of};
 ghost use Rattle.program_io.specs.Stops.{IsUnread};
 ghost use Rattle.run_picture.specs.Drawn.{IsDrawn, DrawnBehind, BeginningBehind};
 
@@ -14,7 +14,8 @@ use std::alloc::{AllocError, Global};
 
 /// Runs the schedule of `source` over the nodes of its settings, and writes the picture of the run to `sink`.
 ///
-/// The input is that of `claimswitch replay`: settings in TOML, a line `---`, and one event a line.
+/// The input is that of `claimswitch replay`: settings in TOML, a line `---`, and one event a line. The settings may be wide
+/// ones, and their payers may ask.
 ///
 /// # Errors
 /// `Read`, then `Settings`, then `Line` of the first line that spells no event, before anything is written; then
@@ -30,7 +31,7 @@ pub fn draw_replay<S: Source, K: Sink>(
     // A call of the source failed, or the input is too long.
     ensures read { IsErrOf result ProgramFault.Read → IsUnread (S.has_failed source.new) (S.remaining source.old) }
     // Settings are refused only where they open no world, and a line only where it is the first that spells no event.
-    ensures stops { StopsSoundly scheduled_of result (S.remaining source.old) }
+    ensures stops { StopsSoundly living_scheduled_of result (S.remaining source.old) }
     // Nothing is written before all is checked, run and drawn.
     ensures quiet { IfErr result (λ fault. fault ≢ ProgramFault.Write → sink.new ≡ sink.old) }
     // What was written is flushed.

@@ -1,6 +1,7 @@
 //! The words beside rows: what the event is, why it was refused, what it changed.
 
 use crate::Mark;
+use crate::labels::put_advice;
 use crate::lettering::{put_change, put_event};
 use crate::plan::Plan;
 use crate::rows::event_of;
@@ -34,6 +35,7 @@ pub(crate) fn caption_of(
     caption.extend_from_slice(b" ")?;
     if let Some(event) = event_of(plan.events, event) {
         put_event(&mut caption, event)?;
+        put_advice_of(&mut caption, plan.alloc, event)?;
     }
     if let Some(fault) = refused {
         if plan.refusal_at(event, fault).is_none() {
@@ -42,6 +44,14 @@ pub(crate) fn caption_of(
         }
     }
     Ok(caption)
+}
+
+/// Appends what the advice of an adjudication says; nothing of another event.
+fn put_advice_of(caption: &mut Vec<u8>, alloc: Global, event: &Event) -> Result<(), AllocError> {
+    match event {
+        Event::Adjudicate { advice, .. } => put_advice(caption, alloc, advice.as_slice()),
+        _ => Ok(()),
+    }
 }
 
 /// What stands at the node that refused an event.

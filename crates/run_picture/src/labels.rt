@@ -89,6 +89,20 @@ fn put_answer(label: &mut Vec<u8>, alloc: Global, bytes: &[u8]) -> Result<(), Al
     }
 }
 
+/// Appends the rulings of an advice, or that it is no answer.
+pub(crate) fn put_advice(
+    label: &mut Vec<u8>,
+    alloc: Global,
+    bytes: &[u8],
+) -> Result<(), AllocError> {
+    label.extend_from_slice(b":")?;
+    match read_answer(alloc, bytes) {
+        Ok(answer) => put_rulings(label, answer.rulings()),
+        Err(AnswerFault::OutOfMemory) => Err(AllocError),
+        Err(_) => label.extend_from_slice(b" no answer"),
+    }
+}
+
 fn put_code(label: &mut Vec<u8>, code: [u8; 2]) -> Result<(), AllocError> {
     label.extend_from_slice(b" ")?;
     label.extend_from_slice(&code)

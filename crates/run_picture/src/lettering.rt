@@ -59,6 +59,10 @@ pub(crate) fn put_event(out: &mut Vec<u8>, event: &Event) -> Result<(), AllocErr
         Event::Stop(node) => put_call(out, b"stop ", *node),
         Event::Start(node) => put_call(out, b"start ", *node),
         Event::Plan { payer, .. } => put_call(out, b"plan ", Node::Payer(*payer)),
+        Event::Adjudicate { packet, .. } => {
+            out.extend_from_slice(b"adjudicate ")?;
+            put_decimal(out, *packet)
+        }
     }
 }
 

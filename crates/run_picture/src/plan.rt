@@ -104,7 +104,7 @@ fn node_of(event: &Event) -> Option<Node> {
     match event {
         Event::Submit { pharmacy, .. } => Some(Node::Pharmacy(*pharmacy)),
         Event::Tick { pharmacy } => Some(Node::Pharmacy(*pharmacy)),
-        Event::Deliver { .. } => None,
+        Event::Deliver { .. } | Event::Adjudicate { .. } => None,
         Event::Stop(node) => Some(*node),
         Event::Start(node) => Some(*node),
         Event::Plan { payer, .. } => Some(Node::Payer(*payer)),

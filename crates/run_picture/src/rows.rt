@@ -202,6 +202,7 @@ pub(crate) fn refused_packet(events: &[Event], number: u64, fault: Fault) -> Opt
     match (event_of(events, number), fault) {
         (_, Fault::Refused(Refusal::NoSuchPacket)) => None,
         (Some(Event::Deliver { packet }), _) => Some(*packet),
+        (Some(Event::Adjudicate { packet, .. }), _) => Some(*packet),
         _ => None,
     }
 }

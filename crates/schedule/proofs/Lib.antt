@@ -1,4 +1,5 @@
 pub mod EventLists
+mod Plain
 mod Fronts
 mod Commas
 mod RunLists

@@ -1,5 +1,6 @@
 -- The event that a line spells: words parted by exactly one space, and nothing is trimmed.
-use Rattle.std.specs.Prelude.{ℕ, ◌==◌, List, length, nat_le, codes, bytes_eq, Option, Some, None, if◌then◌else◌}
+use Rattle.std.specs.Prelude.{ℕ, ◌==◌, Bool, true, false, List, length, nat_le, codes, bytes_eq, Option, Some, None, if◌then◌else◌}
+use Rattle.std.specs.List.{list_all}
 use Rattle.std.specs.Option.{option_map}
 use Rattle.std.specs.Result.{result_ok}
 use Rattle.input_text.specs.Options.{◌>>=◌}
@@ -7,7 +8,7 @@ use Rattle.input_text.specs.Words.{split_word}
 use Rattle.input_text.specs.Decimals.{decimal_number}
 use Rattle.input_text.specs.Printing.{unprinted}
 use Rattle.world_setup.specs.declared.event.Event.{Event}
-use Rattle.world_setup.specs.declared.event.Event.TheVariants.{Submit, Tick, Deliver, Stop, Start, Plan}
+use Rattle.world_setup.specs.declared.event.Event.TheVariants.{Submit, Tick, Deliver, Stop, Start, Plan, Adjudicate}
 use Rattle.schedule.specs.Nodes.{pharmacy_in, payer_in, node_in}
 
 -- a pharmacy and, behind one space, the rest of the line: a request in printed bytes, which may be empty
@@ -57,3 +58,39 @@ event_with word rest =
 -- the event that a line spells
 unfoldable pub event_of : List ℕ → Option Event
 event_of line = split_word line >>= (λ parts. event_with parts.0 parts.1)
+
+-- ---- of nodes that live: a payer may ask
+
+-- a packet and, behind one space, the rest of the line: an advice in printed bytes, which may be empty
+unfoldable pub adjudication : List ℕ → Option Event
+adjudication rest = do
+  parts ← split_word rest
+  packet ← decimal_number 18 parts.0
+  advice ← result_ok (unprinted parts.1)
+  Some (Adjudicate packet advice)
+
+-- the event of a word and what stands behind it
+abbrev pub living_event_with : List ℕ → List ℕ → Option Event
+living_event_with word rest = if bytes_eq word (codes "adjudicate") then adjudication rest else event_with word rest
+
+-- the event that a line spells
+unfoldable pub living_event_of : List ℕ → Option Event
+living_event_of line = split_word line >>= (λ parts. living_event_with parts.0 parts.1)
+
+-- what a line spells, where payers may ask and where they may not
+abbrev pub line_event : Bool → List ℕ → Option Event
+line_event false = event_of
+line_event true = living_event_of
+
+-- an event that has a line also where no payer may ask
+abbrev pub has_no_advice : Event → Bool
+has_no_advice (Submit pharmacy text) = true
+has_no_advice (Tick pharmacy) = true
+has_no_advice (Deliver packet) = true
+has_no_advice (Stop node) = true
+has_no_advice (Start node) = true
+has_no_advice (Plan payer product price) = true
+has_no_advice (Adjudicate packet advice) = false
+
+abbrev pub have_no_advice : List Event → Bool
+have_no_advice events = list_all has_no_advice events

@@ -1,10 +1,10 @@
 -- The events that the lines of a schedule spell.
-use Rattle.std.specs.Prelude.{◌≡◌, ℕ, not, List, filter, find, Option, Some, None, is_none, option_map, Result, Ok, Err}
+use Rattle.std.specs.Prelude.{◌≡◌, ℕ, Bool, not, List, filter, find, Option, Some, None, is_none, option_map, Result, Ok, Err}
 use Rattle.std.specs.List.{filter_map, enumerate_from}
 use Rattle.std.specs.Str.Lines.{lines}
 use Rattle.input_text.specs.Lines.{is_skipped}
 use Rattle.world_setup.specs.declared.event.Event.{Event}
-use Rattle.schedule.specs.Events.{event_of}
+use Rattle.schedule.specs.Events.{event_of, living_event_of, line_event}
 use Rattle.schedule.specs.declared.fault.ScheduleFault.{ScheduleFault}
 use Rattle.schedule.specs.declared.fault.ScheduleFault.TheVariants.{OutOfMemory, Line}
 
@@ -32,6 +32,14 @@ spelled_in spelled lines = unless_bad (bad_line spelled lines) (filter_map (λ l
 -- the events of the lines of a schedule, in order, or the number of the first line that spells none; skipped lines are counted
 abbrev pub events_of : List (List ℕ) → Result (List Event) ℕ
 events_of lines = spelled_in event_of (told_lines (enumerate_from 1 lines))
+
+-- the same where payers may ask
+abbrev pub living_events_of : List (List ℕ) → Result (List Event) ℕ
+living_events_of lines = spelled_in living_event_of (told_lines (enumerate_from 1 lines))
+
+-- the same for both
+abbrev pub events_by : Bool → List (List ℕ) → Result (List Event) ℕ
+events_by living lines = spelled_in (line_event living) (told_lines (enumerate_from 1 lines))
 
 -- a schedule is refused for this cause; where memory ran out nothing is said
 abbrev pub RefusedFor : ScheduleFault → Result (List Event) ℕ → Type 0

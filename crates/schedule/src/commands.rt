@@ -115,6 +115,8 @@ fn as_command(event: Event) -> Option<Command>
             product,
             price,
         }),
-        Event::Deliver { .. } | Event::Stop(_) | Event::Start(_) => None,
+        Event::Deliver { .. } | Event::Stop(_) | Event::Start(_) | Event::Adjudicate { .. } => {
+            None
+        }
     }
 }

@@ -1,7 +1,7 @@
 //! The event that a line spells.
 
 ghost use Rattle.std.specs.Prelude.{◌≡◌, IfOk};
-ghost use Rattle.schedule.specs.Events.{event_of, event_with, plain_event, submission};
+ghost use Rattle.schedule.specs.Events.{adjudication, event_of, event_with, line_event, living_event_of, living_event_with, plain_event, submission};
 
 use crate::nodes::{node_in, pharmacy_in};
 use crate::plans::plan_change;
@@ -21,6 +21,62 @@ pub fn event_of(alloc: Global, line: &[u8]) -> Result<Option<Event>, AllocError>
     match split_word(line) {
         Some((word, rest)) => event_with(alloc, word, rest),
         None => Ok(None),
+    }
+}
+
+/// The event that a line spells where payers may ask: an adjudication too.
+#[tactic(auto, unfolding(crate::specs::Events::living_event_of))]
+pub fn living_event_of(alloc: Global, line: &[u8]) -> Result<Option<Event>, AllocError>
+    ensures { IfOk result (λ event. event ≡ living_event_of line.now) }
+{
+    match split_word(line) {
+        Some((word, rest)) => living_event_with(alloc, word, rest),
+        None => Ok(None),
+    }
+}
+
+/// The event that a line spells, where payers may ask or may not.
+pub(crate) fn line_event(
+    alloc: Global,
+    living: bool,
+    line: &[u8],
+) -> Result<Option<Event>, AllocError>
+    ensures { IfOk result (λ event. event ≡ line_event living line.now) }
+{
+    if living {
+        return living_event_of(alloc, line);
+    }
+    event_of(alloc, line)
+}
+
+/// The event of a word and what stands behind it, where payers may ask.
+fn living_event_with(alloc: Global, word: &[u8], rest: &[u8]) -> Result<Option<Event>, AllocError>
+    ensures { IfOk result (λ event. event ≡ living_event_with word.now rest.now) }
+{
+    if word == b"adjudicate".as_slice() {
+        return adjudication(alloc, rest);
+    }
+    event_with(alloc, word, rest)
+}
+
+/// The adjudication of a packet and an advice in printed bytes, which may be empty.
+#[tactic(auto, unfolding(crate::specs::Events::adjudication))]
+fn adjudication(alloc: Global, rest: &[u8]) -> Result<Option<Event>, AllocError>
+    ensures { IfOk result (λ event. event ≡ adjudication rest.now) }
+{
+    let Some((number, text)) = split_word(rest) else {
+        return Ok(None);
+    };
+    let Some(packet) = read_decimal(number, MOST_DIGITS) else {
+        return Ok(None);
+    };
+    match unprint(alloc, text) {
+        Ok(advice) => Ok(Some(Event::Adjudicate {
+            packet,
+            advice: Octets::from_vec(advice),
+        })),
+        Err(PrintedFault::BadByte(_)) => Ok(None),
+        Err(PrintedFault::OutOfMemory) => Err(AllocError),
     }
 }
 

@@ -40,8 +40,8 @@ pub enum TextFault {
     /// Memory was refused.
     #[error("out of memory")]
     OutOfMemory,
-    /// An event has no line: it changes the plan for a product without a byte, or delivers a packet whose number has more
-    /// than 18 digits.
+    /// An event has no line: it changes the plan for a product without a byte, or delivers a packet, with an advice or
+    /// without, whose number has more than 18 digits.
     #[error("an event has no line in a schedule")]
     NoLine,
 }

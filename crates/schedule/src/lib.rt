@@ -18,11 +18,11 @@ mod writing;
 
 pub use commands::Command;
 pub use division::{Division, divide};
-pub use events::event_of;
+pub use events::{event_of, living_event_of};
 pub use fault::{ScheduleFault, TextFault};
 pub use nodes::{node_in, put_node};
 pub use plans::{price_in, product_in};
-pub use reading::read_schedule;
+pub use reading::{read_living_schedule, read_schedule};
 pub use runs::{Run, read_run};
-pub use why::{LineFault, command_fault, event_fault};
+pub use why::{LineFault, command_fault, event_fault, living_event_fault};
 pub use writing::events_text;

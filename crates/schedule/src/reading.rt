@@ -2,9 +2,9 @@
 
 ghost use Rattle.std.specs.Prelude.{◌≡◌, Ok, IfOk, IfErr};
 ghost use Rattle.std.specs.Str.Lines.{lines};
-ghost use Rattle.schedule.specs.Reading.{RefusedFor, events_of};
+ghost use Rattle.schedule.specs.Reading.{RefusedFor, events_by, events_of, living_events_of};
 
-use crate::events::event_of;
+use crate::events::line_event;
 use crate::fault::ScheduleFault;
 use input_text::{Lines, is_skipped};
 use std::alloc::Global;
@@ -24,10 +24,30 @@ pub fn read_schedule(alloc: Global, text: &[u8]) -> Result<Vec<Event>, ScheduleF
     ensures read { IfOk result (λ events. events_of (lines text.now) ≡ Ok events.items) }
     ensures refused { IfErr result (λ fault. RefusedFor fault (events_of (lines text.now))) }
 {
+    read_events(alloc, false, text)
+}
+
+/// The same where payers may ask, for programs that live: a line may also be `adjudicate 3 ADVICE`, where ADVICE is printed
+/// bytes to the end of the line.
+///
+/// # Errors
+/// Those of `read_schedule`.
+pub fn read_living_schedule(alloc: Global, text: &[u8]) -> Result<Vec<Event>, ScheduleFault>
+    ensures read { IfOk result (λ events. living_events_of (lines text.now) ≡ Ok events.items) }
+    ensures refused { IfErr result (λ fault. RefusedFor fault (living_events_of (lines text.now))) }
+{
+    read_events(alloc, true, text)
+}
+
+/// The events of the lines of a schedule, in order, where payers may ask or may not.
+fn read_events(alloc: Global, living: bool, text: &[u8]) -> Result<Vec<Event>, ScheduleFault>
+    ensures read { IfOk result (λ events. events_by living (lines text.now) ≡ Ok events.items) }
+    ensures refused { IfErr result (λ fault. RefusedFor fault (events_by living (lines text.now))) }
+{
     let mut events = Vec::new(alloc);
     for line in Lines::new(text) {
         if !is_skipped(line.text) {
-            match event_of(alloc, line.text)? {
+            match line_event(alloc, living, line.text)? {
                 Some(event) => events.push(event)?,
                 None => return Err(ScheduleFault::Line(line.number as u64)),
             }

@@ -2,16 +2,19 @@
 
 ghost use Rattle.std.specs.Prelude.{◌≡◌, is_none, is_some, IfOk};
 ghost use Rattle.schedule.specs.Commands.{command_of};
-ghost use Rattle.schedule.specs.Events.{event_of};
+ghost use Rattle.schedule.specs.Events.{event_of, living_event_of};
 
 use crate::commands::command_of;
-use crate::events::event_of;
+use crate::events::{event_of, living_event_of};
 use crate::link_faults::fault_of;
 use crate::nodes::{node_in, payer_in, pharmacy_in};
 use crate::plans::product_in;
-use input_text::{PrintedFault, split_word, unprint};
+use input_text::{PrintedFault, read_decimal, split_word, unprint};
 use std::alloc::{AllocError, Global};
 use thiserror::Error;
+
+/// The most digits of a packet's number (own).
+const MOST_DIGITS: usize = 18;
 
 /// What is wrong in a line that spells nothing, or nothing in its place: the first thing from the left. The text says
 /// what is wanted.
@@ -20,6 +23,9 @@ pub enum LineFault {
     /// The first word is none of a replay's.
     #[error("a line is submit ph1 TEXT, tick ph1, deliver 3, stop sw1, start sw1 or plan pr1 PRODUCT PRICE, with one space between words")]
     EventWord,
+    /// The first word is none of a replay's whose payers may ask.
+    #[error("a line is submit ph1 TEXT, tick ph1, deliver 3, adjudicate 3 ADVICE, stop sw1, start sw1 or plan pr1 PRODUCT PRICE, with one space between words")]
+    LivingEventWord,
     /// The first word is none of a run's.
     #[error("a line is submit ph1 TEXT, tick ph1, plan pr1 PRODUCT PRICE, restart sw1 or await ph1 3, with one space between words, and before all of these fault ph1 sw1 ACTIONS")]
     CommandWord,
@@ -41,6 +47,12 @@ pub enum LineFault {
     /// A byte of a request, counted from 1, is not printed text.
     #[error("byte {0} of the request is not printed text: bytes below 0x20 and above 0x7E, and the separators, are written with a backslash")]
     Printed(usize),
+    /// There is no advice.
+    #[error("behind the packet's number one space and an advice are wanted")]
+    Advice,
+    /// A byte of an advice, counted from 1, is not printed text.
+    #[error("byte {0} of the advice is not printed text: bytes below 0x20 and above 0x7E, and the separators, are written with a backslash")]
+    PrintedAdvice(usize),
     /// There is no product.
     #[error("a product is wanted: one or more printed bytes without a space")]
     Product,
@@ -62,6 +74,16 @@ pub fn event_fault(alloc: Global, line: &[u8]) -> Result<Option<LineFault>, Allo
     match event_of(alloc, line)? {
         Some(_) => Ok(None),
         None => Ok(Some(event_cause(alloc, line)?)),
+    }
+}
+
+/// What is wrong in a line of a replay whose payers may ask; `None` exactly where it spells an event.
+pub fn living_event_fault(alloc: Global, line: &[u8]) -> Result<Option<LineFault>, AllocError>
+    ensures { IfOk result (λ fault. is_none fault ≡ is_some (living_event_of line.now)) }
+{
+    match living_event_of(alloc, line)? {
+        Some(_) => Ok(None),
+        None => Ok(Some(living_cause(alloc, line)?)),
     }
 }
 
@@ -88,6 +110,37 @@ fn event_cause(alloc: Global, line: &[u8]) -> Result<LineFault, AllocError> {
         b"deliver" => Ok(LineFault::Number),
         b"stop" | b"start" => Ok(LineFault::Node),
         _ => Ok(LineFault::EventWord),
+    }
+}
+
+/// What is wrong in a line that spells no event where payers may ask.
+fn living_cause(alloc: Global, line: &[u8]) -> Result<LineFault, AllocError> {
+    if let Some((word, rest)) = split_word(line) {
+        if word == b"adjudicate".as_slice() {
+            return advice_cause(alloc, rest);
+        }
+    }
+    match event_cause(alloc, line)? {
+        LineFault::EventWord => Ok(LineFault::LivingEventWord),
+        fault => Ok(fault),
+    }
+}
+
+/// What is wrong behind `adjudicate`.
+fn advice_cause(alloc: Global, rest: &[u8]) -> Result<LineFault, AllocError> {
+    let Some((number, text)) = split_word(rest) else {
+        return Ok(match read_decimal(rest, MOST_DIGITS) {
+            Some(_) => LineFault::Advice,
+            None => LineFault::Number,
+        });
+    };
+    if read_decimal(number, MOST_DIGITS).is_none() {
+        return Ok(LineFault::Number);
+    }
+    match unprint(alloc, text) {
+        Ok(_) => Ok(LineFault::Advice),
+        Err(PrintedFault::BadByte(place)) => Ok(LineFault::PrintedAdvice(place.saturating_add(1))),
+        Err(PrintedFault::OutOfMemory) => Err(AllocError),
     }
 }
 

@@ -21,7 +21,7 @@ use Rattle.program_io.specs.declared.fault.CheckFault.{CheckFault}
 use Rattle.program_io.specs.declared.fault.CheckFault.TheVariants as check
 use Rattle.program_io.specs.Stops.{RefusedFor}
 use Rattle.program_io.specs.Scheduled.{scheduled_of}
-use Rattle.program_io.proofs.OpenedWorlds.{scheduled_is}
+use Rattle.schedule_replay.proofs.Begun.{scheduled_is}
 use Rattle.schedule_replay.specs.Events.{event_lines, run_lines}
 use Rattle.schedule_replay.specs.Replays.{report_of, replay_of, IsRun, IsRunOf}
 

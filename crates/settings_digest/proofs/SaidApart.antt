@@ -1,12 +1,13 @@
 -- What settings say tells the settings.
-use Rattle.std.proofs.Common.{◌≡◌, ℕ, List, [], ◌++◌, Option, Some, None, refl, sym, ap, ◌∙◌, arith, append_assoc}
+use Rattle.std.proofs.Common.{◌≡◌, ℕ, ◌≤◌, Bool, true, false, List, [], ◌++◌, Option, Some, None, refl, sym, ap, ◌∙◌, arith, append_assoc}
+use Rattle.bin_routes.specs.Providers.{Providers}
 use Rattle.bin_routes.specs.Row.{Row}
 use Rattle.claim_model.specs.Journal.{PharmacySettings}
 use Rattle.claim_model.specs.Settings.{PayerSettings}
 use Rattle.world_settings.specs.Document.{Document}
 use Rattle.kept_logs.specs.Fields.{text_of}
-use Rattle.settings_digest.specs.Said.{number_text, pharmacy_text, price_text, payer_text, pcn_text, route_text, said}
-use Rattle.settings_digest.specs.Fits.{FitsPharmacy, FitsPrice, FitsPayer, FitsPcn, FitsRoute, FitsDocument}
+use Rattle.settings_digest.specs.Said.{number_text, pharmacy_text, price_text, serial_text, payer_text, key_text, providers_text, route_text, said}
+use Rattle.settings_digest.specs.Fits.{FitsPharmacy, FitsPrice, FitsSerial, FitsPayer, FitsPcn, FitsProviders, FitsRange, FitsRoute, FitsDocument}
 use Rattle.settings_digest.proofs.Apart.{Apart, number_apart, text_apart, both, by_parts, listed}
 
 abbrev PharmacyParts : Type 0
@@ -24,40 +25,120 @@ pharmacy_apart =
 price_apart : Apart FitsPrice price_text
 price_apart = both text_apart number_apart
 
+-- a first serial number, before which 0 stands where the payer asks
+serial_tells : (x y : Bool × ℕ) (r s : List ℕ) → FitsSerial x.1 → FitsSerial y.1 → serial_text x.0 x.1 ++ r ≡ serial_text y.0 y.1 ++ s → (x ≡ y) × (r ≡ s)
+serial_tells (false, m) (false, n) r s u v h =
+    let t = number_apart.tells m n r s u.1 v.1 h in
+    (ap (λ (k : ℕ). (false, k)) t.0, t.1)
+serial_tells (false, m) (true, n) r s u v h =
+    let t = number_apart.tells m 0 r (number_text n ++ s) u.1 (omega arith) (h ∙ append_assoc (number_text 0) (number_text n) s) in
+    let least = u.0 in
+    absurd (omega (arith, t.0, least))
+serial_tells (true, m) (false, n) r s u v h =
+    let t = number_apart.tells 0 n (number_text m ++ r) s (omega arith) v.1 (sym (append_assoc (number_text 0) (number_text m) r) ∙ h) in
+    let least = v.0 in
+    absurd (omega (arith, t.0, least))
+serial_tells (true, m) (true, n) r s u v h =
+    let t = number_apart.tells 0 0 (number_text m ++ r) (number_text n ++ s) (omega arith) (omega arith) (sym (append_assoc (number_text 0) (number_text m) r) ∙ (h ∙ append_assoc (number_text 0) (number_text n) s)) in
+    let k = number_apart.tells m n r s u.1 v.1 t.1 in
+    (ap (λ (n : ℕ). (true, n)) k.0, k.1)
+
+serial_apart : Apart {A = Bool × ℕ} (λ x. FitsSerial x.1) (λ x. serial_text x.0 x.1)
+serial_apart = record { tells = serial_tells }
+
 abbrev PayerParts : Type 0
-PayerParts = (ℕ × ℕ) × (ℕ × (ℕ × List (List ℕ × ℕ)))
+PayerParts = ((Bool × ℕ) × ℕ) × (ℕ × (ℕ × List (List ℕ × ℕ)))
 
 abbrev payer_of : PayerParts → PayerSettings
-payer_of p = record { book = record { serial = p.0.0; cap = p.0.1 }; plan = record { fee = p.1.0; copay = p.1.1.0; prices = p.1.1.1 } }
+payer_of p = record { book = record { serial = p.0.0.1; cap = p.0.1; asks = p.0.0.0 }; plan = record { fee = p.1.0; copay = p.1.1.0; prices = p.1.1.1 } }
 
 payer_apart : Apart FitsPayer payer_text
 unfolding payer_text
 payer_apart =
-    by_parts (λ (p : PayerSettings). ((p.book.serial, p.book.cap), (p.plan.fee, (p.plan.copay, p.plan.prices)))) payer_of (λ p. refl)
-    (both (both number_apart number_apart) (both number_apart (both number_apart (listed price_apart))))
+    by_parts (λ (p : PayerSettings). (((p.book.asks, p.book.serial), p.book.cap), (p.plan.fee, (p.plan.copay, p.plan.prices)))) payer_of (λ p. refl)
+    (both (both serial_apart number_apart) (both number_apart (both number_apart (listed price_apart))))
 
-pcn_tells : (x y : Option (List ℕ)) (r s : List ℕ) → FitsPcn x → FitsPcn y → pcn_text x ++ r ≡ pcn_text y ++ s → (x ≡ y) × (r ≡ s)
-pcn_tells None None r s u v h = (refl, (number_apart.tells 0 0 r s (omega arith) (omega arith) h).1)
-pcn_tells None (Some b) r s u v h =
-    let n = number_apart.tells 0 1 r (text_of b ++ s) (omega arith) (omega arith) (h ∙ append_assoc (number_text 1) (text_of b) s) in
-    absurd (omega (arith, n.0))
-pcn_tells (Some a) None r s u v h =
-    let n = number_apart.tells 1 0 (text_of a ++ r) s (omega arith) (omega arith) (sym (append_assoc (number_text 1) (text_of a) r) ∙ h) in
-    absurd (omega (arith, n.0))
-pcn_tells (Some a) (Some b) r s u v h =
-    let n = number_apart.tells 1 1 (text_of a ++ r) (text_of b ++ s) (omega arith) (omega arith) (sym (append_assoc (number_text 1) (text_of a) r) ∙ (h ∙ append_assoc (number_text 1) (text_of b) s)) in
-    let t = text_apart.tells a b r s u v n.1 in
-    (ap (λ (x : List ℕ). Some x) t.0, t.1)
+-- ---- a route
 
-pcn_apart : Apart FitsPcn pcn_text
-pcn_apart = record { tells = pcn_tells }
+abbrev providers_of : List ℕ × (List ℕ × List ℕ) → Providers
+providers_of p = record { qualifier = p.0; first = p.1.0; last = p.1.1 }
 
-abbrev route_of : List ℕ × (Option (List ℕ) × ℕ) → Row
-route_of p = record { bin = p.0; pcn = p.1.0; payer = p.1.1 }
+providers_apart : Apart FitsProviders providers_text
+providers_apart = by_parts (λ (p : Providers). (p.qualifier, (p.first, p.last))) providers_of (λ p. refl) (both text_apart (both text_apart text_apart))
+
+abbrev Key : Type 0
+Key = Option (List ℕ) × Option Providers
+
+-- which of the four kinds a key is, and what stands behind the number that says it
+abbrev kind : Key → ℕ
+kind (None, None) = 0
+kind (Some pcn, None) = 1
+kind (None, Some p) = 2
+kind (Some pcn, Some p) = 3
+
+abbrev body : Key → List ℕ
+body (None, None) = []
+body (Some pcn, None) = text_of pcn
+body (None, Some p) = providers_text p
+body (Some pcn, Some p) = text_of pcn ++ providers_text p
+
+few_kinds : (k : Key) → kind k ≤ 3
+few_kinds (None, None) = omega arith
+few_kinds (Some pcn, None) = omega arith
+few_kinds (None, Some p) = omega arith
+few_kinds (Some pcn, Some p) = omega arith
+
+key_is : (k : Key) (r : List ℕ) → key_text k.0 k.1 ++ r ≡ number_text (kind k) ++ (body k ++ r)
+key_is (None, None) r = refl
+key_is (Some pcn, None) r = append_assoc (number_text 1) (text_of pcn) r
+key_is (None, Some p) r = append_assoc (number_text 2) (providers_text p) r
+key_is (Some pcn, Some p) r =
+    ap (λ (t : List ℕ). t ++ r) (append_assoc (number_text 3) (text_of pcn) (providers_text p)) ∙ append_assoc (number_text 3) (text_of pcn ++ providers_text p) r
+
+abbrev FitsKey : Key → Type 0
+FitsKey k = FitsPcn k.0 × FitsRange k.1
+
+-- keys of one kind
+same_kind : (x y : Key) (r s : List ℕ) → FitsKey x → FitsKey y → kind x ≡ kind y → body x ++ r ≡ body y ++ s → (x ≡ y) × (r ≡ s)
+same_kind (None, None) (None, None) r s u v e h = (refl, h)
+same_kind (None, None) (Some b, None) r s u v e h = absurd (omega (arith, e))
+same_kind (None, None) (None, Some q) r s u v e h = absurd (omega (arith, e))
+same_kind (None, None) (Some b, Some q) r s u v e h = absurd (omega (arith, e))
+same_kind (Some a, None) (None, None) r s u v e h = absurd (omega (arith, e))
+same_kind (Some a, None) (Some b, None) r s u v e h =
+    let t = text_apart.tells a b r s u.0 v.0 h in
+    (ap (λ (x : List ℕ). (Some x, None)) t.0, t.1)
+same_kind (Some a, None) (None, Some q) r s u v e h = absurd (omega (arith, e))
+same_kind (Some a, None) (Some b, Some q) r s u v e h = absurd (omega (arith, e))
+same_kind (None, Some p) (None, None) r s u v e h = absurd (omega (arith, e))
+same_kind (None, Some p) (Some b, None) r s u v e h = absurd (omega (arith, e))
+same_kind (None, Some p) (None, Some q) r s u v e h =
+    let t = providers_apart.tells p q r s u.1 v.1 h in
+    (ap (λ (x : Providers). (None, Some x)) t.0, t.1)
+same_kind (None, Some p) (Some b, Some q) r s u v e h = absurd (omega (arith, e))
+same_kind (Some a, Some p) (None, None) r s u v e h = absurd (omega (arith, e))
+same_kind (Some a, Some p) (Some b, None) r s u v e h = absurd (omega (arith, e))
+same_kind (Some a, Some p) (None, Some q) r s u v e h = absurd (omega (arith, e))
+same_kind (Some a, Some p) (Some b, Some q) r s u v e h =
+    let t = (both text_apart providers_apart).tells (a, p) (b, q) r s (u.0, u.1) (v.0, v.1) h in
+    (ap (λ (x : List ℕ × Providers). (Some x.0, Some x.1)) t.0, t.1)
+
+key_tells : (x y : Key) (r s : List ℕ) → FitsKey x → FitsKey y → key_text x.0 x.1 ++ r ≡ key_text y.0 y.1 ++ s → (x ≡ y) × (r ≡ s)
+key_tells x y r s u v h =
+    let few = few_kinds x in
+    let few_too = few_kinds y in
+    let n = number_apart.tells (kind x) (kind y) (body x ++ r) (body y ++ s) (omega (arith, few)) (omega (arith, few_too)) (sym (key_is x r) ∙ (h ∙ key_is y s)) in
+    same_kind x y r s u v n.0 n.1
+
+key_apart : Apart {A = Key} FitsKey (λ k. key_text k.0 k.1)
+key_apart = record { tells = key_tells }
+
+abbrev route_of : List ℕ × (Key × ℕ) → Row
+route_of p = record { bin = p.0; pcn = p.1.0.0; providers = p.1.0.1; payer = p.1.1 }
 
 route_apart : Apart FitsRoute route_text
 unfolding route_text
-route_apart = by_parts (λ (r : Row). (r.bin, (r.pcn, r.payer))) route_of (λ r. refl) (both text_apart (both pcn_apart number_apart))
+route_apart = by_parts (λ (r : Row). (r.bin, ((r.pcn, r.providers), r.payer))) route_of (λ r. refl) (both text_apart (both key_apart number_apart))
 
 abbrev DocumentParts : Type 0
 DocumentParts = List PharmacySettings × (List ℕ × (List PayerSettings × List Row))

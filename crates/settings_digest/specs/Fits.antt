@@ -1,6 +1,7 @@
 -- Settings whose numbers are numbers of a machine.
-use Rattle.std.specs.Prelude.{⊤, ℕ, ◌<◌, ◌^◌, List, length, Option, Some, None}
+use Rattle.std.specs.Prelude.{⊤, ℕ, ◌<◌, ◌≤◌, ◌^◌, List, length, Option, Some, None}
 use Rattle.std.specs.List.{AllByRecursion}
+use Rattle.bin_routes.specs.Providers.{Providers}
 use Rattle.bin_routes.specs.Row.{Row}
 use Rattle.claim_model.specs.Journal.{PharmacySettings}
 use Rattle.claim_model.specs.Rows.{BookSettings}
@@ -34,9 +35,12 @@ FitsPharmacy p = FitsIdentity p × (FitsList FitsNumber p.nodes × FitsRetries p
 abbrev pub FitsPrice : List ℕ × ℕ → Type 0
 FitsPrice price = FitsText price.0 × FitsNumber price.1
 
--- of a payer
+-- of a payer; no serial number is 0
+abbrev pub FitsSerial : ℕ → Type 0
+FitsSerial serial = (1 ≤ serial) × FitsNumber serial
+
 abbrev pub FitsBook : BookSettings → Type 0
-FitsBook b = FitsNumber b.serial × FitsNumber b.cap
+FitsBook b = FitsSerial b.serial × FitsNumber b.cap
 
 abbrev pub FitsPlan : Plan → Type 0
 FitsPlan p = FitsNumber p.fee × (FitsNumber p.copay × FitsList FitsPrice p.prices)
@@ -49,9 +53,17 @@ abbrev pub FitsPcn : Option (List ℕ) → Type 0
 FitsPcn None = ⊤
 FitsPcn (Some pcn) = FitsText pcn
 
+-- of the providers that a route is for
+abbrev pub FitsProviders : Providers → Type 0
+FitsProviders p = FitsText p.qualifier × (FitsText p.first × FitsText p.last)
+
+abbrev pub FitsRange : Option Providers → Type 0
+FitsRange None = ⊤
+FitsRange (Some p) = FitsProviders p
+
 -- of a route
 abbrev pub FitsRoute : Row → Type 0
-FitsRoute r = FitsText r.bin × (FitsPcn r.pcn × FitsNumber r.payer)
+FitsRoute r = FitsText r.bin × ((FitsPcn r.pcn × FitsRange r.providers) × FitsNumber r.payer)
 
 -- of all settings
 abbrev pub FitsDocument : Document → Type 0

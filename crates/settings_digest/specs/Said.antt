@@ -1,7 +1,8 @@
 -- What settings say, as a text that hangs on nothing else: each of their fields in a fixed order, so that each ends where it says.
-use Rattle.std.specs.Prelude.{ℕ, List, ◌++◌, length, Option, Some, None}
+use Rattle.std.specs.Prelude.{ℕ, Bool, true, false, List, ◌++◌, length, Option, Some, None}
 use Rattle.std.specs.List.{flat_map}
 use Rattle.std.specs.Int.{w64, to_be_bytes}
+use Rattle.bin_routes.specs.Providers.{Providers}
 use Rattle.bin_routes.specs.Row.{Row}
 use Rattle.claim_model.specs.Journal.{PharmacySettings}
 use Rattle.claim_model.specs.Rows.{BookSettings}
@@ -32,9 +33,14 @@ pharmacy_text p = identity_text p ++ (list_text number_text p.nodes ++ retries_t
 abbrev pub price_text : List ℕ × ℕ → List ℕ
 price_text price = text_of price.0 ++ number_text price.1
 
+-- the first serial number of a payer; where it asks, 0 stands before it
+abbrev pub serial_text : Bool → ℕ → List ℕ
+serial_text false serial = number_text serial
+serial_text true serial = number_text 0 ++ number_text serial
+
 -- a payer: its first serial number and its cap; its dispensing fee, its copay, and its prices in the order of their products
 abbrev pub book_text : BookSettings → List ℕ
-book_text b = number_text b.serial ++ number_text b.cap
+book_text b = serial_text b.asks b.serial ++ number_text b.cap
 
 abbrev pub plan_text : Plan → List ℕ
 plan_text p = number_text p.fee ++ (number_text p.copay ++ list_text price_text p.prices)
@@ -47,9 +53,23 @@ abbrev pub pcn_text : Option (List ℕ) → List ℕ
 pcn_text None = number_text 0
 pcn_text (Some pcn) = number_text 1 ++ text_of pcn
 
--- a route, by its BIN number, its processor control number and its payer
+-- the same before providers: 3 and the text, or 2
+abbrev pub ranged_text : Option (List ℕ) → List ℕ
+ranged_text None = number_text 2
+ranged_text (Some pcn) = number_text 3 ++ text_of pcn
+
+-- providers, by their qualifier, the first and the last
+abbrev pub providers_text : Providers → List ℕ
+providers_text p = text_of p.qualifier ++ (text_of p.first ++ text_of p.last)
+
+-- a processor control number, and the providers that a route is for, where it is not for all
+abbrev pub key_text : Option (List ℕ) → Option Providers → List ℕ
+key_text pcn None = pcn_text pcn
+key_text pcn (Some p) = ranged_text pcn ++ providers_text p
+
+-- a route, by its BIN number, its processor control number, its providers and its payer
 unfoldable pub route_text : Row → List ℕ
-route_text r = text_of r.bin ++ (pcn_text r.pcn ++ number_text r.payer)
+route_text r = text_of r.bin ++ (key_text r.pcn r.providers ++ number_text r.payer)
 
 -- what settings say: pharmacies, switches by their caps, payers and routes
 unfoldable pub said : Document → List ℕ

@@ -3,8 +3,8 @@
 ghost use Rattle.std.specs.Prelude.{◌≡◌, ◌<◌, ◌++◌, length, map, slice_get, OnOk, IfSome};
 ghost use Rattle.std.specs.List.{AllByRecursion, flat_map};
 ghost use Rattle.world_setup.specs.Seen.{payer_seen};
-ghost use Rattle.settings_digest.specs.Said.{number_text, identity_text, retries_text, pharmacy_text, book_text, plan_text, payer_text, price_text, list_text};
-ghost use Rattle.settings_digest.specs.Fits.{FitsNumber, FitsIdentity, FitsRetries, FitsPharmacy, FitsBook, FitsPlan, FitsPayer, FitsPrice, FitsList};
+ghost use Rattle.settings_digest.specs.Said.{number_text, identity_text, retries_text, pharmacy_text, serial_text, book_text, plan_text, payer_text, price_text, list_text};
+ghost use Rattle.settings_digest.specs.Fits.{FitsNumber, FitsIdentity, FitsRetries, FitsPharmacy, FitsSerial, FitsBook, FitsPlan, FitsPayer, FitsPrice, FitsList};
 
 use crate::fields::{Say, put_list, put_number, put_text};
 use payer_book::BookSettings;
@@ -73,8 +73,19 @@ fn put_book(out: &mut Vec<u8>, book: BookSettings) -> Result<(), AllocError>
     ensures text { OnOk result (out.new.items ≡ out.old.items ++ book_text book) }
     ensures fits { OnOk result (FitsBook book) }
 {
-    put_number(out, book.serial())?;
+    put_serial(out, book)?;
     put_number(out, u64::from(book.cap()))
+}
+
+/// Puts the first serial number of a book. Where its payer asks, 0 stands before it, which is no serial number.
+fn put_serial(out: &mut Vec<u8>, book: BookSettings) -> Result<(), AllocError>
+    ensures text { OnOk result (out.new.items ≡ out.old.items ++ serial_text book.asks book.serial) }
+    ensures fits { OnOk result (FitsSerial book.serial) }
+{
+    if book.asks() {
+        put_number(out, 0)?;
+    }
+    put_number(out, book.serial())
 }
 
 /// Puts a plan.

@@ -2,11 +2,11 @@
 
 ghost use Rattle.std.specs.Prelude.{◌≡◌, ◌++◌, OnOk};
 ghost use Rattle.std.specs.Option.{option_map};
-ghost use Rattle.settings_digest.specs.Said.{pcn_text, route_text};
-ghost use Rattle.settings_digest.specs.Fits.{FitsPcn, FitsRoute};
+ghost use Rattle.settings_digest.specs.Said.{key_text, pcn_text, providers_text, ranged_text, route_text};
+ghost use Rattle.settings_digest.specs.Fits.{FitsPcn, FitsProviders, FitsRange, FitsRoute};
 
 use crate::fields::{Say, put_number, put_text};
-use bin_routes::RouteRow;
+use bin_routes::{Providers, RouteRow};
 use std::alloc::AllocError;
 
 impl Say for RouteRow {
@@ -17,8 +17,27 @@ impl Say for RouteRow {
     #[tactic(auto, unfolding(crate::specs::Said::route_text))]
     fn say(&self, out: &mut Vec<u8>) -> Result<(), AllocError> {
         put_text(out, self.bin())?;
-        put_pcn(out, self.pcn())?;
+        put_key(out, self.pcn(), self.providers())?;
         put_number(out, u64::from(self.payer()))
+    }
+}
+
+/// Puts a processor control number, where there is one, and the providers that a route is for, where it is not for all.
+fn put_key(
+    out: &mut Vec<u8>,
+    pcn: Option<&[u8]>,
+    providers: Option<Providers>,
+) -> Result<(), AllocError>
+    ensures text { OnOk result (out.new.items
+        ≡ out.old.items ++ key_text (option_map (λ p. p.now) pcn.entry) providers) }
+    ensures fits { OnOk result (FitsPcn (option_map (λ p. p.now) pcn.entry) × FitsRange providers) }
+{
+    match providers {
+        None => put_pcn(out, pcn),
+        Some(providers) => {
+            put_ranged(out, pcn)?;
+            put_providers(out, &providers)
+        }
     }
 }
 
@@ -34,4 +53,28 @@ fn put_pcn(out: &mut Vec<u8>, pcn: Option<&[u8]>) -> Result<(), AllocError>
             put_text(out, pcn)
         }
     }
+}
+
+/// Puts one before providers, where there is one.
+fn put_ranged(out: &mut Vec<u8>, pcn: Option<&[u8]>) -> Result<(), AllocError>
+    ensures text { OnOk result (out.new.items ≡ out.old.items ++ ranged_text (option_map (λ p. p.now) pcn.entry)) }
+    ensures fits { OnOk result (FitsPcn (option_map (λ p. p.now) pcn.entry)) }
+{
+    match pcn {
+        None => put_number(out, 2),
+        Some(pcn) => {
+            put_number(out, 3)?;
+            put_text(out, pcn)
+        }
+    }
+}
+
+/// Puts providers.
+fn put_providers(out: &mut Vec<u8>, providers: &Providers) -> Result<(), AllocError>
+    ensures text { OnOk result (out.new.items ≡ out.old.items ++ providers_text providers.now) }
+    ensures fits { OnOk result (FitsProviders providers.now) }
+{
+    put_text(out, &providers.qualifier)?;
+    put_text(out, &providers.first)?;
+    put_text(out, &providers.last)
 }

@@ -6,6 +6,7 @@ pub mod Payers
 pub mod Opening
 pub mod Replayed
 pub mod Turns
+pub mod Own
 pub mod Running
 pub mod Growing
 pub mod Sharp

@@ -2,13 +2,13 @@
 use Rattle.std.proofs.Common.{◌≡◌, ℕ, ◌+◌, ◌≤◌, Bool, true, false, cond, not, List, [], ◌∷◌, ◌++◌, map, length, nat_lt, Option, Some, None, Result, Ok, Err, refl, sym, ap, ◌∙◌, arith}
 use Rattle.std.specs.Prelude.{◌==◌, ◌&&◌, nat_le}
 use Rattle.std.proofs.lemmas.Bool.Decides.{nat_tests}
-use Rattle.claim_model.specs.Words.{RequestHeader, Envelope, EnvelopeFault}
+use Rattle.claim_model.specs.Words.{RequestHeader, Envelope, EnvelopeFault, RouteKey}
 use Rattle.claim_model.specs.Context.{Context}
 use Rattle.claim_model.specs.Readable.{has_version, has_code, longest, settles, is_request}
 use Rattle.claim_model.specs.declared.refusal.Refusal.{Refusal}
 use Rattle.claim_model.specs.Numbered.{numbered}
 use Rattle.claim_model.specs.Journal.{Entry, Journal, JournalAtRest, State, Sending, first_fault, is_own, submit_fault, submitted_unless, submitted, ticked, due_by, due_from, due, settle_by, settle_with, heard_at, heard, stopped, started}
-use Rattle.claim_model.specs.Node.{Power, Up, AtRest, Sent, Call, Submit, Tick, Take, Stop, Start, Reprice, Outcome, Done, to_switch, after_submit, after_hearing, pharmacy_takes, pharmacy_up, pharmacy_at_rest, pharmacy_step}
+use Rattle.claim_model.specs.Node.{Power, Up, AtRest, Sent, Call, Submit, Tick, Take, Stop, Start, Reprice, Adjudicate, Outcome, Done, to_switch, after_submit, after_hearing, pharmacy_takes, pharmacy_up, pharmacy_at_rest, pharmacy_step}
 use Rattle.settings_growth.specs.Growth.{journal_with_cap}
 use Rattle.settings_growth.proofs.Rerouted.{rerouted, leading}
 
@@ -42,7 +42,7 @@ submits ctx j cap text None p next sent none e = ap (λ (q : Option Refusal). af
 
 -- what is due hangs on no cap
 
-due_with : (ctx : Context) (route : List ℕ → List ℕ → Option ℕ) (j : Journal) (cap number : ℕ) (entries : List Entry) → due_from (rerouted ctx route) (capped cap j) number entries ≡ due_from ctx j number entries
+due_with : (ctx : Context) (route : RouteKey → Option ℕ) (j : Journal) (cap number : ℕ) (entries : List Entry) → due_from (rerouted ctx route) (capped cap j) number entries ≡ due_from ctx j number entries
 due_with ctx route j cap number [] = refl
 due_with ctx route j cap number (e ∷ more) = ap (λ (xs : List Sending). due_by ctx j number e.request e.state ++ xs) (due_with ctx route j cap (number + 1) more)
 
@@ -78,7 +78,7 @@ takes ctx j cap (Ok e) next sent is = hears_own ctx j cap e (e.id.pharmacy == j.
 
 -- every call
 
-step_up : (ctx : Context) (route : List ℕ → List ℕ → Option ℕ) (j : Journal) (cap : ℕ) (call : Call) (next : Power Journal JournalAtRest) (sent : List Sent) → j.settings.cap ≤ cap
+step_up : (ctx : Context) (route : RouteKey → Option ℕ) (j : Journal) (cap : ℕ) (call : Call) (next : Power Journal JournalAtRest) (sent : List Sent) → j.settings.cap ≤ cap
     → pharmacy_up ctx j call ≡ Done next sent → pharmacy_up (rerouted ctx route) (capped cap j) call ≡ Done (journal_with_cap cap next) sent
 unfolding submitted ticked due heard stopped
 step_up ctx route j cap (Submit text) next sent le e =
@@ -89,6 +89,7 @@ step_up ctx route j cap (Take from bytes) next sent le e = takes ctx j cap (ctx.
 step_up ctx route j cap Stop next sent le e = ap (leading (journal_with_cap cap)) e
 step_up ctx route j cap Start next sent le e = absurd cc
 step_up ctx route j cap (Reprice product price) next sent le e = absurd cc
+step_up ctx route j cap (Adjudicate from bytes advice) next sent le e = absurd cc
 
 step_at_rest : (j : JournalAtRest) (cap : ℕ) (call : Call) (next : Power Journal JournalAtRest) (sent : List Sent)
     → pharmacy_at_rest j call ≡ Done next sent → pharmacy_at_rest (record j { settings = record j.settings { cap = cap } }) call ≡ Done (journal_with_cap cap next) sent
@@ -99,12 +100,13 @@ step_at_rest j cap (Take from bytes) next sent e = absurd cc
 step_at_rest j cap Stop next sent e = absurd cc
 step_at_rest j cap Start next sent e = ap (leading (journal_with_cap cap)) e
 step_at_rest j cap (Reprice product price) next sent e = absurd cc
+step_at_rest j cap (Adjudicate from bytes advice) next sent e = absurd cc
 
 abbrev pub journal_cap : Power Journal JournalAtRest → ℕ
 journal_cap (Up j) = j.settings.cap
 journal_cap (AtRest j) = j.settings.cap
 
-pub pharmacy_over : (ctx : Context) (route : List ℕ → List ℕ → Option ℕ) (node : Power Journal JournalAtRest) (cap : ℕ) (call : Call) (next : Power Journal JournalAtRest) (sent : List Sent) → journal_cap node ≤ cap
+pub pharmacy_over : (ctx : Context) (route : RouteKey → Option ℕ) (node : Power Journal JournalAtRest) (cap : ℕ) (call : Call) (next : Power Journal JournalAtRest) (sent : List Sent) → journal_cap node ≤ cap
     → pharmacy_step ctx node call ≡ Done next sent → pharmacy_step (rerouted ctx route) (journal_with_cap cap node) call ≡ Done (journal_with_cap cap next) sent
 pharmacy_over ctx route (Up j) cap call next sent le e = step_up ctx route j cap call next sent le e
 pharmacy_over ctx route (AtRest j) cap call next sent le e = step_at_rest j cap call next sent e
@@ -144,9 +146,11 @@ journal_cap_stays ctx (Up j) (Take from bytes) next sent e = takes_capped ctx j 
 journal_cap_stays ctx (Up j) Stop next sent e = capped_by _ next _ sent e
 journal_cap_stays ctx (Up j) Start next sent e = absurd cc
 journal_cap_stays ctx (Up j) (Reprice product price) next sent e = absurd cc
+journal_cap_stays ctx (Up j) (Adjudicate from bytes advice) next sent e = absurd cc
 journal_cap_stays ctx (AtRest j) (Submit text) next sent e = absurd cc
 journal_cap_stays ctx (AtRest j) Tick next sent e = absurd cc
 journal_cap_stays ctx (AtRest j) (Take from bytes) next sent e = absurd cc
 journal_cap_stays ctx (AtRest j) Stop next sent e = absurd cc
 journal_cap_stays ctx (AtRest j) Start next sent e = capped_by _ next _ sent e
 journal_cap_stays ctx (AtRest j) (Reprice product price) next sent e = absurd cc
+journal_cap_stays ctx (AtRest j) (Adjudicate from bytes advice) next sent e = absurd cc

@@ -1,10 +1,11 @@
 -- The same reading of bytes under other routes, and what outcomes are with another node.
 use Rattle.std.proofs.Common.{◌≡◌, ℕ, List, Option, ap}
+use Rattle.claim_model.specs.Words.{RouteKey}
 use Rattle.claim_model.specs.Context.{Context}
 use Rattle.claim_model.specs.Node.{Sent, Outcome, Done, Refused}
 use Rattle.claim_model.specs.Nodes.{AnyNode, as_node}
 
-abbrev pub rerouted : Context → (List ℕ → List ℕ → Option ℕ) → Context
+abbrev pub rerouted : Context → (RouteKey → Option ℕ) → Context
 rerouted ctx route = record ctx { route = route }
 
 -- an outcome with another node

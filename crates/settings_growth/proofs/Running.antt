@@ -3,20 +3,22 @@ use Rattle.std.proofs.Common.{◌≡◌, ℕ, zero, suc, ◌<◌, List, [], ◌�
 use Rattle.std.specs.Prelude.{IsSome}
 use Rattle.std.specs.List.{AllByRecursion}
 use Rattle.claim_model.specs.Context.{Context}
+use Rattle.claim_model.specs.Laws.{Laws}
 use Rattle.claim_model.specs.Numbered.{numbered}
 use Rattle.claim_model.specs.Node.{Node}
 use Rattle.claim_model.specs.World.{Event}
-use Rattle.claim_model.specs.Settings.{WorldSettings, opening}
+use Rattle.claim_model.specs.Settings.{WorldSettings, Accepts, opening}
 use Rattle.claim_model.specs.Nodes.{AnyNode, node_at}
 use Rattle.claim_model.specs.Logs.{Logged, NodeLog, log_in, Makes}
 use Rattle.claim_model.specs.Interleavings.{HasLog, OnePerNode, IsInterleaving}
 use Rattle.claim_model.proofs.Lists.{all_at, all_from, all_append, numbered_append, numbered_within}
 use Rattle.claim_model.proofs.Replaying.{replays, absent_stays}
 use Rattle.claim_model.proofs.Walking.{all_right}
-use Rattle.settings_growth.specs.Growth.{Grows, with_cap, RejectionsStay}
+use Rattle.settings_growth.specs.Growth.{Grows, GrowsFor, with_cap, HasOwnCalls, RejectionsStay}
 use Rattle.settings_growth.specs.Orders.{Turn, events_of, turns_of, AreTurnsOf, HasTurns, IsMade}
 use Rattle.settings_growth.specs.GoingOver.{Added}
-use Rattle.settings_growth.proofs.Replayed.{goes_over}
+use Rattle.settings_growth.proofs.Replayed.{goes_over, goes_over_for}
+use Rattle.settings_growth.proofs.Own.{all_own}
 use Rattle.settings_growth.proofs.Turns.{MakesAt, made_turns, run_turns}
 
 -- a node without a log is none of the settings
@@ -132,16 +134,37 @@ turns_with t logs more turns added are =
       others = λ node without. are.others node (λ h. without (more_log logs more node h));
     }
 
-pub runs_over : (ctx wider : Context) (s t : WorldSettings) (logs more : List NodeLog) (events : List Event) → Grows ctx wider s t → AllByRecursion (λ (log : NodeLog). RejectionsStay ctx wider log.node log.calls) logs → Added t logs more
+-- logs that are made under the new settings, in the same turns
+over_in_turns : (ctx wider : Context) (s t : WorldSettings) (logs more : List NodeLog) (events : List Event) → AllByRecursion (IsMade wider t) logs → Added t logs more
     → IsInterleaving ctx s logs events → IsInterleaving wider t (logs ++ more) events
-runs_over ctx wider s t logs more events g stays added i =
+over_in_turns ctx wider s t logs more events made added i =
     let h = has_turns ctx s logs events i in
-    let made = all_made ctx s logs events i in
     subst (IsInterleaving wider t (logs ++ more)) h.events_are
     (legal wider t (logs ++ more) h.turns added.one
-    (all_append (IsMade wider t) logs more
-    (all_from (IsMade wider t) logs (λ n log at. made_over ctx wider s t log g (all_at (λ (x : NodeLog). RejectionsStay ctx wider x.node x.calls) logs n log stays at) (all_at (IsMade ctx s) logs n log made at)))
+    (all_append (IsMade wider t) logs more made
     (all_from (IsMade wider t) more (λ n log at. empty_made wider t log (node_at (opening t) log.node) refl
     (all_at (λ (l : NodeLog). IsSome (node_at (opening t) l.node)) more n log (all_right (λ (l : NodeLog). IsSome (node_at (opening t) l.node)) logs more added.one.known) at)
     (all_at (λ (x : NodeLog). x.calls ≡ []) more n log added.empty at))))
     (turns_with t logs more h.turns added h.turns_are))
+
+pub runs_over : (ctx wider : Context) (s t : WorldSettings) (logs more : List NodeLog) (events : List Event) → Grows ctx wider s t → AllByRecursion (λ (log : NodeLog). RejectionsStay ctx wider log.node log.calls) logs → Added t logs more
+    → IsInterleaving ctx s logs events → IsInterleaving wider t (logs ++ more) events
+runs_over ctx wider s t logs more events g stays added i =
+    let made = all_made ctx s logs events i in
+    over_in_turns ctx wider s t logs more events
+    (all_from (IsMade wider t) logs (λ n log at. made_over ctx wider s t log g (all_at (λ (x : NodeLog). RejectionsStay ctx wider x.node x.calls) logs n log stays at) (all_at (IsMade ctx s) logs n log made at)))
+    added i
+
+made_over_for : (ctx wider : Context) (s t : WorldSettings) (log : NodeLog) → GrowsFor ctx wider s t → HasOwnCalls ctx s log.calls → RejectionsStay ctx wider log.node log.calls → IsMade ctx s log → IsMade wider t log
+made_over_for ctx wider s t log g own stays m =
+    let o = goes_over_for ctx wider s t log.node m.before log.calls g m.opens own stays m.makes in
+    record { before = with_cap o.cap m.before; opens = o.opens; makes = o.makes }
+
+pub runs_over_for : (ctx wider : Context) (s t : WorldSettings) (logs more : List NodeLog) (events : List Event) → Laws ctx → Accepts ctx s → GrowsFor ctx wider s t → AllByRecursion (λ (log : NodeLog). RejectionsStay ctx wider log.node log.calls) logs → Added t logs more
+    → IsInterleaving ctx s logs events → IsInterleaving wider t (logs ++ more) events
+runs_over_for ctx wider s t logs more events laws accepts g stays added i =
+    let made = all_made ctx s logs events i in
+    let own = all_own ctx s logs events laws accepts i in
+    over_in_turns ctx wider s t logs more events
+    (all_from (IsMade wider t) logs (λ n log at. made_over_for ctx wider s t log g (all_at (λ (x : NodeLog). HasOwnCalls ctx s x.calls) logs n log own at) (all_at (λ (x : NodeLog). RejectionsStay ctx wider x.node x.calls) logs n log stays at) (all_at (IsMade ctx s) logs n log made at)))
+    added i

@@ -2,12 +2,12 @@
 use Rattle.std.proofs.Common.{◌≡◌, ℕ, zero, suc, Bool, true, false, cond, List, [], ◌∷◌, drop, length, nat_lt, Option, Some, None, Result, Ok, Err, slice_get, refl, sym, ap, ◌∙◌, subst}
 use Rattle.std.specs.Prelude.{bytes_eq}
 use Rattle.std.specs.List.{AllByRecursion}
-use Rattle.claim_model.specs.Words.{TxnId, RequestHeader, Envelope, EnvelopeFault, Answer}
+use Rattle.claim_model.specs.Words.{TxnId, RequestHeader, RouteKey, Envelope, EnvelopeFault, Answer}
 use Rattle.claim_model.specs.Context.{Context}
-use Rattle.claim_model.specs.Readable.{readable, payer_for, same_id, is_request}
+use Rattle.claim_model.specs.Readable.{readable, route_key, payer_for, same_id, is_request}
 use Rattle.claim_model.specs.declared.refusal.Refusal.{Refusal}
 use Rattle.claim_model.specs.Table.{Table, Slot, slot_of, Requested, requested_again, entered_where, requested_by, requested_readable, requested, filled, Responded, responded_with, responded_by, responded_readable, responded}
-use Rattle.claim_model.specs.Node.{Node, Pharmacy, Switch, Payer, Power, Up, AtRest, Sent, Call, Submit, Tick, Take, Stop, Start, Reprice, Outcome, Done, Refused, after_request, after_response, switch_takes, switch_step}
+use Rattle.claim_model.specs.Node.{Node, Pharmacy, Switch, Payer, Power, Up, AtRest, Sent, Call, Submit, Tick, Take, Stop, Start, Reprice, Adjudicate, Outcome, Done, Refused, after_request, after_response, switch_takes, switch_step}
 use Rattle.claim_model.specs.Settings.{WorldSettings, switches_of, opening}
 use Rattle.claim_model.specs.Nodes.{AnyNode, OfSwitch, node_step, node_at}
 use Rattle.claim_model.specs.Logs.{Logged, node_after, Makes}
@@ -16,7 +16,7 @@ use Rattle.claim_model.proofs.Options.{same_some, same_ok, cond_ok, map_some}
 use Rattle.claim_model.proofs.Tests.{bytes_same}
 use Rattle.settings_growth.specs.Growth.{Grows, RejectionStays, RejectionsStay}
 use Rattle.settings_growth.proofs.Rerouted.{rerouted, of_kind}
-use Rattle.settings_growth.proofs.Switches.{switch_over}
+use Rattle.settings_growth.proofs.Switches.{lasts, switch_over}
 use Rattle.settings_growth.proofs.Opening.{switch_there}
 
 -- each slot has a request that has a route
@@ -125,11 +125,13 @@ stays_routed ctx (Up t) (Submit text) next sent all e = absurd cc
 stays_routed ctx (Up t) Tick next sent all e = absurd cc
 stays_routed ctx (Up t) Start next sent all e = absurd cc
 stays_routed ctx (Up t) (Reprice product price) next sent all e = absurd cc
+stays_routed ctx (Up t) (Adjudicate from bytes advice) next sent all e = absurd cc
 stays_routed ctx (AtRest cap) (Submit text) next sent all e = absurd cc
 stays_routed ctx (AtRest cap) Tick next sent all e = absurd cc
 stays_routed ctx (AtRest cap) (Take from bytes) next sent all e = absurd cc
 stays_routed ctx (AtRest cap) Stop next sent all e = absurd cc
 stays_routed ctx (AtRest cap) (Reprice product price) next sent all e = absurd cc
+stays_routed ctx (AtRest cap) (Adjudicate from bytes advice) next sent all e = absurd cc
 
 -- ---- a rejected request that has a route now is forwarded now
 
@@ -158,8 +160,8 @@ two_ways ctx t e h payer next after sent a b =
     let wrong : true ≡ false = back ∙ sym on in
     absurd cc
 
-by_slot : (ctx : Context) (route : List ℕ → List ℕ → Option ℕ) (t : Table) (e : Envelope) (h : RequestHeader) (payer : ℕ) (o : Option Slot) (next after : Power Table ℕ) (sent : List Sent) → slot_of e.id t.entries ≡ o → AllByRecursion (IsRouted ctx) t.entries
-    → readable ctx e.payload ≡ Some h → payer_for ctx h ≡ None → route h.bin h.pcn ≡ Some payer
+by_slot : (ctx : Context) (route : RouteKey → Option ℕ) (t : Table) (e : Envelope) (h : RequestHeader) (payer : ℕ) (o : Option Slot) (next after : Power Table ℕ) (sent : List Sent) → slot_of e.id t.entries ≡ o → AllByRecursion (IsRouted ctx) t.entries
+    → readable ctx e.payload ≡ Some h → payer_for ctx h ≡ None → route (route_key h) ≡ Some payer
     → after_request e.id (requested_by ctx t e h o) ≡ Done next sent → after_request e.id (requested_by (rerouted ctx route) t e h o) ≡ Done after sent → ⊥
 unfolding sent_by
 by_slot ctx route t e h payer None next after sent slot all reads none some a b =
@@ -170,7 +172,7 @@ by_slot ctx route t e h payer (Some s) next after sent slot all reads none some 
     by_test true same is = slot_routed ctx t.entries e.id s h all slot (ap (readable ctx) (bytes_same s.request e.payload same) ∙ reads) none
     by_test false same is = absurd cc
 
-reads_alike : (ctx : Context) (route : List ℕ → List ℕ → Option ℕ) (text : List ℕ) → readable (rerouted ctx route) text ≡ readable ctx text
+reads_alike : (ctx : Context) (route : RouteKey → Option ℕ) (text : List ℕ) → readable (rerouted ctx route) text ≡ readable ctx text
 unfolding readable
 reads_alike ctx route text = refl
 
@@ -180,41 +182,42 @@ asks ctx t e h is reads =
     ap (λ (b : Bool). cond b (after_request e.id (cond b (requested_readable ctx t e (readable ctx e.payload)) (Err Refusal.Unreadable))) (after_response e.id (responded ctx t e))) is
     ∙ ap (λ (o : Option RequestHeader). after_request e.id (requested_readable ctx t e o)) reads
 
-forwarded : (ctx : Context) (route : List ℕ → List ℕ → Option ℕ) (t : Table) (o : Result Envelope EnvelopeFault) (e : Envelope) (h : RequestHeader) (payer : ℕ) (next after : Power Table ℕ) (sent : List Sent) → AllByRecursion (IsRouted ctx) t.entries → o ≡ Ok e → is_request e ≡ true → readable ctx e.payload ≡ Some h
-    → payer_for ctx h ≡ None → route h.bin h.pcn ≡ Some payer → switch_takes ctx t o ≡ Done next sent → switch_takes (rerouted ctx route) t o ≡ Done after sent → ⊥
+forwarded : (ctx : Context) (route : RouteKey → Option ℕ) (t : Table) (o : Result Envelope EnvelopeFault) (e : Envelope) (h : RequestHeader) (payer : ℕ) (next after : Power Table ℕ) (sent : List Sent) → AllByRecursion (IsRouted ctx) t.entries → o ≡ Ok e → is_request e ≡ true → readable ctx e.payload ≡ Some h
+    → payer_for ctx h ≡ None → route (route_key h) ≡ Some payer → switch_takes ctx t o ≡ Done next sent → switch_takes (rerouted ctx route) t o ≡ Done after sent → ⊥
 forwarded ctx route t o e h payer next after sent all opened is reads none some a b =
     by_slot ctx route t e h payer (slot_of e.id t.entries) next after sent refl all reads none some
     (sym (asks ctx t e h is reads) ∙ (ap (switch_takes ctx t) (sym opened) ∙ a))
     (sym (asks (rerouted ctx route) t e h is (reads_alike ctx route e.payload ∙ reads)) ∙ (ap (switch_takes (rerouted ctx route) t) (sym opened) ∙ b))
 
-by_route : (ctx : Context) (route : List ℕ → List ℕ → Option ℕ) (t : Table) (e : Envelope) (h : RequestHeader) (bytes : List ℕ) (o : Option ℕ) (next after : Power Table ℕ) (sent : List Sent) → AllByRecursion (IsRouted ctx) t.entries → ctx.read_envelope bytes ≡ Ok e → is_request e ≡ true → readable ctx e.payload ≡ Some h
-    → payer_for ctx h ≡ None → route h.bin h.pcn ≡ o → switch_takes ctx t (ctx.read_envelope bytes) ≡ Done next sent → switch_takes (rerouted ctx route) t (ctx.read_envelope bytes) ≡ Done after sent → route h.bin h.pcn ≡ None
+by_route : (ctx : Context) (route : RouteKey → Option ℕ) (t : Table) (e : Envelope) (h : RequestHeader) (bytes : List ℕ) (o : Option ℕ) (next after : Power Table ℕ) (sent : List Sent) → AllByRecursion (IsRouted ctx) t.entries → ctx.read_envelope bytes ≡ Ok e → is_request e ≡ true → readable ctx e.payload ≡ Some h
+    → payer_for ctx h ≡ None → route (route_key h) ≡ o → switch_takes ctx t (ctx.read_envelope bytes) ≡ Done next sent → switch_takes (rerouted ctx route) t (ctx.read_envelope bytes) ≡ Done after sent → route (route_key h) ≡ None
 by_route ctx route t e h bytes None next after sent all opened is reads none some a b = some
 by_route ctx route t e h bytes (Some payer) next after sent all opened is reads none some a b =
     absurd (forwarded ctx route t (ctx.read_envelope bytes) e h payer next after sent all opened is reads none some a b)
 
-one_stays : (ctx : Context) (route : List ℕ → List ℕ → Option ℕ) (node : Power Table ℕ) (call : Call) (next after : Power Table ℕ) (sent : List Sent) → Routed ctx node → switch_step ctx node call ≡ Done next sent → switch_step (rerouted ctx route) node call ≡ Done after sent → RejectionStays ctx (rerouted ctx route) call
-one_stays ctx route (Up t) (Take from bytes) next after sent all a b = λ e h opened is reads none. by_route ctx route t e h bytes (route h.bin h.pcn) next after sent all opened is reads none refl a b
+one_stays : (ctx : Context) (route : RouteKey → Option ℕ) (node : Power Table ℕ) (call : Call) (next after : Power Table ℕ) (sent : List Sent) → Routed ctx node → switch_step ctx node call ≡ Done next sent → switch_step (rerouted ctx route) node call ≡ Done after sent → RejectionStays ctx (rerouted ctx route) call
+one_stays ctx route (Up t) (Take from bytes) next after sent all a b = λ e h opened is reads none. by_route ctx route t e h bytes (route (route_key h)) next after sent all opened is reads none refl a b
 one_stays ctx route (AtRest cap) (Take from bytes) next after sent all a b = absurd cc
 one_stays ctx route node (Submit text) next after sent all a b = tt
 one_stays ctx route node Tick next after sent all a b = tt
 one_stays ctx route node Stop next after sent all a b = tt
 one_stays ctx route node Start next after sent all a b = tt
 one_stays ctx route node (Reprice product price) next after sent all a b = tt
+one_stays ctx route node (Adjudicate from bytes advice) next after sent all a b = tt
 
 -- ---- a whole log
 
 same_after : (x y : Power Table ℕ) (sent other : List Sent) → ◌≡◌ {A = Outcome (Power Table ℕ)} (Done x sent) (Done y other) → x ≡ y
 same_after x y sent other e = cc
 
-all_stay : (ctx : Context) (route : List ℕ → List ℕ → Option ℕ) (node : Power Table ℕ) (log : List Logged) → ((bin pcn : List ℕ) (payer : ℕ) → ctx.route bin pcn ≡ Some payer → route bin pcn ≡ Some payer) → Routed ctx node
+all_stay : (ctx : Context) (route : RouteKey → Option ℕ) (node : Power Table ℕ) (log : List Logged) → ((key : RouteKey) (payer : ℕ) → ctx.route key ≡ Some payer → route key ≡ Some payer) → Routed ctx node
     → Makes ctx (OfSwitch node) log → Makes (rerouted ctx route) (OfSwitch node) log → AllByRecursion (λ (l : Logged). RejectionStays ctx (rerouted ctx route) l.call) log
 all_stay ctx route node [] wide routed m n = tt
 all_stay ctx route node (l ∷ log) wide routed m n =
     let k = of_kind OfSwitch (switch_step ctx node l.call) (node_after (OfSwitch node) (node_step ctx (OfSwitch node) l.call)) l.sent m.0 in
     let j = of_kind OfSwitch (switch_step (rerouted ctx route) node l.call) (node_after (OfSwitch node) (node_step (rerouted ctx route) (OfSwitch node) l.call)) l.sent n.0 in
     let stays = one_stays ctx route node l.call k.after j.after l.sent routed k.is j.is in
-    let same : j.after ≡ k.after = same_after j.after k.after l.sent l.sent (sym j.is ∙ (switch_over ctx route node l.call wide stays ∙ k.is)) in (
+    let same : j.after ≡ k.after = same_after j.after k.after l.sent l.sent (sym j.is ∙ (switch_over ctx route node l.call (lasts ctx route l.call wide) stays ∙ k.is)) in (
       stays,
       all_stay ctx route k.after log wide (stays_routed ctx node l.call k.after l.sent routed k.is)
           (subst (λ (x : AnyNode). Makes ctx x log) (sym k.same) m.1)
@@ -236,7 +239,7 @@ switch_routed ctx s (suc k) node e =
     same_switch : (x y : Power Table ℕ) → OfSwitch x ≡ OfSwitch y → x ≡ y
     same_switch x y q = cc
 
-by_kind : (ctx : Context) (route : List ℕ → List ℕ → Option ℕ) (s t : WorldSettings) (node : Node) (before after : AnyNode) (log : List Logged) → Grows ctx (rerouted ctx route) s t → node_at (opening s) node ≡ Some before → node_at (opening t) node ≡ Some after
+by_kind : (ctx : Context) (route : RouteKey → Option ℕ) (s t : WorldSettings) (node : Node) (before after : AnyNode) (log : List Logged) → Grows ctx (rerouted ctx route) s t → node_at (opening s) node ≡ Some before → node_at (opening t) node ≡ Some after
     → Makes ctx before log → Makes (rerouted ctx route) after log → RejectionsStay ctx (rerouted ctx route) node log
 by_kind ctx route s t (Pharmacy n) before after log g is there m k = tt
 by_kind ctx route s t (Payer n) before after log g is there m k = tt

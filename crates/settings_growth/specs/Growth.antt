@@ -1,12 +1,13 @@
 -- Settings that grow: what may be another under the new ones, and a node with another cap.
 use Rattle.std.specs.Prelude.{◌≡◌, ⊤, ℕ, ◌≤◌, true, List, [], ◌∷◌, Some, None, Ok}
 use Rattle.std.specs.List.{AllByRecursion}
-use Rattle.claim_model.specs.Words.{RequestHeader, Envelope}
+use Rattle.claim_model.specs.Words.{RequestHeader, Envelope, RouteKey}
 use Rattle.claim_model.specs.Context.{Context}
 use Rattle.claim_model.specs.Readable.{readable, payer_for, is_request}
+use Rattle.claim_model.specs.Numbered.{numbered}
 use Rattle.claim_model.specs.Rows.{Book}
 use Rattle.claim_model.specs.Journal.{PharmacySettings, Journal, JournalAtRest}
-use Rattle.claim_model.specs.Node.{Node, Pharmacy, Switch, Payer, Power, Up, AtRest, Call, Submit, Tick, Take, Stop, Start, Reprice}
+use Rattle.claim_model.specs.Node.{Node, Pharmacy, Switch, Payer, Power, Up, AtRest, Call, Submit, Tick, Take, Stop, Start, Reprice, Adjudicate}
 use Rattle.claim_model.specs.Settings.{PayerSettings, WorldSettings}
 use Rattle.claim_model.specs.Nodes.{AnyNode, OfPharmacy, OfSwitch, OfPayer}
 use Rattle.claim_model.specs.Logs.{Logged}
@@ -14,7 +15,7 @@ use Rattle.claim_model.specs.Logs.{Logged}
 -- the same reading of bytes, under which all that had a route has it still, to the same payer
 pub record Widens (ctx wider : Context) : Type 0 where
   pub reading : wider ≡ record ctx { route = wider.route }
-  pub routes : (bin pcn : List ℕ) (payer : ℕ) → ctx.route bin pcn ≡ Some payer → wider.route bin pcn ≡ Some payer
+  pub routes : (key : RouteKey) (payer : ℕ) → ctx.route key ≡ Some payer → wider.route key ≡ Some payer
 
 -- a pharmacy's settings are the same, but that the journal may have more entries
 pub record PharmacyGrows (old new : PharmacySettings) : Type 0 where
@@ -40,6 +41,33 @@ pub record Grows (ctx wider : Context) (s t : WorldSettings) : Type 0 where
   pub switches : Extends (λ (old new : ℕ). new ≡ old) s.switches t.switches
   pub payers : Extends PayerGrows s.payers t.payers
 
+-- ---- settings that give new providers books of their own
+
+-- a provider is a pharmacy of these settings
+pub record IsOfPharmacy (s : WorldSettings) (qualifier provider : List ℕ) : Type 0 where
+  pub number : ℕ
+  pub pharmacy : PharmacySettings
+  pub at : numbered s.pharmacies number ≡ Some pharmacy
+  pub qualifier_is : pharmacy.qualifier ≡ qualifier
+  pub provider_is : pharmacy.provider ≡ provider
+
+-- the same reading of bytes, under which all that had a route has it still, to the same payer, where its provider is a pharmacy of these settings.
+-- Of other providers nothing is asked: they may get another book than the one that they would have had
+pub record WidensFor (s : WorldSettings) (ctx wider : Context) : Type 0 where
+  pub reading : wider ≡ record ctx { route = wider.route }
+  pub routes : (key : RouteKey) (payer : ℕ) → IsOfPharmacy s key.qualifier key.provider → ctx.route key ≡ Some payer → wider.route key ≡ Some payer
+
+-- nodes grow: each is there under its number, as it was or with a larger cap, a switch's cap excepted; behind them there may be more
+pub record NodesGrow (s t : WorldSettings) : Type 0 where
+  pub pharmacies : Extends PharmacyGrows s.pharmacies t.pharmacies
+  pub switches : Extends (λ (old new : ℕ). new ≡ old) s.switches t.switches
+  pub payers : Extends PayerGrows s.payers t.payers
+
+-- settings grow, and what the old pharmacies had as a route they have still
+pub record GrowsFor (ctx wider : Context) (s t : WorldSettings) : Type 0 where
+  pub widens : WidensFor s ctx wider
+  pub nodes : NodesGrow s t
+
 -- ---- a node with another cap
 
 abbrev pub journal_with_cap : ℕ → Power Journal JournalAtRest → Power Journal JournalAtRest
@@ -56,6 +84,45 @@ with_cap cap (OfPharmacy node) = OfPharmacy (journal_with_cap cap node)
 with_cap cap (OfSwitch node) = OfSwitch node
 with_cap cap (OfPayer node) = OfPayer (book_with_cap cap node)
 
+-- ---- where requests go
+
+-- a request that is taken, with an advice or without, has the route that it had
+abbrev pub PayerLasts : Context → Context → List ℕ → Type 0
+PayerLasts ctx wider bytes =
+    (e : Envelope) (h : RequestHeader) (payer : ℕ) → ctx.read_envelope bytes ≡ Ok e → is_request e ≡ true → readable ctx e.payload ≡ Some h
+    → payer_for ctx h ≡ Some payer → payer_for wider h ≡ Some payer
+
+abbrev pub RouteLasts : Context → Context → Call → Type 0
+RouteLasts ctx wider (Take from bytes) = PayerLasts ctx wider bytes
+RouteLasts ctx wider (Submit text) = ⊤
+RouteLasts ctx wider Tick = ⊤
+RouteLasts ctx wider Stop = ⊤
+RouteLasts ctx wider Start = ⊤
+RouteLasts ctx wider (Reprice product price) = ⊤
+RouteLasts ctx wider (Adjudicate from bytes advice) = PayerLasts ctx wider bytes
+
+-- so has each request that a node took
+abbrev pub RoutesLast : Context → Context → List Logged → Type 0
+RoutesLast ctx wider log = AllByRecursion (λ (l : Logged). RouteLasts ctx wider l.call) log
+
+-- a request that is taken, with an advice or without, is of a provider that is a pharmacy of these settings
+abbrev pub IsOwnPacket : Context → WorldSettings → List ℕ → Type 0
+IsOwnPacket ctx s bytes =
+    (e : Envelope) (h : RequestHeader) → ctx.read_envelope bytes ≡ Ok e → is_request e ≡ true → readable ctx e.payload ≡ Some h → IsOfPharmacy s h.qualifier h.provider
+
+abbrev pub IsOwnCall : Context → WorldSettings → Call → Type 0
+IsOwnCall ctx s (Take from bytes) = IsOwnPacket ctx s bytes
+IsOwnCall ctx s (Submit text) = ⊤
+IsOwnCall ctx s Tick = ⊤
+IsOwnCall ctx s Stop = ⊤
+IsOwnCall ctx s Start = ⊤
+IsOwnCall ctx s (Reprice product price) = ⊤
+IsOwnCall ctx s (Adjudicate from bytes advice) = IsOwnPacket ctx s bytes
+
+-- so is each request that a node took
+abbrev pub HasOwnCalls : Context → WorldSettings → List Logged → Type 0
+HasOwnCalls ctx s log = AllByRecursion (λ (l : Logged). IsOwnCall ctx s l.call) log
+
 -- ---- what a switch has rejected
 
 -- a request that is taken and had no route has none now
@@ -68,6 +135,7 @@ RejectionStays ctx wider Tick = ⊤
 RejectionStays ctx wider Stop = ⊤
 RejectionStays ctx wider Start = ⊤
 RejectionStays ctx wider (Reprice product price) = ⊤
+RejectionStays ctx wider (Adjudicate from bytes advice) = ⊤
 
 -- what a switch has rejected for want of a route has none now. Of other nodes nothing is asked
 abbrev pub RejectionsStay : Context → Context → Node → List Logged → Type 0

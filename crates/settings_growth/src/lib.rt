@@ -6,10 +6,16 @@
 
 mod growth;
 mod logs;
+mod newcomers;
 mod orders;
 mod ticks;
 
 pub use growth::growth_goes_on;
 pub use logs::{logs_go_on, logs_go_over, rejections_have_to_stay, runs_go_over};
+pub use newcomers::{
+    growth_for_pharmacies, logs_of_pharmacies_go_on, logs_of_pharmacies_go_over,
+    logs_with_their_routes_go_over, requests_are_of_pharmacies, rows_for_newcomers_may_be_added,
+    runs_of_pharmacies_go_over,
+};
 pub use orders::{legal_logs_have_turns, made_logs_are_legal};
 pub use ticks::{such_ticks_may_be_left_out, ticks_without_open_entries_do_nothing};

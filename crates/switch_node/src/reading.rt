@@ -1,14 +1,16 @@
 //! Which envelopes a switch takes.
 
-ghost use Rattle.std.specs.Prelude.{◌≡◌, IfErr, OnOk};
+ghost use Rattle.std.specs.Prelude.{◌≡◌, IfErr, IsSome, OnOk};
 ghost use Rattle.claim_model.specs.Bytes.{bytes_with};
-ghost use Rattle.claim_model.specs.Readable.{is_request, payer_for};
+ghost use Rattle.claim_model.specs.Readable.{is_request, payer_for, route_key};
+ghost use Rattle.claim_profile.specs.Readable.{readable_header};
+ghost use Rattle.d0_header.specs.Request.{request_of};
 ghost use Rattle.switch_node.specs.Sent.{content, header_in};
 ghost use Rattle.switch_node.specs.Steps.{HasHeader, IsNoRequest, HasAnswer, IsNoAnswer, HasRequest};
 
-use bin_routes::{PayerNo, Routes};
+use bin_routes::{PayerNo, RouteKey, Routes};
 use claim_model::{Fault, Refusal};
-use claim_profile::{bin_of, check_answer, check_readable, pcn_of};
+use claim_profile::{bin_of, check_answer, check_readable, pcn_of, provider_of, qualifier_of};
 use d0_header::{RequestHeader, request_text_laws};
 use envelope::{Envelope, Kind};
 
@@ -27,15 +29,26 @@ pub fn expect_request(envelope: &Envelope<'_>) -> Result<(), Fault>
     }
 }
 
-/// The payer of a request, by the routes. Of its header only the BIN number and the processor control number are read,
-/// where they stand.
+/// The payer of a request, by the routes. Of its header only what a route may look at is read, where it stands.
 #[tactic(auto, unfolding(crate::specs::Sent::header_in))]
 pub fn route_of(routes: &Routes, envelope: &Envelope<'_>) -> Option<PayerNo>
     requires { HasRequest envelope.now }
     ensures { result ≡ payer_for (bytes_with routes.now) (header_in envelope.now) }
 {
-    let request = envelope.payload();
-    routes.route(&bin_of(request), &pcn_of(request))
+    routes.payer(&key_of(envelope.payload()))
+}
+
+/// What a route may look at in a readable request.
+fn key_of(request: &[u8]) -> RouteKey
+    requires { IsSome (readable_header request.now) }
+    ensures { result ≡ route_key (request_of request.now) }
+{
+    RouteKey {
+        bin: bin_of(request),
+        pcn: pcn_of(request),
+        qualifier: qualifier_of(request),
+        provider: provider_of(request),
+    }
 }
 
 /// The header of a readable request: it is cut from the front, and what follows is not read.

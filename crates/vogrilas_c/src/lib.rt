@@ -14,7 +14,7 @@ ghost use Rattle.node_handle.specs.Messages.{Describes, Makes};
 ghost use Rattle.claim_profile.specs.Building.{billing_text, reversal_text};
 ghost use Rattle.message_making.specs.Judged.{wrong_in_billing, wrong_in_reversal};
 ghost use Rattle.message_making.specs.Made.{billing_said, reversal_said};
-ghost use Rattle.node_handle.specs.Typed.{Takes, submit_line};
+ghost use Rattle.node_handle.specs.Typed.{Adjudicates, Takes, submit_line};
 ghost use Rattle.node_handle.specs.Asked.{GivesAnswer, GivesRequest, Sizes};
 ghost use Rattle.node_handle.specs.Payments.{ListsPayments};
 ghost use Rattle.node_handle.specs.Audits.{Audits};
@@ -80,6 +80,21 @@ pub extern "C" fn vogrilas_take(
     ensures { Says result (λ said. Takes node.old.part.node from.now packet.now said node.new.part.node) }
 {
     number_of(node.receive(alloc, from, packet))
+}
+
+/// Takes a packet that has come from the node of this name, with an advice.
+#[unsafe(no_mangle)]
+pub extern "C" fn vogrilas_adjudicate(
+    alloc: Global,
+    node: &mut NodeHandle,
+    from: &[u8],
+    packet: &[u8],
+    advice: &[u8],
+) -> u32
+    ensures { Says result (λ said.
+        Adjudicates node.old.part.node from.now packet.now advice.now said node.new.part.node) }
+{
+    number_of(node.adjudicate(alloc, from, packet, advice))
 }
 
 /// Copies what is to be appended to the log, and synced: the records that the host has not said to be on disk.

@@ -3,7 +3,7 @@ use Rattle.std.proofs.Common.{◌≡◌, ℕ, zero, suc, ◌<◌, ◌≤◌, ◌
 use Rattle.claim_model.specs.declared.refusal.Refusal.{Refusal}
 use Rattle.claim_model.specs.declared.refusal.Refusal.TheVariants.{NoSuchNode, Unreadable}
 use Rattle.claim_model.specs.Numbered.{numbered}
-use Rattle.claim_model.specs.Node.{Sent, Call, Submit, Tick, Take, Stop, Start, Reprice, Outcome, Done, Refused}
+use Rattle.claim_model.specs.Node.{Sent, Call, Submit, Tick, Take, Stop, Start, Reprice, Adjudicate, Outcome, Done, Refused}
 use Rattle.claim_model.specs.Refused.{RefusedAs}
 use Rattle.node_state.specs.Taking.{IsReadable}
 use Rattle.world_core.specs.Calling.{list_after, called_at, called}
@@ -57,3 +57,4 @@ called_readable step nodes n k node (Take from bytes) e there h = λ unreadable.
 called_readable step nodes n k node Stop e there h = tt
 called_readable step nodes n k node Start e there h = tt
 called_readable step nodes n k node (Reprice product price) e there h = tt
+called_readable step nodes n k node (Adjudicate from bytes advice) e there h = tt

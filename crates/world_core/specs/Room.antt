@@ -2,8 +2,8 @@
 use Rattle.std.specs.Prelude.{ℕ, List, Option, Some, None}
 use Rattle.claim_model.specs.Numbered.{numbered}
 use Rattle.claim_model.specs.Journal.{Journal, JournalAtRest}
-use Rattle.claim_model.specs.Node.{Power, Node, Pharmacy, Switch, Payer, Call, Submit, Tick, Take, Stop, Start, Reprice}
-use Rattle.claim_model.specs.World.{Event, Submission, Ticking, Delivery, Stopping, Starting, PlanChange}
+use Rattle.claim_model.specs.Node.{Power, Node, Pharmacy, Switch, Payer, Call, Submit, Tick, Take, Stop, Start, Reprice, Adjudicate}
+use Rattle.claim_model.specs.World.{Event, Submission, Ticking, Delivery, Stopping, Starting, PlanChange, Adjudication}
 use Rattle.node_state.specs.Sends.{most_due}
 use Rattle.world_core.specs.NodeLists.{NodeLists}
 
@@ -30,6 +30,7 @@ room_asked nodes node (Take from bytes) = 1
 room_asked nodes node Stop = 1
 room_asked nodes node Start = 1
 room_asked nodes node (Reprice product price) = 1
+room_asked nodes node (Adjudicate from bytes advice) = 1
 
 -- in an event
 abbrev pub room_for : NodeLists → Event → ℕ
@@ -39,3 +40,4 @@ room_for nodes (Delivery k) = 1
 room_for nodes (Stopping node) = 1
 room_for nodes (Starting node) = 1
 room_for nodes (PlanChange n product price) = 1
+room_for nodes (Adjudication k advice) = 1

@@ -89,7 +89,8 @@ impl Nodes {
             | Event::Deliver { .. }
             | Event::Stop(_)
             | Event::Start(_)
-            | Event::Plan { .. } => 1,
+            | Event::Plan { .. }
+            | Event::Adjudicate { .. } => 1,
         }
     }
 }

@@ -2,7 +2,7 @@
 
 ghost use Rattle.std.specs.Prelude.{◌≡◌, map, option_map};
 ghost use Rattle.claim_model.specs.Numbered.{numbered};
-ghost use Rattle.claim_model.specs.Nodes.{asked, taking};
+ghost use Rattle.claim_model.specs.Nodes.{asked, taking, adjudicating};
 ghost use Rattle.world_setup.specs.Seen.{packet_seen, event_seen};
 ghost use Rattle.world_core.specs.Asked.{asked_of};
 
@@ -31,7 +31,29 @@ pub(crate) fn asked_by<'a>(
             let price = *price;
             Some((Node::Payer(*payer), Call::Plan { product, price }))
         }
+        Event::Adjudicate { packet, advice } => adjudicated(packets, *packet, advice),
     }
+}
+
+/// The addressee of the packet of a number, which takes it with an advice.
+fn adjudicated<'a>(
+    packets: &'a [Packet],
+    number: u64,
+    advice: &'a Octets,
+) -> Option<(Node, Call<&'a Octets>)>
+    ensures { option_map asked_of result
+        ≡ option_map (adjudicating advice.now) (numbered (map packet_seen packets.now) number) }
+{
+    if number == 0 || number > packets.len() as u64 {
+        return None;
+    }
+    let packet = &packets[number as usize - 1];
+    let call = Call::Adjudicate {
+        from: packet.from,
+        bytes: &packet.bytes,
+        advice,
+    };
+    Some((packet.to, call))
 }
 
 /// The addressee of the packet of a number, which takes it.

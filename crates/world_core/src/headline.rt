@@ -5,7 +5,7 @@ ghost use Rattle.claim_model.specs.Words.{TxnId};
 ghost use Rattle.claim_model.specs.Journal.{JournalAtRest};
 ghost use Rattle.claim_model.specs.Held.{journal_at};
 ghost use Rattle.claim_model.specs.World.{Event, run};
-ghost use Rattle.claim_model.specs.Promises.{RequestsAreSubmitted, AnswersAreDecided, AnswersAreWhole, OneAnswer, OneStandingPayment, ReversedByOwner, CountedPaymentsStand, StandingAreCounted, StaysDecided, DeliveriesMeet};
+ghost use Rattle.claim_model.specs.Promises.{RequestsAreSubmitted, AnswersAreDecided, AnswersAreWhole, OneAnswer, OneStandingPayment, ReversedByOwner, CountedPaymentsStand, StandingAreCounted, StaysDecided, DeliveriesMeet, AdjudicationsMeet};
 ghost use Rattle.claim_recovery.specs.Recovered.{IsOpen, Answerable, RecoveredAlone};
 ghost use Rattle.world_core.specs.Parts.{context_of};
 ghost use Rattle.world_core.specs.Headline.{PaidIsKept, FillIsPaidOnce};
@@ -98,9 +98,11 @@ impl World {
     }
 
     /// A delivery is refused only because there is no such packet, the node is down, the switch does not wait for
-    /// the answer, the pharmacy has it already, or the book or its serial numbers are used up.
+    /// the answer, the pharmacy has it already, the book or its serial numbers are used up, or the payer asks and has
+    /// no advice. So is an adjudication of a packet for a payer that asks.
     pub fn deliveries_meet_few_refusals(&self)
-        ensures { DeliveriesMeet (context_of self.now) self.now.world }
+        ensures deliveries { DeliveriesMeet (context_of self.now) self.now.world }
+        ensures adjudications { AdjudicationsMeet (context_of self.now) self.now.world }
     {
         let _ = &self.parts;
         deliveries_meet_few_refusals();

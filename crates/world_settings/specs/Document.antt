@@ -1,5 +1,5 @@
 -- The settings of a world that a table and a text spell.
-use Rattle.std.specs.Prelude.{ℕ, ◌≡◌, List, [], ◌∷◌, map, codes, Option, Some, None, if◌then◌else◌}
+use Rattle.std.specs.Prelude.{ℕ, ◌≡◌, Bool, true, false, List, [], ◌∷◌, map, codes, Option, Some, None, if◌then◌else◌}
 use Rattle.std.specs.Str.{is_utf8}
 use Rattle.input_text.specs.Options.{◌>>=◌}
 use Rattle.toml.specs.Data.{Members}
@@ -28,15 +28,15 @@ pub record Document : Type 0 where
 abbrev pub document_keys : List (List ℕ)
 document_keys = codes "again" ∷ codes "tries" ∷ codes "pharmacy" ∷ codes "switch" ∷ codes "payer" ∷ codes "route" ∷ []
 
--- the settings that the values of a table spell
-unfoldable pub document_with : Members → Option Document
-document_with table = do
+-- the settings that the values of a table spell; in wide ones payers may ask, and routes may be for some providers alone
+unfoldable pub document_with : Bool → Members → Option Document
+document_with wide table = do
   again ← number_at (codes "again") 4294967295 table
   tries ← number_at (codes "tries") 4294967295 table
   pharmacies ← list_at (pharmacy_in again tries) (codes "pharmacy") table
   switches ← list_at switch_in (codes "switch") table
-  payers ← list_at payer_in (codes "payer") table
-  routes ← list_at route_in (codes "route") table
+  payers ← list_at (payer_in wide) (codes "payer") table
+  routes ← list_at (route_in wide) (codes "route") table
   Some (record { world = record { pharmacies = pharmacies; switches = switches; payers = map payer_seen payers }; routes = routes })
 
 -- settings, where they stay within the limits
@@ -44,12 +44,12 @@ abbrev pub allowed : Limits → Document → Option Document
 allowed limits d = if allows limits d.world then Some d else None
 
 -- the settings that the values of a table spell, within limits
-abbrev pub settings_within : Limits → Members → Option Document
-settings_within limits table = document_with table >>= allowed limits
+abbrev pub settings_within : Bool → Limits → Members → Option Document
+settings_within wide limits table = document_with wide table >>= allowed limits
 
 -- the settings that a table spells, within the stated limits
 abbrev pub settings_of : Members → Option Document
-settings_of table = only_with document_keys table (settings_within stated table)
+settings_of table = only_with document_keys table (settings_within false stated table)
 
 -- the keys of a document that may state its limits
 abbrev pub living_keys : List (List ℕ)
@@ -57,7 +57,7 @@ living_keys = codes "limits" ∷ document_keys
 
 -- the settings that the values of a table spell, within the limits that it states
 abbrev pub living_with : Members → Option Document
-living_with table = limits_in table >>= (λ limits. settings_within limits table)
+living_with table = limits_in table >>= (λ limits. settings_within true limits table)
 
 abbrev pub living_of : Members → Option Document
 living_of table = only_with living_keys table (living_with table)

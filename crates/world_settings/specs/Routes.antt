@@ -1,21 +1,68 @@
 -- The row that a table of the array `route` spells. Whether its texts are a BIN number and a processor control number is judged
 -- where a table of routes is made.
-use Rattle.std.specs.Prelude.{ℕ, List, [], ◌∷◌, codes, Option, Some, None}
+use Rattle.std.specs.Prelude.{ℕ, Bool, true, false, ◌||◌, List, [], ◌∷◌, codes, Option, Some, None, is_some, if◌then◌else◌}
+use Rattle.std.specs.List.{list_all}
 use Rattle.std.specs.Option.{option_map}
 use Rattle.input_text.specs.Options.{◌>>=◌}
 use Rattle.toml.specs.Data.{Data, Members, get_member, as_str, as_table}
+use Rattle.d0_header.specs.Field.{is_plain}
 use Rattle.bin_routes.specs.Row.{Row}
-use Rattle.world_settings.specs.Values.{number_at, text_at}
+use Rattle.bin_routes.specs.Providers.{Providers, is_up_to}
+use Rattle.world_settings.specs.Values.{number_at, text_at, filled}
 use Rattle.world_settings.specs.Keys.{only_with}
 
--- the keys of a route; `pcn` may be left out
-abbrev pub route_keys : List (List ℕ)
-route_keys = codes "bin" ∷ codes "payer" ∷ codes "pcn" ∷ []
+-- the keys of a route; `pcn` may be left out, and where settings are wide those of its providers
+abbrev pub route_keys : Bool → List (List ℕ)
+route_keys false = codes "bin" ∷ codes "payer" ∷ codes "pcn" ∷ []
+route_keys true = codes "bin" ∷ codes "payer" ∷ codes "pcn" ∷ codes "qualifier" ∷ codes "provider" ∷ codes "first" ∷ codes "last" ∷ []
 
 -- the processor control number, where there may be none; an empty one is one
 abbrev pub pcn_of : Option Data → Option (Option (List ℕ))
 pcn_of None = Some None
 pcn_of (Some value) = option_map (λ text. Some text) (as_str value)
+
+-- a text without separators, filled with spaces
+abbrev pub plain_text : List ℕ → Option (List ℕ)
+plain_text text = if list_all is_plain text then Some text else None
+
+abbrev pub plain_at : ℕ → List ℕ → Members → Option (List ℕ)
+plain_at width key table = (text_at key table >>= filled width) >>= plain_text
+
+-- whether a table has a key
+abbrev pub has : List ℕ → Members → Bool
+has key table = is_some (get_member key table)
+
+-- providers from the first to the last, which is not before it
+abbrev pub ranging : List ℕ → List ℕ → List ℕ → Option Providers
+ranging qualifier first last = if is_up_to first last then Some (record { qualifier = qualifier; first = first; last = last }) else None
+
+-- one provider of a qualifier
+unfoldable pub one_provider : Members → Option Providers
+one_provider table = do
+  qualifier ← plain_at 2 (codes "qualifier") table
+  provider ← plain_at 15 (codes "provider") table
+  Some (record { qualifier = qualifier; first = provider; last = provider })
+
+-- several
+unfoldable pub some_providers : Members → Option Providers
+some_providers table = do
+  qualifier ← plain_at 2 (codes "qualifier") table
+  first ← plain_at 15 (codes "first") table
+  last ← plain_at 15 (codes "last") table
+  ranging qualifier first last
+
+-- the providers that a route is for: one, or those from the first to the last
+abbrev pub named_providers : Members → Option Providers
+named_providers table =
+    if has (codes "provider") table then (if has (codes "first") table || has (codes "last") table then None else one_provider table) else some_providers table
+
+-- whether a route is for some providers alone
+abbrev pub names_providers : Members → Bool
+names_providers table = (has (codes "qualifier") table || has (codes "provider") table) || (has (codes "first") table || has (codes "last") table)
+
+-- the providers of a route, where it is not for all
+abbrev pub providers_of : Members → Option (Option Providers)
+providers_of table = if names_providers table then option_map (λ (p : Providers). Some p) (named_providers table) else Some None
 
 -- the row that the values of a table spell
 unfoldable pub route_with : Members → Option Row
@@ -23,11 +70,12 @@ route_with table = do
   bin ← text_at (codes "bin") table
   payer ← number_at (codes "payer") 65535 table
   pcn ← pcn_of (get_member (codes "pcn") table)
-  Some (record { bin = bin; pcn = pcn; payer = payer })
+  providers ← providers_of table
+  Some (record { bin = bin; pcn = pcn; providers = providers; payer = payer })
 
-abbrev pub route_of : Members → Option Row
-route_of table = only_with route_keys table (route_with table)
+abbrev pub route_of : Bool → Members → Option Row
+route_of wide table = only_with (route_keys wide) table (route_with table)
 
 -- the same of a value, which has to be a table
-abbrev pub route_in : Data → Option Row
-route_in value = as_table value >>= route_of
+abbrev pub route_in : Bool → Data → Option Row
+route_in wide value = as_table value >>= route_of wide

@@ -10,6 +10,7 @@ mod limits;
 mod lists;
 mod payers;
 mod pharmacies;
+mod ranges;
 mod routes;
 mod settings;
 mod values;

@@ -7,7 +7,8 @@ ghost use Rattle.toml.specs.View.{view, table_view};
 ghost use Rattle.claim_model.specs.Limits.{widest};
 ghost use Rattle.payer_book.specs.Settings.{settings_within};
 ghost use Rattle.plan_rules.specs.Terms.{largest};
-ghost use Rattle.world_settings.specs.Payers.{bare_plan, cap_taken, payer_in, payer_of, payer_with, priced, switch_in, switch_of, with_price, with_prices};
+ghost use Rattle.world_settings.specs.Keys.{keys_among};
+ghost use Rattle.world_settings.specs.Payers.{asked, asks_of, bare_plan, cap_taken, payer_in, payer_keys, payer_of, payer_with, priced, switch_in, switch_of, with_price, with_prices};
 
 use crate::keys::has_only;
 use crate::lists::Reader;
@@ -32,7 +33,10 @@ pub(crate) struct Switches;
 
 /// Reads payers.
 #[derive(Clone, Copy)]
-pub(crate) struct Payers;
+pub(crate) struct Payers {
+    /// Whether a payer may ask.
+    pub(crate) wide: bool,
+}
 
 impl Reader<SwitchSettings> for Switches {
     ghost spelled = { λ _. switch_in };
@@ -46,11 +50,11 @@ impl Reader<SwitchSettings> for Switches {
 }
 
 impl Reader<PayerSettings> for Payers {
-    ghost spelled = { λ _. payer_in };
+    ghost spelled = { λ reader. payer_in reader.wide };
 
     fn read(&self, alloc: Global, value: &Value) -> Result<Option<PayerSettings>, AllocError> {
         match value.as_table() {
-            Some(table) => payer_of(alloc, table),
+            Some(table) => payer_of(alloc, self.wide, table),
             None => Ok(None),
         }
     }
@@ -79,14 +83,24 @@ fn cap_taken(cap: u32) -> Option<SwitchSettings>
     }
 }
 
-/// The settings of a payer that a table spells.
-fn payer_of(alloc: Global, table: &Table) -> Result<Option<PayerSettings>, AllocError>
-    ensures { IfOk result (λ settings. settings ≡ payer_of (table_view table.now)) }
+/// The settings of a payer that a table spells, which may ask where settings are wide.
+fn payer_of(alloc: Global, wide: bool, table: &Table) -> Result<Option<PayerSettings>, AllocError>
+    ensures { IfOk result (λ settings. settings ≡ payer_of wide (table_view table.now)) }
 {
-    if !has_only(table, &["fee", "copay", "cap", "serial", "prices"]) {
+    if !has_payer_keys(wide, table) {
         return Ok(None);
     }
     payer_with(alloc, table)
+}
+
+/// Whether each key of a table is one of a payer's.
+fn has_payer_keys(wide: bool, table: &Table) -> bool
+    ensures { result ≡ keys_among (payer_keys wide) (table_view table.now) }
+{
+    if wide {
+        return has_only(table, &["asks", "fee", "copay", "cap", "serial", "prices"]);
+    }
+    has_only(table, &["fee", "copay", "cap", "serial", "prices"])
 }
 
 /// The settings that the values of a table spell.
@@ -109,6 +123,10 @@ fn payer_with(alloc: Global, table: &Table) -> Result<Option<PayerSettings>, All
     let Some(book) = book_taken(serial, cap) else {
         return Ok(None);
     };
+    let Some(asks) = asks_of(table) else {
+        return Ok(None);
+    };
+    let book = if asks { book.asking() } else { book };
     let bare = bare_plan(alloc, fee, copay);
     match with_prices(bare, table)? {
         Some(plan) => Ok(Some(PayerSettings::new(book, plan))),
@@ -124,6 +142,29 @@ fn book_taken(serial: u64, cap: u32) -> Option<BookSettings>
         Ok(settings) => Some(settings),
         Err(_) => None,
     }
+}
+
+/// Whether the payer asks for a verdict on each claim that is to be priced; `None` where the key says something else.
+fn asks_of(table: &Table) -> Option<bool>
+    ensures { result ≡ asks_of (get_member (codes "asks") (table_view table.now)) }
+{
+    match value_at(table, "asks") {
+        None => Some(false),
+        Some(value) => match value.as_str() {
+            Some(text) => asked(text.as_bytes()),
+            None => None,
+        },
+    }
+}
+
+/// What is asked for: claims.
+fn asked(text: &[u8]) -> Option<bool>
+    ensures { result ≡ asked text.now }
+{
+    if text == b"claims".as_slice() {
+        return Some(true);
+    }
+    None
 }
 
 /// The plan without products.

@@ -43,9 +43,10 @@ pub fn read_settings(alloc: Global, text: &[u8]) -> Result<WorldSettings, Settin
     }
 }
 
-/// The same of a text that may state its limits, for programs that live: at the key `limits` a table of `pharmacies`
-/// (at most 65,535), `switches`, `payers` (at most 4,096 each) and `entries` (at most 16,777,216, which is for every cap),
-/// each of which may be left out, and is then as without the table (own).
+/// The same of wide settings, for programs that live. At the key `limits` they may state a table of `pharmacies` (at most
+/// 65,535), `switches`, `payers` (at most 4,096 each) and `entries` (at most 16,777,216, which is for every cap), each of
+/// which may be left out, and is then as without the table. A payer may have the key `asks`, which says `claims`, and a
+/// route the keys `qualifier` and `provider`, or `qualifier`, `first` and `last`, of the providers that it is for (own).
 ///
 /// # Errors
 /// `Settings` exactly where the text spells none; `OutOfMemory` may stand in place of any answer.
@@ -74,7 +75,7 @@ fn settings_of(alloc: Global, table: &Table) -> Result<Option<WorldSettings>, Al
     ) {
         return Ok(None);
     }
-    settings_within(alloc, Limits::stated(), table)
+    settings_within(alloc, false, Limits::stated(), table)
 }
 
 /// The settings that a table spells, within the limits that it states.
@@ -97,21 +98,22 @@ fn living_with(alloc: Global, table: &Table) -> Result<Option<WorldSettings>, Al
     ensures { IfOk result (λ settings. option_map document_seen settings ≡ living_with (table_view table.now)) }
 {
     match limits_in(table) {
-        Some(limits) => settings_within(alloc, limits, table),
+        Some(limits) => settings_within(alloc, true, limits, table),
         None => Ok(None),
     }
 }
 
-/// The settings that the values of a table spell, within limits.
+/// The settings that the values of a table spell, within limits; wide ones have further keys.
 fn settings_within(
     alloc: Global,
+    wide: bool,
     limits: Limits,
     table: &Table,
 ) -> Result<Option<WorldSettings>, AllocError>
     ensures { IfOk result (λ settings. option_map document_seen settings
-        ≡ settings_within limits (table_view table.now)) }
+        ≡ settings_within wide limits (table_view table.now)) }
 {
-    match document_with(alloc, table)? {
+    match document_with(alloc, wide, table)? {
         Some(settings) => Ok(allowed(limits, settings)),
         None => Ok(None),
     }
@@ -127,13 +129,14 @@ fn allowed(limits: Limits, settings: WorldSettings) -> Option<WorldSettings>
     Some(settings)
 }
 
-/// The settings that the values of a table spell.
+/// The settings that the values of a table spell; in wide ones payers may ask, and routes may be for some providers alone.
 #[tactic(auto, unfolding(crate::specs::Document::document_with))]
 pub(crate) fn document_with(
     alloc: Global,
+    wide: bool,
     table: &Table,
 ) -> Result<Option<WorldSettings>, AllocError>
-    ensures { IfOk result (λ settings. option_map document_seen settings ≡ document_with (table_view table.now)) }
+    ensures { IfOk result (λ settings. option_map document_seen settings ≡ document_with wide (table_view table.now)) }
 {
     let (Some(again), Some(tries)) = (word_at(table, "again"), word_at(table, "tries")) else {
         return Ok(None);
@@ -144,10 +147,10 @@ pub(crate) fn document_with(
     let Some(switches) = list_at(alloc, table, "switch", &Switches)? else {
         return Ok(None);
     };
-    let Some(payers) = list_at(alloc, table, "payer", &Payers)? else {
+    let Some(payers) = list_at(alloc, table, "payer", &Payers { wide })? else {
         return Ok(None);
     };
-    let Some(routes) = list_at(alloc, table, "route", &Routes)? else {
+    let Some(routes) = list_at(alloc, table, "route", &Routes { wide })? else {
         return Ok(None);
     };
     Ok(Some(WorldSettings {

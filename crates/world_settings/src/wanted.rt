@@ -29,6 +29,8 @@ pub(crate) enum Wanted {
     Bin,
     /// A text of at most ten bytes, without a separator or a space at its end.
     Pcn,
+    /// What a payer asks for.
+    Asked,
     /// The numbers of switches.
     Switches,
     /// The numbers of switches, none over this one.
@@ -49,6 +51,8 @@ const MOST_SERIAL: i64 = 999_999_999_999;
 const BIN_DIGITS: usize = 6;
 /// The most bytes of a processor control number (104-A4).
 const MOST_PCN: usize = 10;
+/// What a payer may ask for.
+const ASKED: &str = "claims";
 /// The most bytes of a product (407-D7).
 const MOST_PRODUCT: usize = 19;
 
@@ -95,11 +99,30 @@ pub(crate) const PAYER: &[Key] = &[
     Key::AtWill("serial", Wanted::Number(1, MOST_SERIAL)),
     Key::AtWill("prices", Wanted::Prices),
 ];
+/// The keys of a payer in wide settings.
+pub(crate) const LIVING_PAYER: &[Key] = &[
+    Key::AtWill("asks", Wanted::Asked),
+    Key::Needed("fee", Wanted::Number(0, MOST_CENTS)),
+    Key::Needed("copay", Wanted::Number(0, MOST_CENTS)),
+    Key::Needed("cap", Wanted::Cap),
+    Key::AtWill("serial", Wanted::Number(1, MOST_SERIAL)),
+    Key::AtWill("prices", Wanted::Prices),
+];
 /// The keys of a route.
 pub(crate) const ROUTE: &[Key] = &[
     Key::Needed("bin", Wanted::Bin),
     Key::Needed("payer", Wanted::Payer),
     Key::AtWill("pcn", Wanted::Pcn),
+];
+/// The keys of a route in wide settings.
+pub(crate) const LIVING_ROUTE: &[Key] = &[
+    Key::Needed("bin", Wanted::Bin),
+    Key::Needed("payer", Wanted::Payer),
+    Key::AtWill("pcn", Wanted::Pcn),
+    Key::AtWill("qualifier", Wanted::Text(2)),
+    Key::AtWill("provider", Wanted::Text(15)),
+    Key::AtWill("first", Wanted::Text(15)),
+    Key::AtWill("last", Wanted::Text(15)),
 ];
 
 impl Key {
@@ -151,6 +174,7 @@ impl Wanted {
                     && !ends_in_space(text.as_bytes()),
                 None => false,
             },
+            Wanted::Asked => value.as_str() == Some(ASKED),
             Wanted::Cap | Wanted::Payer => value.as_integer().is_some(),
             Wanted::Switches => are_switches(value, i64::MAX),
             Wanted::SwitchesTo(most) => are_switches(value, most),
@@ -172,6 +196,7 @@ impl Display for Wanted {
                     "a text of at most 10 bytes without separators and without a space at its end",
                 )
             }
+            Wanted::Asked => f.write_str("the text claims"),
             Wanted::Cap => f.write_str("a cap"),
             Wanted::Payer => f.write_str("the number of a payer"),
             Wanted::Switches | Wanted::SwitchesTo(_) => {

@@ -1,8 +1,11 @@
 //! What is wrong in a text of settings, for people.
 
 use crate::limits::limits_in;
+use crate::ranges::providers_of;
 use crate::settings::document_with;
-use crate::wanted::{Key, LIMITS, LIVING_TOP, PAYER, PHARMACY, ROUTE, SWITCH, TOP};
+use crate::wanted::{
+    Key, LIMITS, LIVING_PAYER, LIVING_ROUTE, LIVING_TOP, PAYER, PHARMACY, ROUTE, SWITCH, TOP,
+};
 use claim_model::Limits;
 use std::alloc::{AllocError, Global};
 use toml::de::Error as TomlError;
@@ -27,6 +30,13 @@ enum Reader {
     Stated,
     /// A program that takes the limits that a text states.
     Living,
+}
+
+impl Reader {
+    /// Whether it takes wide settings.
+    fn is_living(self) -> bool {
+        matches!(self, Reader::Living)
+    }
 }
 
 /// What is wrong in a text of settings for who reads it.
@@ -59,8 +69,9 @@ fn whole_fault(
     alloc: Global,
     document: &Table,
     limits: Limits,
+    reader: Reader,
 ) -> Result<Option<String>, AllocError> {
-    let Some(settings) = document_with(alloc, document)? else {
+    let Some(settings) = document_with(alloc, reader.is_living(), document)? else {
         return Ok(None);
     };
     if has_too_many(&settings, limits) {
@@ -94,9 +105,9 @@ fn document_fault(
     document: &Table,
     reader: Reader,
 ) -> Result<Option<String>, AllocError> {
-    let top = match reader {
-        Reader::Stated => TOP,
-        Reader::Living => LIVING_TOP,
+    let (top, payer, route) = match reader {
+        Reader::Stated => (TOP, PAYER, ROUTE),
+        Reader::Living => (LIVING_TOP, LIVING_PAYER, LIVING_ROUTE),
     };
     if let Some(told) = table_fault(alloc, "the settings", document, top, Limits::stated())? {
         return Ok(Some(told));
@@ -108,15 +119,18 @@ fn document_fault(
     let arrays = [
         ("pharmacy", PHARMACY),
         ("switch", SWITCH),
-        ("payer", PAYER),
-        ("route", ROUTE),
+        ("payer", payer),
+        ("route", route),
     ];
     for (name, keys) in arrays {
         if let Some(told) = tables_fault(alloc, document, name, keys, limits)? {
             return Ok(Some(told));
         }
     }
-    whole_fault(alloc, document, limits)
+    if let Some(told) = providers_fault(alloc, document)? {
+        return Ok(Some(told));
+    }
+    whole_fault(alloc, document, limits, reader)
 }
 
 /// What is wrong with a key of the limits.
@@ -147,6 +161,25 @@ fn tables_fault(
     for (passed, value) in list.as_slice().iter().enumerate() {
         if let Some(told) = item_fault(alloc, name, passed, value, keys, limits)? {
             return Ok(Some(told));
+        }
+    }
+    Ok(None)
+}
+
+/// What is wrong with the providers of a route, of which each key is as it is wanted.
+fn providers_fault(alloc: Global, document: &Table) -> Result<Option<String>, AllocError> {
+    let Some(list) = document.get("route").and_then(Value::as_array) else {
+        return Ok(None);
+    };
+    for (passed, value) in list.as_slice().iter().enumerate() {
+        if let Some(table) = value.as_table() {
+            if providers_of(table).is_none() {
+                let number = passed.saturating_add(1);
+                let told = format!(in alloc;
+                    "providers of [[route]] {number}: qualifier and provider are wanted, or qualifier, first and last, which is not before the first"
+                )?;
+                return Ok(Some(told));
+            }
         }
     }
     Ok(None)

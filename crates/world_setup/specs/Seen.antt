@@ -29,6 +29,7 @@ call_as read (call.Take from bytes) = model.Take (node_seen from) (read bytes)
 call_as read call.Stop = model.Stop
 call_as read call.Start = model.Start
 call_as read (call.Plan product price) = model.Reprice (read product) price
+call_as read (call.Adjudicate from bytes advice) = model.Adjudicate (node_seen from) (read bytes) (read advice)
 
 -- a call with texts of its own
 abbrev pub call_seen : Call (List ℕ) → model.Call
@@ -54,6 +55,7 @@ event_seen (event.Deliver packet) = world.Delivery packet
 event_seen (event.Stop node) = world.Stopping (node_seen node)
 event_seen (event.Start node) = world.Starting (node_seen node)
 event_seen (event.Plan payer product price) = world.PlanChange payer product price
+event_seen (event.Adjudicate packet advice) = world.Adjudication packet advice
 
 -- what a payer is opened with
 abbrev pub payer_seen : PayerSettings → opened.PayerSettings

@@ -32,6 +32,15 @@ pub enum Call<O = Octets> {
         /// Its price in ten-thousandths of a dollar a unit, or `None` to take it off the plan.
         price: Option<u32>,
     },
+    /// A payer that asks takes a packet with an advice.
+    Adjudicate {
+        /// Who sent the packet.
+        from: Node,
+        /// The packet's bytes.
+        bytes: O,
+        /// The answer of the payer's own system to the request in the packet.
+        advice: O,
+    },
 }
 
 impl Call {
@@ -48,6 +57,15 @@ impl Call {
             Call::Plan { product, price } => Call::Plan {
                 product,
                 price: *price,
+            },
+            Call::Adjudicate {
+                from,
+                bytes,
+                advice,
+            } => Call::Adjudicate {
+                from: *from,
+                bytes,
+                advice,
             },
         }
     }

@@ -37,4 +37,11 @@ pub enum Event {
         /// Its price in ten-thousandths of a dollar a unit, or `None` to take it off the plan.
         price: Option<u32>,
     },
+    /// The packet of this number, from 1, reaches its addressee, a payer that asks, with an advice.
+    Adjudicate {
+        /// The packet's number.
+        packet: u64,
+        /// The answer of the payer's own system to the request in the packet.
+        advice: Octets,
+    },
 }

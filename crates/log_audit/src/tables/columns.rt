@@ -119,6 +119,8 @@ pub(crate) fn put_counted_names(out: &mut Vec<u8>) -> Result<(), AllocError>
             b"fee_cents",
             b"copay_cents",
             b"paid_cents",
+            b"prescription",
+            b"fill",
         ],
     )
 }

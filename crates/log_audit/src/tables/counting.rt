@@ -22,6 +22,8 @@ pub(crate) struct CountedTexts<'a> {
     pub(crate) fee: u64,
     pub(crate) copay: u64,
     pub(crate) paid: u64,
+    pub(crate) prescription: u64,
+    pub(crate) fill: u64,
 }
 
 /// Appends a row for each payment that a pharmacy counts, in the order in which its entries named them first.
@@ -66,6 +68,7 @@ fn put_payment(
     let auth = payment.auth();
     let digits = auth.digits();
     let amounts = payment.amounts();
+    let fill = payment.fill();
     let told = CountedTexts {
         pharmacy: u64::from(pharmacy),
         payer: u64::from(auth.payer()),
@@ -74,6 +77,8 @@ fn put_payment(
         fee: u64::from(amounts.fee()),
         copay: u64::from(amounts.copay()),
         paid: u64::from(amounts.total()),
+        prescription: fill.prescription,
+        fill: u64::from(fill.fill),
     };
     put_told(out, style, &told)
 }
@@ -91,6 +96,8 @@ fn put_told(out: &mut Vec<u8>, style: Style, told: &CountedTexts<'_>) -> Result<
         Field::number(b"fee_cents", told.fee),
         Field::number(b"copay_cents", told.copay),
         Field::number(b"paid_cents", told.paid),
+        Field::number(b"prescription", told.prescription),
+        Field::number(b"fill", told.fill),
     ];
     put_row(out, style, &fields)
 }

@@ -5,7 +5,7 @@ ghost use Rattle.claim_model.specs.Book.{row_of};
 ghost use Rattle.payer_book.specs.declared.fault.RowFault.TheVariants.{OutOfMemory};
 ghost use Rattle.payer_book.specs.Books.{reading};
 ghost use Rattle.payer_book.specs.Added.{with_row, with_kept, added};
-ghost use Rattle.payer_book.specs.Made.{PaysAmounts};
+ghost use Rattle.claim_model.specs.Laws.{AdvisesWell};
 ghost use Rattle.payer_book.specs.Entries.{IsEntry};
 
 use crate::book::Book;
@@ -13,9 +13,9 @@ use crate::book::row::Row;
 use crate::fault::RowFault;
 use crate::ruling::drafting::Draft;
 use crate::ruling::pricing::Prices;
+use claim_model::bytes_keep_laws;
 use claim_profile::{Answer, AnswerFault, check_readable, read_answer};
 use envelope::TxnId;
-use overpunch::amount_in_range;
 use std::alloc::Global;
 
 impl Book {
@@ -85,7 +85,10 @@ impl Book {
             None => return Err(RowFault::BadRow),
         };
         let said = said(alloc, answer)?;
-        let prices = Prices::Kept(said.rulings());
+        let prices = Prices::Kept {
+            asks: self.settings.asks(),
+            said: said.rulings(),
+        };
         let row = self.prepare(alloc, draft, id, &framed, request, prices)?;
         if row.answer() != answer {
             return Err(RowFault::BadRow);
@@ -98,10 +101,10 @@ impl Book {
 fn said(alloc: Global, answer: &[u8]) -> Result<Answer, RowFault>
     ensures read { IfOk result (λ a. reading.read_answer answer.now
         ≡ Some (record { header = a.header; rulings = a.rulings })) }
-    ensures pays { IfOk result (λ a. PaysAmounts a.rulings) }
+    ensures says { IfOk result (λ a. AdvisesWell a.rulings) }
     ensures fault { IfErr result (λ e. e ≢ OutOfMemory → reading.read_answer answer.now ≡ None) }
 {
-    amount_in_range();
+    bytes_keep_laws();
     match read_answer(alloc, answer) {
         Ok(answer) => Ok(answer),
         Err(AnswerFault::OutOfMemory) => Err(RowFault::OutOfMemory),

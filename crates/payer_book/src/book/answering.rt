@@ -1,7 +1,7 @@
 //! Answering a request: the kept answer of a known number, or a new row.
 
 ghost use Rattle.std.specs.Prelude.{◌≡◌, OnErr, Ok, None};
-ghost use Rattle.claim_model.specs.Book.{row_of};
+ghost use Rattle.claim_model.specs.Book.{row_of, unadvised};
 ghost use Rattle.payer_book.specs.Answers.{Answers, Refuses};
 
 use crate::book::{Book, Reply};
@@ -22,11 +22,11 @@ impl Book {
     /// stand in place of any answer. The book is as it was after each of them.
     pub fn answer(&mut self, routes: &Routes, id: TxnId, request: &[u8]) -> Result<Reply, Fault>
         ensures ok { Answers routes.now self.old id request.now self.new result }
-        ensures fault { Refuses routes.now self.old id request.now result }
+        ensures fault { Refuses routes.now self.old unadvised id request.now result }
         ensures err { OnErr result (self.new ≡ self.old) }
     {
         let alloc = self.allocator();
-        if let Some(place) = self.known(routes, id, request)? {
+        if let Some(place) = self.known(routes, id, request, &[])? {
             let bytes = Vec::from_slice(alloc, self.row_at(place).answer())?;
             return Ok(Reply { bytes, kept: true });
         }
@@ -47,10 +47,10 @@ impl Book {
     ) -> Result<Reply, Fault>
         requires { row_of id self.old.rows ≡ None }
         ensures ok { Answers routes.now self.old id request.now self.new result }
-        ensures fault { Refuses routes.now self.old id request.now result }
+        ensures fault { Refuses routes.now self.old unadvised id request.now result }
         ensures err { OnErr result (self.new ≡ self.old) }
     {
-        let row = self.decide_new(alloc, draft, routes, id, request)?;
+        let row = self.decide_new(alloc, draft, routes, id, request, &[])?;
         let bytes = Vec::from_slice(alloc, row.answer())?;
         self.enter(row, draft.changes.as_slice())?;
         Ok(Reply { bytes, kept: false })

@@ -1,8 +1,11 @@
 //! What a book decides on a request: the row that it has for it, or a new one. The book is not changed here.
 
 ghost use Rattle.std.specs.Prelude.{◌≡◌, IfOk, OnOk, Some, None};
+ghost use Rattle.claim_model.specs.Laws.{AdvisesWell};
+ghost use Rattle.payer_book.specs.Drafts.{pricing, pricing_of, Suits};
+ghost use Rattle.payer_book.specs.Made.{ArePrices};
 ghost use Rattle.claim_model.specs.Bytes.{bytes_with};
-ghost use Rattle.claim_model.specs.Readable.{is_payer, payer_for};
+ghost use Rattle.claim_model.specs.Readable.{is_payer, payer_for, route_key};
 ghost use Rattle.claim_model.specs.Book.{row_of};
 ghost use Rattle.payer_book.specs.Deciding.{IsKnown, IsAgain, IsNew};
 ghost use Rattle.payer_book.specs.Answers.{Refuses};
@@ -11,9 +14,9 @@ use crate::book::Book;
 use crate::book::row::Row;
 use crate::ruling::drafting::Draft;
 use crate::ruling::pricing::Prices;
-use bin_routes::{PayerNo, Routes};
+use bin_routes::{PayerNo, RouteKey, Routes};
 use claim_model::{Fault, Refusal};
-use claim_profile::check_readable;
+use claim_profile::{Ruling, check_readable};
 use d0_header::RequestHeader;
 use envelope::TxnId;
 use std::alloc::Global;
@@ -26,14 +29,16 @@ impl Book {
         routes: &Routes,
         id: TxnId,
         request: &[u8],
+        advice: &[Ruling],
     ) -> Result<Option<usize>, Fault>
-        ensures known { IfOk result (λ place. IsKnown (bytes_with routes.now) self.now id request.now place) }
-        ensures fault { Refuses routes.now self.now id request.now result }
+        ensures known { IfOk result
+            (λ place. IsKnown (bytes_with routes.now) self.now advice.now id request.now place) }
+        ensures fault { Refuses routes.now self.now advice.now id request.now result }
     {
         let Some(place) = self.place_of(id) else {
             return Ok(None);
         };
-        self.decide_known(routes, id, self.row_at(place), request)?;
+        self.decide_known(routes, id, self.row_at(place), request, advice)?;
         Ok(Some(place))
     }
 
@@ -44,13 +49,14 @@ impl Book {
         id: TxnId,
         row: &Row,
         request: &[u8],
+        advice: &[Ruling],
     ) -> Result<(), Fault>
         requires { row_of id self.now.rows ≡ Some row.now }
-        ensures decided { OnOk result (IsAgain (bytes_with routes.now) self.now id request.now row.now) }
-        ensures fault { Refuses routes.now self.now id request.now result }
+        ensures decided { OnOk result (IsAgain (bytes_with routes.now) self.now advice.now id request.now row.now) }
+        ensures fault { Refuses routes.now self.now advice.now id request.now result }
     {
         if row.request() == request {
-            return self.decide_again(routes, id, row);
+            return self.decide_again(routes, id, row, advice);
         }
         let framed = match check_readable(request) {
             Some(framed) => framed,
@@ -64,19 +70,27 @@ impl Book {
 
     /// Whether a row's own request gets its answer. It is readable, as the request of every row, so only its route is
     /// asked.
-    fn decide_again(&self, routes: &Routes, id: TxnId, row: &Row) -> Result<(), Fault>
+    fn decide_again(
+        &self,
+        routes: &Routes,
+        id: TxnId,
+        row: &Row,
+        _advice: &[Ruling],
+    ) -> Result<(), Fault>
         requires { row_of id self.now.rows ≡ Some row.now }
-        ensures decided { OnOk result (IsAgain (bytes_with routes.now) self.now id row.now.request row.now) }
-        ensures fault { Refuses routes.now self.now id row.now.request result }
+        ensures decided { OnOk result
+            (IsAgain (bytes_with routes.now) self.now _advice.now id row.now.request row.now) }
+        ensures fault { Refuses routes.now self.now _advice.now id row.now.request result }
     {
-        let (bin, pcn) = row.bin_and_pcn();
-        if !is_routed(routes, &bin, &pcn, self.payer()) {
+        let key = row.route_key();
+        if !is_routed(routes, &key, self.payer()) {
             return Err(Fault::Refused(Refusal::NotOurs));
         }
         Ok(())
     }
 
-    /// The row that a request gets under an id that has none; the draft then has what the row changes.
+    /// The row that a request gets under an id that has none, with the rulings of an advice; the draft then has what the
+    /// row changes.
     pub(crate) fn decide_new(
         &self,
         alloc: Global,
@@ -84,11 +98,13 @@ impl Book {
         routes: &Routes,
         id: TxnId,
         request: &[u8],
+        advice: &[Ruling],
     ) -> Result<Row, Fault>
-        requires { row_of id self.now.rows ≡ None }
+        requires fresh { row_of id self.now.rows ≡ None }
+        requires advice { AdvisesWell advice.now }
         ensures decided { IfOk result
-            (λ row. IsNew (bytes_with routes.now) self.now id request.now row draft.new.changes.items) }
-        ensures fault { Refuses routes.now self.now id request.now result }
+            (λ row. IsNew (bytes_with routes.now) self.now advice.now id request.now row draft.new.changes.items) }
+        ensures fault { Refuses routes.now self.now advice.now id request.now result }
     {
         let framed = match check_readable(request) {
             Some(framed) => framed,
@@ -100,8 +116,30 @@ impl Book {
         if self.rows.len() >= self.settings.cap() as usize {
             return Err(Fault::Refused(Refusal::BookFull));
         }
-        let prices = Prices::Plan(&self.plan);
-        self.prepare(alloc, draft, id, &framed, request, prices)
+        let prices = self.prices(advice);
+        let row = self.prepare(alloc, draft, id, &framed, request, prices)?;
+        if draft.advised {
+            Ok(row)
+        } else {
+            Err(Fault::Refused(Refusal::NotAdvised))
+        }
+    }
+
+    /// Where the verdicts on claims come from: the plan, or where the payer asks an advice.
+    fn prices<'a>(&'a self, advice: &'a [Ruling]) -> Prices<'a>
+        requires { AdvisesWell advice.now }
+        ensures pricing { pricing result ≡ pricing_of self.now advice.now }
+        ensures prices { ArePrices (pricing result) }
+        ensures suits { Suits (pricing result) self.now.settings.asks }
+    {
+        if self.settings.asks() {
+            Prices::Kept {
+                asks: true,
+                said: advice,
+            }
+        } else {
+            Prices::Plan(&self.plan)
+        }
     }
 }
 
@@ -109,14 +147,26 @@ impl Book {
 fn leads_to(routes: &Routes, header: &RequestHeader, payer: PayerNo) -> bool
     ensures { (result ≡ is_payer payer (payer_for (bytes_with routes.now) header.now)) }
 {
-    is_routed(routes, &header.bin(), &header.pcn(), payer)
+    is_routed(routes, &key_of(header), payer)
 }
 
-/// Whether a BIN number and a processor control number are routed to the payer.
-fn is_routed(routes: &Routes, bin: &[u8; 6], pcn: &[u8; 10], payer: PayerNo) -> bool
-    ensures { (result ≡ is_payer payer ((bytes_with routes.now).route bin.now pcn.now)) }
+/// What a route may look at in a header.
+fn key_of(header: &RequestHeader) -> RouteKey
+    ensures { result ≡ route_key header.now }
 {
-    match routes.route(bin, pcn) {
+    RouteKey {
+        bin: header.bin(),
+        pcn: header.pcn(),
+        qualifier: header.qualifier(),
+        provider: header.provider(),
+    }
+}
+
+/// Whether what a route may look at is routed to the payer.
+fn is_routed(routes: &Routes, key: &RouteKey, payer: PayerNo) -> bool
+    ensures { (result ≡ is_payer payer ((bytes_with routes.now).route key.now)) }
+{
+    match routes.payer(key) {
         Some(other) => other.get() == payer.get(),
         None => false,
     }

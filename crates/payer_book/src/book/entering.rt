@@ -1,13 +1,16 @@
 //! Entering a new request: its row, and what the row changes among the payments.
 
-ghost use Rattle.std.specs.Prelude.{◌≡◌, ◌<◌, length, OnOk, OnErr, IfOk, Some, None};
+ghost use Rattle.std.specs.Prelude.{◌≡◌, ◌<◌, List, [], length, OnOk, OnErr, IfOk, Some, None};
 ghost use Rattle.std.specs.List.{list_all};
 ghost use Rattle.d0_segments.specs.Framing.{request_kind, transmission_of};
 ghost use Rattle.d0_segments.specs.FramedParts.{framed_parts};
 ghost use Rattle.claim_profile.specs.Readable.{readable_header};
-ghost use Rattle.claim_model.specs.Book.{serial_fits, row_of};
+ghost use Rattle.claim_model.specs.Book.{serial_fits, row_of, has_verdicts};
+ghost use Rattle.claim_model.specs.Bytes.{bytes_with};
+ghost use Rattle.claim_model.specs.Words.{Ruling};
+ghost use Rattle.bin_routes.specs.Table.{routes_of};
 ghost use Rattle.payer_book.specs.Faults.{LacksSerial};
-ghost use Rattle.payer_book.specs.Drafts.{pricing};
+ghost use Rattle.payer_book.specs.Drafts.{pricing, pricing_of, Suits};
 ghost use Rattle.payer_book.specs.Added.{with_row};
 ghost use Rattle.payer_book.specs.Made.{ArePrices};
 ghost use Rattle.payer_book.specs.Entries.{IsEntry, rulings_by, row_by};
@@ -41,8 +44,11 @@ impl Book {
         requires parts { transmission_of request_kind request.now ≡ Some (framed_parts framed.now) }
         requires readable { readable_header request.now ≡ Some framed.now.header }
         requires prices { ArePrices (pricing prices) }
+        requires suits { Suits (pricing prices) self.now.settings.asks }
         ensures made { IfOk result (λ row. IsEntry self.now row draft.new.changes.items
             × (row ≡ row_by (pricing prices.entry) self.now id request.now)) }
+        ensures advised { OnOk result ((advice : List Ruling) → pricing prices.entry ≡ pricing_of self.now advice
+            → draft.new.advised ≡ has_verdicts (bytes_with (routes_of [])) self.now advice id request.now) }
         ensures fault { LacksSerial
             (list_all serial_fits (rulings_by (pricing prices.entry) self.now id request.now)) result }
     {

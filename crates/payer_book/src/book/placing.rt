@@ -1,7 +1,7 @@
 //! Answering a request with the row that keeps the answer, so that no byte of it is copied.
 
 ghost use Rattle.std.specs.Prelude.{◌≡◌, OnErr, None};
-ghost use Rattle.claim_model.specs.Book.{row_of};
+ghost use Rattle.claim_model.specs.Book.{row_of, unadvised};
 ghost use Rattle.payer_book.specs.Placing.{AnswersAt};
 ghost use Rattle.payer_book.specs.Answers.{Refuses};
 
@@ -29,10 +29,10 @@ impl Book {
     /// Those of `answer`, in its order. The book is as it was after each of them.
     pub fn answer_at(&mut self, routes: &Routes, id: TxnId, request: &[u8]) -> Result<Placed, Fault>
         ensures ok { AnswersAt routes.now self.old id request.now self.new result }
-        ensures fault { Refuses routes.now self.old id request.now result }
+        ensures fault { Refuses routes.now self.old unadvised id request.now result }
         ensures err { OnErr result (self.new ≡ self.old) }
     {
-        if let Some(place) = self.known(routes, id, request)? {
+        if let Some(place) = self.known(routes, id, request, &[])? {
             return Ok(Placed { place, kept: true });
         }
         let alloc = self.allocator();
@@ -53,10 +53,10 @@ impl Book {
     ) -> Result<Placed, Fault>
         requires { row_of id self.old.rows ≡ None }
         ensures ok { AnswersAt routes.now self.old id request.now self.new result }
-        ensures fault { Refuses routes.now self.old id request.now result }
+        ensures fault { Refuses routes.now self.old unadvised id request.now result }
         ensures err { OnErr result (self.new ≡ self.old) }
     {
-        let row = self.decide_new(alloc, draft, routes, id, request)?;
+        let row = self.decide_new(alloc, draft, routes, id, request, &[])?;
         let place = self.rows().len();
         self.enter(row, draft.changes.as_slice())?;
         Ok(Placed { place, kept: false })

@@ -4,14 +4,17 @@ ghost use Rattle.std.specs.Prelude.{◌≡◌, ◌≤◌, length, None, OnErr, I
 ghost use Rattle.envelope.specs.Envelope.{envelope_text, longest_payload};
 ghost use Rattle.claim_model.specs.Words.{Response};
 ghost use Rattle.claim_model.specs.Bytes.{bytes_with};
-ghost use Rattle.claim_model.specs.Book.{row_of};
+ghost use Rattle.claim_model.specs.Book.{row_of, unadvised};
+ghost use Rattle.claim_model.specs.Laws.{AdvisesWell};
+ghost use Rattle.claim_model.specs.Node.{advice_in};
 ghost use Rattle.payer_book.specs.Posted.{IsPosted, SendsBack};
 ghost use Rattle.payer_book.specs.Answers.{Refuses};
 
 use crate::book::Book;
 use crate::ruling::drafting::Draft;
 use bin_routes::Routes;
-use claim_model::Fault;
+use claim_model::{Fault, bytes_keep_laws};
+use claim_profile::{AnswerFault, Ruling, read_answer};
 use envelope::{Kind, TxnId, write};
 use octets::Octets;
 use std::alloc::{AllocError, Global};
@@ -29,17 +32,58 @@ impl Book {
         id: TxnId,
         request: &[u8],
     ) -> Result<Octets, Fault>
-        ensures ok { IfOk result (λ packet. IsPosted (bytes_with routes.now) self.old id request.now self.new packet) }
-        ensures sent { SendsBack routes.now self.old id request.now self.new result }
-        ensures fault { Refuses routes.now self.old id request.now result }
+        ensures ok { IfOk result (λ packet. IsPosted (bytes_with routes.now) self.old unadvised id request.now self.new packet) }
+        ensures sent { SendsBack routes.now self.old unadvised id request.now self.new result }
+        ensures fault { Refuses routes.now self.old unadvised id request.now result }
+        ensures err { OnErr result (self.new ≡ self.old) }
+    {
+        self.packet_for(routes, id, request, &[])
+    }
+
+    /// The same with an advice, whose bytes are those of an answer to the request: where the payer asks, a claim that is to be
+    /// priced gets what the advice says at its place. Bytes that are no answer advise nothing.
+    ///
+    /// # Errors
+    /// Those of `answer_packet`, in its order.
+    pub fn advised_packet(
+        &mut self,
+        routes: &Routes,
+        id: TxnId,
+        request: &[u8],
+        advice: &[u8],
+    ) -> Result<Octets, Fault>
+        ensures ok { IfOk result (λ packet. IsPosted (bytes_with routes.now) self.old
+            (advice_in (bytes_with routes.now) advice.now) id request.now self.new packet) }
+        ensures sent { SendsBack routes.now self.old (advice_in (bytes_with routes.now) advice.now) id request.now
+            self.new result }
+        ensures fault { Refuses routes.now self.old (advice_in (bytes_with routes.now) advice.now) id request.now result }
         ensures err { OnErr result (self.new ≡ self.old) }
     {
         let alloc = self.allocator();
-        if let Some(place) = self.known(routes, id, request)? {
+        let said = advised(alloc, routes, advice)?;
+        self.packet_for(routes, id, request, said.as_slice())
+    }
+
+    /// The packet that answers a request, with the rulings of an advice.
+    fn packet_for(
+        &mut self,
+        routes: &Routes,
+        id: TxnId,
+        request: &[u8],
+        advice: &[Ruling],
+    ) -> Result<Octets, Fault>
+        requires { AdvisesWell advice.now }
+        ensures ok { IfOk result (λ packet. IsPosted (bytes_with routes.now) self.old advice.now id request.now self.new packet) }
+        ensures sent { SendsBack routes.now self.old advice.now id request.now self.new result }
+        ensures fault { Refuses routes.now self.old advice.now id request.now result }
+        ensures err { OnErr result (self.new ≡ self.old) }
+    {
+        let alloc = self.allocator();
+        if let Some(place) = self.known(routes, id, request, advice)? {
             return Ok(packet(alloc, id, self.row_at(place).answer())?);
         }
         let mut draft = self.lend_draft(alloc);
-        let result = self.packet_new(alloc, &mut draft, routes, id, request);
+        let result = self.packet_new(alloc, &mut draft, routes, id, request, advice);
         self.keep_draft(draft);
         result
     }
@@ -52,16 +96,31 @@ impl Book {
         routes: &Routes,
         id: TxnId,
         request: &[u8],
+        advice: &[Ruling],
     ) -> Result<Octets, Fault>
-        requires { row_of id self.old.rows ≡ None }
-        ensures ok { IfOk result (λ packet. IsPosted (bytes_with routes.now) self.old id request.now self.new packet) }
-        ensures fault { Refuses routes.now self.old id request.now result }
+        requires fresh { row_of id self.old.rows ≡ None }
+        requires advice { AdvisesWell advice.now }
+        ensures ok { IfOk result (λ packet. IsPosted (bytes_with routes.now) self.old advice.now id request.now self.new packet) }
+        ensures fault { Refuses routes.now self.old advice.now id request.now result }
         ensures err { OnErr result (self.new ≡ self.old) }
     {
-        let row = self.decide_new(alloc, draft, routes, id, request)?;
+        let row = self.decide_new(alloc, draft, routes, id, request, advice)?;
         let packet = packet(alloc, id, row.answer())?;
         self.enter(row, draft.changes.as_slice())?;
         Ok(packet)
+    }
+}
+
+/// The rulings of an advice; none where its bytes are no answer.
+fn advised(alloc: Global, routes: &Routes, advice: &[u8]) -> Result<Vec<Ruling>, AllocError>
+    ensures said { IfOk result (λ rulings. rulings.items ≡ advice_in (bytes_with routes.now) advice.now) }
+    ensures well { IfOk result (λ rulings. AdvisesWell rulings.items) }
+{
+    bytes_keep_laws();
+    match read_answer(alloc, advice) {
+        Ok(answer) => Ok(answer.into_rulings()),
+        Err(AnswerFault::OutOfMemory) => Err(AllocError),
+        Err(_) => Ok(Vec::new(alloc)),
     }
 }
 

@@ -5,6 +5,7 @@ ghost use Rattle.bin_routes.specs.Table.{RouteMaps};
 ghost use Rattle.d0_header.specs.Request.{request_of};
 ghost use Rattle.claim_profile.specs.Readable.{readable_header};
 ghost use Rattle.claim_model.specs.Bytes.{bytes_with};
+ghost use Rattle.claim_model.specs.Readable.{route_key};
 ghost use Rattle.claim_model.specs.Held.{row_answer};
 ghost use Rattle.envelope.specs.Envelope.{longest_payload};
 ghost use Rattle.payer_book.specs.Kept.{IsAnswered};
@@ -12,7 +13,8 @@ ghost use Rattle.payer_book.specs.Added.{kept_answer};
 
 use crate::book::held_rulings::HeldRulings;
 use crate::book::texts::Texts;
-use claim_profile::{Ruling, bin_of, pcn_of};
+use bin_routes::RouteKey;
+use claim_profile::{Ruling, bin_of, pcn_of, provider_of, qualifier_of};
 use envelope::TxnId;
 use std::alloc::{AllocError, Global};
 use std::marker::Model;
@@ -60,16 +62,19 @@ impl Row {
         self.id
     }
 
-    /// The BIN number (101-A1) and the processor control number (104-A4) of the request. It is readable, so they stand
-    /// at their places.
-    pub(crate) fn bin_and_pcn(&self) -> ([u8; 6], [u8; 10])
+    /// What a route may look at in the request. It is readable, so the fields stand at their places.
+    pub(crate) fn route_key(&self) -> RouteKey
         ensures readable { readable_header self.now.request ≡ Some (request_of self.now.request) }
-        ensures bin { result.0 ≡ (request_of self.now.request).bin }
-        ensures pcn { result.1 ≡ (request_of self.now.request).pcn }
+        ensures key { result ≡ route_key (request_of self.now.request) }
     {
         let _answered = self.answer();
         let request = self.texts.request();
-        (bin_of(request), pcn_of(request))
+        RouteKey {
+            bin: bin_of(request),
+            pcn: pcn_of(request),
+            qualifier: qualifier_of(request),
+            provider: provider_of(request),
+        }
     }
 
     /// The request's bytes.

@@ -1,19 +1,20 @@
 //! The rulings of a request, place by place, before any of it is entered.
 
-ghost use Rattle.std.specs.Prelude.{◌≡◌, true, [], Some, OnOk};
+ghost use Rattle.std.specs.Prelude.{◌≡◌, ◌&&◌, true, [], Some, OnOk};
 ghost use Rattle.std.specs.List.{list_all};
 ghost use Rattle.d0_segments.specs.FramedParts.{framed_parts};
 ghost use Rattle.claim_model.specs.Bytes.{order_in, orders_in};
 ghost use Rattle.claim_model.specs.Book.{serial_fits};
 ghost use Rattle.payer_book.specs.Faults.{LacksSerial};
-ghost use Rattle.payer_book.specs.Drafts.{pricing, ruling_on, rulings_on, IsDraft, next_ruling, AddsRuling, AddsChange, priced_after, IsRulingThatFits};
+ghost use Rattle.payer_book.specs.Drafts.{pricing, ruling_on, rulings_on, IsDraft, next_ruling, AddsRuling, AddsChange, priced_after, auth_after, IsRulingThatFits, next_advised, advised_on};
+ghost use Rattle.claim_model.specs.Judgement.{priced, Pays};
 
 use crate::book::payments::Payments;
 use crate::ruling::changes::Change;
 use crate::ruling::judging::{Verdict, judge, rejected};
 use crate::ruling::pricing::Prices;
 use claim_model::{Fault, Refusal};
-use claim_profile::{Claim, Code, Order, OrderFault, Ruling, order_at};
+use claim_profile::{Amounts, Claim, Code, Order, OrderFault, Ruling, order_at};
 use d0_header::RequestHeader;
 use d0_segments::Framed;
 use std::alloc::Global;
@@ -25,6 +26,8 @@ pub(crate) struct Draft {
     pub(crate) rulings: Vec<Ruling>,
     pub(crate) changes: Vec<Change>,
     pub(crate) answer: Vec<u8>,
+    /// Whether each claim that is to be priced had a verdict.
+    pub(crate) advised: bool,
 }
 
 /// Fills a draft with the rulings of a request over the payments of a book. What stood in it is gone.
@@ -54,15 +57,18 @@ impl Draft {
             rulings: Vec::new(alloc),
             changes: Vec::new(alloc),
             answer: Vec::new(alloc),
+            advised: true,
         }
     }
 
     /// Takes out the rulings and the changes, and keeps the memory.
     fn clear(&mut self)
-        ensures { (self.new.rulings.items ≡ []) × (self.new.changes.items ≡ []) }
+        ensures lists { (self.new.rulings.items ≡ []) × (self.new.changes.items ≡ []) }
+        ensures advised { self.new.advised ≡ true }
     {
         self.rulings.clear();
         self.changes.clear();
+        self.advised = true;
     }
 
     /// Adds the ruling of the next place.
@@ -74,14 +80,18 @@ impl Draft {
     ) -> Result<(), Fault>
         ensures rulings { OnOk result (AddsRuling self.old payments.now prices.now order.now self.new) }
         ensures changes { OnOk result (AddsChange self.old payments.now prices.now order.now self.new) }
+        ensures advised { OnOk result (self.new.advised
+            ≡ (self.old.advised && next_advised self.old payments.now prices.now order.now)) }
         ensures fits { OnOk result (serial_fits (next_ruling self.old payments.now prices.now order.now) ≡ true) }
         ensures fault { LacksSerial (serial_fits (next_ruling self.old payments.now prices.now order.now)) result }
     {
+        let advised = advised_on(payments, prices, self.changes.as_slice(), order);
         let Some(ruling) = ruling_on(payments, prices, self.changes.as_slice(), order) else {
             return Err(Fault::Refused(Refusal::SerialsUsedUp));
         };
         self.changes.push(Change::of(order, &ruling))?;
         self.rulings.push(ruling)?;
+        self.advised = self.advised && advised;
         Ok(())
     }
 }
@@ -102,6 +112,22 @@ fn ruling_on(
     }
 }
 
+/// Whether the next place has the verdict that it wants.
+#[tactic(auto, unfolding(crate::specs::Drafts::advised_on))]
+fn advised_on(
+    payments: &Payments,
+    prices: &Prices<'_>,
+    changes: &[Change],
+    order: &Result<Order, OrderFault>,
+) -> bool
+    ensures { result ≡ advised_on payments.now (pricing prices.now) changes.now (order_in order.now) }
+{
+    match prices {
+        Prices::Plan(_) => true,
+        Prices::Kept { .. } => prices.advises(changes.len(), &judge(payments, changes, order)),
+    }
+}
+
 /// The ruling of a claim that is to be priced; None where it would be paid and no serial number is left.
 fn priced(
     payments: &Payments,
@@ -111,9 +137,19 @@ fn priced(
 ) -> Option<Ruling>
     ensures { IsRulingThatFits (priced_after payments.now (pricing prices.now) changes.now claim.now) result }
 {
-    let Some(amounts) = prices.price(changes.len(), claim) else {
+    let Some(price) = prices.price(changes.len(), claim) else {
         return Some(rejected(Code::NotCovered));
     };
+    match price {
+        Ok(amounts) => paid(payments, changes, claim, amounts),
+        Err(rejects) => Some(Ruling::Rejected { rejects }),
+    }
+}
+
+/// The ruling of a claim that is paid; None where no serial number is left.
+fn paid(payments: &Payments, changes: &[Change], claim: &Claim, amounts: Amounts) -> Option<Ruling>
+    ensures { IsRulingThatFits (priced (auth_after payments.now changes.now) claim.now (Some (Pays amounts))) result }
+{
     match payments.next_auth(changes) {
         Some(auth) => Some(Ruling::Paid {
             auth,

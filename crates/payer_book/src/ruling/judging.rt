@@ -15,6 +15,7 @@ use crate::ruling::changes::{Change, is_reversed, left_for, left_matching};
 use claim_profile::{Auth, Claim, Code, Fill, Order, OrderFault, Rejects, Reversal, Ruling};
 
 /// A ruling that needs no price, or a claim that is to be priced.
+#[derive(Drop)]
 pub(crate) enum Verdict<'a> {
     Unpriced(Ruling),
     ToPrice(&'a Claim),

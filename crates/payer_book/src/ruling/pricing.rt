@@ -1,48 +1,123 @@
-//! Where the price of a claim comes from.
+//! Where the verdict on a claim comes from.
 
-ghost use Rattle.std.specs.Prelude.{◌≡◌, slice_get};
-ghost use Rattle.payer_book.specs.Drafts.{pricing, price_at, amounts_in};
+ghost use Rattle.std.specs.Prelude.{◌≡◌, cond, Some, None, slice_get};
+ghost use Rattle.std.specs.Option.{option_map};
+ghost use Rattle.claim_model.specs.Judgement.{Pays, planned, verdict_in};
+ghost use Rattle.payer_book.specs.Drafts.{ByPlan, pricing, price_at, price_seen, amounts_in, kept_verdict, advised_by, verdict};
 
-use claim_profile::{Amounts, Claim, Ruling};
+use crate::ruling::judging::Verdict;
+use claim_profile::{Amounts, Claim, Code, Rejects, Ruling};
 use plan_rules::Plan;
 
-/// A plan, or the rulings of a kept answer.
+/// A plan, or the rulings of an answer: a kept one, or the advice of a payer that asks.
 #[derive(Clone, Copy)]
 pub(crate) enum Prices<'a> {
     Plan(&'a Plan),
-    Kept(&'a [Ruling]),
+    Kept { asks: bool, said: &'a [Ruling] },
 }
 
+/// What is paid for a claim, or the codes that reject it.
+pub(crate) type Price = Result<Amounts, Rejects>;
+
 impl Prices<'_> {
-    /// What is paid for the claim at a place of the request, from 0; None where it is not covered.
-    pub(crate) fn price(&self, place: usize, claim: &Claim) -> Option<Amounts>
-        ensures { result ≡ price_at (pricing self.now) place claim.now }
+    /// The verdict on the claim at a place of the request, from 0; None where none was given.
+    pub(crate) fn price(&self, place: usize, claim: &Claim) -> Option<Price>
+        ensures { option_map price_seen result ≡ price_at (pricing self.now) place claim.now }
     {
         match self {
-            Prices::Plan(plan) => plan.price(claim),
-            Prices::Kept(rulings) => paid_at(rulings, place),
+            Prices::Plan(plan) => Some(by_plan(plan, claim)),
+            Prices::Kept { asks, said } => kept_at(*asks, said, place, claim.fill.prescription),
+        }
+    }
+
+    /// Whether a place of the request, from 0, has the verdict that it wants.
+    pub(crate) fn advises(&self, place: usize, judged: &Verdict<'_>) -> bool
+        ensures { result ≡ advised_by (pricing self.now) place (verdict judged.now) }
+    {
+        match judged {
+            Verdict::Unpriced(_) => true,
+            Verdict::ToPrice(claim) => self.price(place, claim).is_some(),
         }
     }
 }
 
-/// What the ruling at a place paid.
-fn paid_at(rulings: &[Ruling], place: usize) -> Option<Amounts>
-    ensures { result ≡ amounts_in (slice_get rulings.now place) }
+/// The verdict of a plan.
+fn by_plan(plan: &Plan, claim: &Claim) -> Price
+    ensures { Some (price_seen result) ≡ price_at (ByPlan plan.now) 0 claim.now }
 {
-    match rulings.get(place) {
-        Some(ruling) => paid_by(ruling),
-        None => None,
+    match plan.price(claim) {
+        Some(amounts) => Ok(amounts),
+        None => Err(Rejects::one(Code::NotCovered)),
     }
 }
 
-/// What a ruling paid.
-fn paid_by(ruling: &Ruling) -> Option<Amounts>
-    ensures { result ≡ amounts_in (Some ruling.now) }
+/// The verdict of an answer on the claim of a prescription, at a place.
+fn kept_at(asks: bool, said: &[Ruling], place: usize, claimed: u64) -> Option<Price>
+    ensures { option_map price_seen result ≡ kept_verdict asks claimed (slice_get said.now place) }
+{
+    match said.get(place) {
+        Some(ruling) => kept_by(asks, ruling, claimed),
+        None => unsaid(asks),
+    }
+}
+
+/// The verdict that a ruling is.
+fn kept_by(asks: bool, ruling: &Ruling, claimed: u64) -> Option<Price>
+    ensures { option_map price_seen result ≡ kept_verdict asks claimed (Some ruling.now) }
+{
+    if asks {
+        said_in(ruling, claimed)
+    } else {
+        Some(paid_in(ruling))
+    }
+}
+
+/// What the system of a payer that asks says of a claim.
+fn said_in(ruling: &Ruling, claimed: u64) -> Option<Price>
+    ensures { option_map price_seen result ≡ verdict_in claimed (Some ruling.now) }
 {
     match ruling {
-        Ruling::Paid { amounts, .. } => Some(*amounts),
-        Ruling::Duplicate { .. } => None,
+        Ruling::Paid {
+            prescription,
+            amounts,
+            ..
+        } => said_of(*prescription == claimed, *amounts),
+        Ruling::Duplicate {
+            prescription,
+            amounts,
+            ..
+        } => said_of(*prescription == claimed, *amounts),
         Ruling::Reversed { .. } => None,
-        Ruling::Rejected { .. } => None,
+        Ruling::Rejected { rejects } => Some(Err(*rejects)),
+    }
+}
+
+/// Amounts, where they are of the claim's prescription.
+fn said_of(same: bool, amounts: Amounts) -> Option<Price>
+    ensures { option_map price_seen result ≡ cond same (Some (Pays amounts)) None }
+{
+    if same { Some(Ok(amounts)) } else { None }
+}
+
+/// What a kept answer of a payer that does not ask says of a claim.
+fn paid_in(ruling: &Ruling) -> Price
+    ensures { price_seen result ≡ planned (amounts_in (Some ruling.now)) }
+{
+    match ruling {
+        Ruling::Paid { amounts, .. } => Ok(*amounts),
+        Ruling::Duplicate { .. } => Err(Rejects::one(Code::NotCovered)),
+        Ruling::Reversed { .. } => Err(Rejects::one(Code::NotCovered)),
+        Ruling::Rejected { .. } => Err(Rejects::one(Code::NotCovered)),
+    }
+}
+
+/// The verdict where an answer says nothing of a claim.
+fn unsaid(asks: bool) -> Option<Price>
+    ensures { option_map price_seen result ≡ kept_verdict asks 0 None }
+{
+    if asks {
+        None
+    } else {
+        Some(Err(Rejects::one(Code::NotCovered)))
     }
 }

@@ -148,7 +148,7 @@ fn is_of(kind: Kind, call: &Call) -> bool {
     match (kind, call) {
         (Kind::Submit, Call::Submit(_)) => true,
         (Kind::Tick, Call::Tick) => true,
-        (Kind::Take, Call::Take { .. }) => true,
+        (Kind::Take, Call::Take { .. } | Call::Adjudicate { .. }) => true,
         _ => false,
     }
 }
@@ -157,7 +157,8 @@ fn is_of(kind: Kind, call: &Call) -> bool {
 fn tell_taken(told: &mut Told, log: &NodeLog, sender: Node) {
     for record in log.records() {
         match record.call() {
-            Call::Take { from, bytes } if *from == sender => tell_number(told, bytes.as_slice()),
+            Call::Take { from, bytes } | Call::Adjudicate { from, bytes, .. } if *from == sender =>
+                { tell_number(told, bytes.as_slice()) }
             _ => {}
         }
     }

@@ -131,6 +131,7 @@ impl Recorded {
                 product,
                 price,
             } => plan(*payer, product, *price),
+            Event::Adjudicate { packet, advice } => self.adjudicating(*packet, advice),
         }
     }
 
@@ -139,6 +140,17 @@ impl Recorded {
         match number.checked_sub(1) {
             Some(place) => match self.packets.get(place as usize) {
                 Some(packet) => taken(packet),
+                None => None,
+            },
+            None => None,
+        }
+    }
+
+    /// The taking of the packet of a number with an advice.
+    fn adjudicating(&self, number: u64, advice: &Octets) -> Option<Made> {
+        match number.checked_sub(1) {
+            Some(place) => match self.packets.get(place as usize) {
+                Some(packet) => adjudicated(packet, advice),
                 None => None,
             },
             None => None,
@@ -205,6 +217,22 @@ fn taken(packet: &Packet) -> Option<Made> {
             },
         ),
         Err(_) => None,
+    }
+}
+
+/// The taking of a packet by whom it is for, with an advice.
+fn adjudicated(packet: &Packet, advice: &Octets) -> Option<Made> {
+    let from = packet.from;
+    match (packet.bytes.copy(), advice.copy()) {
+        (Ok(bytes), Ok(advice)) => call_on(
+            packet.to,
+            Call::Adjudicate {
+                from,
+                bytes,
+                advice,
+            },
+        ),
+        _ => None,
     }
 }
 

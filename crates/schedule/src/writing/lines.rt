@@ -35,6 +35,12 @@ pub(super) fn put_event(out: &mut Vec<u8>, event: &Event) -> Result<(), AllocErr
             product,
             price,
         } => put_plan(out, *payer, product.as_slice(), *price)?,
+        Event::Adjudicate { packet, advice } => {
+            put(out, b"adjudicate ")?;
+            put_decimal(out, *packet)?;
+            put(out, b" ")?;
+            put_printed(out, advice.as_slice())?;
+        }
     }
     put(out, b"\n")
 }

@@ -1,16 +1,7 @@
-use Rattle.std.proofs.Common.{◌∙◌}
-use Rattle.std.proofs.lemmas.Result.{on_ok_weaker}
-use Rattle.input_text.proofs.Joining.{lists_join}
-use Rattle.world_setup.specs.Seen.{node_seen}
-use Rattle.log_audit.specs.Waits.{sent_ever}
-use Rattle.log_audit.specs.WaitsSeen.{progress_seen}
-use Rattle.log_audit.proofs.Listing.{any_seen}
 use Rattle.log_audit.proofs.waiting.put_reason.Goals as goal
 
-pub returns-in_ok-put_packet-in-Take : goal.returns-in_ok-put_packet-in-Take
-returns-in_ok-put_packet-in-Take c = λ routes.
-    let sent = c.is_sent.ensures ∙ any_seen progress_seen (sent_ever (node_seen c.in-Take.from) (node_seen c.args.node) c.in-Take.bytes) c.args.lines.now in
-    let sender = rw sent at c.put_sender.ensures in
-    on_ok_weaker c.put_sender.result
-    (λ last. rw c.in-Take.is (lists_join c.args.line.now.items c.put_packet.new.line.items c.put_sender.new.line.items _ _ (rw c.as_slice.ensures at (c.in_ok-put_packet-in-Take.ensures routes)) last))
-    sender
+pub returns-in-Take : goal.returns-in-Take
+returns-in-Take c = rw c.in-Take.is c.put_taken.ensures
+
+pub returns-in-Adjudicate : goal.returns-in-Adjudicate
+returns-in-Adjudicate c = rw c.in-Adjudicate.is c.put_taken-in-Adjudicate.ensures

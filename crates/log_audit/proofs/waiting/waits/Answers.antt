@@ -8,3 +8,6 @@ use Rattle.log_audit.proofs.waiting.waits.Goals as goal
 
 pub returns-in-Take : goal.returns-in-Take
 returns-in-Take c = rw c.in-Take.is (ap not (c.was_sent.ensures ∙ any_seen progress_seen (sent_before (node_seen c.in-Take.from) (node_seen c.args.node) c.in-Take.bytes) c.args.lines.now))
+
+pub returns-in-Adjudicate : goal.returns-in-Adjudicate
+returns-in-Adjudicate c = rw c.in-Adjudicate.is (ap not (c.was_sent-in-Adjudicate.ensures ∙ any_seen progress_seen (sent_before (node_seen c.in-Adjudicate.from) (node_seen c.args.node) c.in-Adjudicate.bytes) c.args.lines.now))

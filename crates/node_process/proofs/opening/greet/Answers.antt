@@ -1,8 +1,7 @@
 use Rattle.std.proofs.Common.{is_ok, ◌∷◌}
-use Rattle.node_service.specs.Answering.{ready_line}
 use Rattle.node_service.specs.Serving.{cleared}
 use Rattle.node_process.specs.Acts.{Say}
-use Rattle.node_process.specs.Safe.{owner_seen, Serves}
+use Rattle.node_process.specs.Safe.{owner_seen, closed_calls, greeting, Serves}
 use Rattle.node_process.proofs.Moments.{greet_runs, greet_all, when_done}
 use Rattle.node_process.proofs.opening.greet.Goals as goal
 
@@ -12,4 +11,4 @@ returns-clause-each g c = rw (c.say.ensures, c.requires.ready) (greet_runs (owne
 pub returns-clause-served : goal.returns-clause-served
 returns-clause-served g c =
     rw (c.say.ensures, c.requires.ready)
-    (when_done c.say.result (λ done. Serves (owner_seen c.args.owner.now) (Say (ready_line c.args.service.now.calls) done ∷ g.M.Machine.acts c.args.machine.now) (cleared c.args.service.now)) (greet_all (owner_seen c.args.owner.now) (g.M.Machine.acts c.args.machine.now) c.args.whole c.args.service.now c.requires.begun))
+    (when_done c.say.result (λ done. Serves (owner_seen c.args.owner.now) (Say (greeting (closed_calls (owner_seen c.args.owner.now)) c.args.service.now.calls) done ∷ g.M.Machine.acts c.args.machine.now) (cleared c.args.service.now)) (greet_all (owner_seen c.args.owner.now) (g.M.Machine.acts c.args.machine.now) c.args.whole c.args.service.now c.requires.begun))

@@ -1,7 +1,7 @@
 use Rattle.std.proofs.lemmas.Result.{err_from_is_err_and}
 use Rattle.program_io.specs.declared.fault.CheckFault.TheVariants as check
 use Rattle.program_io.specs.declared.fault.InputFault.TheVariants.{Line}
-use Rattle.program_io.proofs.OpenedWorlds.{scheduled_stops, scheduled_never}
+use Rattle.schedule_replay.proofs.Begun.{scheduled_stops, scheduled_never}
 use Rattle.schedule_replay.proofs.RunLines.{refused_too}
 use Rattle.schedule_replay.proofs.replaying.ran.Goals as goal
 

@@ -5,7 +5,7 @@ use Rattle.world_setup.specs.Seen.{node_seen}
 use Rattle.kept_logs.specs.declared.rests.Beginning.{Beginning}
 use Rattle.node_service.specs.Opened.{IsBegunAs, IsOpened}
 use Rattle.node_service.specs.Refused.{IsRefused, IsUnserved}
-use Rattle.node_service.proofs.MadeLogs.{is_begun}
+use Rattle.node_service.proofs.MadeLogs.{is_begun, is_opened_from}
 use Rattle.node_service.proofs.Refusals.{log_refused}
 use Rattle.node_service.proofs.service.Service.open.Goals as goal
 
@@ -48,3 +48,9 @@ returns-in-None-clause-refused c =
     (λ why. IsRefused text node rest bytes why)
     (λ why unserved. log_refused text node rest bytes shared why c.in_ok-shared.ensures.spelled
     (rw c.settings.ensures.kept at (sym c.is_there.ensures.value ∙ c.if-not-is_there.false)) (ap is_some (sym c.in_ok-before.ensures.node ∙ ap (option_map (λ (b : Beginning). b.node)) c.in-Some.is)) (rw (← c.in_ok-digest.ensures) unserved)) c.unmade.ensures.refused
+
+pub returns-in_ok-served-in-Some-2-clause-opened : goal.returns-in_ok-served-in-Some-2-clause-opened
+returns-in_ok-served-in-Some-2-clause-opened c =
+    let opened = c.in_ok-served-in-Some-2.field-0 in
+    is_opened_from c.args.text.now c.in_ok-shared.shared (node_seen c.args.node) (option_copied c.args.rest) c.args.bytes.now c.in_ok-digest.digest c.in_ok-before.field-0 c.in-Some.before c.in_ok-made.field-0 c.in-Some-2.made _ opened.1 opened.0
+    c.in_ok-shared.ensures.spelled c.in_ok-digest.ensures c.in_ok-before.ensures.node c.in_ok-before.ensures.references c.in-Some.is c.in_ok-made.ensures c.in-Some-2.is c.version.ensures c.in_ok-served-in-Some-2.ensures

@@ -8,13 +8,14 @@ use Rattle.claim_profile.specs.declared.ruling.HeaderStatus.TheVariants.{Accepte
 use Rattle.claim_profile.specs.Answer.{AreWritable, answer_text}
 use Rattle.claim_model.specs.Words.{Ruling, Plan}
 use Rattle.claim_model.specs.Laws.{IsRuling}
-use Rattle.claim_model.specs.Bytes.{orders_in}
+use Rattle.claim_model.specs.Bytes.{orders_in, bytes_with}
 use Rattle.claim_model.specs.Readable.{readable}
 use Rattle.claim_model.specs.Rows.{Row, Book}
-use Rattle.claim_model.specs.Book.{serial_fits}
+use Rattle.claim_model.specs.Book.{serial_fits, has_verdicts}
+use Rattle.payer_book.proofs.Entered.{has_verdicts_on}
 use Rattle.claim_model.proofs.BytesLaws.{readable_alike}
 use Rattle.payer_book.specs.Changes.{changes_by}
-use Rattle.payer_book.specs.Drafts.{pricing, rulings_on}
+use Rattle.payer_book.specs.Drafts.{Pricing, pricing, pricing_of, Suits, rulings_on, all_advised_on}
 use Rattle.payer_book.specs.Books.{reading}
 use Rattle.payer_book.specs.Added.{kept_answer, kept_rulings, with_row, with_kept}
 use Rattle.payer_book.specs.Entries.{with_plan, rulings_by, IsEntry}
@@ -36,6 +37,10 @@ same_orders c = ap orders_in (sym c.requires.parts)
 is_readable : (c : After-rule_all) → readable reading c.args.request.now ≡ Some c.args.framed.now.header
 is_readable c = readable_alike (routes_of []) c.args.request.now ∙ c.requires.readable
 
+-- its prices suit it
+suits : (c : After-rule_all) → Suits (pricing c.args.prices) c.self.inside.settings.asks
+suits c = subst (λ (b : Book). Suits (pricing c.args.prices) b.settings.asks) (sym c.self.view_is) c.requires.suits
+
 ruled : (c : In_ok-rule_all) → c.rule_all.new.draft.rulings.items ≡ rulings_on c.self.inside.payments (pricing c.args.prices) [] (reading.orders c.args.request.now)
 ruled c = c.in_ok-rule_all.ensures.made.ruled ∙ ap (rulings_on c.self.inside.payments (pricing c.args.prices) []) (ap orders_in (sym c.requires.parts))
 
@@ -50,7 +55,7 @@ returns-in_err-rule_all-clause-fault c =
       | inr e ↦ inr (
         e.0,
         subst (λ (b : Book). list_all serial_fits (rulings_by (pricing c.args.prices) b c.args.id c.args.request.now) ≡ false) c.self.view_is
-            (ap (list_all serial_fits) (rulings_by_on (opened d) c.self.inside.payments c.self.invariant.0 c.args.id c.args.request.now (pricing c.args.prices) ∙ same) ∙ e.1),
+            (ap (list_all serial_fits) (rulings_by_on (opened d) c.self.inside.payments c.self.invariant.0 c.args.id c.args.request.now (pricing c.args.prices) (suits d) ∙ same) ∙ e.1),
       )
     ])
 
@@ -74,12 +79,15 @@ put_answer-requires-clause-writable c =
 ruled_new : (c : After-copy_of) → c.rule_all.new.draft.rulings.items ≡ rulings_on c.self.inside.payments (pricing c.args.prices) [] (reading.orders c.args.request.now)
 ruled_new c = c.in_ok-rule_all.ensures.made.ruled ∙ ap (rulings_on c.self.inside.payments (pricing c.args.prices) []) (ap orders_in (sym c.requires.parts))
 
+suits_new : (c : After-copy_of) → Suits (pricing c.args.prices) c.self.inside.settings.asks
+suits_new c = subst (λ (b : Book). Suits (pricing c.args.prices) b.settings.asks) (sym c.self.view_is) c.requires.suits
+
 -- the rulings of the new row are those of its request at these prices
 by_prices : (c : After-copy_of) → c.rule_all.new.draft.rulings.items ≡ rulings_by (pricing c.args.prices) c.args.self.now c.args.id c.args.request.now
 by_prices c =
     let b : Book = record { payer = c.self.inside.payer; settings = c.self.inside.settings; plan = c.self.inside.plan; rows = c.self.inside.rows } in
     subst (λ (q : Book). c.rule_all.new.draft.rulings.items ≡ rulings_by (pricing c.args.prices) q c.args.id c.args.request.now) c.self.view_is
-    (ruled_new c ∙ sym (rulings_by_on b c.self.inside.payments c.self.invariant.0 c.args.id c.args.request.now (pricing c.args.prices)))
+    (ruled_new c ∙ sym (rulings_by_on b c.self.inside.payments c.self.invariant.0 c.args.id c.args.request.now (pricing c.args.prices) (suits_new c)))
 
 -- which are those that the rules give again
 made_again : (c : After-copy_of) → c.rule_all.new.draft.rulings.items ≡ kept_rulings c.args.self.now c.args.id c.args.request.now c.rule_all.new.draft.rulings.items
@@ -87,7 +95,7 @@ made_again c =
     let b : Book = record { payer = c.self.inside.payer; settings = c.self.inside.settings; plan = c.self.inside.plan; rows = c.self.inside.rows } in
     let rulings = c.rule_all.new.draft.rulings.items in
     subst (λ (q : Book). rulings ≡ kept_rulings q c.args.id c.args.request.now rulings) c.self.view_is
-    (kept_again b c.self.inside.payments c.self.invariant.0 c.args.id c.args.request.now (pricing c.args.prices) rulings (ruled_new c))
+    (kept_again b c.self.inside.payments c.self.invariant.0 c.args.id c.args.request.now (pricing c.args.prices) rulings (suits_new c) (ruled_new c))
 
 fits : (c : After-copy_of) → list_all serial_fits c.rule_all.new.draft.rulings.items ≡ true
 fits c = c.in_ok-rule_all.ensures.made.fit
@@ -139,6 +147,16 @@ returns-clause-made c =
       subst (λ (r : Row). IsEntry c.args.self.now r c.rule_all.new.draft.changes.items) (sym is) (is_entry d),
       is ∙ ap (λ (rs : List Ruling). let r : Row = record { id = c.args.id; request = c.args.request.now; rulings = rs } in r) (by_prices d),
     )
+
+pub returns-clause-advised : goal.returns-clause-advised
+returns-clause-advised c = λ advice own.
+    let b : Book = record { payer = c.self.inside.payer; settings = c.self.inside.settings; plan = c.self.inside.plan; rows = c.self.inside.rows } in
+    let l = c.self.inside.payments in
+    let is : pricing c.args.prices ≡ pricing_of b advice = subst (λ (q : Book). pricing c.args.prices ≡ pricing_of q advice) (sym c.self.view_is) own in
+    let draft : c.rule_all.new.draft.advised ≡ all_advised_on l (pricing c.args.prices) [] (reading.orders c.args.request.now) =
+    c.in_ok-rule_all.ensures.made.advised ∙ ap (all_advised_on l (pricing c.args.prices) []) (ap orders_in (sym c.requires.parts)) in
+    subst (λ (q : Book). c.rule_all.new.draft.advised ≡ has_verdicts (bytes_with (routes_of [])) q advice c.args.id c.args.request.now) c.self.view_is
+    (draft ∙ (ap (λ (p : Pricing). all_advised_on l p [] (reading.orders c.args.request.now)) is ∙ has_verdicts_on (routes_of []) b l c.self.invariant.0 advice c.args.id c.args.request.now))
 
 -- an answer can tell of each ruling of the draft
 draft_told : (c : In_ok-rule_all) → AllByRecursion IsRuling c.rule_all.new.draft.rulings.items

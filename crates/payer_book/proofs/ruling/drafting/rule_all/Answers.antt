@@ -5,7 +5,7 @@ use Rattle.d0_segments.specs.Pieces.{shared_of, groups_of}
 use Rattle.d0_segments.specs.FramedParts.{framed_parts}
 use Rattle.claim_model.specs.Bytes.{order_in, orders_in}
 use Rattle.payer_book.specs.Drafts.{pricing}
-use Rattle.payer_book.proofs.Places.{order_at, one_more, not_all_fit, nothing_yet, all_ruled}
+use Rattle.payer_book.proofs.Places.{order_at, one_more, not_all_fit, nothing_yet, all_ruled, all_are_advised}
 use Rattle.payer_book.proofs.ruling.drafting.rule_all.Goals as goal
 use Rattle.payer_book.proofs.ruling.drafting.rule_all.Goals.{After-rule}
 
@@ -18,13 +18,13 @@ next c =
     ∙ ap (λ o. order_in o ∷ drop (c.loop-place.place + 1) (orders_in (Some (framed_parts f)))) (sym c.order_at.ensures)
 
 pub loop-place-init : goal.loop-place-init
-loop-place-init c = rw (c.clear.ensures.0, c.clear.ensures.1) (nothing_yet _ _ _)
+loop-place-init c = rw (c.clear.ensures.lists.0, c.clear.ensures.lists.1, c.clear.ensures.advised) (nothing_yet _ _ _)
 
 pub loop-place-preserved : goal.loop-place-preserved
 loop-place-preserved c =
-    rw (c.in_ok-rule.ensures.rulings, c.in_ok-rule.ensures.changes)
+    rw (c.in_ok-rule.ensures.rulings, c.in_ok-rule.ensures.changes, c.in_ok-rule.ensures.advised)
     (one_more c.args.payments.now (pricing c.args.prices) (orders_in (Some (framed_parts c.args.framed.now))) c.loop-place.place (order_in c.order_at.result)
-    c.loop-place.draft.rulings.items c.loop-place.draft.changes.items c.loop-place.invariant (next (goal.at.loop-place-preserved c).After-rule) _ refl c.in_ok-rule.ensures.fits)
+    c.loop-place.draft.rulings.items c.loop-place.draft.changes.items c.loop-place.draft.advised c.loop-place.invariant (next (goal.at.loop-place-preserved c).After-rule) _ refl c.in_ok-rule.ensures.fits)
 
 pub returns-in_err-rule-clause-fault : goal.returns-in_err-rule-clause-fault
 returns-in_err-rule-clause-fault c =
@@ -35,7 +35,7 @@ returns-in_err-rule-clause-fault c =
       | inr e ↦ inr (
         e.0,
         not_all_fit c.args.payments.now (pricing c.args.prices) (orders_in (Some (framed_parts c.args.framed.now))) c.loop-place.place (order_in c.order_at.result)
-            c.loop-place.draft.rulings.items c.loop-place.draft.changes.items c.loop-place.invariant (next (goal.at.returns-in_err-rule-clause-fault c).After-rule) e.1,
+            c.loop-place.draft.rulings.items c.loop-place.draft.changes.items c.loop-place.draft.advised c.loop-place.invariant (next (goal.at.returns-in_err-rule-clause-fault c).After-rule) e.1,
       )
     ])
 
@@ -46,7 +46,8 @@ returns-clause-made c =
     let m = length-map (groups_of f.body.bytes.now) (λ group. order_in (Rattle.claim_profile.specs.Order.order_of f.header (shared_of f.body.bytes.now) group)) in
     let le : length orders ≤ c.loop-place.place = omega (arith, c.group_count-places.ensures, m) in
     record {
-      ruled = all_ruled c.args.payments.now (pricing c.args.prices) orders c.loop-place.place c.loop-place.draft.rulings.items c.loop-place.draft.changes.items c.loop-place.invariant le;
+      ruled = all_ruled c.args.payments.now (pricing c.args.prices) orders c.loop-place.place c.loop-place.draft.rulings.items c.loop-place.draft.changes.items c.loop-place.draft.advised c.loop-place.invariant le;
       changed = c.loop-place.invariant.changed;
       fit = c.loop-place.invariant.fit;
+      advised = all_are_advised c.args.payments.now (pricing c.args.prices) orders c.loop-place.place c.loop-place.draft.rulings.items c.loop-place.draft.changes.items c.loop-place.draft.advised c.loop-place.invariant le;
     }

@@ -1,0 +1,204 @@
+-- What a pharmacy counts beside what a payer paid, of tables, as a table.
+use Rattle.std.specs.Prelude.{◌≡◌, ℕ, ◌==◌, ◌++◌, ◌-◌, Bool, true, false, not, cond, if◌then◌else◌, List, [], ◌∷◌, Option, Some, None, option_map, codes, decimal, length, replicate}
+use Rattle.std.specs.Option.{option_or}
+use Rattle.std.specs.List.{flat_map, list_all}
+use Rattle.table_text.specs.Members.{Row, Value, Number, Text, Flag, Nothing, number_or_nothing}
+use Rattle.table_text.specs.Rows.{head_text, csv_row}
+use Rattle.claim_reports.specs.declared.beside.Figures.{Figures}
+use Rattle.claim_reports.specs.declared.beside.Counted.{Counted}
+use Rattle.claim_reports.specs.declared.beside.Made.{Made}
+use Rattle.claim_reports.specs.declared.beside.Entry.{Entry}
+use Rattle.claim_reports.specs.declared.beside.Finding.{Finding}
+use Rattle.claim_reports.specs.declared.beside.Finding.TheVariants.{NotPaid, Differs, Reversed, NotCounted}
+use Rattle.claim_reports.specs.declared.sides.Between.{Between}
+use Rattle.claim_reports.specs.declared.sides.Parties.{Parties}
+use Rattle.claim_reports.specs.declared.sides.FigureColumns.{FigureColumns}
+use Rattle.claim_reports.specs.declared.sides.CountedColumns.{CountedColumns}
+use Rattle.claim_reports.specs.declared.sides.EntryColumns.{EntryColumns}
+use Rattle.claim_reports.specs.declared.sides.MadeColumns.{MadeColumns}
+use Rattle.claim_reports.specs.Tables.{AreRecordsOf, rows_of, column_of, number_in, optional_in, word_in, given_by, ◌>>=◌}
+use Rattle.claim_reports.specs.Comparing.{Findings}
+
+-- ---- what the three tables say
+
+-- the columns of the payer and the pharmacy of a payment
+pub record AreParties (records : List (List (List ℕ))) (c : Parties) : Type 0 where
+  pub payer : column_of records (codes "payer") ≡ Some c.payer.place
+  pub pharmacy : column_of records (codes "pharmacy") ≡ Some c.pharmacy.place
+
+-- those of its figures
+pub record AreFigureColumns (records : List (List (List ℕ))) (c : FigureColumns) : Type 0 where
+  pub prescription : column_of records (codes "prescription") ≡ Some c.prescription.place
+  pub fill : column_of records (codes "fill") ≡ Some c.fill.place
+  pub cost : column_of records (codes "cost_cents") ≡ Some c.cost.place
+  pub fee : column_of records (codes "fee_cents") ≡ Some c.fee.place
+  pub copay : column_of records (codes "copay_cents") ≡ Some c.copay.place
+  pub cents : column_of records (codes "paid_cents") ≡ Some c.cents.place
+
+pub record AreCountedColumns (records : List (List (List ℕ))) (c : CountedColumns) : Type 0 where
+  pub parties : AreParties records c.parties
+  pub auth : column_of records (codes "authorization") ≡ Some c.auth.place
+  pub figures : AreFigureColumns records c.figures
+
+pub record AreEntryColumns (records : List (List (List ℕ))) (c : EntryColumns) : Type 0 where
+  pub pharmacy : column_of records (codes "pharmacy") ≡ Some c.pharmacy.place
+  pub number : column_of records (codes "number") ≡ Some c.number.place
+  pub state : column_of records (codes "state") ≡ Some c.state.place
+
+pub record AreMadeColumns (records : List (List (List ℕ))) (c : MadeColumns) : Type 0 where
+  pub parties : AreParties records c.parties
+  pub auth : column_of records (codes "authorization") ≡ Some c.auth.place
+  pub number : column_of records (codes "number") ≡ Some c.number.place
+  pub figures : AreFigureColumns records c.figures
+  pub reversed_by : column_of records (codes "reversed_by") ≡ Some c.reversed_by.place
+
+-- a row is of the payer, and then of the pharmacy
+abbrev pub is_between : Parties → Between → List (List ℕ) → Option Bool
+is_between c b row = do
+  payer ← number_in c.payer.place row
+  if payer == b.payer then option_map (λ (pharmacy : ℕ). pharmacy == b.pharmacy) (number_in c.pharmacy.place row) else Some false
+
+-- the figures of a row
+unfoldable pub figures_in : FigureColumns → List (List ℕ) → Option Figures
+figures_in c row = do
+  prescription ← number_in c.prescription.place row
+  fill ← number_in c.fill.place row
+  cost ← number_in c.cost.place row
+  fee ← number_in c.fee.place row
+  copay ← number_in c.copay.place row
+  cents ← number_in c.cents.place row
+  Some (record { prescription = prescription; fill = fill; cost = cost; fee = fee; copay = copay; cents = cents })
+
+-- the payment of a row
+abbrev pub counted_payment : CountedColumns → List (List ℕ) → Option Counted
+counted_payment c row = do
+  auth ← number_in c.auth.place row
+  figures ← figures_in c.figures row
+  Some (record { auth = auth; figures = figures })
+
+abbrev pub made_payment : MadeColumns → List (List ℕ) → Option Made
+made_payment c row = do
+  auth ← number_in c.auth.place row
+  number ← number_in c.number.place row
+  figures ← figures_in c.figures row
+  reversed_by ← optional_in c.reversed_by.place row
+  Some (record { auth = auth; number = number; figures = figures; reversed_by = reversed_by })
+
+abbrev pub entry_of : EntryColumns → List (List ℕ) → Option Entry
+entry_of c row = do
+  number ← number_in c.number.place row
+  is_open ← word_in c.state.place (codes "answered") (codes "open") row
+  Some (record { number = number; «open» = is_open })
+
+-- it is given where it is wanted
+abbrev pub wanted : {A : Type 0} → Bool → Option A → Option (Option A)
+wanted false o = Some None
+wanted true o = option_map Some o
+
+unfoldable pub counted_in : CountedColumns → Between → List (List ℕ) → Option (Option Counted)
+counted_in c b row = do
+  is ← is_between c.parties b row
+  wanted is (counted_payment c row)
+
+unfoldable pub made_in : MadeColumns → Between → List (List ℕ) → Option (Option Made)
+made_in c b row = do
+  is ← is_between c.parties b row
+  wanted is (made_payment c row)
+
+unfoldable pub entry_in : EntryColumns → ℕ → List (List ℕ) → Option (Option Entry)
+entry_in c pharmacy row = do
+  of ← number_in c.pharmacy.place row
+  wanted (of == pharmacy) (entry_of c row)
+
+-- the payments of a table that a pharmacy counts of a payer; its entries; the payments that the payer made it
+abbrev pub AreCounted : Between → List ℕ → List Counted → Type 0
+AreCounted b table counted = (records : List (List (List ℕ))) × (c : CountedColumns) × AreRecordsOf table records × AreCountedColumns records c × (given_by (counted_in c b) (rows_of records) ≡ Some counted)
+
+abbrev pub AreEntries : Between → List ℕ → List Entry → Type 0
+AreEntries b table entries = (records : List (List (List ℕ))) × (c : EntryColumns) × AreRecordsOf table records × AreEntryColumns records c × (given_by (entry_in c b.pharmacy) (rows_of records) ≡ Some entries)
+
+abbrev pub AreMade : Between → List ℕ → List Made → Type 0
+AreMade b table made = (records : List (List (List ℕ))) × (c : MadeColumns) × AreRecordsOf table records × AreMadeColumns records c × (given_by (made_in c b) (rows_of records) ≡ Some made)
+
+-- ---- what is told of them
+
+-- a figure that is another: its name, and what both say
+pub record Apart : Type 0 where
+  pub name : List ℕ
+  pub counted : ℕ
+  pub paid : ℕ
+
+abbrev pub apart : List ℕ → ℕ → ℕ → Option Apart
+apart name counted paid = cond (counted == paid) None (Some (record { name = name; counted = counted; paid = paid }))
+
+-- the first figure that is another: of the total, of the amounts that make it, and of the fill
+unfoldable pub first_apart : Figures → Figures → Option Apart
+first_apart a b =
+    option_or (apart (codes "total") a.cents b.cents)
+    (option_or (apart (codes "cost") a.cost b.cost)
+    (option_or (apart (codes "fee") a.fee b.fee)
+    (option_or (apart (codes "copay") a.copay b.copay)
+    (option_or (apart (codes "prescription") a.prescription b.prescription) (apart (codes "fill") a.fill b.fill)))))
+
+-- the digits of an authorization: its number, filled with zeros to 16 digits
+abbrev pub auth_digits : ℕ → List ℕ
+auth_digits number = replicate (16 - length (decimal number)) 48 ++ decimal number
+
+-- the names of the columns
+abbrev pub finding_names : List (List ℕ)
+finding_names =
+    codes "finding" ∷ codes "authorization" ∷ codes "counted_cents" ∷ codes "paid_cents" ∷ codes "on_its_way"
+    ∷ codes "figure" ∷ codes "counted_figure" ∷ codes "paid_figure" ∷ []
+
+-- what a row says
+pub record Shown : Type 0 where
+  pub word : List ℕ
+  pub auth : ℕ
+  pub counted : Option ℕ
+  pub paid : Option ℕ
+  pub on_its_way : Bool
+  pub apart : Option Apart
+
+abbrev pub apart_name : Option Apart → List ℕ
+apart_name None = []
+apart_name (Some a) = a.name
+
+unfoldable pub shown_row : Shown → Row
+shown_row s =
+    record { name = codes "finding"; value = Text s.word }
+    ∷ record { name = codes "authorization"; value = Text (auth_digits s.auth) }
+    ∷ record { name = codes "counted_cents"; value = number_or_nothing s.counted }
+    ∷ record { name = codes "paid_cents"; value = number_or_nothing s.paid }
+    ∷ record { name = codes "on_its_way"; value = Flag s.on_its_way }
+    ∷ record { name = codes "figure"; value = Text (apart_name s.apart) }
+    ∷ record { name = codes "counted_figure"; value = number_or_nothing (option_map (λ (a : Apart). a.counted) s.apart) }
+    ∷ record { name = codes "paid_figure"; value = number_or_nothing (option_map (λ (a : Apart). a.paid) s.apart) }
+    ∷ []
+
+-- what is shown of a finding
+abbrev pub shown : Finding → Shown
+shown (NotPaid auth f) = record { word = codes "not_paid"; auth = auth; counted = Some f.cents; paid = None; on_its_way = false; apart = None }
+shown (Differs auth f g) = record { word = codes "differs"; auth = auth; counted = Some f.cents; paid = Some g.cents; on_its_way = false; apart = first_apart f g }
+shown (Reversed auth f is) = record { word = codes "reversed"; auth = auth; counted = Some f.cents; paid = None; on_its_way = is; apart = None }
+shown (NotCounted auth f is) = record { word = codes "not_counted"; auth = auth; counted = None; paid = Some f.cents; on_its_way = is; apart = None }
+
+-- a row for each finding
+abbrev pub finding_rows : List Finding → List ℕ
+finding_rows found = flat_map (λ (f : Finding). csv_row (shown_row (shown f))) found
+
+-- the answer that would settle it may still be on its way
+abbrev pub is_on_its_way : Finding → Bool
+is_on_its_way f = (shown f).on_its_way
+
+-- a text is what is found of three tables, and whether nothing differs but what may still be on its way
+pub record IsCompared (counted entries payments : List ℕ) (between : Between) (text : List ℕ) (agrees : Bool) : Type 0 where
+  pub paid : List Counted
+  pub counts : AreCounted between counted paid
+  pub journal : List Entry
+  pub enters : AreEntries between entries journal
+  pub book : List Made
+  pub makes : AreMade between payments book
+  pub found : List Finding
+  pub finds : Findings paid journal book found
+  pub told : text ≡ head_text finding_names ++ finding_rows found
+  pub agreed : agrees ≡ list_all is_on_its_way found

@@ -1,0 +1,86 @@
+-- Totals of a table of payments, as a table.
+use Rattle.std.specs.Prelude.{◌≡◌, ℕ, Bool, List, [], ◌∷◌, ◌++◌, Option, Some, None, option_map, filter, map, codes}
+use Rattle.std.specs.List.{flat_map}
+use Rattle.std.specs.BTreeMap.{BTreeMap, IsOrdered, get}
+use Rattle.table_text.specs.Members.{Row, Member, Number, number_or_nothing}
+use Rattle.table_text.specs.Rows.{head_text, csv_row}
+use Rattle.claim_reports.specs.declared.choice.Paid.{Paid}
+use Rattle.claim_reports.specs.declared.choice.Choice.{Choice}
+use Rattle.claim_reports.specs.declared.totals.By.{By}
+use Rattle.claim_reports.specs.declared.totals.By.TheVariants.{Payer, Pharmacy, Day}
+use Rattle.claim_reports.specs.declared.totals.Sums.{Sums}
+use Rattle.claim_reports.specs.declared.totalling.Columns.{Columns}
+use Rattle.claim_reports.specs.declared.totalling.Days.{Days}
+use Rattle.claim_reports.specs.declared.totalling.Days.TheVariants.{Service, Ruling}
+use Rattle.claim_reports.specs.Tables.{AreRecordsOf, rows_of, column_of, number_in, optional_in, word_in, given_by, ◌>>=◌}
+use Rattle.claim_reports.specs.Totals.{key_cmp, total_at, is_chosen}
+
+-- the name of the column with the day that a report goes by
+abbrev pub day_name : Days → List ℕ
+day_name Service = codes "date_of_service"
+day_name Ruling = codes "ruled_on"
+
+-- the name of the column that totals are made by
+abbrev pub by_name : By → Days → List ℕ
+by_name Payer days = codes "payer"
+by_name Pharmacy days = codes "pharmacy"
+by_name Day days = day_name days
+
+-- these are the columns of a table of payments
+pub record AreColumns (days : Days) (records : List (List (List ℕ))) (c : Columns) : Type 0 where
+  pub payer : column_of records (codes "payer") ≡ Some c.payer.place
+  pub pharmacy : column_of records (codes "pharmacy") ≡ Some c.pharmacy.place
+  pub day : column_of records (day_name days) ≡ Some c.day.place
+  pub cents : column_of records (codes "paid_cents") ≡ Some c.cents.place
+  pub state : column_of records (codes "state") ≡ Some c.state.place
+
+-- the day of a row: that of service it has; that of ruling may not be known
+abbrev pub day_in : Days → ℕ → List (List ℕ) → Option (Option ℕ)
+day_in Service place row = option_map Some (number_in place row)
+day_in Ruling place row = optional_in place row
+
+-- the payment of a row
+unfoldable pub paid_in : Days → Columns → List (List ℕ) → Option Paid
+paid_in days c row = do
+  payer ← number_in c.payer.place row
+  pharmacy ← number_in c.pharmacy.place row
+  day ← day_in days c.day.place row
+  cents ← number_in c.cents.place row
+  reversed ← word_in c.state.place (codes "standing") (codes "reversed") row
+  Some (record { payer = payer; pharmacy = pharmacy; day = day; cents = cents; reversed = reversed })
+
+-- the payments of a table: one of each row
+abbrev pub ArePaid : Days → List (List (List ℕ)) → List Paid → Type 0
+ArePaid days records paid = (c : Columns) × AreColumns days records c × (given_by (λ row. option_map Some (paid_in days c row)) (rows_of records) ≡ Some paid)
+
+-- the names of the columns of totals
+abbrev pub total_names : List ℕ → List (List ℕ)
+total_names name = name ∷ codes "payments" ∷ codes "cents" ∷ codes "reversed_payments" ∷ codes "reversed_cents" ∷ []
+
+-- the row of the sums of a number
+unfoldable pub total_row : List ℕ → Option ℕ → Sums → Row
+total_row name number sums =
+    record { name = name; value = number_or_nothing number }
+    ∷ record { name = codes "payments"; value = Number sums.count }
+    ∷ record { name = codes "cents"; value = Number sums.cents }
+    ∷ record { name = codes "reversed_payments"; value = Number sums.reversed_count }
+    ∷ record { name = codes "reversed_cents"; value = Number sums.reversed_cents }
+    ∷ []
+
+-- a row for each number, in their order
+abbrev pub total_rows : List ℕ → List (Option ℕ × Sums) → List ℕ
+total_rows name totals = flat_map (λ (t : Option ℕ × Sums). csv_row (total_row name t.0 t.1)) totals
+
+abbrev pub totals_text : List ℕ → List (Option ℕ × Sums) → List ℕ
+totals_text name totals = head_text (total_names name) ++ total_rows name totals
+
+-- a text is the totals of those payments of a table that are chosen: each number that these have has the sums of those that have it
+pub record IsTotalled (table : List ℕ) (by : By) (days : Days) (choice : Choice) (text : List ℕ) : Type 0 where
+  pub records : List (List (List ℕ))
+  pub are : AreRecordsOf table records
+  pub paid : List Paid
+  pub made : ArePaid days records paid
+  pub totals : BTreeMap (Option ℕ) Sums
+  pub ordered : IsOrdered key_cmp totals
+  pub each : (key : Option ℕ) → get key_cmp totals key ≡ total_at by key (filter (is_chosen choice) paid)
+  pub told : text ≡ totals_text (by_name by days) totals.entries

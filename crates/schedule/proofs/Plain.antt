@@ -1,0 +1,70 @@
+-- Events of which none is an adjudication are spelled by the same lines where no payer may ask.
+use Rattle.std.proofs.Common.{◌≡◌, ℕ, Bool, true, false, ◌&&◌, List, [], ◌∷◌, Option, Some, None, Result, Ok, Err, refl, sym, ap, ◌∙◌, inl, inr}
+use Rattle.std.specs.Prelude.{bytes_eq, codes}
+use Rattle.std.specs.Result.{result_ok}
+use Rattle.std.proofs.lemmas.Bool.{and_parts, cases_Bool}
+use Rattle.input_text.specs.Options.{◌>>=◌}
+use Rattle.input_text.specs.Words.{split_word}
+use Rattle.input_text.specs.Decimals.{decimal_number}
+use Rattle.input_text.specs.Printing.{unprinted}
+use Rattle.world_setup.specs.declared.event.Event.{Event}
+use Rattle.world_setup.specs.declared.event.Event.TheVariants.{Adjudicate}
+use Rattle.schedule.specs.Events.{event_with, event_of, adjudication, living_event_with, living_event_of, has_no_advice, have_no_advice}
+use Rattle.schedule.specs.Reading.{NumberedLine, told_lines, spelled_in}
+use Rattle.schedule.proofs.EventLists.{joined, first_taken, first_bad, no_lines}
+
+-- what stands behind `adjudicate` is no other event
+advised_by : (packet : ℕ) (text : Option (List ℕ)) (e : Event) → (text >>= (λ advice. Some (Adjudicate packet advice))) ≡ Some e → has_no_advice e ≡ true → ⊥
+advised_by packet None e is plain = absurd cc
+advised_by packet (Some advice) e is plain =
+    let same : Adjudicate packet advice ≡ e = cc in
+    let wrong : false ≡ true = ap has_no_advice same ∙ plain in
+    absurd cc
+
+of_packet : (packet : Option ℕ) (text : Option (List ℕ)) (e : Event) → (packet >>= (λ number. text >>= (λ advice. Some (Adjudicate number advice)))) ≡ Some e → has_no_advice e ≡ true → ⊥
+of_packet None text e is plain = absurd cc
+of_packet (Some packet) text e is plain = advised_by packet text e is plain
+
+behind_word : (parts : Option (List ℕ × List ℕ)) (e : Event) → (parts >>= (λ p. decimal_number 18 p.0 >>= (λ number. result_ok (unprinted p.1) >>= (λ advice. Some (Adjudicate number advice))))) ≡ Some e → has_no_advice e ≡ true → ⊥
+behind_word None e is plain = absurd cc
+behind_word (Some p) e is plain = of_packet (decimal_number 18 p.0) (result_ok (unprinted p.1)) e is plain
+
+adjudicated : (rest : List ℕ) (e : Event) → adjudication rest ≡ Some e → has_no_advice e ≡ true → ⊥
+unfolding adjudication
+adjudicated rest e is plain = behind_word (split_word rest) e is plain
+
+by_word : (word rest : List ℕ) (e : Event) (b : Bool) → bytes_eq word (codes "adjudicate") ≡ b → living_event_with word rest ≡ Some e → has_no_advice e ≡ true → event_with word rest ≡ Some e
+by_word word rest e true same is plain = absurd (adjudicated rest e (sym (rw same refl) ∙ is) plain)
+by_word word rest e false same is plain = sym (rw same refl) ∙ is
+
+by_parts : (parts : Option (List ℕ × List ℕ)) (e : Event) → (parts >>= (λ p. living_event_with p.0 p.1)) ≡ Some e → has_no_advice e ≡ true → (parts >>= (λ p. event_with p.0 p.1)) ≡ Some e
+by_parts None e is plain = absurd cc
+by_parts (Some p) e is plain = by_word p.0 p.1 e (bytes_eq p.0 (codes "adjudicate")) refl is plain
+
+line_alike : (line : List ℕ) (e : Event) → living_event_of line ≡ Some e → has_no_advice e ≡ true → event_of line ≡ Some e
+unfolding living_event_of event_of
+line_alike line e is plain = by_parts (split_word line) e is plain
+
+joined_ok : (e : Event) (rest : Result (List Event) ℕ) (es : List Event) → joined (e ∷ []) rest ≡ Ok es → (more : List Event) × (rest ≡ Ok more) × (es ≡ e ∷ more)
+joined_ok e (Ok more) es is = let same : e ∷ more ≡ es = cc in (more, refl, sym same)
+joined_ok e (Err number) es is = absurd cc
+
+abbrev Alike : List NumberedLine → List Event → Type 0
+Alike lines es = spelled_in living_event_of lines ≡ Ok es → have_no_advice es ≡ true → spelled_in event_of lines ≡ Ok es
+
+one_line : (l : NumberedLine) (lines : List NumberedLine) (es : List Event) (o : Option Event) → ((more : List Event) → Alike lines more) → living_event_of l.1 ≡ o → spelled_in living_event_of (l ∷ lines) ≡ Ok es → have_no_advice es ≡ true → spelled_in event_of (l ∷ lines) ≡ Ok es
+one_line l lines es None later spells is plain =
+    let wrong : ◌≡◌ {A = Result (List Event) ℕ} (Err l.0) (Ok es) = sym (first_bad living_event_of l lines spells) ∙ is in
+    absurd cc
+one_line l lines es (Some e) later spells is plain =
+    let found = joined_ok e (spelled_in living_event_of lines) es (sym (first_taken living_event_of l lines e spells) ∙ is) in
+    let tests = and_parts (has_no_advice e) (have_no_advice found.0) (sym (ap have_no_advice found.2) ∙ plain) in
+    first_taken event_of l lines e (line_alike l.1 e spells tests.0)
+    ∙ (ap (joined (e ∷ [])) (later found.0 found.1 tests.1) ∙ ap (λ (xs : List Event). Ok xs) (sym found.2))
+
+lines_alike : (lines : List NumberedLine) (es : List Event) → Alike lines es
+lines_alike [] es is plain = no_lines event_of ∙ (sym (no_lines living_event_of) ∙ is)
+lines_alike (l ∷ lines) es is plain = one_line l lines es (living_event_of l.1) (lines_alike lines) refl is plain
+
+pub plain_lines : (lines : List NumberedLine) (es : List Event) → spelled_in living_event_of (told_lines lines) ≡ Ok es → have_no_advice es ≡ true → spelled_in event_of (told_lines lines) ≡ Ok es
+plain_lines lines es is plain = lines_alike (told_lines lines) es is plain
