@@ -1,13 +1,14 @@
-#!/usr/bin/env python3
+#!/usr/bin/python3
 """A node each of a settings file, over NATS, on this machine.
 
     hosts/cluster.py SETTINGS FOLDER [--server] [--access FOLDER] [--nats URL[,URL..]] [--ca FILE] [--jetstream] [--tick SECONDS]
-                     [--watch PORT] [--hold-back MS] [--reserve ROWS] [--ping SECONDS] [--program PATH]
-                     [--host PATH [--log stream] [--copies 2] [--candidates N]] [-v]
+                     [--watch PORT] [--hold-back MS] [--reserve ROWS] [--ping SECONDS] [--host PATH]
+                     [--log stream] [--copies 2] [--candidates N] [-v]
 
-SETTINGS is a file of settings alone, as examples/six-nodes.toml. Logs go to FOLDER, one a node. A host that dies is started
-again, at first at once, then ever later; one whose log or settings are refused (status 78) is not. With --server a server is started
-too; its program is `nats-server` (Debian: apt-get install nats-server). --access is a folder that hosts/permissions has written: each
+SETTINGS is a file of settings alone, as examples/six-nodes.toml. Logs go to FOLDER, one a node. The host is that of hosts/c, which is
+built where it is not there; --host names another. One that dies is started again, at first at once, then ever later, also where it
+was killed before it was ready; one that says that its words, its log or its settings are refused (status 2 or 78) is not. With --server
+a server is started too; its program is `nats-server` (Debian: apt-get install nats-server). --access is a folder that hosts/permissions has written: each
 node comes as a user of its own, and the server is the one of its server.conf. Without it, anybody who reaches the server can speak
 as any node. With --log stream logs are in streams, which `vogctl log make` has made, and each node has N hosts, whose folders are
 FOLDER/a, FOLDER/b ..: as on as many machines. Ends by Ctrl-C or SIGTERM: its nodes finish what they have taken, and end.
@@ -19,13 +20,13 @@ import json
 import os
 import pathlib
 import re
-import shutil
 import signal
 import socket
-import subprocess
 import sys
 import time
+from typing import Any
 
+import built
 import nats
 from said import Said
 from settings import REFUSED, Settings
@@ -35,20 +36,9 @@ AGAIN_SECONDS = 0.2
 MOST_SECONDS = 10.0
 # A program that has run so long is started again at once.
 STEADY_SECONDS = 30.0
+# The statuses of a program that says in words why it cannot run: what is on its command line, or its settings, its name or its log.
+WORDS_OF_REFUSAL = (2, REFUSED)
 END_SECONDS = 20.0
-
-
-def program_of(given: str | None) -> str:
-    """The program claimnode: the one that is named, that of this repository, or that of the PATH."""
-    built = HERE.parent / "crates" / "claimnode" / "out" / "claimnode"
-    script = HERE.parent / "claimnode"
-    if given or built.exists():
-        return given or str(built)
-    if script.exists():
-        # The script compiles the program where it is not built, once, before the nodes start.
-        subprocess.run([script, "-V"], stdout=subprocess.DEVNULL, check=False)
-        return str(script)
-    return shutil.which("claimnode") or sys.exit("cluster: no claimnode on the PATH; --program names it")
 
 
 def check_free(host: str, port: int) -> None:
@@ -56,6 +46,11 @@ def check_free(host: str, port: int) -> None:
     with socket.socket() as other:
         if other.connect_ex((host, port)) == 0:
             sys.exit(f"cluster: {host}:{port} has a server already: leave out --server, or give another by --nats")
+
+
+def ending(status: int) -> dict[str, object]:
+    """How a program ended: by a signal, which has said nothing and is no refusal, or with a status of its own."""
+    return {"signal": signal.Signals(-status).name} if status < 0 else {"status": status}
 
 
 class Keeper:
@@ -76,12 +71,12 @@ class Keeper:
             except asyncio.CancelledError:
                 await self._end(process)
                 raise
-            if status == REFUSED:
+            if status in WORDS_OF_REFUSAL:
                 self._say(f"{self._name} is refused, and not started again", "error", status=status)
                 return
             if time.monotonic() - started > STEADY_SECONDS:
                 wait = AGAIN_SECONDS
-            self._say(f"{self._name} ended, and is started again", "warning", status=status, seconds=wait)
+            self._say(f"{self._name} ended, and is started again", "warning", **ending(status), seconds=wait)
             await asyncio.sleep(wait)
             wait = min(wait * 2, MOST_SECONDS)
 
@@ -119,7 +114,9 @@ class Cluster:
         else:
             settings = self._folder / "server.conf"
             self._write_settings(settings, at)
-        return Keeper("the server", ["nats-server", "-c", str(settings), "-l", str(self._folder / "server.txt")], self._say)
+        return Keeper(
+            "the server", ["nats-server", "-c", str(settings), "-l", str(self._folder / "server.txt")], self._say
+        )
 
     def _write_settings(self, path: pathlib.Path, at: nats.Server) -> None:
         """Writes settings of a server for this machine. Who may do what it does not say: it is for a first look."""
@@ -148,24 +145,21 @@ class Cluster:
         given = self._given
         folder = self._folder / machine
         folder.mkdir(mode=0o700, exist_ok=True)
-        words = [given.settings, name, str(folder / f"{name}.log"), *self._login(name), "--tick", given.tick]
+        words = [program, given.settings, name, str(folder / f"{name}.log"), *self._login(name), "--tick", given.tick]
         words += ["--log", "stream", "--machine", machine, "--copies", given.copies] if machine else []
         words += ["--watch", f"127.0.0.1:{given.watch + place}"] if given.watch else []
         words += ["--hold-back", given.hold_back] if given.hold_back else []
         words += ["--reserve", given.reserve] if given.reserve else []
         words += ["--ping", given.ping] if given.ping else []
-        words += ["-v"] * given.v
-        if given.host:
-            words = [program, *words]
-        else:
-            words = [sys.executable, str(HERE / "node.py"), *words, "--program", program] + ["--jetstream"] * given.jetstream
+        words += ["--rules", given.rules] if given.rules and name.startswith("pr") else []
+        words += ["--jetstream"] * given.jetstream + ["-v"] * given.v
         return Keeper(name, words, self._say)
 
     async def go(self) -> int:
         """Runs all until it is told to end: the nodes first, then the server. Status 1 where every node is refused."""
         given = self._given
         names = Settings.read(given.settings).nodes()
-        program = given.host or program_of(given.program)
+        program = given.host or built.host()
         servers = [self.server()] if given.server else []
         servers += [self.streams()] if given.jetstream else []
         machines = [chr(ord("a") + it) for it in range(given.candidates)] if given.log == "stream" else [""]
@@ -179,7 +173,8 @@ class Cluster:
         kept = [[asyncio.create_task(it.keep()) for it in some] for some in (nodes, servers)]
         all_refused = asyncio.gather(*kept[0], return_exceptions=True)
         stopped = asyncio.create_task(stop.wait())
-        await asyncio.wait([stopped, all_refused], return_when=asyncio.FIRST_COMPLETED)
+        waited: list[asyncio.Future[Any]] = [stopped, all_refused]
+        await asyncio.wait(waited, return_when=asyncio.FIRST_COMPLETED)
         for tasks in kept:
             for task in tasks:
                 task.cancel()
@@ -196,21 +191,35 @@ def words() -> argparse.Namespace:
     nats.add_words(parser)
     parser.add_argument("--jetstream", action="store_true", help="the server keeps packets for nodes that are down")
     parser.add_argument("--tick", default="1.0", metavar="SECONDS")
-    parser.add_argument("--watch", type=int, metavar="PORT", help="metrics of the first node are at this port, of the next at the next")
+    parser.add_argument(
+        "--watch", type=int, metavar="PORT", help="metrics of the first node are at this port, of the next at the next"
+    )
     parser.add_argument("--hold-back", metavar="MS", help="switches lose what they forwarded less than so long ago")
-    parser.add_argument("--reserve", metavar="ROWS", help="entries of pharmacies and rows of payers that are kept for reversals")
-    parser.add_argument("--ping", metavar="SECONDS", help="how long a server may be silent before it is asked whether it is there")
-    parser.add_argument("--program", metavar="PATH", help="where claimnode is, for nodes of hosts/node.py")
-    parser.add_argument("--host", metavar="PATH", help="the program of hosts/c, in the place of hosts/node.py")
-    parser.add_argument("--log", choices=("file", "stream"), default="file", help="where logs are, with --host")
-    parser.add_argument("--copies", default="1", choices=("1", "2"), help="on how many disks a log is before anything is said, with --log stream")
-    parser.add_argument("--candidates", type=int, default=2, choices=range(1, 6), metavar="N", help="hosts of each node, with --log stream")
+    parser.add_argument(
+        "--reserve", metavar="ROWS", help="entries of pharmacies and rows of payers that are kept for reversals"
+    )
+    parser.add_argument(
+        "--ping", metavar="SECONDS", help="how long a server may be silent before it is asked whether it is there"
+    )
+    parser.add_argument("--rules", metavar="URL", help="the own system of payers that ask one")
+    parser.add_argument("--host", metavar="PATH", help="a program in the place of that of hosts/c")
+    parser.add_argument("--log", choices=("file", "stream"), default="file", help="where logs are")
+    parser.add_argument(
+        "--copies",
+        default="1",
+        choices=("1", "2"),
+        help="on how many disks a log is before anything is said, with --log stream",
+    )
+    parser.add_argument(
+        "--candidates",
+        type=int,
+        choices=range(1, 6),
+        metavar="N",
+        help="hosts of each node, with --log stream: 2, and 3 with --copies 2, so that one copy less silences nobody",
+    )
     parser.add_argument("-v", action="store_true", help="words for people on standard error")
     given = parser.parse_args()
-    if given.log == "stream" and not given.host:
-        parser.error("--log stream is for the host in C: --host")
-    if given.host and given.jetstream:
-        parser.error("the host in C takes packets of plain NATS alone")
+    given.candidates = given.candidates or (3 if given.copies == "2" else 2)
     return given
 
 

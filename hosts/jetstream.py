@@ -7,7 +7,7 @@ not waited for: the server's word that it has a packet is no promise of a disk.
 """
 
 import json
-from collections.abc import Callable, Iterable
+from collections.abc import Iterable
 
 import nats
 import subjects
@@ -22,26 +22,11 @@ MOST_AGE_NANOSECONDS = 600_000_000_000
 MOST_ON_THE_WAY = 256
 
 
-def hear(connection: nats.Connection, node: str, handler: Callable[[nats.Message], None]) -> None:
-    """Calls `handler(message)` for each packet that is kept for a node; its reply is for `done`."""
-    connection.subscribe(subjects.delivered(node), handler)
-
-
-def done(connection: nats.Connection, node: str, reply: str) -> None:
-    """Says that a packet is on disk, or was refused, which is as good."""
-    if reply.startswith(subjects.acknowledgement(node)):
-        connection.publish(reply, b"+ACK")
-
-
-async def keep(connection: nats.Connection, nodes: Iterable[str]) -> None:
-    """Has the packets of these nodes kept, now and whenever the connection comes."""
-
-    async def make() -> None:
-        for node in nodes:
-            await _ask(connection, f"STREAM.CREATE.{subjects.stream(node)}", _stream(node))
-            await _ask(connection, f"CONSUMER.DURABLE.CREATE.{subjects.stream(node)}.{node}", _consumer(node))
-
-    await connection.at_open(make)
+async def make(connection: nats.Connection, nodes: Iterable[str]) -> None:
+    """Has the packets of these nodes kept, as long as the server has its store."""
+    for node in nodes:
+        await _ask(connection, f"STREAM.CREATE.{subjects.stream(node)}", _stream(node))
+        await _ask(connection, f"CONSUMER.DURABLE.CREATE.{subjects.stream(node)}.{node}", _consumer(node))
 
 
 def _stream(node: str) -> dict[str, object]:
@@ -74,6 +59,10 @@ def _consumer(node: str) -> dict[str, object]:
 async def _ask(connection: nats.Connection, subject: str, asked: dict[str, object]) -> None:
     """Asks the server, and says what it refuses; without JetStream there is no reply."""
     reply = await connection.request(f"$JS.API.{subject}", json.dumps(asked).encode(), SECONDS)
-    fault = "no reply: does the server run with -js, and may this user make streams?" if reply is None else json.loads(reply).get("error")
+    fault = (
+        "no reply: does the server run with -js, and may this user make streams?"
+        if reply is None
+        else json.loads(reply).get("error")
+    )
     if fault:
-        connection.say(f"JetStream: {subject}: {fault}")
+        connection.say(f"JetStream: {subject}: {fault}", level="warning")

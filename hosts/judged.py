@@ -1,16 +1,26 @@
 """Callers and an operator of six nodes that are tormented, and the judgement of the logs that are left: for hosts/torture."""
 
+from __future__ import annotations
+
+import argparse
 import asyncio
 import pathlib
+import random
+import shutil
 import subprocess
 import sys
 import types
+from collections.abc import Awaitable, Sequence
+from typing import Any, TypeVar
 
 TOP = pathlib.Path(__file__).resolve().parent.parent
 sys.path[:0] = [str(TOP / "hosts"), str(TOP / "tests")]
+import nats  # noqa: E402
 import report_walk  # noqa: E402
 import subjects  # noqa: E402
 
+T = TypeVar("T")
+REFUSED = 78
 PROVIDERS = ["1234567893", "1234567894"]
 NODES = ["ph1", "ph2", "sw1", "sw2", "pr1", "pr2"]
 SETTINGS = TOP / "examples" / "six-nodes.toml"
@@ -20,14 +30,37 @@ class Failed(Exception):
     """Something is otherwise than it has to be."""
 
 
+class Tries:
+    """What nodes, an operator and callers share: chance, what was counted, and whether it is time to be calm, or over."""
+
+    def __init__(self, given: argparse.Namespace, folder: str) -> None:
+        self.given, self.folder, self.dice = given, pathlib.Path(folder), random.Random(given.seed)
+        self.settings = self.folder / "settings.toml"
+        shutil.copyfile(SETTINGS, self.settings)
+        self.calm_file = self.folder / "calm"
+        self.calm = self.over = False
+        self.fills = 0
+        self.counts: dict[str, int] = {}
+
+    def count(self, what: str, more: int = 1) -> None:
+        self.counts[what] = self.counts.get(what, 0) + more
+
+    def be_calm(self) -> None:
+        """Nothing dies any more, and no packet is lost."""
+        self.calm = True
+        self.calm_file.touch()
+
+
 class Caller:
     """A caller of a pharmacy: submits, under a reference, again where it hears nothing, asks, and keeps what it is told."""
 
-    def __init__(self, run, pharmacy, connection):
+    def __init__(self, run: Tries, pharmacy: int, connection: nats.Connection) -> None:
         self._run, self._pharmacy, self._connection = run, pharmacy, connection
-        self.told, self.answers, self.references = {}, {}, 0
+        self.told: dict[int, bytes] = {}
+        self.answers: dict[int, bytes] = {}
+        self.references = 0
 
-    def text(self):
+    def text(self) -> str:
         """A claim of a prescription, new or known, or its reversal, in printed bytes."""
         dice = self._run.dice
         known = dice.random() < 0.3
@@ -40,9 +73,9 @@ class Caller:
             return head % "B2" + fields
         return head % "B1" + "\\S\\FAM04\\FC2987654321" + fields + "\\FE730000\\S\\FAM11\\FD9600{\\FDC20{"
 
-    async def go(self):
+    async def go(self) -> None:
         """Submits until the time is over."""
-        text = None
+        text: bytes | None = None
         while not self._run.calm:
             if text is None:
                 self.references += 1
@@ -57,17 +90,17 @@ class Caller:
                 text = None
             await self.ask()
 
-    def hear(self, reply, text):
+    def hear(self, reply: bytes, text: bytes) -> None:
         """What is replied to a submission."""
         self._run.count("known references", reply.startswith(b"known "))
         if reply.startswith((b"number ", b"known ")):
             self.keep(int(reply.split()[1]), text)
 
-    def keep(self, number, text):
+    def keep(self, number: int, text: bytes) -> None:
         if self.told.setdefault(number, text) != text:
             raise Failed(f"pharmacy {self._pharmacy} gave number {number} twice")
 
-    async def ask(self):
+    async def ask(self) -> None:
         """Asks for the answer to one of the numbers."""
         if not self.told:
             return
@@ -76,7 +109,7 @@ class Caller:
         if reply and reply.startswith(b"answer ") and self.answers.setdefault(number, reply) != reply:
             raise Failed(f"pharmacy {self._pharmacy} told two answers to {number}")
 
-    async def settle(self):
+    async def settle(self) -> int:
         """Waits until each number has its answer; how many there are."""
         number = 1
         while True:
@@ -96,51 +129,77 @@ class Operator:
 
     PRODUCT = "00093721410"
 
-    def __init__(self, run, connection):
+    def __init__(self, run: Tries, connection: nats.Connection) -> None:
         self._run, self._connection = run, connection
 
-    async def ask(self, node, line):
+    async def ask(self, node: str, line: str) -> bytes | None:
         """The reply to a line; None where it, or its reply, was lost."""
         self._run.count(f"{line.split()[0]} lines")
         return await self._connection.request(subjects.operations(node), line.encode(), 0.5)
 
-    async def go(self):
+    async def go(self) -> None:
         """Operates until the time is over."""
         dice = self._run.dice
         while not self._run.calm:
             await asyncio.sleep(dice.expovariate(4))
             node = dice.choice(NODES)
             if node.startswith("pr") and dice.random() < 0.6:
-                await self.ask(node, f"plan {self.PRODUCT} {dice.choice(['none', 18567, 20000, dice.randint(0, 99999)])}")
+                await self.ask(
+                    node, f"plan {self.PRODUCT} {dice.choice(['none', 18567, 20000, dice.randint(0, 99999)])}"
+                )
                 continue
             await self.ask(node, "stop")
             await asyncio.sleep(dice.random() * 0.3)
             await self.start(node)
 
-    async def start(self, node):
+    async def start(self, node: str) -> None:
         """Asks a node to start until it is up."""
         while await self.ask(node, "start") not in (b"ok", b"refused AlreadyUp"):
             await asyncio.sleep(0.02)
 
-    async def settle(self):
+    async def settle(self) -> None:
         """Has all nodes up."""
         for node in NODES:
             await self.start(node)
 
 
-def ran(words, given=None):
+async def first(tasks: Sequence[asyncio.Task[None]], work: Awaitable[T]) -> T:
+    """The result of work, or the fault of a task that ends before it with one."""
+    doing = asyncio.ensure_future(work)
+    waited: set[asyncio.Future[Any]] = {doing, *tasks}
+    while not doing.done():
+        done, waited = await asyncio.wait(waited, return_when=asyncio.FIRST_COMPLETED)
+        for task in done:
+            task.result()
+    return await doing
+
+
+def host_of(given: argparse.Namespace) -> str:
+    """The host with its torments, or a wrong one; ends the program where it cannot be built."""
+    if given.host:
+        return str(given.host)
+    flags = f"CFLAGS=-O2 -g -DTORMENTED {f'-DWRONG_{given.wrong}' if given.wrong else ''}".strip()
+    made = subprocess.run([TOP / "tools" / "host", flags], stdout=subprocess.PIPE, text=True, check=False)
+    if made.returncode:
+        sys.exit(made.returncode)
+    return made.stdout.strip()
+
+
+def ran(words: list[str], given: str | None = None) -> subprocess.CompletedProcess[str]:
     return subprocess.run(words, input=given, capture_output=True, text=True, errors="replace", check=False)
 
 
-def settings_of_walk():
+def settings_of_walk() -> types.SimpleNamespace:
     """The settings as the walk of the promises takes them."""
     pharmacies = [{"provider": it, "cap": 60000} for it in PROVIDERS]
     payers = [{"cap": 60000, "serial": 1}] * 2
     route = {"610455": 1, "610456": 2}
-    return types.SimpleNamespace(pharmacies=pharmacies, payers=payers, switches=[64, 64], route=lambda it: route.get(it.bin))
+    return types.SimpleNamespace(
+        pharmacies=pharmacies, payers=payers, switches=[64, 64], route=lambda it: route.get(it.bin)
+    )
 
 
-def bytes_of(printed):
+def bytes_of(printed: str) -> bytes:
     """The bytes of a text that is printed by this script or by a schedule."""
     names = {"F": "\x1c", "G": "\x1d", "S": "\x1e", "\\": "\\"}
     text, at = "", 0
@@ -154,7 +213,7 @@ def bytes_of(printed):
     return text.encode("latin-1")
 
 
-def event_of(line):
+def event_of(line: str) -> tuple[Any, ...]:
     """An event of a schedule as the walk of the promises takes it."""
     words = line.split(" ", 2)
     if words[0] == "submit":
@@ -162,7 +221,7 @@ def event_of(line):
     return (words[0], *words[1:])
 
 
-def judge(run, callers, entries):
+def judge(run: Tries, callers: list[Caller], entries: list[int]) -> dict[str, int]:
     """What the logs tell has to be what callers were told, and every promise has to hold of it."""
     logs = [str(run.folder / f"{name}.log") for name in NODES]
     verdict = ran([run.given.audit, str(run.settings), *logs])
@@ -176,7 +235,9 @@ def judge(run, callers, entries):
     walk.walk(events, report)
     for number, (caller, count) in enumerate(zip(callers, entries), 1):
         if report.nodes["pharmacy", number].count != count:
-            raise Failed(f"pharmacy {number} told of {count} entries, and the logs have {report.nodes['pharmacy', number].count}")
+            raise Failed(
+                f"pharmacy {number} told of {count} entries, and the logs have {report.nodes['pharmacy', number].count}"
+            )
         if count > caller.references:
             raise Failed(f"pharmacy {number} has {count} entries of {caller.references} references")
         for name, text in caller.told.items():

@@ -86,7 +86,8 @@ class Log:
         raise Fault(f"{self.name}: the servers say nothing for {MOST_SECONDS:.0f} s")
 
     async def _asked(self, what: str, asked: dict[str, Any]) -> dict[str, Any]:
-        reply = json.loads(await self._word(f"$JS.API.STREAM.{what}.{self.name}", json.dumps(asked).encode()))
+        word = await self._word(f"$JS.API.STREAM.{what}.{self.name}", json.dumps(asked).encode())
+        reply: dict[str, Any] = json.loads(word)
         if "error" in reply:
             raise Fault(f"{self.name}: {reply['error'].get('description')}")
         return reply
@@ -116,7 +117,12 @@ class Log:
 
     async def append(self, last: int, at: int, digest: "hashlib._Hash", data: bytes, owner: str) -> None:
         """Appends bytes behind a sequence, whose digest with all before them this is; they stand there when it returns."""
-        headers = {"Nats-Expected-Last-Sequence": str(last), "Log-At": str(at), "Log-Digest": digest.hexdigest(), "Log-Owner": owner}
+        headers = {
+            "Nats-Expected-Last-Sequence": str(last),
+            "Log-At": str(at),
+            "Log-Digest": digest.hexdigest(),
+            "Log-Owner": owner,
+        }
         reply = await self._word(self.subject, data, headers)
         if error_of(reply) == WRONG_LAST:
             entry = await self.entry(last + 1)
@@ -128,7 +134,9 @@ class Log:
 
     async def entry(self, sequence: int) -> Entry | None:
         """The message of a sequence; None where the servers have none."""
-        reply = json.loads(await self._word(f"$JS.API.STREAM.MSG.GET.{self.name}", json.dumps({"seq": sequence}).encode()))
+        reply = json.loads(
+            await self._word(f"$JS.API.STREAM.MSG.GET.{self.name}", json.dumps({"seq": sequence}).encode())
+        )
         if reply.get("error", {}).get("err_code") == NO_MESSAGE:
             return None
         if "error" in reply:
@@ -142,9 +150,13 @@ class Log:
             raise Fault(f"{self.name}: message {sequence} was made by no host") from None
         return Entry(message["seq"], at, digest, owner, base64.b64decode(message.get("data", "")))
 
+    async def info(self) -> dict[str, Any]:
+        """What the servers tell of the stream, and of the servers that have a copy of it."""
+        return await self._asked("INFO", {})
+
     async def last_told(self) -> int:
         """The last sequence that the servers tell of: the log has at least these messages, and maybe more."""
-        return int((await self._asked("INFO", {}))["state"]["last_seq"])
+        return int((await self.info())["state"]["last_seq"])
 
     async def read(self, took: Callable[[Entry], None] = lambda _: None) -> tuple[bytes, int]:
         """The whole records of the log, and its last sequence; each message is told. Fails where it cannot be read to the end."""
@@ -155,12 +167,16 @@ class Log:
             for entry in await asyncio.gather(*asked):
                 if entry is None:
                     if sequence < told:
-                        raise Fault(f"{self.name}: message {sequence + 1} of {told} is not to be had: it was not read to its end")
+                        raise Fault(
+                            f"{self.name}: message {sequence + 1} of {told} is not to be had: it was not read to its end"
+                        )
                     return bytes(data), sequence
                 if entry.at == len(data):
                     torn = b""
                 if entry.at != len(data) + len(torn):
-                    raise Fault(f"{self.name}: message {entry.sequence} stands at byte {entry.at}, and the log has {len(data) + len(torn)}")
+                    raise Fault(
+                        f"{self.name}: message {entry.sequence} stands at byte {entry.at}, and the log has {len(data) + len(torn)}"
+                    )
                 so_far = digest.copy()
                 so_far.update(torn + entry.data)
                 if so_far.hexdigest() != entry.digest:
@@ -179,7 +195,9 @@ class Log:
         data = data[: whole_size(data)]
         has, last = await self.read()
         if data[: len(has)] != has:
-            raise Fault(f"{self.name}: the stream is no beginning of the file: it has {len(has)} bytes, and they differ")
+            raise Fault(
+                f"{self.name}: the stream is no beginning of the file: it has {len(has)} bytes, and they differ"
+            )
         digest, at, owner = hashlib.sha256(has), len(has), f"restored.{secrets.token_hex(8)}"
         for begin in range(at, len(data), PART_BYTES):
             part = data[begin : begin + PART_BYTES]

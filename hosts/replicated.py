@@ -5,27 +5,28 @@ the parts of a record; packets are lost, doubled and late; machines lose their d
 at once, stopped, and lose their stores while the other two are current; logs are moved. In the end nothing dies any more, and all has to settle. A
 host that refuses its log fails the run, and so does a log that cannot be read to its end."""
 
+from __future__ import annotations
+
+import argparse
 import asyncio
 import contextlib
 import json
 import os
-import pathlib
-import random
 import re
 import shutil
 import signal
-import subprocess
 import sys
 import tempfile
+from typing import Any
 
-import engine
+import local_servers
 import logs
 import nats
 import subjects
-from judged import NODES, SETTINGS, TOP, Caller, Failed, Operator, judge
+from judged import NODES, REFUSED, Caller, Failed, Operator, Tries, first, host_of, judge
 
 MACHINES = ("a", "b")
-REFUSED, OVERTAKEN = 78, 75
+OVERTAKEN = 75
 SETTLE_SECONDS = 240
 TICK_SECONDS = 0.2
 # Of a thousand moments at which a host may die it dies at so many; a wrong one at more, so that it is soon found on a busy machine too.
@@ -37,7 +38,7 @@ PART_BYTES = 200
 class Watchful(Caller):
     """A caller who also minds that what was told is never taken back."""
 
-    async def ask(self):
+    async def ask(self) -> None:
         if not self.told:
             return
         number = self._run.dice.choice(list(self.told))
@@ -52,20 +53,30 @@ class Watchful(Caller):
 class Candidate:
     """A host of a node on a machine, through all of its lives."""
 
-    def __init__(self, run, name, machine):
+    def __init__(self, run: Run, name: str, machine: str) -> None:
         self.run, self.name, self.machine = run, name, machine
         self.folder = run.folder / machine / name
         self.folder.mkdir(parents=True)
         self.log, self.said = self.folder / f"{name}.log", run.folder / f"{machine}.{name}.said"
-        self.process, self.is_stopped, self.loses_disk = None, False, False
+        self.process: asyncio.subprocess.Process | None = None
+        self.is_stopped = self.loses_disk = False
 
-    def words(self):
-        words = [self.run.host, str(self.run.settings), self.name, str(self.log), "--log", "stream", "--machine", self.machine]
+    def words(self) -> list[str]:
+        words = [
+            self.run.host,
+            str(self.run.settings),
+            self.name,
+            str(self.log),
+            "--log",
+            "stream",
+            "--machine",
+            self.machine,
+        ]
         words += ["--nats", self.run.servers.url, "--tick", str(TICK_SECONDS)]
         words += ["--copies", str(self.run.given.copies)]
         return words + ["--part", str(PART_BYTES)] * (self.machine == MACHINES[-1])
 
-    async def live(self):
+    async def live(self) -> None:
         """Starts the host again and again."""
         deaths = DEATHS_OF_WRONG if self.run.given.wrong else DEATHS
         environment = os.environ | {"TORMENT": str(deaths), "TORMENT_CALM": str(self.run.calm_file)}
@@ -75,33 +86,35 @@ class Candidate:
                 self.folder.mkdir()
                 self.loses_disk = False
             with open(self.said, "ab") as said:
-                self.process = await asyncio.create_subprocess_exec(*self.words(), stdout=said, stderr=said, env=environment)
+                self.process = await asyncio.create_subprocess_exec(
+                    *self.words(), stdout=said, stderr=said, env=environment
+                )
             status = await self.process.wait()
             if status == REFUSED:
                 raise Failed(f"{self.name} on {self.machine} is refused: {self.last_word()}")
             self.run.count({OVERTAKEN: "overtaken", -9: "deaths"}.get(status, f"status {status}"))
             await asyncio.sleep(0.05)
 
-    def last_word(self):
+    def last_word(self) -> str:
         return self.said.read_text(errors="replace").strip().rpartition("\n")[2]
 
-    def is_vouched(self):
+    def is_vouched(self) -> bool:
         """Whether this machine knows the log's end, so that another may lose its disk."""
         try:
             return (self.folder / f"{self.name}.log.seen").read_text().split()[-1] == "1"
         except (OSError, IndexError):
             return False
 
-    def send(self, number):
+    def send(self, number: int) -> None:
         if self.process and self.process.returncode is None:
             with contextlib.suppress(ProcessLookupError):
                 self.process.send_signal(number)
 
-    def kill(self):
+    def kill(self) -> None:
         self.run.count("kills")
         self.send(signal.SIGKILL)
 
-    async def pause(self, seconds):
+    async def pause(self, seconds: float) -> None:
         """Stops the host, and wakes it up."""
         self.run.count("stops")
         self.is_stopped = True
@@ -111,7 +124,7 @@ class Candidate:
         self.is_stopped = False
 
 
-async def move(run, connection):
+async def move(run: Run, connection: nats.Connection) -> None:
     """Has logs moved to stand-bys, now and then; a move may be refused, or end half way."""
     while not run.calm:
         await asyncio.sleep(run.dice.expovariate(0.5))
@@ -122,10 +135,10 @@ async def move(run, connection):
 class Cluster:
     """The servers, and what becomes of them: one at a time, but for moments at which all are killed."""
 
-    def __init__(self, run, servers):
+    def __init__(self, run: Run, servers: local_servers.Servers) -> None:
         self.run, self.servers = run, servers
 
-    async def torment(self):
+    async def torment(self) -> None:
         dice = self.run.dice
         while not self.run.calm:
             await asyncio.sleep(dice.expovariate(0.25))
@@ -139,7 +152,7 @@ class Cluster:
             else:
                 await self.restart([0, 1, 2])
 
-    async def restart(self, places):
+    async def restart(self, places: list[int]) -> None:
         self.run.count("kills of a server" if len(places) == 1 else "kills of all servers")
         for place in places:
             self.servers.kill(place)
@@ -147,13 +160,13 @@ class Cluster:
         for place in places:
             self.servers.start(place)
 
-    async def pause(self, place, seconds):
+    async def pause(self, place: int, seconds: float) -> None:
         self.run.count("stops of a server")
         self.servers.send(place, signal.SIGSTOP)
         await asyncio.sleep(self.run.dice.random() * seconds)
         self.servers.send(place, signal.SIGCONT)
 
-    async def lose(self, place):
+    async def lose(self, place: int) -> None:
         """A server loses its store: never while another lacks something that was acknowledged."""
         if not await self.are_current(3):
             return
@@ -165,40 +178,39 @@ class Cluster:
         while not self.run.calm and not await self.are_current(3):
             await asyncio.sleep(0.2)
 
-    async def are_current(self, count):
+    async def are_current(self, count: int) -> bool:
         """Whether so many servers have all of each log, as its leader says, twice."""
         for _ in range(2):
             for name in NODES:
-                reply = await self.run.connection.request(f"$JS.API.STREAM.INFO.LOG_{name}", b"", 1, is_word=lambda it: b'"error"' not in it)
+                reply = await self.run.watcher.request(
+                    f"$JS.API.STREAM.INFO.LOG_{name}", b"", 1, is_word=lambda it: b'"error"' not in it
+                )
                 cluster = json.loads(reply).get("cluster", {}) if reply else {}
-                current = [it for it in cluster.get("replicas") or [] if it.get("current") and not it.get("lag") and not it.get("offline")]
+                current = [
+                    it
+                    for it in cluster.get("replicas") or []
+                    if it.get("current") and not it.get("lag") and not it.get("offline")
+                ]
                 if not cluster.get("leader") or len(current) < count - 1:
                     return False
             await asyncio.sleep(0.2)
         return True
 
 
-class Run:
+class Run(Tries):
     """What hosts, servers and callers share."""
 
-    def __init__(self, given, folder):
-        self.given, self.folder, self.dice = given, pathlib.Path(folder), random.Random(given.seed)
-        self.settings = self.folder / "settings.toml"
-        shutil.copyfile(SETTINGS, self.settings)
-        self.calm_file = self.folder / "calm"
-        self.calm = self.over = False
-        self.fills, self.counts = 0, {}
-        self.host = self.connection = None
-        self.servers = engine.Servers(self.folder / "servers")
+    def __init__(self, given: argparse.Namespace, folder: str) -> None:
+        super().__init__(given, folder)
+        self.host = host_of(given)
+        self.servers = local_servers.Servers(self.folder / "servers")
         self.candidates = [Candidate(self, name, machine) for name in NODES for machine in MACHINES]
 
-    def count(self, what, more=1):
-        self.counts[what] = self.counts.get(what, 0) + more
-
-    async def torment(self, seconds):
+    async def torment(self, seconds: float) -> None:
         """Kills hosts, stops them, and takes machines' disks; then all is left alone."""
         dice, loop = self.dice, asyncio.get_running_loop()
-        end, pauses = loop.time() + seconds, set()
+        end = loop.time() + seconds
+        pauses: set[asyncio.Task[None]] = set()
         while loop.time() < end:
             await asyncio.sleep(dice.expovariate(4))
             one, kind = dice.choice(self.candidates), dice.random()
@@ -213,21 +225,20 @@ class Run:
                 self.count("disks lost")
                 one.loses_disk = True
                 one.kill()
-        self.calm = True
-        self.calm_file.touch()
+        self.be_calm()
         await asyncio.gather(*pauses)
 
-    async def go(self):
+    async def go(self) -> tuple[list[Caller], list[int]]:
         """The whole run; the callers, by pharmacy, and how many entries each has."""
         asyncio.get_running_loop().set_exception_handler(lambda *_: None)
         self.servers.start_all()
         access = nats.Access(self.servers.url)
-        tasks = []
+        tasks: list[asyncio.Task[None]] = []
         connections = [nats.Connection(access, name, ping=1) for name in ("caller1", "caller2", "operator", "watcher")]
         try:
             await asyncio.wait_for(asyncio.gather(*(it.start() for it in connections)), SETTLE_SECONDS)
-            self.connection = connections[3]
-            await asyncio.gather(*(logs.Log(self.connection, name).make(3) for name in NODES))
+            self.watcher = connections[3]
+            await asyncio.gather(*(logs.Log(self.watcher, name).make(3) for name in NODES))
             tasks += [asyncio.create_task(it.live()) for it in self.candidates]
             return await self.among(tasks, connections)
         finally:
@@ -240,11 +251,19 @@ class Run:
                 task.cancel()
             self.servers.end()
 
-    async def among(self, tasks, connections):
-        callers = [Watchful(self, number, connections[number - 1]) for number in (1, 2)]
+    async def among(
+        self, tasks: list[asyncio.Task[None]], connections: list[nats.Connection]
+    ) -> tuple[list[Caller], list[int]]:
+        callers: list[Caller] = [Watchful(self, number, connections[number - 1]) for number in (1, 2)]
         operator, cluster = Operator(self, connections[2]), Cluster(self, self.servers)
         await first(tasks, asyncio.wait_for(operator.settle(), SETTLE_SECONDS))
-        work = [self.torment(self.given.seconds), cluster.torment(), operator.go(), move(self, self.connection), *(it.go() for it in callers)]
+        work = [
+            self.torment(self.given.seconds),
+            cluster.torment(),
+            operator.go(),
+            move(self, self.watcher),
+            *(it.go() for it in callers),
+        ]
         await first(tasks, asyncio.gather(*work))
         await first(tasks, asyncio.wait_for(operator.settle(), SETTLE_SECONDS))
         entries = await first(tasks, asyncio.wait_for(asyncio.gather(*(it.settle() for it in callers)), SETTLE_SECONDS))
@@ -255,10 +274,10 @@ class Run:
         await self.export()
         return callers, entries
 
-    async def export(self):
+    async def export(self) -> None:
         """Reads each log to its end; each machine's file has to be its beginning."""
         for name in NODES:
-            data, messages = await logs.Log(self.connection, name).read()
+            data, messages = await logs.Log(self.watcher, name).read()
             (self.folder / f"{name}.log").write_bytes(data)
             self.count("messages", messages)
             for one in self.candidates:
@@ -267,47 +286,26 @@ class Run:
                     raise Failed(f"the file of {name} on {one.machine} is no beginning of its log")
 
 
-async def first(tasks, work):
-    """The result of work, or the fault of a task that ends before it with one."""
-    work = asyncio.ensure_future(work)
-    waited = {work, *tasks}
-    while not work.done():
-        done, waited = await asyncio.wait(waited, return_when=asyncio.FIRST_COMPLETED)
-        for task in done:
-            task.result()
-    return await work
-
-
-def built(folder, wrong):
-    """The host in C with its torments, or a wrong one; None where it cannot be built."""
-    if not shutil.which("cc") or not pathlib.Path("/usr/include/nats/nats.h").exists():
-        return None
-    if subprocess.run([TOP / "bindings" / "make", f"{folder}/library"], stdout=subprocess.DEVNULL, stderr=subprocess.DEVNULL, check=False).returncode:
-        return None
-    flags = f"-O2 -g -DTORMENTED {f'-DWRONG_{wrong}' if wrong else ''}"
-    subprocess.run(["make", "-s", "-C", TOP / "hosts" / "c", f"LIBRARY={folder}/library", f"OUT={folder}", f"CFLAGS={flags}"], check=True)
-    return f"{folder}/node"
-
-
-def takeovers(run):
+def takeovers(run: Run) -> int:
     said = [one.said.read_text(errors="replace") for one in run.candidates if one.said.exists()]
     return sum(len(re.findall('has the log"', it)) for it in said)
 
 
-def main(given, faults):
+def main(given: argparse.Namespace, faults: tuple[type[Exception], ...]) -> int:
     """Runs it; the status. `faults` are what else says that something is otherwise than it has to be."""
     with tempfile.TemporaryDirectory() as folder:
         run = Run(given, folder)
-        run.host = given.host or built(folder, given.wrong)
-        if run.host is None:
-            print("torture: not run, since the host in C cannot be built")
-            return 3
+        fault: BaseException | None = None
+        found: dict[str, Any] = {}
+        all_faults: tuple[type[BaseException], ...] = (Failed, logs.Fault, TimeoutError, *faults)
         try:
             callers, entries = asyncio.run(run.go())
-            found, fault = judge(run, callers, entries), None
-        except (Failed, logs.Fault, asyncio.TimeoutError, *faults) as it:
-            found, fault = {}, it
-        counts = ", ".join(f"{what} {count}" for what, count in {"takeovers": takeovers(run), **run.counts, **found}.items())
+            found = judge(run, callers, entries)
+        except all_faults as it:
+            fault = it
+        counts = ", ".join(
+            f"{what} {count}" for what, count in {"takeovers": takeovers(run), **run.counts, **found}.items()
+        )
         if given.keep:
             shutil.copytree(folder, given.keep, dirs_exist_ok=True)
     if fault is None and not given.wrong:

@@ -20,7 +20,9 @@ class Said:
             more = ", ".join(f"{name} {fact}" for name, fact in facts.items())
             line = f"{self.name}: {what}" + (f": {more}" if more else "")
         else:
-            time = datetime.datetime.now(datetime.timezone.utc).isoformat(timespec="milliseconds").replace("+00:00", "Z")
+            time = (
+                datetime.datetime.now(datetime.timezone.utc).isoformat(timespec="milliseconds").replace("+00:00", "Z")
+            )
             line = json.dumps({"time": time, "level": level, "node": self.name, "what": what, **facts}, default=str)
         sys.stderr.write(f"{line}\n")
         sys.stderr.flush()

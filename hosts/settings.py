@@ -59,9 +59,17 @@ class Settings:
             return sorted({it for one in named for it in one})
         return payers + [f"ph{place}" for place, one in enumerate(named, 1) if node in one]
 
+    def asks(self, payer: str) -> bool:
+        """Whether a payer asks its own system; ends the program where there is no such payer."""
+        return bool(self._one(payer).get("asks"))
+
     def cap(self, node: str) -> int:
         """The most entries, slots or rows of a node; ends the program where there is no such node."""
-        of_kind = self._given.get(dict(KINDS)[node[:2]], [])
+        return int(self._one(node)["cap"])
+
+    def _one(self, node: str) -> dict[str, Any]:
+        """The table of a node; ends the program where there is none."""
+        of_kind: list[dict[str, Any]] = self._given.get(dict(KINDS)[node[:2]], [])
         if int(node[2:]) > len(of_kind):
             refuse(f"the settings have no {node}")
-        return int(of_kind[int(node[2:]) - 1]["cap"])
+        return of_kind[int(node[2:]) - 1]

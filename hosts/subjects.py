@@ -2,7 +2,8 @@
 
     claims.sw1.from.ph1     a packet of ph1 for sw1, in printed bytes; the server lets nobody but ph1 publish here
     claims.ph1.call         a caller's line for ph1: `submit`, `submit-as`, `answer` or `wait`
-    claims.ph1.operate      an operator's line for a node: any but `take` and `at`
+    claims.pr1.call         a caller's line for pr1: `count`, `row` or `payments`
+    claims.ph1.operate      an operator's line for a node: any but `take`, `adjudicate` and `at`
     claims.ph1.owner        what hosts of ph1 whose log is in a stream say to one another, and operators who vouch for its end
     log.ph1                 what is appended to the log of ph1, where that is in a stream
     deliver.ph1             where JetStream hands over what it keeps for ph1; the server's own, nobody publishes here

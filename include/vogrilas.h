@@ -21,8 +21,8 @@
 **
 ** The calls, by what they are for:
 **
-**     a node        vogrilas_open, vogrilas_serve, vogrilas_submit, vogrilas_take, vogrilas_records, vogrilas_kept,
-**                   vogrilas_written, vogrilas_clear, vogrilas_close
+**     a node        vogrilas_open, vogrilas_serve, vogrilas_submit, vogrilas_take, vogrilas_adjudicate, vogrilas_records,
+**                   vogrilas_kept, vogrilas_written, vogrilas_clear, vogrilas_close
 **     what it has   vogrilas_calls, vogrilas_count, vogrilas_most, vogrilas_request, vogrilas_answer, vogrilas_payments
 **     messages      vogrilas_make_billing, vogrilas_make_reversal, vogrilas_describe
 **     no node       vogrilas_print, vogrilas_unprint, vogrilas_audit, vogrilas_version
@@ -179,16 +179,17 @@ vogrilas_code vogrilas_open(vogrilas_node *node, const void *settings, size_t se
 **     submit-as NAME TEXT    the same once for each name, which is 1 to 64 bytes, printed, and a space in it \x20
 **     tick                   of a pharmacy: time goes on, and what is due is sent again
 **     take FROM TEXT         a packet has come from this node
+**     adjudicate FROM ADVICE TEXT    of a payer that asks: the same, with its own system's answer to the request in the packet
 **     plan PRODUCT PRICE     of a payer: another price
 **     stop / start           the node stops, and starts again from what it keeps
 **     answer NUMBER          of a pharmacy: what is known of this entry
 **
-** TEXT is printed bytes, as vogrilas_print() writes them. All but `answer` may stand behind `at TIME`, in milliseconds as the host
+** TEXT is printed bytes, as vogrilas_print() writes them; ADVICE too, but a space in it is \x20. All but `answer` may stand behind `at TIME`, in milliseconds as the host
 ** counts them: the record of the call has it then. What is written, each on a line:
 **
 **     send TO TEXT           a packet for this node. `take OWN TEXT` is the line that it is there, with the sender's name
 **     number N               the call was made, and its entry has this number (submit)
-**     ok                     the call was made (tick, take, plan, stop, start)
+**     ok                     the call was made (tick, take, adjudicate, plan, stop, start)
 **     known N                the name has an entry already, of this request and with this number: nothing has changed
 **     idle                   a tick without an open entry: nothing has changed, and there is no record
 **     answer TEXT / open / none      to the question
@@ -207,6 +208,21 @@ vogrilas_code vogrilas_serve(vogrilas_node *node, const void *line, size_t line_
 */
 vogrilas_code vogrilas_submit(vogrilas_node *node, const void *request, size_t request_size);
 vogrilas_code vogrilas_take(vogrilas_node *node, const void *from, size_t from_size, const void *packet, size_t packet_size);
+
+/*
+** Serves the line `adjudicate FROM ADVICE TEXT` of these very bytes, at a payer whose settings ask: the packet is taken together
+** with an advice, the bytes of the answer (as of D.0) that the payer's own system has given to the request in it. The book enters
+** what the advice says of each claim that is to be priced; what the book knows by itself (a number that it has answered, a
+** duplicate, a fill that is paid, every reversal) it answers without looking at the advice, so a host may give one at once, or
+** first vogrilas_take() the packet, and ask its system where that is `refused NotAdvised`.
+**
+** What is written is that of `take`. `refused NotAdvised`: the advice says of a claim neither paid nor rejected, since it is no
+** answer, is one of other places, has amounts out of their range, or says something else there. `refused NotAsked`: this payer's
+** settings do not ask. Nothing has changed at both, and the log has no record of it.
+** The codes are those of vogrilas_take().
+*/
+vogrilas_code vogrilas_adjudicate(vogrilas_node *node, const void *from, size_t from_size, const void *packet,
+                                  size_t packet_size, const void *advice, size_t advice_size);
 
 /*
 ** Copies what is to be appended to the log, and synced: the records that vogrilas_kept() has not said to be on disk.

@@ -33,7 +33,9 @@ def build_wheel(wheel_directory, config_settings=None, metadata_directory=None):
     has_library = any(name.endswith(".so") for name, _ in files)
     platform = re.sub(r"[^a-z0-9_]", "_", sysconfig.get_platform()) if has_library else "any"
     tag = f"py3-none-{platform}"
-    about = f"Wheel-Version: 1.0\nGenerator: wheel_of_files\nRoot-Is-Purelib: {str(not has_library).lower()}\nTag: {tag}\n"
+    about = (
+        f"Wheel-Version: 1.0\nGenerator: wheel_of_files\nRoot-Is-Purelib: {str(not has_library).lower()}\nTag: {tag}\n"
+    )
     files += [(f"{STEM}.dist-info/METADATA", METADATA.encode()), (f"{STEM}.dist-info/WHEEL", about.encode())]
     record = f"{STEM}.dist-info/RECORD"
     lines = []

@@ -7,7 +7,7 @@
 #define MOST_SERVERS 16
 
 static void check(const char *what, natsStatus status) {
-    if (status != NATS_OK) fail(what, natsStatus_GetText(status));
+    if (status != NATS_OK) fail("servers cannot be reached so", FACTS(TEXT("reason", natsStatus_GetText(status)), TEXT("by", what)));
 }
 
 /* Parts URLs at commas. */
@@ -21,13 +21,13 @@ static int parted(char *urls, const char *part[MOST_SERVERS]) {
 /* Sets who comes, from a file with one line, USER:PASSWORD. */
 static void set_login(natsOptions *options, const char *path) {
     int file = open(path, O_RDONLY);
-    if (file < 0) fail(path, "not there");
+    if (file < 0) fail_open("the login cannot be read", path);
     struct bytes login = whole(file, path, 4096);
     close(file);
     char *end = strpbrk(login.at, "\r\n"), *password;
     if (end != NULL) *end = '\0';
     password = strchr(login.at, ':');
-    if (password == NULL) fail(path, "one line is wanted, USER:PASSWORD");
+    if (password == NULL) fail("the login is none", FACTS(TEXT("reason", "one line is wanted, USER:PASSWORD"), TEXT("file", path)));
     *password++ = '\0';
     check(path, natsOptions_SetUserInfo(options, login.at, password));
     free(login.at);
@@ -36,10 +36,10 @@ static void set_login(natsOptions *options, const char *path) {
 static void set_access(natsOptions *options, const struct access *access) {
     const char *part[MOST_SERVERS];
     char *urls = strdup(access->urls);
-    if (urls == NULL) fail("memory", "refused");
+    if (urls == NULL) fail_memory();
     bool is_tls = strstr(urls, "tls://") != NULL || access->authorities != NULL;
     int count = parted(urls, part);
-    if (count == 0) fail("servers", "none is named");
+    if (count == 0) fail("no server is named", NULL);
     check("the URLs of servers", natsOptions_SetServers(options, part, count));
     free(urls);
     if (is_tls) check("tls", natsOptions_SetSecure(options, true));
@@ -74,7 +74,7 @@ natsConnection *access_connect(natsOptions *options, volatile sig_atomic_t *is_s
     natsStatus status = NATS_OK;
     bool is_told = false;
     while (!*is_stopping && may_come(status = natsConnection_Connect(&connection, options))) {
-        if (!is_told) say("warning", "no server, trying again", natsStatus_GetText(status));
+        if (!is_told) say("warning", "no server, trying again", FACTS(TEXT("reason", natsStatus_GetText(status))));
         is_told = true;
         nats_Sleep(200);
     }

@@ -89,7 +89,7 @@ void beats_open(struct beats *beats, const struct stream *stream) {
     pthread_cond_init(&beats->came, &kind);
     snprintf(beats->subject, sizeof beats->subject, "claims.%s.owner", stream->node);
     natsStatus status = natsConnection_Subscribe(&beats->subscription, beats->connection, beats->subject, heard, beats);
-    if (status != NATS_OK) fail(beats->subject, natsStatus_GetText(status));
+    if (status != NATS_OK) fail("nothing can be heard", FACTS(TEXT("reason", natsStatus_GetText(status)), TEXT("subject", beats->subject)));
 }
 
 struct heard beats_heard(struct beats *beats) {

@@ -1,4 +1,5 @@
 /* Bytes that grow, and clocks. */
+#include <errno.h>
 #include <stdarg.h>
 #include <unistd.h>
 
@@ -8,7 +9,7 @@ void add(struct bytes *bytes, const void *more, size_t size) {
     if (bytes->room - bytes->size < size + 1) {
         size_t room = 2 * bytes->room + size + 1;
         char *at = realloc(bytes->at, room);
-        if (at == NULL) fail("memory", "refused");
+        if (at == NULL) fail_memory();
         bytes->at = at;
         bytes->room = room;
     }
@@ -40,8 +41,8 @@ struct bytes whole(int file, const char *path, size_t most) {
     ssize_t count;
     add(&bytes, "", 0);
     while ((count = read(file, part, sizeof part)) > 0 && bytes.size <= most) add(&bytes, part, (size_t)count);
-    if (bytes.size > most) fail_with(REFUSED, path, "too long");
-    if (count < 0) fail(path, "not readable");
+    if (bytes.size > most) fail_with(REFUSED, "a file is too long", FACTS(TEXT("file", path), NUMBER("most_bytes", most)));
+    if (count < 0) fail("a file cannot be read", FACTS(TEXT("reason", strerror(errno)), TEXT("file", path)));
     return bytes;
 }
 

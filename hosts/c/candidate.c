@@ -12,15 +12,23 @@
 #define END_SECONDS 10.0
 #define HEADER_BYTES 1024
 #define MOST_UNMADE (1u << 20)
-/* After how long without a copy it is said that there is none. */
+/* After how long without a copy it is said that there is none; how often it is said that the servers have another log. */
 #define SAY_SECONDS 5.0
+#define DIFFERS_SECONDS 30.0
+
+/* The fact that events of a log have. */
+static const struct fact *named(const struct candidate *it) {
+    static _Thread_local struct fact facts[2];
+    facts[0] = TEXT("stream", it->stream.name);
+    return facts;
+}
 
 /* Tells metrics who has the log, and how far each host knows it. */
 static void tell_counts(struct candidate *it) {
     struct follower follower[MOST_FOLLOWERS];
     int count = it->owns ? beats_followers(&it->beats, it->stream.last, follower) : 0;
     uint64_t told = beats_told(&it->beats);
-    counts_stream(it->owns, it->stream.last, !it->owns && told > it->stream.last ? told - it->stream.last : 0, follower, count);
+    counts_stream(it->owns, it->differs, it->stream.last, !it->owns && told > it->stream.last ? told - it->stream.last : 0, follower, count);
 }
 
 static void tell_service(struct candidate *it) {
@@ -56,7 +64,7 @@ static void is_kept(void *closure) {
         struct heard has = beats_heard(&it->beats);
         if (has.is_new && has.sequence > it->stream.last) end_refused(&it->stream, REFUSED_LATER);
         if (!waits(it)) end_refused(&it->stream, NOT_SENT);
-        if (!is_told && now() - started > SAY_SECONDS) say("warning", "no other host has a copy, so nothing is said", it->stream.name);
+        if (!is_told && now() - started > SAY_SECONDS) say("warning", "no other host has a copy, so nothing is said", named(it));
         is_told = is_told || now() - started > SAY_SECONDS;
         beats_say(&it->beats, BEAT_WANTS, it->stream.last, BEAT_SECONDS);
         beats_wait_copied(&it->beats, it->stream.last, LOOK_SECONDS);
@@ -70,6 +78,21 @@ static enum found read_surely(struct candidate *it, uint64_t sequence, struct en
     return found;
 }
 
+/* Says that the servers show something else than this machine has, and looks again a little later: a server that leads may have another
+   copy than the others, and where it leads no more all is well. Only people find out which is right. */
+static void differ(struct candidate *it, const char *why, uint64_t sequence) {
+    it->differs = true;
+    if (it->said_differs == 0 || now() - it->said_differs > DIFFERS_SECONDS) {
+        say("error", "the servers have another log than this machine: compare their copies by `vogctl log compare`, and see docs/OPERATING.md",
+            FACTS(TEXT("reason", why), TEXT("stream", it->stream.name), NUMBER("sequence", sequence), TEXT("file", it->copy.log->path)));
+        it->said_differs = now();
+    }
+    for (int turn = 0; turn < 10 && !*it->is_stopping; turn++) {
+        nats_Sleep(100);
+        tell_service(it);
+    }
+}
+
 /* Sees whether the stream is the one that this machine knows: by its first message, and by the last that was seen. */
 static void check_stream(struct candidate *it) {
     struct entry entry;
@@ -78,20 +101,24 @@ static void check_stream(struct candidate *it) {
     enum found found;
     while ((found = read_surely(it, 1, &entry)) != FOUND) {
         if (*it->is_stopping) return;
-        if (!is_told) say("error", "there is no such log: an operator makes it, once, by `vogctl log make`", it->stream.name);
+        if (!is_told) say("error", "there is no such log: an operator makes it, once, by `vogctl log make`", named(it));
         is_told = true;
         nats_Sleep(200);
         tell_service(it);
     }
     if (!begins(entry.owner, strlen(entry.owner), "made."))
-        fail_with(REFUSED, it->stream.name, "its first message is not that of `vogctl log make`");
+        fail_with(REFUSED, "the first message of the log is not that of `vogctl log make`", named(it));
     if (strcmp(seen->made, "-") == 0) strcpy(seen->made, entry.owner);
     if (strcmp(seen->made, entry.owner) != 0)
-        fail_with(REFUSED, it->stream.name, "the log was made anew: it is not the one that this machine knows");
+        fail_with(REFUSED, "the log was made anew: it is not the one that this machine knows", named(it));
     entry_free(&entry);
-    if (seen->sequence == 0 || read_surely(it, seen->sequence, &entry) != FOUND) return;
-    if (strcmp(entry.digest, seen->digest) != 0) fail_with(REFUSED, it->stream.name, "it has another log than this machine has seen");
-    entry_free(&entry);
+    it->differs = seen->sequence > 0;
+    while (it->differs && read_surely(it, seen->sequence, &entry) == FOUND) {
+        it->differs = strcmp(entry.digest, seen->digest) != 0;
+        entry_free(&entry);
+        if (it->differs) differ(it, "the digest of the last message that was seen differs", seen->sequence);
+    }
+    it->differs = false;
 }
 
 /* Reads what is new, up to a sequence that was told, or to the end; whether that was all that there is. */
@@ -100,7 +127,14 @@ static bool read_on(struct candidate *it, uint64_t told) {
     enum found found = NOT_THERE;
     uint64_t before = it->stream.last;
     while (!*it->is_stopping && it->stream.last < told && (found = stream_read(&it->stream, it->stream.last + 1, &entry)) == FOUND) {
-        copy_take(&it->copy, &entry);
+        const char *why = copy_take(&it->copy, &entry);
+        it->differs = why != NULL;
+        if (it->differs) {
+            differ(it, why, entry.sequence);
+            entry_free(&entry);
+            found = NO_WORD;
+            break;
+        }
         if (strcmp(entry.owner, it->owner) != 0) it->is_new_owner = true;
         strcpy(it->owner, entry.owner);
         entry_free(&entry);
@@ -120,6 +154,7 @@ static void vouch(struct candidate *it) {
     struct seen *seen = &it->copy.seen;
     if (seen->vouched || !beats_vouch(&it->beats, it->stream.last)) return;
     seen->vouched = true;
+    it->copy.known.sequence = 0;
     seen_write(it->copy.seen_file, seen);
 }
 
@@ -127,9 +162,10 @@ static void vouch(struct candidate *it) {
 static bool may_claim(struct candidate *it) {
     const char *why = NULL;
     if (!it->copy.seen.vouched && it->stream.last > 1) why = "nobody vouches for the end of the log: see `vogctl log vouch`";
+    if (it->copy.known.sequence > it->stream.last) why = "the servers have lost what this machine had seen, whose copy is gone: see docs/OPERATING.md";
     /* They may have lost it. */
     if (!beats_level(&it->beats, it->stream.last)) why = "the servers do not show what another host has told of";
-    if (why != NULL && !it->is_told) say("warning", why, it->stream.name);
+    if (why != NULL && !it->is_told) say("warning", why, named(it));
     it->is_told = it->is_told || why != NULL;
     return why == NULL;
 }
@@ -139,8 +175,20 @@ static bool is_level(struct candidate *it) {
     bool is_level = it->copy.file_size == it->copy.whole.size;
     if (is_level) it->level = now();
     if (now() - it->level > AHEAD_SECONDS)
-        fail_with(REFUSED, it->copy.log->path, "it has more than the servers, which have lost that: see `vogctl log restore`");
+        fail_with(REFUSED, "the copy has more than the servers, which have lost that: see `vogctl log restore`",
+                  FACTS(TEXT("stream", it->stream.name), TEXT("file", it->copy.log->path)));
     return is_level;
+}
+
+/* Whether the servers show as the log's last message the one that this machine has; what they lack the claim tells. */
+static bool ends_alike(struct candidate *it) {
+    struct entry entry;
+    if (it->copy.seen.sequence != it->stream.last || it->stream.last == 0) return true;
+    if (read_surely(it, it->stream.last, &entry) != FOUND) return true;
+    bool is_alike = strcmp(entry.digest, it->copy.seen.digest) == 0;
+    entry_free(&entry);
+    if (!is_alike) differ(it, "the digest of the last message differs", it->stream.last);
+    return is_alike;
 }
 
 /* Claims the log; false where another host was faster. */
@@ -182,7 +230,7 @@ bool candidate_own(struct candidate *it) {
     double looked = now();
     bool is_end = false;
     it->level = now();
-    say("info", "follows", it->stream.name);
+    say("info", "follows", named(it));
     /* A stand-by is as it should be, whoever started it. */
     service_tell("READY=1");
     while (!*it->is_stopping) {
@@ -200,16 +248,16 @@ bool candidate_own(struct candidate *it) {
         is_alone = (is_alone && !it->is_new_owner) || it->stream.last == 1;
         it->is_new_owner = false;
         if (is_alone) copy_make(&it->copy);
-        if (is_end && is_alone && is_due && may_claim(it) && is_level(it)) {
+        if (is_end && is_alone && is_due && may_claim(it) && is_level(it) && ends_alike(it)) {
             if (claim(it)) return true;
             beats_forget(&it->beats);
             is_end = false;
             looked = now();
         }
         bool is_asked = has.is_new && has.wants && it->stream.last >= has.sequence;
-        if (it->copy.seen.vouched) beats_say(&it->beats, BEAT_FOLLOWS, it->stream.last, is_asked ? 0 : FOLLOW_SECONDS);
+        if (it->copy.seen.vouched && !it->differs) beats_say(&it->beats, BEAT_FOLLOWS, it->stream.last, is_asked ? 0 : FOLLOW_SECONDS);
         copy_make(&it->copy);
-        move_look(it);
+        if (!it->differs) move_look(it);
         tell_service(it);
         beats_wait(&it->beats, LOOK_SECONDS);
     }

@@ -10,7 +10,17 @@
 #define STOP_MS 5000
 
 static void check(const char *what, natsStatus status) {
-    if (status != NATS_OK) fail(what, natsStatus_GetText(status));
+    if (status != NATS_OK) fail("nothing can be heard or said", FACTS(TEXT("reason", natsStatus_GetText(status)), TEXT("by", what)));
+}
+
+/* Puts a message at the end of the list; the lock is held. */
+static void join(struct carrier *carrier, struct message *one) {
+    one->next = NULL;
+    *carrier->last = one;
+    carrier->last = &one->next;
+    carrier->waiting++;
+    carrier->waiting_bytes += (size_t)natsMsg_GetDataLength(one->text);
+    pthread_cond_signal(&carrier->came);
 }
 
 /* Whether there is room for a message in the list, which it joins then. Called by threads of libnats. */
@@ -18,19 +28,19 @@ static bool put(struct carrier *carrier, natsMsg *text, enum sender from) {
     size_t size = (size_t)natsMsg_GetDataLength(text);
     struct message *one = malloc(sizeof *one);
     if (one == NULL) return false;
-    *one = (struct message){ .text = text, .from = from };
+    *one = (struct message){ .text = text, .from = from, .came = now() };
     pthread_mutex_lock(&carrier->lock);
     bool has_room = carrier->waiting < MOST_WAITING && carrier->waiting_bytes + size <= MOST_WAITING_BYTES;
-    if (has_room) {
-        *carrier->last = one;
-        carrier->last = &one->next;
-        carrier->waiting++;
-        carrier->waiting_bytes += size;
-        pthread_cond_signal(&carrier->came);
-    }
+    if (has_room) join(carrier, one);
     pthread_mutex_unlock(&carrier->lock);
     if (!has_room) free(one);
     return has_room;
+}
+
+void carrier_back(struct carrier *carrier, struct message *one) {
+    pthread_mutex_lock(&carrier->lock);
+    join(carrier, one);
+    pthread_mutex_unlock(&carrier->lock);
 }
 
 static void taken(natsConnection *connection, natsSubscription *subscription, natsMsg *text, void *closure) {
@@ -39,8 +49,12 @@ static void taken(natsConnection *connection, natsSubscription *subscription, na
     char sender[9];
     bool is_packet = natsMsg_GetDataLength(text) <= MOST_BYTES && sender_of(carrier->name, natsMsg_GetSubject(text), sender);
     if (!is_packet) counts_dropped(NOT_A_PACKET);
+    if (!is_packet) acknowledge(carrier, text);
     if (is_packet && put(carrier, text, FROM_NODE)) return;
     if (is_packet) counts_dropped(FULL);
+    const struct message lost = { .text = text, .from = FROM_NODE };
+    if (is_packet) say_refused(&lost, carrier->name, "warning", "a packet was lost", "full");
+    else say_some("warning", "a message is no packet", "not_a_packet", FACTS(TEXT("subject", natsMsg_GetSubject(text))));
     natsMsg_Destroy(text);
 }
 
@@ -48,7 +62,9 @@ static void taken(natsConnection *connection, natsSubscription *subscription, na
 static void asked(struct carrier *carrier, natsMsg *text, enum sender from) {
     bool is_line = natsMsg_GetDataLength(text) <= MOST_BYTES;
     if (is_line && put(carrier, text, from)) return;
+    const struct message lost = { .text = text, .from = from };
     if (is_line) counts_dropped(FULL);
+    if (!carrier->is_silent) say_refused(&lost, carrier->name, "warning", "a call was refused", is_line ? "Busy" : "Line");
     if (!carrier->is_silent) reply(carrier, text, is_line ? "refused Busy" : "refused Line", 12);
     natsMsg_Destroy(text);
 }
@@ -80,13 +96,42 @@ bool sender_of(const char *node, const char *subject, char sender[9]) {
     return true;
 }
 
+/* The number of an entry that a caller asks for, or 0. */
+static uint64_t number_asked(const char *text, size_t size) {
+    char digits[24] = "";
+    size_t before = begins(text, size, "answer ") ? 7 : begins(text, size, "wait ") ? 5 : 0;
+    if (before == 0) return 0;
+    memcpy(digits, text + before, size - before < sizeof digits ? size - before : sizeof digits - 1);
+    return strtoull(digits, NULL, 10);
+}
+
+void say_refused(const struct message *one, const char *node, const char *level, const char *what, const char *reason) {
+    static const char *const from[] = { "a node", "a caller", "an operator" };
+    const char *text = natsMsg_GetData(one->text), *who = from[one->from];
+    size_t size = (size_t)natsMsg_GetDataLength(one->text);
+    struct head head = { .number = 0 };
+    char sender[9];
+    if (one->from == FROM_NODE) {
+        if (sender_of(node, natsMsg_GetSubject(one->text), sender)) who = sender;
+        if (!head_of(text, size, &head)) head.number = 0;
+    } else {
+        head.number = number_asked(text, size);
+    }
+    struct fact facts[4] = { TEXT("from", who) };
+    int count = 1;
+    if (head.number > 0 && one->from == FROM_NODE) facts[count++] = NUMBER("pharmacy", head.pharmacy);
+    if (head.number > 0) facts[count++] = NUMBER("claim", head.number);
+    facts[count] = (struct fact){ NULL, NULL, 0, false };
+    say_some(level, what, reason, facts);
+}
+
 static void came_again(natsConnection *connection, void *closure) {
     (void)closure;
     char url[256] = "";
     natsConnection_GetConnectedUrl(connection, url, sizeof url);
     /* A password of the URL is nobody's to read. */
     const char *at = strrchr(url, '@');
-    say("info", "connected again", at == NULL ? url : at + 1);
+    say("info", "connected again", FACTS(TEXT("server", at == NULL ? url : at + 1)));
     counts_connected(true);
 }
 
@@ -95,7 +140,7 @@ static void went(natsConnection *connection, void *closure) {
     counts_connected(false);
     if (((struct carrier *)closure)->is_closing) return;
     natsConnection_GetLastError(connection, &why);
-    say("warning", "no server, trying again", why);
+    say("warning", "no server, trying again", FACTS(TEXT("reason", why)));
 }
 
 static void closed(natsConnection *connection, void *closure) {
@@ -107,7 +152,7 @@ static void erred(natsConnection *connection, natsSubscription *subscription, na
     (void)subscription, (void)closure;
     const char *why = NULL;
     natsConnection_GetLastError(connection, &why);
-    say("warning", natsStatus_GetText(status), why);
+    say("warning", "the client of servers has a fault", FACTS(TEXT("reason", natsStatus_GetText(status)), TEXT("more", why)));
 }
 
 static natsOptions *options_of(struct carrier *carrier, const struct access *access) {
@@ -119,17 +164,18 @@ static natsOptions *options_of(struct carrier *carrier, const struct access *acc
     return options;
 }
 
-static void subscribe(struct carrier *carrier, int place, const char *ending, natsMsgHandler handler) {
+static void subscribe(struct carrier *carrier, int place, const char *form, natsMsgHandler handler) {
     char subject[64];
-    snprintf(subject, sizeof subject, "claims.%s%s", carrier->name, ending);
+    snprintf(subject, sizeof subject, form, carrier->name);
     check(subject, natsConnection_Subscribe(&carrier->subscriptions[place], carrier->connection, subject, handler, carrier));
     check(subject, natsSubscription_SetPendingLimits(carrier->subscriptions[place], MOST_WAITING, MOST_WAITING_BYTES));
 }
 
 struct carrier *carrier_open(const char *name, const struct access *access, volatile sig_atomic_t *is_stopping) {
     struct carrier *carrier = calloc(1, sizeof *carrier);
-    if (carrier == NULL) fail("memory", "refused");
+    if (carrier == NULL) fail_memory();
     carrier->name = name;
+    carrier->is_kept = access->is_kept;
     carrier->last = &carrier->first;
     pthread_mutex_init(&carrier->lock, NULL);
     pthread_condattr_t kind;
@@ -141,9 +187,9 @@ struct carrier *carrier_open(const char *name, const struct access *access, vola
     natsOptions_Destroy(options);
     if (carrier->connection == NULL) return carrier;
     counts_connected(true);
-    subscribe(carrier, 0, ".from.*", taken);
-    subscribe(carrier, 1, ".operate", operated);
-    if (begins(name, strlen(name), "ph")) subscribe(carrier, 2, ".call", called);
+    subscribe(carrier, 0, access->is_kept ? "deliver.%s" : "claims.%s.from.*", taken);
+    subscribe(carrier, 1, "claims.%s.operate", operated);
+    if (!begins(name, strlen(name), "sw")) subscribe(carrier, 2, "claims.%s.call", called);
     /* Whoever reads that the node is ready may ask it at once. */
     natsConnection_FlushTimeout(carrier->connection, STOP_MS);
     return carrier;
@@ -173,6 +219,18 @@ void send_packet(struct carrier *carrier, const char *to, size_t to_size, const 
     counts_sent(to, to_size);
 }
 
+/* Whether a reply is the word to the server that keeps a packet. */
+static bool is_acknowledgement(const struct carrier *carrier, const char *subject) {
+    char head[64];
+    snprintf(head, sizeof head, "$JS.ACK.claims-%s.%s.", carrier->name, carrier->name);
+    return carrier->is_kept && begins(subject, strlen(subject), head);
+}
+
+void acknowledge(struct carrier *carrier, natsMsg *packet) {
+    const char *subject = natsMsg_GetReply(packet);
+    if (subject != NULL && is_acknowledgement(carrier, subject)) natsConnection_PublishString(carrier->connection, subject, "+ACK");
+}
+
 void reply(struct carrier *carrier, natsMsg *to, const char *line, size_t size) {
     const char *subject = natsMsg_GetReply(to);
     if (subject == NULL) return;
@@ -183,7 +241,10 @@ void reply(struct carrier *carrier, natsMsg *to, const char *line, size_t size) 
         size = strlen(line);
     }
     if (begins(subject, strlen(subject), "_INBOX.")) natsConnection_Publish(carrier->connection, subject, line, (int)size);
-    else counts_dropped(NO_INBOX);
+    else if (!is_acknowledgement(carrier, subject)) {
+        counts_dropped(NO_INBOX);
+        say_some("warning", "a reply was asked for elsewhere than in an inbox", "reply", FACTS(TEXT("subject", subject)));
+    }
 }
 
 void carrier_stop(struct carrier *carrier) {

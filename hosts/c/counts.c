@@ -17,8 +17,8 @@ struct named {
 
 static const double class_end[CLASSES] = { 0.0001, 0.00025, 0.0005, 0.001, 0.0025, 0.005, 0.01, 0.025,
                                            0.05,   0.1,     0.25,   0.5,   1,      2.5,   5,    10 };
-static const char *const call_name[CALLS] = { "submit", "answer", "take", "tick", "plan", "stop", "start", "other" };
-static const char *const why_name[WHYS] = { "not_a_packet", "held_back", "full", "reply", "would_be_full" };
+static const char *const call_name[CALLS] = { "submit", "answer", "take", "adjudicate", "tick", "plan", "stop", "start", "other" };
+static const char *const why_name[WHYS] = { "not_a_packet", "held_back", "full", "reply", "would_be_full", "under_way", "rules_full" };
 
 /* Times in classes. */
 struct times {
@@ -30,16 +30,20 @@ static pthread_mutex_t lock = PTHREAD_MUTEX_INITIALIZER;
 static struct {
     uint64_t calls[CALLS], dropped[WHYS], again, connections;
     struct named refusals[MOST_NAMES], sent[MOST_NAMES], taken[MOST_NAMES];
-    struct times syncs, appends;
+    struct times syncs, appends, rules, answers;
     double heard;
     uint64_t log_calls, at_start, rows, most, reserve;
     size_t waiting;
     bool is_connected, is_ready;
     /* Of a log in a stream. A host comes to have it once in its life. */
-    bool is_stream, owns, has_owned;
+    bool is_stream, owns, has_owned, differs;
     uint64_t sequence, lag, appends_again;
     struct follower followers[MOST_FOLLOWERS];
     int followers_count;
+    /* Of a payer's own system, where it is asked. */
+    uint64_t asked, ruled;
+    size_t under_way;
+    struct named unruled[MOST_NAMES];
     /* When each open entry was first known to be open, by its number; 0 of one that is settled. */
     double *open;
     uint64_t open_room, open_count;
@@ -121,16 +125,21 @@ void counts_appended(double seconds) {
     count_time(&seen.appends, seconds);
 }
 
+void counts_answered(double seconds) {
+    count_time(&seen.answers, seconds);
+}
+
 void counts_appended_again(void) {
     locked();
     seen.appends_again++;
     unlocked();
 }
 
-void counts_stream(bool owns, uint64_t sequence, uint64_t lag, const struct follower *follower, int count) {
+void counts_stream(bool owns, bool differs, uint64_t sequence, uint64_t lag, const struct follower *follower, int count) {
     locked();
     seen.is_stream = true;
     seen.owns = owns;
+    seen.differs = differs;
     seen.has_owned = seen.has_owned || owns;
     seen.sequence = sequence;
     seen.lag = lag;
@@ -151,7 +160,7 @@ void counts_entered(uint64_t number) {
     if (number >= seen.open_room) {
         uint64_t room = 2 * number + 64;
         double *open = realloc(seen.open, room * sizeof *open);
-        if (open == NULL) fail("memory", "refused");
+        if (open == NULL) fail_memory();
         memset(open + seen.open_room, 0, (room - seen.open_room) * sizeof *open);
         seen.open = open;
         seen.open_room = room;
@@ -175,6 +184,45 @@ bool counts_has_open(void) {
     bool has_open = seen.open_count > 0;
     unlocked();
     return has_open;
+}
+
+void counts_asked(size_t under_way) {
+    locked();
+    seen.asked++;
+    seen.under_way = under_way;
+    unlocked();
+}
+
+void counts_came(size_t under_way) {
+    locked();
+    seen.under_way = under_way;
+    unlocked();
+}
+
+void counts_rules_took(double seconds) {
+    count_time(&seen.rules, seconds);
+}
+
+void counts_ruled(void) {
+    locked();
+    seen.ruled++;
+    unlocked();
+}
+
+void counts_unruled(const char *name) {
+    locked();
+    count_named(seen.unruled, name, strlen(name));
+    unlocked();
+}
+
+uint64_t counts_oldest(uint64_t *number, uint64_t *open) {
+    double oldest = 0;
+    locked();
+    for (uint64_t at = 0; at < seen.open_room && seen.open_count > 0; at++)
+        if (seen.open[at] != 0 && (oldest == 0 || seen.open[at] < oldest)) oldest = seen.open[at], *number = at;
+    *open = seen.open_count;
+    unlocked();
+    return oldest == 0 ? 0 : (uint64_t)(wall() - oldest);
 }
 
 void counts_most(uint64_t most, uint64_t reserve) {
@@ -212,6 +260,7 @@ const char *counts_unready(void) {
     locked();
     const char *why = !seen.is_ready ? "starting, or draining" : !seen.is_connected ? "not connected" : NULL;
     if (seen.is_stream && !seen.owns) why = "stands by: another host has the log";
+    if (seen.differs) why = "the servers have another log than this machine";
     unlocked();
     return why;
 }
@@ -258,6 +307,7 @@ static void add_times(struct bytes *text, const char *node, const char *name, co
 static void add_stream(struct bytes *text, const char *node) {
     add_one(text, node, "log_owner", "gauge", "Whether this host has the log; another one stands by.", seen.owns);
     add_one(text, node, "takeovers_total", "counter", "Whether this host came to have the log since it started.", seen.has_owned);
+    add_one(text, node, "log_differs", "gauge", "Whether the servers show another log than this machine has.", seen.differs);
     add_one(text, node, "log_sequence", "gauge", "The last message of the log that this host knows.", (double)seen.sequence);
     add_one(text, node, "log_lag", "gauge", "Messages that the host which has the log told of and this one lacks.", (double)seen.lag);
     add_one(text, node, "stand_bys", "gauge", "Other hosts that follow the log, as the one that has it hears.", seen.followers_count);
@@ -266,6 +316,15 @@ static void add_stream(struct bytes *text, const char *node) {
         add_form(text, "vogrilas_stand_by_lag{machine=\"%s\",node=\"%s\"} %llu\n", one->machine, node, (unsigned long long)one->lag);
     add_one(text, node, "appends_again_total", "counter", "Messages sent again, since no word came on them.", (double)seen.appends_again);
     add_times(text, node, "append_seconds", "How long the servers' word on what was appended took.", &seen.appends);
+}
+
+/* What is told of a payer's own system. */
+static void add_rules(struct bytes *text, const char *node) {
+    add_one(text, node, "rules_asked_total", "counter", "Requests that the payer's own system was asked for.", (double)seen.asked);
+    add_one(text, node, "rules_taken_total", "counter", "Packets that were taken with what it answered.", (double)seen.ruled);
+    add_one(text, node, "rules_under_way", "gauge", "Requests that are under way to it.", (double)seen.under_way);
+    add_list(text, node, "rules_failed_total", "why", "Requests that came to no ruling, by cause.", seen.unruled);
+    add_times(text, node, "rules_seconds", "How long a request took, whatever came of it.", &seen.rules);
 }
 
 static void add_entries(struct bytes *text, const char *node) {
@@ -310,6 +369,8 @@ struct bytes counts_text(const char *node, const char *log) {
     add_one(&text, node, "log_calls_at_start", "gauge", "Calls that the log had at the start.", (double)seen.at_start);
     add_one(&text, node, "log_bytes", "gauge", "Bytes of the log.", stat(log, &at) == 0 ? (double)at.st_size : 0);
     add_times(&text, node, "sync_seconds", "How long a sync of the log took.", &seen.syncs);
+    add_times(&text, node, "call_seconds", "From a message that came to the last word on it, its sync included.", &seen.answers);
+    if (begins(node, strlen(node), "pr")) add_rules(&text, node);
     if (seen.is_stream) add_stream(&text, node);
     unlocked();
     return text;

@@ -5,7 +5,8 @@
 #define NO_LEADER 10008
 
 static void check(const char *what, natsStatus status) {
-    if (status != NATS_OK) fail(what, natsStatus_GetText(status));
+    if (status != NATS_OK)
+        fail("the servers of the log cannot be asked", FACTS(TEXT("reason", natsStatus_GetText(status)), TEXT("by", what)));
 }
 
 static void came_again(natsConnection *connection, void *closure) {
@@ -17,7 +18,7 @@ static void went(natsConnection *connection, void *closure) {
     const char *why = NULL;
     if (((struct engine *)closure)->is_closing) return;
     natsConnection_GetLastError(connection, &why);
-    say("warning", "the log has no server, trying again", why);
+    say("warning", "the log has no server, trying again", FACTS(TEXT("reason", why)));
 }
 
 /* Each message goes out at once: the word on it is waited for. */

@@ -20,8 +20,10 @@ static bool sync_folder_of(const char *path) {
     char *copy = strdup(path);
     int folder = copy == NULL ? -1 : open(dirname(copy), O_RDONLY);
     bool is_synced = folder >= 0 && fsync(folder) == 0;
+    int error = errno;
     if (folder >= 0) close(folder);
     free(copy);
+    errno = error;
     return is_synced;
 }
 
@@ -40,7 +42,9 @@ static bool write_new(const char *path, const char *bytes, size_t size) {
     int file = open(path, O_WRONLY | O_CREAT | O_EXCL, 0600);
     if (file < 0) return false;
     bool is_written = write_all(file, bytes, size) && fsync(file) == 0 && sync_folder_of(path);
+    int error = errno;
     close(file);
+    errno = error;
     return is_written;
 }
 
@@ -49,20 +53,23 @@ static bool write_new(const char *path, const char *bytes, size_t size) {
 ** until people have looked (docs/OPERATING.md, hosts/reread).
 */
 static _Noreturn void fail_synced(const char *path, const char *why) {
+    const char *reason = strerror(errno);
     char *mark = beside(path, ".sync-failed");
     write_new(mark, why, strlen(why));
-    fail_with(REFUSED, path, why);
+    fail_with(REFUSED, why, FACTS(TEXT("reason", reason), TEXT("file", path), TEXT("mark", mark)));
 }
 
 struct log log_open(const char *path) {
     char *mark = beside(path, ".sync-failed");
-    if (access(mark, F_OK) == 0) fail_with(REFUSED, mark, "a sync of the log failed: see docs/OPERATING.md");
+    if (access(mark, F_OK) == 0)
+        fail_with(REFUSED, "a sync of the log failed: see docs/OPERATING.md", FACTS(TEXT("file", path), TEXT("mark", mark)));
     free(mark);
-    struct log log = { path, open(path, O_RDWR | O_CREAT | O_APPEND, 0600), 0 };
-    if (log.file < 0) fail_with(REFUSED, path, "not there");
+    struct log log = { path, open(path, O_RDWR | O_CREAT | O_APPEND, 0600), 0, false };
+    if (log.file < 0) fail_open("the log cannot be opened", path);
     struct stat at;
-    if (fstat(log.file, &at) != 0 || !S_ISREG(at.st_mode)) fail_with(REFUSED, path, "no file that keeps what is written");
-    if (flock(log.file, LOCK_EX | LOCK_NB) != 0) fail(path, "another process has it");
+    if (fstat(log.file, &at) != 0 || !S_ISREG(at.st_mode))
+        fail_with(REFUSED, "the log is no file that keeps what is written", FACTS(TEXT("file", path)));
+    if (flock(log.file, LOCK_EX | LOCK_NB) != 0) fail("another process has the log", FACTS(TEXT("file", path)));
     return log;
 }
 
@@ -80,15 +87,16 @@ void log_cut(const struct log *log, const struct bytes *bytes, size_t kept) {
         snprintf(ending, sizeof ending, place == 1 ? ".cut-%zu" : ".cut-%zu-%d", kept, place);
         name = beside(log->path, ending);
         if (access(name, F_OK) == 0) continue;
-        if (!write_new(name, bytes->at + kept, bytes->size - kept)) fail(name, "the torn end is not kept");
+        if (!write_new(name, bytes->at + kept, bytes->size - kept)) {
+            if (errno == EIO) fail_synced(log->path, "the torn end is not kept");
+            fail("the torn end is not kept", FACTS(TEXT("reason", strerror(errno)), TEXT("file", name)));
+        }
         is_kept = true;
     }
-    if (!is_kept) fail(log->path, "the torn end is not kept");
+    if (!is_kept) fail("the torn end is not kept", FACTS(TEXT("reason", "too many are kept already"), TEXT("file", log->path)));
     if (ftruncate(log->file, (off_t)kept) != 0 || fsync(log->file) != 0) fail_synced(log->path, "the torn end is not cut");
-    struct bytes told = { NULL, 0, 0 };
-    add_form(&told, "%zu bytes behind byte %zu, kept in %.600s", bytes->size - kept, kept, name);
-    say("warning", "a torn end was cut", told.at);
-    free(told.at);
+    say("warning", "a torn end was cut",
+        FACTS(TEXT("file", log->path), NUMBER("place", kept), NUMBER("bytes", bytes->size - kept), TEXT("kept", name)));
     free(name);
 }
 
@@ -106,12 +114,14 @@ static void check_name(const struct log *log) {
     char *name = beside(log->path, ending);
     struct bytes bytes = log_bytes(log);
     bool is_kept = write_new(name, bytes.at, bytes.size);
-    say("error", is_kept ? "what the log had is kept" : "what the log had could not be kept", name);
-    fail_with(REFUSED, log->path, "the log was removed or replaced while the node ran");
+    const struct fact *facts = FACTS(TEXT("file", log->path), TEXT(is_kept ? "kept" : "not_kept", name), NUMBER("bytes", bytes.size));
+    if (log->is_copy) fail_with(OVERTAKEN, "the copy was removed or replaced while the node ran; it is read anew from the stream", facts);
+    fail_with(REFUSED, "the log was removed or replaced while the node ran: see docs/OPERATING.md", facts);
 }
 
-void log_write(const struct log *log, const char *name, const char *bytes, size_t size) {
-    if (!write_all(log->file, bytes, size)) fail(name, "the log takes no records");
+void log_write(const struct log *log, const char *bytes, size_t size) {
+    if (!write_all(log->file, bytes, size))
+        fail("the log takes no records", FACTS(TEXT("reason", strerror(errno)), TEXT("file", log->path)));
 }
 
 void log_sync(struct log *log) {

@@ -1,4 +1,5 @@
 /* The node with its log: what it records is on disk before anybody hears of it, and in the stream before that, where there is one. */
+#include <errno.h>
 #include <fcntl.h>
 #include <unistd.h>
 
@@ -6,7 +7,8 @@
 
 void draw(void *to, size_t size) {
     int source = open("/dev/urandom", O_RDONLY);
-    if (source < 0 || read(source, to, size) != (ssize_t)size) fail("/dev/urandom", "no random bytes");
+    if (source < 0 || read(source, to, size) != (ssize_t)size)
+        fail("/dev/urandom has no random bytes", FACTS(TEXT("reason", strerror(errno))));
     close(source);
 }
 
@@ -19,11 +21,11 @@ static struct bytes handed(struct served *node, vogrilas_code (*call)(vogrilas_n
     if (code == VOGRILAS_SHORT_BUFFER) {
         free(bytes.at);
         bytes.at = malloc(size + 1);
-        if (bytes.at == NULL) fail("memory", "refused");
+        if (bytes.at == NULL) fail_memory();
         bytes.room = size + 1;
         code = call(&node->node, bytes.at, size, &size);
     }
-    if (code != VOGRILAS_OK) fail(node->name, vogrilas_code_text(code));
+    if (code != VOGRILAS_OK) fail("the node fails", FACTS(TEXT("reason", vogrilas_code_text(code))));
     bytes.size = size;
     return bytes;
 }
@@ -34,7 +36,7 @@ struct bytes node_records(struct served *node) {
 
 struct bytes settings_of(const char *settings) {
     int file = open(settings, O_RDONLY);
-    if (file < 0) fail_with(REFUSED, settings, "not there");
+    if (file < 0) fail_open("the settings cannot be read", settings);
     struct bytes text = whole(file, settings, MOST_SETTINGS);
     close(file);
     return text;
@@ -46,12 +48,12 @@ size_t node_open(struct served *node, const struct bytes *settings, const struct
     draw(seed, sizeof seed);
     vogrilas_code code = vogrilas_open(&node->node, settings->at, settings->size, node->name, strlen(node->name), log->at, log->size, seed,
                                        sizeof seed, &kept);
-    if (code == VOGRILAS_DAMAGED || code == VOGRILAS_BAD_RECORD) {
-        struct bytes why = { NULL, 0, 0 };
-        add_form(&why, "byte %zu: %s", kept, vogrilas_code_text(code));
-        fail_with(REFUSED, node->log.path, why.at);
-    }
-    if (code != VOGRILAS_OK) fail_with(code == VOGRILAS_NO_MEMORY ? 1 : REFUSED, node->log.path, vogrilas_code_text(code));
+    if (code == VOGRILAS_DAMAGED || code == VOGRILAS_BAD_RECORD)
+        fail_with(REFUSED, "the log is refused",
+                  FACTS(TEXT("reason", vogrilas_code_text(code)), TEXT("file", node->log.path), NUMBER("place", kept)));
+    if (code != VOGRILAS_OK)
+        fail_with(code == VOGRILAS_NO_MEMORY ? 1 : REFUSED, "the node is refused",
+                  FACTS(TEXT("reason", vogrilas_code_text(code)), TEXT("file", node->log.path)));
     return kept;
 }
 
@@ -73,12 +75,12 @@ struct served node_of_file(const char *settings, const char *name, const char *p
 
 void node_serve(struct served *node, const char *line, size_t size) {
     vogrilas_code code = vogrilas_serve(&node->node, line, size);
-    if (code != VOGRILAS_OK) fail(node->name, vogrilas_code_text(code));
+    if (code != VOGRILAS_OK) fail("the node fails", FACTS(TEXT("reason", vogrilas_code_text(code))));
 }
 
 /* Whether a line begins as a call; all else is a question, or asks nothing. */
 static bool is_call(const char *line, size_t size) {
-    static const char *const word[] = { "submit", "submit-as", "take", "tick", "plan", "stop", "start" };
+    static const char *const word[] = { "submit", "submit-as", "take", "adjudicate", "tick", "plan", "stop", "start" };
     const char *space = size == 0 ? NULL : memchr(line, ' ', size);
     size_t length = space == NULL ? size : (size_t)(space - line);
     for (size_t at = 0; at < sizeof word / sizeof *word; at++)
@@ -96,14 +98,14 @@ void node_serve_now(struct served *node, const char *line, size_t size) {
 
 void node_kept(struct served *node, size_t size) {
     vogrilas_code code = vogrilas_kept(&node->node, size);
-    if (code != VOGRILAS_OK) fail(node->name, vogrilas_code_text(code));
+    if (code != VOGRILAS_OK) fail("the node fails", FACTS(TEXT("reason", vogrilas_code_text(code))));
 }
 
 void node_append(struct served *node, const struct bytes *records, bool speaks) {
     if (node->copy != NULL) {
         if (records->size > 0 || speaks) copy_append(node->copy, records->at, records->size);
     } else if (records->size > 0) {
-        log_write(&node->log, node->name, records->at, records->size);
+        log_write(&node->log, records->at, records->size);
         log_sync(&node->log);
     }
 }

@@ -1,14 +1,18 @@
 /*
 ** One node of the network as one process over NATS: the library keeps the node, this host its log and its carrier.
 **
-**     node SETTINGS NODE LOG [--nats URL[,URL..]] [--ca FILE] [--creds FILE] [--login FILE] [--tick SECONDS] [--watch ADDRESS:PORT]
-**          [--hold-back MS] [--reserve ROWS] [--ping SECONDS] [-v] [--log file|stream] [--copies 1|2] [--machine NAME]
-**          [--patience SECONDS] [--part BYTES]
+**     node SETTINGS NODE LOG [--nats URL[,URL..]] [--ca FILE] [--creds FILE] [--login FILE] [--tick SECONDS] [--jetstream]
+**          [--watch ADDRESS:PORT] [--hold-back MS] [--reserve ROWS] [--ping SECONDS] [-v] [--log file|stream] [--copies 1|2]
+**          [--machine NAME] [--patience SECONDS] [--part BYTES] [--at-least CALLS]
+**          [--rules URL | --rules-tcp [tls://]HOST:PORT [--rules-framing stx|length2|length4]] [--rules-ca FILE]
+**          [--rules-token FILE] [--rules-wait SECONDS] [--rules-most REQUESTS]
 **
-** The subjects are those of hosts/node.py, so hosts of both kinds can serve nodes of one network: packets come on
-** `claims.NODE.from.SENDER`, in printed bytes; callers' lines, `submit`, `submit-as` and `answer`, on `claims.NODE.call`; an operator's,
-** any line but `take` and `at`, and `kill`, on `claims.NODE.operate`. Each of those lines is replied to with the last line of what the
-** node says. A caller's `wait NUMBER` is replied to as `answer NUMBER` is, but not before the entry has its answer. Each call has the
+** The subjects are those of hosts/subjects.py: packets come on `claims.NODE.from.SENDER`, in printed bytes: the subject says who sent one,
+** and the server lets nobody publish there but that sender (hosts/permissions); callers' lines, `submit`, `submit-as` and `answer`, and of a
+** payer `count`, `row` and `payments`, on `claims.NODE.call`; an operator's, any line but `take`, `adjudicate` and `at`, and `kill`, on
+** `claims.NODE.operate`. Each of those lines is replied to with the last line of what the node says. With --jetstream packets come on
+** `deliver.NODE`, where the server hands over what it keeps for a node (hosts/streams); it is told once the node has one on disk. A
+** caller's `wait NUMBER` is replied to as `answer NUMBER` is, but not before the entry has its answer. Each call has the
 ** time of day in its record.
 **
 ** A turn serves all that waits, appends the records to the log, syncs it once, and only then sends and replies. A host that
@@ -23,6 +27,13 @@
 ** bytes on its disk before anything is said; without such another nothing is. --machine names this one, --part is how many bytes one
 ** message carries at most.
 **
+** A payer whose settings say that it asks does not rule what is to be priced: with --rules such a request goes as it is to the payer's own system
+** over HTTP, with --rules-tcp in a frame over TCP, and the packet is taken again with what it answers: rules.h. What is not answered within
+** --rules-wait seconds (5) is not taken, and its pharmacy asks again; at most --rules-most requests (256) are under way. --rules-ca has the
+** certificates to trust, --rules-token a file with what stands behind `Authorization: Bearer`.
+**
+** With --at-least a log of fewer calls is refused: it was cut, or is an old copy, and who has seen more of it knows.
+**
 ** A pharmacy is ticked while an entry of it is open. So many entries of a pharmacy and rows of a payer as --reserve says, a tenth of the cap
 ** where it is not there, are kept for reversals: reserve.c.
 **
@@ -33,10 +44,17 @@
 #include <fcntl.h>
 #include <unistd.h>
 
+#include "rules.h"
 #include "stream.h"
 
+/* How long requests that are under way are waited for, where the host is told to end. */
+#define RULES_SECONDS 5.0
 /* How long a turn waits at most, so that a signal is heard of. */
 #define TURN_SECONDS 0.1
+/* How often it is said that an entry has no answer, and how long it has to be open for that. */
+#ifndef OPEN_SECONDS
+#define OPEN_SECONDS 60
+#endif
 
 static volatile sig_atomic_t is_stopping;
 
@@ -63,6 +81,8 @@ static void drain(struct host *host) {
     say("info", "draining", NULL);
     carrier_stop(host->carrier);
     for (struct message *batch; (batch = take_all(host->carrier, 0)) != NULL;) turn(host, batch, false);
+    for (double end = now() + RULES_SECONDS; rules_under_way(host->rules) > 0 && now() < end;)
+        turn(host, take_all(host->carrier, TURN_SECONDS), false);
     later_send(&host->later, host->carrier, true);
 }
 
@@ -76,7 +96,7 @@ static bool move(struct host *host) {
         later_send(&host->later, host->carrier, true);
         natsConnection_FlushTimeout(host->carrier->connection, 1000);
         move_end(host->candidate, whom, &host->served);
-        say("info", "moved", whom);
+        say("info", "moved", FACTS(TEXT("to", whom)));
     }
     reply(host->carrier, host->mover, whom == NULL ? "refused NoStandBy" : "ok", whom == NULL ? 17 : 2);
     natsMsg_Destroy(host->mover);
@@ -85,6 +105,15 @@ static bool move(struct host *host) {
     host->has_moved = whom != NULL;
     host->carrier->is_silent = false;
     return host->has_moved;
+}
+
+/* Says of a pharmacy which entry has been open longest, where that is long. */
+static void tell_open(struct host *host) {
+    uint64_t number = 0, open = 0, seconds;
+    if (now() < host->next_open) return;
+    host->next_open = now() + OPEN_SECONDS;
+    if ((seconds = counts_oldest(&number, &open)) < OPEN_SECONDS) return;
+    say("warning", "an entry has no answer yet", FACTS(NUMBER("claim", number), NUMBER("seconds", seconds), NUMBER("open", open)));
 }
 
 /* Serves until it is told to end, or the connection is closed for good. */
@@ -105,15 +134,17 @@ static void serve_for_ever(struct host *host) {
         if (now() < host->next_word) continue;
         host->next_word = now() + 1;
         service_tell("WATCHDOG=1");
-        struct bytes told = { NULL, 0, 0 };
-        add_form(&told, "%llu calls, %llu syncs", (unsigned long long)node_calls(&host->node), (unsigned long long)host->node.log.syncs);
-        if (host->given.says) say("info", "serves", told.at);
-        free(told.at);
+        if (ticks) tell_open(host);
+        if (host->given.says) say("info", "serves", FACTS(NUMBER("calls", node_calls(&host->node)), NUMBER("syncs", host->node.log.syncs)));
     }
 }
 
-/* Counts what the node has before it serves. */
+/* Refuses a log that has fewer calls than are known, and counts what the node has before it serves. */
 static void count_rows(struct host *host) {
+    uint64_t calls = node_calls(&host->node);
+    if ((double)calls < host->given.at_least)
+        fail_with(REFUSED, "the log has fewer calls than are known: see docs/RESTORING.md",
+                  FACTS(TEXT("file", host->given.log), NUMBER("calls", calls), NUMBER("at_least", host->given.at_least)));
     reserve_begin(host);
     counts_node(node_calls(&host->node), host->node.at_start, host->rows, 0, false);
     if (begins(host->given.name, 2, "ph")) node_open_entries(&host->node, counts_entered);
@@ -133,7 +164,8 @@ static bool open_node(struct host *host) {
     bool is_open = candidate_open(host->candidate, given, &host->node.log, &is_stopping);
     struct bytes log = log_bytes(&host->node.log);
     log.size = (size_t)host->candidate->copy.whole.size;
-    if (is_open && node_open(&host->node, &text, &log) != log.size) fail_with(REFUSED, given->log, "it has something else than records");
+    if (is_open && node_open(&host->node, &text, &log) != log.size)
+        fail_with(REFUSED, "the log has something else than records", FACTS(TEXT("file", given->log)));
     /* The file was synced as it was opened. */
     if (is_open) node_kept(&host->node, 0);
     host->candidate->copy.node = &host->node;
@@ -180,7 +212,7 @@ static bool own(struct host *host) {
     host->node.at_start = node_calls(&host->node);
     host->candidate->looked = now();
     count_rows(host);
-    say("info", "has the log", host->candidate->stream.owner);
+    say("info", "has the log", FACTS(TEXT("owner", host->candidate->stream.owner)));
     return true;
 }
 
@@ -188,6 +220,7 @@ static bool own(struct host *host) {
 static int serve_node(struct host *host) {
     if (host->carrier == NULL) host->carrier = carrier_open(host->given.name, &host->given.access, &is_stopping);
     host->carrier->is_silent = false;
+    host->rules = rules_start(&host->given, host->carrier);
     if (!is_stopping) {
         say("info", "ready", NULL);
         service_tell("READY=1");
@@ -197,6 +230,7 @@ static int serve_node(struct host *host) {
     }
     bool is_lost = host->carrier->is_closed;
     if (!is_lost && !host->has_moved) drain(host);
+    rules_stop(host->rules);
     carrier_close(host->carrier);
     return is_lost ? 1 : host->has_moved ? OVERTAKEN : 0;
 }
@@ -204,12 +238,13 @@ static int serve_node(struct host *host) {
 int main(int count, char **word) {
     take_descriptors();
     struct host host = { .given = words(count, word), .is_stopping = &is_stopping };
+    said_for(host.given.name, host.given.says);
+    rules_check(&host.given.rules);
     struct sigaction action = { .sa_handler = stop }, ignored = { .sa_handler = SIG_IGN };
     sigaction(SIGTERM, &action, NULL);
     sigaction(SIGINT, &action, NULL);
     sigaction(SIGPIPE, &ignored, NULL);
     srandom((unsigned)getpid() ^ (unsigned)time(NULL));
-    said_for(host.given.name, host.given.says);
     struct candidate candidate;
     if (host.given.is_stream) host.candidate = &candidate;
     bool has_log = open_node(&host);
@@ -220,7 +255,7 @@ int main(int count, char **word) {
     nats_Close();
     node_close(&host.node);
     free(host.line.at);
-    if (status == 1) fail("the server", "the connection was closed for good");
+    if (status == 1) fail("the connection was closed for good", NULL);
     say("info", "ended", NULL);
     return status;
 }

@@ -2,7 +2,7 @@
 ** The rooms of the host: bytes (bytes.c), what it says (said.c), the file of a log (file.c), the node with its log (log.c), the way to
 ** servers (access.c), the carrier (carrier.c), packets that are held back or go out later (packets.c), callers who wait (waits.c), turns
 ** (turn.c), room for reversals (reserve.c), what it has seen (counts.c), who asks for that (watch.c), and what a command line asks for (words.c).
-** stream.h has those of a log in a stream.
+** stream.h has those of a log in a stream, rules.h those of a payer that asks its own system.
 */
 #ifndef NODE_H
 #define NODE_H
@@ -20,6 +20,9 @@
 
 /* The status of a host whose node is refused: its settings, its name or its log. It stays so until people have looked. */
 #define REFUSED 78
+/* The status of a host of a log in a stream that is started again as a stand-by: another host has the log, or its copy is gone. It has said
+   nothing that is not in the log. */
+#define OVERTAKEN 75
 /* A packet has at most 131,144 printed bytes, a request 131,072, its reference 256; what is longer is none. */
 #define MOST_BYTES 131400
 /* A settings file has at most 16 MiB. */
@@ -42,18 +45,36 @@ struct bytes whole(int file, const char *path, size_t most);
 double now(void);
 double wall(void);
 
-/* What is told on standard error: an object of JSON a line with its time, or words for people. No line has a byte of a message. */
-void said_for(const char *node, bool for_people);
-void say(const char *level, const char *what, const char *more);
-/* Says what is wrong, and ends the process with this status: 1 where a next try may go better, or REFUSED. */
-_Noreturn void fail_with(int status, const char *what, const char *why);
-_Noreturn void fail(const char *what, const char *why);
+/* A fact of an event, by its name: a text, which is left out where it is NULL, or a number. */
+struct fact {
+    const char *name, *text;
+    uint64_t number;
+    bool is_number;
+};
 
-/* The file of a log, and how often it was synced. */
+#define TEXT(name, text) ((struct fact){ (name), (text), 0, false })
+#define NUMBER(name, number) ((struct fact){ (name), NULL, (uint64_t)(number), true })
+#define FACTS(...) ((const struct fact[]){ __VA_ARGS__, { NULL, NULL, 0, false } })
+
+/* What is told on standard error: an object of JSON a line for each event, or words for people: its time, its level, the node, what happened,
+   in words that are the same each time, and the facts: `reason`, `file`, `claim` .. No line has a byte of a message. */
+void said_for(const char *node, bool for_people);
+void say(const char *level, const char *what, const struct fact *facts);
+/* The same of what may happen often: a line a second for each reason, with how many others there were before it (`more`). */
+void say_some(const char *level, const char *what, const char *reason, const struct fact *facts);
+/* Says what is wrong, and ends the process with this status: 1 where a next try may go better, or REFUSED. */
+_Noreturn void fail_with(int status, const char *what, const struct fact *facts);
+_Noreturn void fail(const char *what, const struct fact *facts);
+_Noreturn void fail_memory(void);
+/* The same of a file that cannot be opened, as errno has it: what may pass is status 1, and what stays so is refused. */
+_Noreturn void fail_open(const char *what, const char *path);
+
+/* The file of a log, and how often it was synced; whether it is a copy of a log in a stream. */
 struct log {
     const char *path;
     int file;
     uint64_t syncs;
+    bool is_copy;
 };
 
 /* Opens the file for this process alone, unless a sync of it has failed. */
@@ -61,7 +82,7 @@ struct log log_open(const char *path);
 struct bytes log_bytes(const struct log *log);
 /* Cuts what a crash has left of a record, and keeps it beside the log; `bytes` are all that the file has. */
 void log_cut(const struct log *log, const struct bytes *bytes, size_t kept);
-void log_write(const struct log *log, const char *name, const char *bytes, size_t size);
+void log_write(const struct log *log, const char *bytes, size_t size);
 /* Has on disk what was written; the file and its name, where it may be new. Both end the process where that fails. */
 void log_sync(struct log *log);
 void log_sync_all(const struct log *log);
@@ -128,6 +149,8 @@ struct head {
 bool unprinted(const char *text, size_t size, unsigned char *bytes, size_t count);
 /* Reads the head of a packet in printed bytes; false of anything else. */
 bool head_of(const char *text, size_t size, struct head *head);
+/* Adds bytes as printed ones, in one word: a space is spelled too. */
+void add_printed(struct bytes *line, const void *at, size_t size);
 
 /* Who a message is from. */
 enum sender { FROM_NODE, FROM_CALLER, FROM_OPERATOR };
@@ -136,16 +159,20 @@ enum sender { FROM_NODE, FROM_CALLER, FROM_OPERATOR };
 struct message {
     struct message *next;
     natsMsg *text;
+    double came;
     enum sender from;
     bool is_served;
     /* It would have the node enter a billing while only the reserve is left. */
     bool is_over;
+    /* What became of the request in this packet at the payer's own system, which was asked for it; else nothing. */
+    struct asked *asked;
 };
 
-/* Where servers are, and who comes. */
+/* Where servers are, who comes, and whether they keep the node's packets until it has them (JetStream). */
 struct access {
     const char *urls, *authorities, *credentials, *login;
     double ping;
+    bool is_kept;
 };
 
 /* A connection, and the messages that came and wait, in order. */
@@ -157,6 +184,7 @@ struct carrier {
     pthread_cond_t came;
     struct message *first, **last;
     size_t waiting, waiting_bytes;
+    bool is_kept;
     volatile bool is_closing, is_closed;
     /* Two hosts hear the callers: what has no room here is the other's. */
     volatile bool is_silent;
@@ -173,8 +201,12 @@ struct message *take_all(struct carrier *carrier, double seconds);
 void send_packet(struct carrier *carrier, const char *to, size_t to_size, const char *text, size_t size);
 /* Replies to a message. A reply goes to an inbox alone: elsewhere the host would speak in its own name what a caller wrote. */
 void reply(struct carrier *carrier, natsMsg *to, const char *line, size_t size);
+/* Tells a server that keeps a packet that the node has it on disk, or has refused it, which is as good. */
+void acknowledge(struct carrier *carrier, natsMsg *packet);
 /* Takes a caller's line once more, as if it came now. */
 void carrier_again(struct carrier *carrier, natsMsg *text);
+/* Takes a message back that was elsewhere meanwhile. */
+void carrier_back(struct carrier *carrier, struct message *one);
 /* The sender that a packet's subject names, in `sender`; false where the subject is no packet's. */
 bool sender_of(const char *node, const char *subject, char sender[9]);
 /* Takes no more messages; those that had come wait in the list when it returns. */
@@ -187,6 +219,9 @@ bool is_wait(const struct message *one);
 bool waits_add(struct message *one);
 /* An entry has its answer: the lines of who waited for it are served in the next turn. */
 void waits_settled(struct carrier *carrier, uint64_t number);
+
+/* Says that a message was refused or lost, and why: who sent it, and which claim it is of, where it says that. */
+void say_refused(const struct message *one, const char *node, const char *level, const char *what, const char *reason);
 
 /* Packets of a tick, which go out spread over the time until the next one. */
 struct later {
@@ -206,11 +241,19 @@ bool held_is(double seconds, const char *sender, const char *text, size_t size);
 void held_went(double seconds, const char *sender, const char *text, size_t size);
 void held_forget(const char *text, size_t size);
 
+/* A payer's own system: where it is, how TCP frames messages, who is trusted, a file with a token; how long it may take, and how many
+   requests may be under way. */
+struct rules_given {
+    const char *url, *tcp, *framing, *authorities, *token;
+    double wait, most;
+};
+
 /* What a command line asks for. `kept` says where the log is kept: in a file alone, or in a stream as well. */
 struct given {
     const char *settings, *name, *log, *watch, *kept, *machine;
     struct access access;
-    double tick, hold_back, patience, part, copies, reserve;
+    struct rules_given rules;
+    double tick, hold_back, patience, part, copies, reserve, at_least;
     bool says, is_stream;
 };
 
@@ -223,10 +266,11 @@ struct host {
     struct served node;
     struct carrier *carrier;
     struct candidate *candidate;
+    struct rules *rules;
     volatile sig_atomic_t *is_stopping;
     struct bytes line;
     struct later later;
-    double next_tick, next_word;
+    double next_tick, next_word, next_open;
     /* The entries or rows of the node as the last turn left them, behind so many calls; the most of them; how many are kept for reversals. */
     uint64_t rows, rows_calls, most, reserve;
     /* The operator who has the log moved, and where replies of calls went since another host hears them too, each behind a space. */
@@ -246,8 +290,8 @@ void reserve_mark(struct host *host, struct message *batch);
 void turn(struct host *host, struct message *batch, bool is_tick);
 
 /* What the host has seen since it started. Each call may come from any thread. */
-enum call { CALL_SUBMIT, CALL_ANSWER, CALL_TAKE, CALL_TICK, CALL_PLAN, CALL_STOP, CALL_START, CALL_OTHER, CALLS };
-enum why { NOT_A_PACKET, HELD_BACK, FULL, NO_INBOX, WOULD_BE_FULL, WHYS };
+enum call { CALL_SUBMIT, CALL_ANSWER, CALL_TAKE, CALL_ADJUDICATE, CALL_TICK, CALL_PLAN, CALL_STOP, CALL_START, CALL_OTHER, CALLS };
+enum why { NOT_A_PACKET, HELD_BACK, FULL, NO_INBOX, WOULD_BE_FULL, UNDER_WAY, RULES_FULL, WHYS };
 
 void counts_call(const char *line, size_t size);
 void counts_refusal(const char *name, size_t size);
@@ -256,6 +300,7 @@ void counts_again(uint64_t more);
 void counts_taken(const char *from);
 void counts_dropped(enum why why);
 void counts_sync(double seconds);
+void counts_answered(double seconds);
 /* Of a log in a stream: how long the servers' word on what was appended took, and how often the same was sent again. */
 void counts_appended(double seconds);
 void counts_appended_again(void);
@@ -264,6 +309,15 @@ void counts_entered(uint64_t number);
 void counts_settled(uint64_t number);
 /* Whether an entry of the pharmacy is open. Where none is, a tick changes nothing and sends nothing, so it is not made. */
 bool counts_has_open(void);
+/* Of a payer's own system: a request that it was asked, and one that came back, each with how many are under way then; how long one took; an
+   advice with which a packet was taken; and what went wrong, by name. */
+void counts_asked(size_t under_way);
+void counts_came(size_t under_way);
+void counts_rules_took(double seconds);
+void counts_ruled(void);
+void counts_unruled(const char *name);
+/* How many seconds the oldest open entry has been open, its number, and how many are open; 0 where none is. */
+uint64_t counts_oldest(uint64_t *number, uint64_t *open);
 /* The most rows that the node may have, and how many of them are kept for reversals. */
 void counts_most(uint64_t most, uint64_t reserve);
 /* What the node's own thread knows, told in each turn: it lives. */
@@ -276,8 +330,9 @@ struct follower {
     char machine[40];
     uint64_t lag;
 };
-/* Of a log in a stream: whether this host has it, the last message that it knows, how many it is behind, and who follows it. */
-void counts_stream(bool owns, uint64_t sequence, uint64_t lag, const struct follower *follower, int count);
+/* Of a log in a stream: whether this host has it, whether the servers show another one, the last message that it knows, how many it is
+   behind, and who follows it. */
+void counts_stream(bool owns, bool differs, uint64_t sequence, uint64_t lag, const struct follower *follower, int count);
 /* The metrics of a node as Prometheus reads them. */
 struct bytes counts_text(const char *node, const char *log);
 /* Why the node does not serve, or NULL; and whether its thread was heard of lately. */

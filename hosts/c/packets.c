@@ -41,6 +41,17 @@ bool unprinted(const char *text, size_t size, unsigned char *bytes, size_t count
     return true;
 }
 
+void add_printed(struct bytes *line, const void *bytes, size_t size) {
+    static const char digit[] = "0123456789abcdef";
+    const unsigned char *at = bytes;
+    for (size_t place = 0; place < size; place++) {
+        unsigned char byte = at[place];
+        const char spelled[] = { '\\', 'x', digit[byte >> 4], digit[byte & 15] };
+        if (byte > ' ' && byte <= '~' && byte != '\\') add(line, at + place, 1);
+        else add(line, spelled, sizeof spelled);
+    }
+}
+
 bool head_of(const char *text, size_t size, struct head *head) {
     unsigned char byte[HEAD_BYTES];
     if (!unprinted(text, size, byte, HEAD_BYTES)) return false;

@@ -30,7 +30,7 @@ void stream_begin(struct stream *stream, const char *node, const char *machine, 
 
 static void set_header(natsMsg *message, const char *name, const char *value) {
     natsStatus status = natsMsgHeader_Set(message, name, value);
-    if (status != NATS_OK) fail(name, natsStatus_GetText(status));
+    if (status != NATS_OK) fail("a message has no header", FACTS(TEXT("reason", natsStatus_GetText(status)), TEXT("header", name)));
 }
 
 /* The message that appends bytes at a place, of which the digest behind them is told. */
@@ -68,7 +68,9 @@ static bool judge(struct stream *stream, const char *reply, uint64_t at, const c
     const char *told = strstr(reply, wrong);
     if (error == 0 && sequence > 0 && strstr(reply, stream->name) != NULL) {
 #ifndef WRONG_NO_EXPECTATION
-        if (sequence != stream->last + 1) fail_with(REFUSED, stream->name, "the servers took a message elsewhere than it was to stand");
+        if (sequence != stream->last + 1)
+            fail_with(REFUSED, "the servers took a message elsewhere than it was to stand",
+                      FACTS(TEXT("stream", stream->name), NUMBER("sequence", sequence)));
 #endif
         stream->last = sequence - 1;
         *became = TAKEN;
@@ -99,7 +101,8 @@ static enum appended append_one(struct stream *stream, uint64_t at, const char *
         if (reply != NULL) is_judged = judge(stream, natsMsg_GetData(reply), at, digest, &became);
         natsMsg_Destroy(reply);
         if (is_judged) break;
-        if (!is_told && now() - started > SAY_SECONDS) say("warning", "the servers say nothing of the log, trying again", stream->name);
+        if (!is_told && now() - started > SAY_SECONDS)
+            say("warning", "the servers say nothing of the log, trying again", FACTS(TEXT("stream", stream->name)));
         is_told = is_told || now() - started > SAY_SECONDS;
     } while (stream->waits(stream->closure));
     natsMsg_Destroy(message);
@@ -143,7 +146,7 @@ enum found stream_read(struct stream *stream, uint64_t sequence, struct entry *e
     else if (error == NO_SUCH_STREAM) found = NO_STREAM;
     else if (error == 0 && reply_number(natsMsg_GetData(reply), "seq") == sequence) found = FOUND;
     if (found == FOUND && !entry_of(natsMsg_GetData(reply), entry))
-        fail_with(REFUSED, stream->name, "it has a message that no host made");
+        fail_with(REFUSED, "the log has a message that no host made", FACTS(TEXT("stream", stream->name), NUMBER("sequence", sequence)));
     natsMsg_Destroy(reply);
     return found;
 }

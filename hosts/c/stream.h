@@ -14,8 +14,6 @@
 #define STREAM_H
 #include "node.h"
 
-/* The status of a host whose node another host has: it has said nothing that is not in the log, and is started again as a stand-by. */
-#define OVERTAKEN 75
 #define DIGEST_TEXT 65
 #define OWNER_TEXT 80
 /* The head of a log, and what stands before and behind the body of a record. */
@@ -123,6 +121,8 @@ struct copy {
     struct bytes unmade;
     int seen_file;
     struct seen seen;
+    /* What this machine had seen where its file has less than that: the log is read anew, and is known to its end once it comes to this. */
+    struct seen known;
     /* Behind the last whole record; then what has come of the next one; and how many bytes the file has. */
     struct place whole;
     struct bytes pending;
@@ -136,8 +136,8 @@ struct copy {
 
 /* Looks at the file and at what was seen; ends the process where the file is not what it was. */
 void copy_open(struct copy *copy, struct log *log, struct stream *stream);
-/* Takes the next message of the stream into the file; ends the process where it does not fit what this machine has. */
-void copy_take(struct copy *copy, const struct entry *entry);
+/* Takes the next message of the stream into the file; or says why it does not fit what this machine has, and takes nothing of it. */
+const char *copy_take(struct copy *copy, const struct entry *entry);
 /* Has on disk what was taken, and notes how far that is. */
 void copy_sync(struct copy *copy);
 /* Has the node make the records that were taken. */
@@ -221,6 +221,10 @@ struct candidate {
     volatile sig_atomic_t *is_stopping;
     double patience, looked, level, next_word, stopping;
     bool owns, is_told, has_copies;
+    /* Whether what the servers showed last is not what this machine has: their copies may differ, or one of them is of another log. Such a
+       host goes on looking, takes no log over and counts for nobody's copy. `said_differs`: when that was said. */
+    bool differs;
+    double said_differs;
     /* Who sent the last message that was read, and whether that is another than before. */
     char owner[OWNER_TEXT];
     bool is_new_owner;

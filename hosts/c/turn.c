@@ -1,6 +1,7 @@
 /* Turns: what waits is served, what it recorded is kept, and then what came of it is sent and replied. */
 #include <unistd.h>
 
+#include "rules.h"
 #include "stream.h"
 
 /* The part of a tick's time over which its packets go out. */
@@ -8,29 +9,47 @@
 /* So many messages at most are few. */
 #define FEW_MESSAGES 8
 
+/* Begins the line by which a packet is taken: with the advice that came for it, where its payer's own system was asked. */
+static bool begin_taking(const struct host *host, const struct message *one, struct bytes *line) {
+    char sender[9];
+    if (!sender_of(host->given.name, natsMsg_GetSubject(one->text), sender)) return false;
+    add_form(line, rules_has_advice(one) ? "adjudicate %s " : "take %s ", sender);
+    if (!rules_has_advice(one)) return true;
+    add_printed(line, one->asked->answer.at, one->asked->answer.size);
+    add_text(line, " ");
+    return true;
+}
+
+/* Whether a caller may ask so: of a pharmacy to enter something and for answers, of a payer what its book has. */
+static bool may_call(const struct host *host, const char *text, size_t size) {
+    static const char *const of_pharmacy[] = { "submit ", "submit-as ", "answer ", NULL };
+    static const char *const of_payer[] = { "count", "row ", "payments ", NULL };
+    const char *const *word = begins(host->given.name, 2, "ph") ? of_pharmacy : of_payer;
+    while (*word != NULL && !begins(text, size, *word)) word++;
+    return *word != NULL;
+}
+
 /* The line that a message asks for; false where who sends it may not ask so. A line end in it would make it two lines. */
 static bool line_of(const struct host *host, const struct message *one, struct bytes *line) {
     const char *text = natsMsg_GetData(one->text);
     size_t size = (size_t)natsMsg_GetDataLength(one->text);
-    char sender[9];
     if (size > 0 && memchr(text, '\n', size) != NULL) return false;
     line->size = 0;
     switch (one->from) {
     case FROM_NODE:
-        if (!sender_of(host->given.name, natsMsg_GetSubject(one->text), sender)) return false;
-        add_form(line, "take %s ", sender);
+        if (!begin_taking(host, one, line)) return false;
         break;
     case FROM_CALLER:
-        if (is_wait(one)) {
+        if (is_wait(one) && begins(host->given.name, 2, "ph")) {
             add_text(line, "answer ");
             text += 5, size -= 5;
             break;
         }
-        if (!begins(text, size, "submit ") && !begins(text, size, "submit-as ") && !begins(text, size, "answer ")) return false;
+        if (!may_call(host, text, size)) return false;
         break;
     case FROM_OPERATOR:
         /* An operator operates one node: packets come from nodes alone, and the time of a call is the host's. */
-        if (begins(text, size, "take") || begins(text, size, "at ")) return false;
+        if (begins(text, size, "take") || begins(text, size, "adjudicate") || begins(text, size, "at ")) return false;
         break;
     }
     add(line, text, size);
@@ -63,6 +82,8 @@ static bool is_deed(struct host *host, struct message *one) {
         reply(host->carrier, one->text, "ok", 2);
         natsConnection_FlushTimeout(host->carrier->connection, 500);
         raise(SIGKILL);
+        /* The first process of a container lives on. */
+        _exit(128 + SIGKILL);
     }
     if (host->candidate == NULL || host->mover != NULL || !is_word(one, "move")) return false;
     host->mover = one->text;
@@ -72,6 +93,7 @@ static bool is_deed(struct host *host, struct message *one) {
 
 /* Turns away what only the reserve has room for: who calls hears it, and a packet may be lost at any time. */
 static void turn_away(struct host *host, struct message *one) {
+    say_refused(one, host->given.name, "warning", "a billing was turned away", "WouldBeFull");
     if (one->from == FROM_NODE) {
         counts_dropped(WOULD_BE_FULL);
         return;
@@ -80,10 +102,17 @@ static void turn_away(struct host *host, struct message *one) {
     reply(host->carrier, one->text, "refused WouldBeFull", 19);
 }
 
+/* What has happened where a message was refused. */
+static const char *refused(const struct message *one) {
+    return one->from == FROM_NODE ? "a packet was refused" : "a call was refused";
+}
+
 /* Serves a message, or refuses it; where it was served, the next last line is for it. */
 static void serve(struct host *host, struct message *one) {
     const char *text = natsMsg_GetData(one->text);
     char sender[9];
+    /* What the payer's own system has not answered is not taken: its pharmacy asks again. */
+    if (one->asked != NULL && !rules_has_advice(one)) return;
     if (is_others(host, one) || is_deed(host, one)) return;
     if (host->mover != NULL && natsMsg_GetReply(one->text) != NULL) add_form(&host->served, " %.500s", natsMsg_GetReply(one->text));
     if (one->is_over) {
@@ -93,7 +122,7 @@ static void serve(struct host *host, struct message *one) {
     } else if (line_of(host, one, &host->line)) {
         counts_call(host->line.at, host->line.size);
         if (one->from == FROM_NODE && sender_of(host->given.name, natsMsg_GetSubject(one->text), sender)) {
-            counts_taken(sender);
+            if (one->asked == NULL) counts_taken(sender);
             if (begins(host->given.name, 2, "sw"))
                 held_went(host->given.hold_back / 1000, sender, text, (size_t)natsMsg_GetDataLength(one->text));
         }
@@ -101,6 +130,7 @@ static void serve(struct host *host, struct message *one) {
         one->is_served = true;
     } else {
         counts_refusal("Line", 4);
+        say_refused(one, host->given.name, "warning", refused(one), "Line");
         reply(host->carrier, one->text, "refused Line", 12);
     }
 }
@@ -123,20 +153,33 @@ static void note(const struct host *host, const struct message *one, const char 
 /* Sends a packet that a line of the node has: now, or where a tick sent it, later. */
 static void send_line(struct host *host, const char *line, size_t size, bool later) {
     const char *text = memchr(line + 5, ' ', size - 5);
-    if (text == NULL) fail(host->given.name, "a packet without a text");
+    if (text == NULL) fail("the node has a packet without a text", NULL);
     size_t to_size = (size_t)(text - line - 5), text_size = (size_t)(line + size - text - 1);
     if (later) later_add(&host->later, line + 5, to_size, text + 1, text_size);
     else send_packet(host->carrier, line + 5, to_size, text + 1, text_size);
 }
 
+/* Says that the node has refused a message, by the name of the refusal. */
+static void tell_refusal(const struct host *host, const struct message *one, const char *name, size_t size) {
+    char reason[24];
+    const char *space = memchr(name, ' ', size);
+    if (space != NULL) size = (size_t)(space - name);
+    snprintf(reason, sizeof reason, "%.*s", (int)size, name);
+    say_refused(one, host->given.name, "info", refused(one), reason);
+}
+
 /* Replies to a message with the last line of what it asked for, or with a list and its end; the next message that was served. */
 static struct message *answered(struct host *host, struct message *one, const char *line, size_t size, bool has_sent) {
-    if (begins(line, size, "refused ")) counts_refusal(line + 8, size - 8);
+    bool is_wanted = one != NULL && rules_want(one, line, size);
+    if (begins(line, size, "refused ") && !(is_wanted && host->rules != NULL)) counts_refusal(line + 8, size - 8);
     if (one == NULL) return NULL;
+    if (begins(line, size, "refused ")) tell_refusal(host, one, line + 8, size - 8);
     note(host, one, line, size, has_sent);
+    rules_note(one, line, size);
+    if (is_wanted) rules_ask(host->rules, one, node_count(&host->node));
     /* Who waits for an entry that is open is replied to later. */
     bool is_owed = is_wait(one) && size == 4 && begins(line, size, "open") && waits_add(one);
-    if (!is_owed) reply(host->carrier, one->text, line, size);
+    if (!is_owed && one->text != NULL) reply(host->carrier, one->text, line, size);
     do one = one->next;
     while (one != NULL && !one->is_served);
     return one;
@@ -159,7 +202,7 @@ static void tell(struct host *host, struct message *batch) {
     while (batch != NULL && !batch->is_served) batch = batch->next;
     while (line < end) {
         char *stop_at = memchr(line, '\n', (size_t)(end - line));
-        if (stop_at == NULL) fail(host->given.name, "a line without an end");
+        if (stop_at == NULL) fail("the node has a line without an end", NULL);
         size_t size = (size_t)(stop_at - line);
         if (begins(line, size, "send ")) {
             send_line(host, line, size, batch == NULL);
@@ -183,6 +226,19 @@ static void tell(struct host *host, struct message *batch) {
    waits for its word does not. */
 static void send_few(const struct host *host, size_t waiting) {
     if (waiting > 0 && waiting <= FEW_MESSAGES) natsConnection_FlushTimeout(host->carrier->connection, 1);
+}
+
+/* Lets the messages of a turn go, once all is said that is to be said of them. */
+static void let_go(struct host *host, struct message *batch) {
+    while (batch != NULL) {
+        struct message *next = batch->next;
+        rules_forget(batch);
+        if (batch->from == FROM_NODE) acknowledge(host->carrier, batch->text);
+        if (batch->is_served) counts_answered(now() - batch->came);
+        natsMsg_Destroy(batch->text);
+        free(batch);
+        batch = next;
+    }
 }
 
 void turn(struct host *host, struct message *batch, bool is_tick) {
@@ -217,12 +273,7 @@ void turn(struct host *host, struct message *batch, bool is_tick) {
     torment_late(host->carrier->connection);
     node_clear(&host->node);
     if (is_tick) later_begin(&host->later, host->given.tick * SPREAD);
-    while (batch != NULL) {
-        struct message *next = batch->next;
-        natsMsg_Destroy(batch->text);
-        free(batch);
-        batch = next;
-    }
+    let_go(host, batch);
     reserve_count(host);
     counts_node(node_calls(&host->node), host->node.at_start, host->rows, waiting, !*host->is_stopping);
 }

@@ -33,17 +33,6 @@ static uint64_t take_number(struct body *body, int count) {
     return at == NULL ? 0 : number_of(at, count);
 }
 
-/* Adds bytes in printed ones, as one word: a space is spelled too. */
-static void add_printed(struct bytes *line, const unsigned char *at, uint64_t size) {
-    static const char digit[] = "0123456789abcdef";
-    for (uint64_t place = 0; place < size; place++) {
-        unsigned char byte = at[place];
-        const char spelled[] = { '\\', 'x', digit[byte >> 4], digit[byte & 15] };
-        if (byte > ' ' && byte <= '~' && byte != '\\') add(line, at + place, 1);
-        else add(line, spelled, sizeof spelled);
-    }
-}
-
 /* Adds a text of the body, its length and its bytes; how many they are. */
 static uint64_t add_taken(struct bytes *line, struct body *body) {
     uint64_t size = take_number(body, 8);
@@ -63,18 +52,33 @@ static uint64_t take_noted(struct bytes *line, struct bytes *name, struct body *
     return take_number(body, 1);
 }
 
+/* Adds the node that a packet came from. */
+static void add_sender(struct bytes *line, struct body *body) {
+    static const char *const kind[] = { "ph", "sw", "pr" };
+    uint64_t which = take_number(body, 1), number = take_number(body, 2);
+    add_form(line, "%s%u ", kind[which < 3 ? which : 0], (unsigned)number);
+}
+
+/* Adds a packet and the advice with which it was taken, which stands before it in a line. */
+static void add_advised(struct bytes *line, struct body *body) {
+    struct bytes packet = { NULL, 0, 0 };
+    add(&packet, "", 0);
+    add_taken(&packet, body);
+    add_taken(line, body);
+    add_text(line, " ");
+    add(line, packet.at, packet.size);
+    free(packet.at);
+}
+
 /* Adds the line of a call, of this kind and under this name, where it has one. */
 static void add_call(struct bytes *line, uint64_t kind, const struct bytes *name, struct body *body) {
-    static const char *const node[] = { "ph", "sw", "pr" };
-    static const char *const word[] = { "submit ", "tick", "take ", "stop", "start", "plan ", "plan " };
-    enum { SUBMIT = 0, TAKE = 2, DROP = 5, PRICE = 6 };
-    if (kind >= sizeof word / sizeof *word) return;
+    static const char *const word[] = { "submit ", "tick", "take ", "stop", "start", "plan ", "plan ", NULL, "adjudicate " };
+    enum { SUBMIT = 0, TAKE = 2, DROP = 5, PRICE = 6, ADJUDICATE = 8 };
+    if (kind >= sizeof word / sizeof *word || word[kind] == NULL) return;
     if (name->size > 0) add_form(line, "submit-as %s ", name->at);
     else add_text(line, word[kind]);
-    if (kind == TAKE) {
-        uint64_t which = take_number(body, 1), number = take_number(body, 2);
-        add_form(line, "%s%u ", node[which < 3 ? which : 0], (unsigned)number);
-    }
+    if (kind == TAKE || kind == ADJUDICATE) add_sender(line, body);
+    if (kind == ADJUDICATE) add_advised(line, body);
     if (kind == SUBMIT || kind == TAKE || kind == DROP || kind == PRICE) add_taken(line, body);
     if (kind == DROP) add_text(line, " none");
     if (kind == PRICE) add_form(line, " %llu", (unsigned long long)take_number(body, 4));
@@ -122,7 +126,9 @@ void node_make(struct served *node, const char *record, size_t size) {
         begin(node, record, size);
     } else {
         make(node, &body);
-        if (!has_made(node, record, size)) fail_with(REFUSED, node->log.path, vogrilas_code_text(VOGRILAS_BAD_RECORD));
+        if (!has_made(node, record, size))
+            fail_with(REFUSED, "the log is refused",
+                      FACTS(TEXT("reason", vogrilas_code_text(VOGRILAS_BAD_RECORD)), TEXT("file", node->log.path)));
         node_kept(node, size);
     }
     node_clear(node);

@@ -1,4 +1,5 @@
 /* /metrics, /healthz and /readyz over HTTP, by a thread of its own, one question at a time; and what systemd is told. */
+#include <errno.h>
 #include <netdb.h>
 #include <stddef.h>
 #include <sys/socket.h>
@@ -19,14 +20,14 @@ struct watch {
 static int listen_at(const char *at) {
     char address[256];
     const char *port = strrchr(at, ':');
-    if (port == NULL || (size_t)(port - at) >= sizeof address) fail(at, "ADDRESS:PORT is wanted");
+    if (port == NULL || (size_t)(port - at) >= sizeof address) fail("--watch wants ADDRESS:PORT", FACTS(TEXT("given", at)));
     snprintf(address, sizeof address, "%.*s", (int)(port - at), at);
     struct addrinfo hints = { .ai_flags = AI_PASSIVE | AI_NUMERICSERV, .ai_socktype = SOCK_STREAM }, *found = NULL;
-    if (getaddrinfo(address, port + 1, &hints, &found) != 0) fail(at, "no such address");
+    if (getaddrinfo(address, port + 1, &hints, &found) != 0) fail("there is no such address to watch at", FACTS(TEXT("given", at)));
     int one = 1, made = socket(found->ai_family, found->ai_socktype, found->ai_protocol);
     if (made < 0 || setsockopt(made, SOL_SOCKET, SO_REUSEADDR, &one, sizeof one) != 0 ||
         bind(made, found->ai_addr, found->ai_addrlen) != 0 || listen(made, 16) != 0)
-        fail(at, "not to be listened at");
+        fail("the address to watch at cannot be had", FACTS(TEXT("reason", strerror(errno)), TEXT("given", at)));
     freeaddrinfo(found);
     return made;
 }
@@ -87,9 +88,9 @@ static void *serve(void *closure) {
 void watch_start(const char *at, const char *node, const char *log) {
     struct watch *watch = malloc(sizeof *watch);
     pthread_t thread;
-    if (watch == NULL) fail("memory", "refused");
+    if (watch == NULL) fail_memory();
     *watch = (struct watch){ listen_at(at), node, log };
-    if (pthread_create(&thread, NULL, serve, watch) != 0) fail(at, "no thread");
+    if (pthread_create(&thread, NULL, serve, watch) != 0) fail("no thread can be had", NULL);
     pthread_detach(thread);
 }
 

@@ -4,11 +4,16 @@
 /* How many bytes of a log one message carries at most, where --part says nothing else and the server takes as many. */
 #define MOST_PART 524288
 #define UNSAID (-1)
+/* How long a payer's own system may take at most, and how many requests to it may be under way, whatever the words say. */
+#define MOST_WAIT 600
+#define MOST_REQUESTS 2048
 
 static _Noreturn void usage(int status) {
     fputs("usage: node SETTINGS NODE LOG [--nats URL[,URL..]] [--ca FILE] [--creds FILE] [--login FILE] [--tick SECONDS]\n"
-          "            [--watch ADDRESS:PORT] [--hold-back MS] [--reserve ROWS] [--ping SECONDS] [-v]\n"
-          "            [--log file|stream] [--copies 1|2] [--machine NAME] [--patience SECONDS] [--part BYTES]\n",
+          "            [--jetstream] [--watch ADDRESS:PORT] [--hold-back MS] [--reserve ROWS] [--ping SECONDS] [-v]\n"
+          "            [--log file|stream] [--copies 1|2] [--machine NAME] [--patience SECONDS] [--part BYTES] [--at-least CALLS]\n"
+          "            [--rules URL | --rules-tcp [tls://]HOST:PORT [--rules-framing stx|length2|length4]] [--rules-ca FILE]\n"
+          "            [--rules-token FILE] [--rules-wait SECONDS] [--rules-most REQUESTS]\n",
           status == 0 ? stdout : stderr);
     exit(status);
 }
@@ -22,6 +27,11 @@ static const char **text_of(struct given *given, const char *word) {
     if (strcmp(word, "--watch") == 0) return &given->watch;
     if (strcmp(word, "--log") == 0) return &given->kept;
     if (strcmp(word, "--machine") == 0) return &given->machine;
+    if (strcmp(word, "--rules") == 0) return &given->rules.url;
+    if (strcmp(word, "--rules-tcp") == 0) return &given->rules.tcp;
+    if (strcmp(word, "--rules-framing") == 0) return &given->rules.framing;
+    if (strcmp(word, "--rules-ca") == 0) return &given->rules.authorities;
+    if (strcmp(word, "--rules-token") == 0) return &given->rules.token;
     return NULL;
 }
 
@@ -42,6 +52,9 @@ static double *number_of(struct given *given, const char *word) {
     if (strcmp(word, "--patience") == 0) return &given->patience;
     if (strcmp(word, "--part") == 0) return &given->part;
     if (strcmp(word, "--copies") == 0) return &given->copies;
+    if (strcmp(word, "--rules-wait") == 0) return &given->rules.wait;
+    if (strcmp(word, "--rules-most") == 0) return &given->rules.most;
+    if (strcmp(word, "--at-least") == 0) return &given->at_least;
     return NULL;
 }
 
@@ -50,7 +63,9 @@ static void complete(struct given *given) {
     bool is_file = given->kept == NULL || strcmp(given->kept, "file") == 0;
     if (!(given->tick > 0) || !(given->hold_back >= 0) || !(given->patience > 0) || !(given->part >= 1)) usage(2);
     if (given->copies != 1 && (given->copies != 2 || is_file)) usage(2);
-    if (!(given->reserve == UNSAID || given->reserve >= 0)) usage(2);
+    if (!(given->reserve == UNSAID || given->reserve >= 0) || !(given->at_least >= 0)) usage(2);
+    if (!(given->rules.wait > 0) || !(given->rules.wait <= MOST_WAIT)) usage(2);
+    if (!(given->rules.most >= 1) || !(given->rules.most <= MOST_REQUESTS)) usage(2);
     if (given->machine != NULL && (*given->machine == '\0' || strpbrk(given->machine, " \t\r\n") != NULL)) usage(2);
     given->is_stream = !is_file;
     if (!is_file && strcmp(given->kept, "stream") != 0) usage(2);
@@ -69,6 +84,7 @@ static void complete(struct given *given) {
 
 struct given words(int count, char **word) {
     struct given given = { .tick = 1, .patience = 0.8, .part = MOST_PART, .copies = 1, .reserve = UNSAID, .access = { .ping = UNSAID } };
+    given.rules = (struct rules_given){ .framing = "stx", .wait = 5, .most = 256 };
     const char **plain[] = { &given.settings, &given.name, &given.log };
     size_t found = 0;
     for (int at = 1; at < count; at++) {
@@ -76,6 +92,7 @@ struct given words(int count, char **word) {
         double *number = number_of(&given, word[at]);
         if (strcmp(word[at], "-h") == 0 || strcmp(word[at], "--help") == 0) usage(0);
         if (strcmp(word[at], "-v") == 0) given.says = true;
+        else if (strcmp(word[at], "--jetstream") == 0) given.access.is_kept = true;
         else if (text != NULL && at + 1 < count) *text = word[++at];
         else if (number != NULL && at + 1 < count) *number = number_in(word[++at]);
         else if (word[at][0] != '-' && found < 3) *plain[found++] = word[at];

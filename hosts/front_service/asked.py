@@ -22,7 +22,7 @@ _DAY = re.compile(r"[0-9]{8}")
 def who(request: web.Request) -> set[str]:
     """Whose token the caller has; Problem where it has none."""
     word, _, token = request.headers.get("Authorization", "").partition(" ")
-    found = request.app["tokens"].who(token.strip()) if word.lower() == "bearer" else set()
+    found: set[str] = request.app["tokens"].who(token.strip()) if word.lower() == "bearer" else set()
     if not found:
         raise Problem("NoToken")
     return found
@@ -43,9 +43,17 @@ def pharmacy(request: web.Request) -> Pharmacy:
     name, allowed = request.match_info["pharmacy"], who(request)
     if name not in allowed and OPERATOR not in allowed:
         raise Problem("NotAllowed", f"this token is not that of {name}")
-    found = request.app["pharmacies"].get(name)
+    found: Pharmacy | None = request.app["pharmacies"].get(name)
     if found is None:
         raise Problem("NoSuchPharmacy")
+    return found
+
+
+def entering(request: web.Request) -> Pharmacy:
+    """The pharmacy whose claim the caller enters: its token has to name it. The operator's reads, and enters where it says so."""
+    found = pharmacy(request)
+    if found.name not in who(request):
+        raise Problem("NotAllowed", f"the operator's token reads; one that enters claims of {found.name} names it")
     return found
 
 
@@ -68,9 +76,11 @@ def number(request: web.Request) -> int:
     return int(text)
 
 
-def wait(request: web.Request) -> float:
+def wait(request: web.Request, default: float = 0.0) -> float:
     """For how many seconds the caller waits for an answer."""
-    text = request.query.get("wait", "0")
+    text = request.query.get("wait")
+    if text is None:
+        return default
     if not re.fullmatch(r"[0-9]{1,3}(\.[0-9]{1,3})?", text) or float(text) > MOST_WAIT_SECONDS:
         raise Problem("BadRequest", f"wait is a number of seconds, at most {MOST_WAIT_SECONDS:.0f}")
     return float(text)
@@ -111,11 +121,15 @@ def wants_json(request: web.Request, default: bool) -> bool:
     accept = request.headers.get("Accept", "*/*")
     places = {kind: accept.find(kind) for kind in ("application/json", *RAW)}
     named = {kind: at for kind, at in places.items() if at >= 0}
-    return min(named, key=named.get) == "application/json" if named else default
+    return min(named, key=lambda kind: named[kind]) == "application/json" if named else default
 
 
 def stamp(seconds: float | None) -> str | None:
     """A time as RFC 3339 has it."""
     if seconds is None:
         return None
-    return datetime.datetime.fromtimestamp(seconds, datetime.timezone.utc).isoformat(timespec="milliseconds").replace("+00:00", "Z")
+    return (
+        datetime.datetime.fromtimestamp(seconds, datetime.timezone.utc)
+        .isoformat(timespec="milliseconds")
+        .replace("+00:00", "Z")
+    )

@@ -8,6 +8,7 @@ import shutil
 import signal
 import subprocess
 import sys
+import time
 
 from . import tokens
 from .ports import free_ports
@@ -15,6 +16,12 @@ from .printed import unprinted
 from .programs import EXAMPLES, TOP
 
 HOSTS = TOP / "hosts"
+# Who sees all, and enters test claims of both pharmacies.
+OPERATOR = f"{tokens.OPERATOR},ph1,ph2"
+# After how long a front that has ended is started again.
+AGAIN_SECONDS = 0.5
+# Words and settings that are refused stay so.
+REFUSED = (2, 78)
 WORDS = """
 the console        {at}/          token of the operator: {operator}
 a claim, by curl   curl --data-binary @{folder}/billing -H 'Content-Type: application/vnd.ncpdp' -H 'Idempotency-Key: first' \\
@@ -39,40 +46,83 @@ def start(given: argparse.Namespace) -> int:
     text = (EXAMPLES / "messages" / "billing.txt").read_bytes().strip()
     (folder / "billing").write_bytes(unprinted(text))
     file = folder / "tokens"
-    if not file.exists():
-        for who in ("ph1", "ph2", tokens.OPERATOR):
-            tokens.make(who, str(file))
-    known = dict(line.split() for line in file.read_text(encoding="ascii").splitlines())
+    known = _known(file)
+    for who in ("ph1", "ph2", OPERATOR):
+        if who not in known:
+            known[who] = tokens.make(who, str(file))
     subprocess.run(
         [sys.executable, HOSTS / "permissions", settings, folder / "access", "--listen", f"127.0.0.1:{port}"],
         check=True,
         stdout=subprocess.DEVNULL,
     )
     nats = ["--nats", f"127.0.0.1:{port}", "--access", str(folder / "access")]
-    watched = ["--watch", str(watch)] if _can_watch() else []
-    cluster = [sys.executable, HOSTS / "cluster.py", settings, folder / "logs", "--server", *nats, *watched, "--tick", "0.5"]
-    front = [sys.executable, HOSTS / "front", settings, "--tokens", file, "--receipts", folder / "receipts", *nats, *watched]
+    watched = ["--watch", str(watch)]
+    cluster: list[object] = [
+        sys.executable,
+        HOSTS / "cluster.py",
+        settings,
+        folder / "logs",
+        "--server",
+        *nats,
+        *watched,
+        "--tick",
+        "0.5",
+    ]
+    front: list[object] = [
+        sys.executable,
+        HOSTS / "front",
+        settings,
+        "--tokens",
+        file,
+        "--receipts",
+        folder / "receipts",
+        *nats,
+        *watched,
+    ]
     front += ["--logs", folder / "logs", "--tcp", f"ph1=127.0.0.1:{framed}", "--listen", given.listen]
-    running = [subprocess.Popen(list(map(str, cluster)), stdout=subprocess.PIPE)]
+    facts = {"operator": known[OPERATOR], "token": known["ph1"], "folder": given.demo, "port": port, "framed": framed}
+    running = [_started(cluster)]
     signal.signal(signal.SIGTERM, lambda *_about: sys.exit(0))
     try:
         for _ in range(6):
-            running[0].stdout.readline()
-        running.append(subprocess.Popen(list(map(str, front)), stdout=subprocess.PIPE))
-        ready = running[1].stdout.readline().decode().split()
-        if ready[:2] == ["front", "ready"]:
-            facts = {"operator": known[tokens.OPERATOR], "token": known["ph1"], "folder": given.demo, "port": port, "framed": framed}
-            print(WORDS.format(at=ready[2], **facts), flush=True)
-        running[1].wait()
-        return running[1].returncode
+            _line(running[0])
+        _keep(front, running, facts)
     except KeyboardInterrupt:
-        return 0
+        pass
     finally:
         for process in reversed(running):
             process.terminate()
             process.wait()
+    return 0
 
 
-def _can_watch() -> bool:
-    """Whether hosts can tell metrics."""
-    return subprocess.run([sys.executable, "-c", "import prometheus_client"], capture_output=True, check=False).returncode == 0
+def _keep(words: list[object], running: list[subprocess.Popen[bytes]], facts: dict[str, object]) -> None:
+    """Starts the front, and again where it was killed or has failed: the nodes go on meanwhile. Who is told to end ends all."""
+    is_told = False
+    while True:
+        running[1:] = [_started(words)]
+        ready = _line(running[1]).split()
+        if ready[:2] == ["front", "ready"] and not is_told:
+            print(WORDS.format(at=ready[2], **facts), flush=True)
+            is_told = True
+        status = running[1].wait()
+        if status in REFUSED or not is_told:
+            sys.exit(status)
+        print(f"the front ended ({status}), and is started again; the nodes go on", file=sys.stderr, flush=True)
+        time.sleep(AGAIN_SECONDS)
+
+
+def _known(file: pathlib.Path) -> dict[str, str]:
+    """The tokens of an earlier first look in this folder."""
+    lines = file.read_text(encoding="ascii").splitlines() if file.exists() else []
+    return {line.split()[0]: line.split()[1] for line in lines}
+
+
+def _started(words: list[object]) -> subprocess.Popen[bytes]:
+    return subprocess.Popen(list(map(str, words)), stdout=subprocess.PIPE)
+
+
+def _line(process: subprocess.Popen[bytes]) -> str:
+    """The next line that a program says."""
+    assert process.stdout is not None
+    return process.stdout.readline().decode()

@@ -26,8 +26,8 @@ CODES = {"billing": "B1", "reversal": "B2"}
 # The fields of the header that the framing looks at, by the fault that says so.
 FRAMED = {"BadBin": "101-A1", "BadCount": "109-A9", "DateNotDigits": "401-D1"}
 # What a transaction of an order has: its field in the claim or pricing segment; True where it is a number or an amount.
-BILLING = {"prescription": int, "fill": int, "product": str, "quantity": int, "cost": int, "fee": int}
-REVERSAL = {"prescription": int, "fill": int}
+BILLING: dict[str, type] = {"prescription": int, "fill": int, "product": str, "quantity": int, "cost": int, "fee": int}
+REVERSAL: dict[str, type] = {"prescription": int, "fill": int}
 MAY_LACK = ("fee",)
 MOST_TRANSACTIONS = 4
 _POSITIVE, _NEGATIVE = "{ABCDEFGHI", "}JKLMNOPQR"
@@ -71,19 +71,29 @@ async def encoded(parts: Any, encoder: Encoder, places: list[str] | None = None)
     line, message = await encoder.ask(json.dumps({"kind": "request", "parts": parts}).encode())
     if message is not None:
         return message
-    where, place, why = REFUSED.fullmatch(line.decode()).groups()
+    refused = REFUSED.fullmatch(line.decode())
+    if refused is None:
+        raise Problem("FieldRefused", line.decode(errors="replace"), field="/parts")
+    where, place, why = refused.groups()
     raise Problem("FieldRefused", why, field=(places[int(place)] if place and places else where or "/parts"))
 
 
 def of_order(given: dict[str, Any], own: tuple[str, str]) -> Parts:
     """The parts of an order; `own` is the pharmacy's qualifier and provider, which stand where none are given."""
     order = given.get("order")
-    if order not in CODES:
+    if not isinstance(order, str) or order not in CODES:
         raise Problem("FieldRefused", "order is billing or reversal", field="/order")
     several = given.get("transactions")
     if not isinstance(several, list) or not 1 <= len(several) <= MOST_TRANSACTIONS:
         raise Problem("FieldRefused", f"there are 1 to {MOST_TRANSACTIONS} transactions", field="/transactions")
-    known = {"order", "transactions", "bin_number", "processor_control_number", "service_provider_id_qualifier", "service_provider_id"}
+    known = {
+        "order",
+        "transactions",
+        "bin_number",
+        "processor_control_number",
+        "service_provider_id_qualifier",
+        "service_provider_id",
+    }
     known |= {"date_of_service", "software_vendor_id"} | ({"cardholder"} if order == "billing" else set())
     _expect_known(given, known, "")
     fixed = {"version": "D0", "transaction_code": CODES[order], "transaction_count": str(len(several))}
@@ -105,7 +115,7 @@ def _put_transaction(made: Parts, order: str, given: Any, where: str) -> None:
     if not isinstance(given, dict):
         raise Problem("FieldRefused", "a transaction is an object", field=where)
     _expect_known(given, set(wanted), where)
-    has = {}
+    has: dict[str, Any] = {}
     for name, kind in wanted.items():
         if name in MAY_LACK and name not in given:
             continue
@@ -131,7 +141,9 @@ def _put_transaction(made: Parts, order: str, given: Any, where: str) -> None:
 def _expect_known(given: dict[str, Any], known: set[str], where: str) -> None:
     for name in given:
         if name not in known:
-            raise Problem("FieldRefused", f"there is no such field; there are {', '.join(sorted(known))}", field=f"{where}/{name}")
+            raise Problem(
+                "FieldRefused", f"there is no such field; there are {', '.join(sorted(known))}", field=f"{where}/{name}"
+            )
 
 
 def _text(value: Any, where: str) -> str:
@@ -162,5 +174,7 @@ async def checked(message: bytes, decoder: Decoder, given: dict[str, Any] | None
         for place, one in enumerate(given["transactions"]):
             for name, value in one.items():
                 if place >= len(orders) or orders[place].get(name) != value:
-                    raise Problem("FieldRefused", "it does not read as it was given", field=f"/transactions/{place}/{name}")
+                    raise Problem(
+                        "FieldRefused", "it does not read as it was given", field=f"/transactions/{place}/{name}"
+                    )
     return message

@@ -1,27 +1,28 @@
 """Claims over TCP as pharmacy systems speak: a framed message in, its framed answer out on the same connection, many at a time.
 
 A frame is a message between the bytes 0x02 and 0x03, or behind its length in two or four bytes, the high byte first. Answers come in the
-order in which they are there, each once; a caller that has one message on its way at a time need not look further. What is no answer of a
-payer is said in a frame that no answer can be, since each begins with D0 and a code: `VOGRILAS OPEN ph1 7 ..`: the time limit is over, and
-the entry goes on; `VOGRILAS REFUSED Name ..`: nothing was entered; `VOGRILAS UNKNOWN Name ..`: nobody knows yet, so send it again.
+order in which they are there, each once; a caller that has one message on its way at a time need not look further. Each frame gets an answer
+of the standard, from a payer, or from the front itself: a rejection (rejections.py). No other word is written here.
 
-A message whose very bytes stand in an entry that is still open, or whose answer was told to nobody, is that entry sent again.
+A message whose very bytes stand in an entry whose answer was told to nobody is that entry sent again. A caller that closes its side has gone.
 """
 
 from __future__ import annotations
 
 import asyncio
 import contextlib
-import hashlib
-import secrets
 import ssl
 from collections.abc import Callable
 
-from .claims import guard
+from .connections import Connections, Listener, listen_for_streams
+from .counter import Counter
+from .eligibility import Eligibility, is_asked
 from .helpers import Ended
-from .pharmacy import MOST_BYTES, Pharmacy
-from .problems import Problem
-from .receipts import Receipts
+from .pharmacy import MOST_BYTES
+from .problems import Problem, problem_of
+from .rejections import rejected
+from .standard import REQUEST_HEADER
+from .stores import Stores
 
 FRAMINGS = ("stx", "length2", "length4")
 START, END = b"\x02", b"\x03"
@@ -32,8 +33,6 @@ SILENT_SECONDS = 600.0
 FRAME_SECONDS = 30.0
 # Frames beyond that have to be read by the caller before more of its messages are taken.
 MOST_UNREAD_BYTES = 1 << 20
-# What is known not to be entered; at all else nobody knows.
-UNKNOWN = ("NoReply", "Fault")
 
 
 class BadFrame(Exception):
@@ -63,82 +62,111 @@ def framed(message: bytes, framing: str) -> bytes:
     return len(message).to_bytes(2 if framing == "length2" else 4) + message
 
 
+class Caller:
+    """Who is at the other end of a connection, for as long as it is there."""
+
+    def __init__(self, writer: asyncio.StreamWriter, framing: str) -> None:
+        self._writer, self._framing = writer, framing
+        self._has_left = False
+
+    def leave(self) -> None:
+        self._has_left = True
+
+    def is_there(self) -> bool:
+        return not self._has_left and not self._writer.is_closing()
+
+    def write(self, answer: bytes) -> None:
+        if self.is_there():
+            self._writer.write(framed(answer, self._framing))
+
+
 class Framed:
-    """A port of one pharmacy."""
+    """A port of one or several pharmacies."""
 
-    def __init__(self, pharmacy: Pharmacy, framing: str, seconds: float, is_lenient: bool, say: Callable[..., None]) -> None:
-        self._pharmacy, self._framing, self._seconds, self._is_lenient, self._say = pharmacy, framing, seconds, is_lenient, say
-        # The key of each message whose answer nobody has been given yet, by its digest.
-        self._keys: dict[bytes, str] = {}
+    def __init__(
+        self,
+        counters: dict[str, Counter],
+        stores: Stores,
+        eligibility: Eligibility,
+        framing: str,
+        seconds: float,
+    ) -> None:
+        self._counters, self._stores, self._eligibility = counters, stores, eligibility
+        self._framing, self._seconds = framing, seconds
         self._connections: set[asyncio.Task[None]] = set()
-        self._server: asyncio.Server | None = None
+        # Messages whose answers are on their way, also of callers that have gone: what becomes of them is noted.
+        self._works: set[asyncio.Task[None]] = set()
+        self._server: Listener | None = None
 
-    async def start(self, host: str, port: int, tls: ssl.SSLContext | None, receipts: Receipts) -> None:
-        text = "SELECT digest, key FROM claims WHERE pharmacy = ? AND answer IS NULL AND key LIKE 'tcp-%'"
-        self._keys = {row["digest"]: row["key"] for row in await receipts.rows(text, self._pharmacy.name)}
-        self._server = await asyncio.start_server(self._serve, host, port, ssl=tls, limit=MOST_BYTES + 2)
+    async def start(self, at: tuple[str, int], tls: ssl.SSLContext | None, connections: Connections) -> None:
+        self._seldom = connections.seldom
+        self._server = listen_for_streams(connections, self._serve, at, tls, MOST_BYTES + 2)
 
     async def close(self) -> None:
-        self._server.close()
-        for connection in self._connections:
-            connection.cancel()
-        await asyncio.gather(*self._connections, return_exceptions=True)
+        if self._server is not None:
+            self._server.close()
+        for task in (*self._connections, *self._works):
+            task.cancel()
+        await asyncio.gather(*self._connections, *self._works, return_exceptions=True)
 
     async def _serve(self, reader: asyncio.StreamReader, writer: asyncio.StreamWriter) -> None:
         task = asyncio.current_task()
+        assert task is not None
         self._connections.add(task)
+        caller = Caller(writer, self._framing)
         works: set[asyncio.Task[None]] = set()
         try:
-            await self._read(reader, writer, works)
-            # The caller may have closed its half, and wait for what is on its way.
+            await self._read(reader, writer, caller, works)
+        except (BadFrame, asyncio.LimitOverrunError):
+            # What came before is answered; behind this nothing can be told apart.
+            caller.write(rejected(b"", "Frame"))
             await asyncio.gather(*works)
-        except (BadFrame, asyncio.LimitOverrunError, asyncio.IncompleteReadError) as fault:
-            self._write(
-                writer, f"VOGRILAS REFUSED Frame {fault}" if isinstance(fault, BadFrame) else "VOGRILAS REFUSED Frame it is no whole frame"
-            )
+        except asyncio.IncompleteReadError:
+            caller.write(rejected(b"", "Frame"))
         except (OSError, TimeoutError):
             pass
         finally:
             self._connections.discard(task)
-            for work in works:
-                work.cancel()
+            caller.leave()
             with contextlib.suppress(OSError):
                 writer.close()
 
-    async def _read(self, reader: asyncio.StreamReader, writer: asyncio.StreamWriter, works: set[asyncio.Task[None]]) -> None:
+    async def _read(
+        self,
+        reader: asyncio.StreamReader,
+        writer: asyncio.StreamWriter,
+        caller: Caller,
+        works: set[asyncio.Task[None]],
+    ) -> None:
         while (message := await read_frame(reader, self._framing)) is not None:
             if len(works) >= MOST_AT_ONCE:
                 await asyncio.wait(works, return_when=asyncio.FIRST_COMPLETED)
             if writer.transport.get_write_buffer_size() > MOST_UNREAD_BYTES:
                 await writer.drain()
-            work = asyncio.create_task(self._answer(message, writer))
-            works.add(work)
-            work.add_done_callback(works.discard)
+            work = asyncio.create_task(self._answer(message, caller))
+            for some in (works, self._works):
+                some.add(work)
+                work.add_done_callback(some.discard)
 
-    async def _answer(self, message: bytes, writer: asyncio.StreamWriter) -> None:
+    async def _answer(self, message: bytes, caller: Caller) -> None:
         """Has a message answered."""
-        digest = hashlib.sha256(message).digest()
         try:
-            guard(message, self._is_lenient)
-            key = self._keys.setdefault(digest, f"tcp-{secrets.token_urlsafe(16)}")
-            number = (await self._pharmacy.submit(key, message)).number
-            answer = await self._pharmacy.wait(number, self._seconds)
-        except (Problem, Ended) as fault:
-            problem = fault if isinstance(fault, Problem) else Problem("NoReply")
-            if problem.name not in UNKNOWN:
-                self._keys.pop(digest, None)
-            word = "UNKNOWN" if problem.name in UNKNOWN else "REFUSED"
-            self._write(writer, f"VOGRILAS {word} {problem.name} {problem.detail or problem.title}")
+            caller.write(await self._answer_to(message, caller))
+        except Ended:
+            # What was noted last nobody knows, so nothing is said; the front ends.
             return
-        if answer is None:
-            self._write(
-                writer, f"VOGRILAS OPEN {self._pharmacy.name} {number} still open after {self._seconds:g} s; the answer is asked for on"
-            )
-            return
-        if not writer.is_closing():
-            writer.write(framed(answer, self._framing))
-            self._keys.pop(digest, None)
+        except Exception as fault:  # noqa: BLE001: a frame for a frame, whatever it is
+            caller.write(rejected(message, problem_of(fault, self._seldom).name))
 
-    def _write(self, writer: asyncio.StreamWriter, text: str) -> None:
-        if not writer.is_closing():
-            writer.write(framed(text.encode("ascii", "replace"), self._framing))
+    async def _answer_to(self, message: bytes, caller: Caller) -> bytes:
+        if is_asked(message):
+            return await self._eligibility.answer(message, self._seconds)
+        name = self._stores.of(message, self._counters)
+        if name is None:
+            return rejected(message, "NotOwnProvider" if len(message) >= REQUEST_HEADER else "Unreadable")
+        counter, entered = self._counters[name], self._stores.entered(name, message)
+        try:
+            told = (await counter.answer(entered, None, self._seconds, caller.is_there)).answer
+        except Problem as problem:
+            told = counter.refused(entered, problem)
+        return self._stores.answered(message, told)

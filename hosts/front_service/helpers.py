@@ -14,23 +14,31 @@ import marshal
 import pathlib
 import signal
 import socket
-import sqlite3
 import subprocess
 import sys
 from collections.abc import Callable
 from typing import Any
 
+from said import Said
+
+from .lines import Seldom, take_over
+
 HEAD = 4
 READ_BYTES = 1 << 18
 READY_SECONDS = 60.0
 END_SECONDS = 20.0
+REAP_SECONDS = 0.2
 
 
 class Ended(OSError):
     """A process of the front's own has ended, and with it what it was asked: nobody knows whether it was done."""
 
-    def __init__(self) -> None:
-        super().__init__("a process of the front has ended")
+    def __init__(self, script: str, status: int | None) -> None:
+        super().__init__(f"a process of the front has ended: {script}, status {status}")
+
+
+class Failed(OSError):
+    """A process of the front's own could not do what it was asked, and did nothing: its disk is full, or fails. Why it says itself."""
 
 
 def framed(some: list[Any]) -> bytes:
@@ -52,13 +60,15 @@ def unframed(data: bytearray) -> list[Any]:
 
 
 class Helper:
-    """A process of a script of this folder, with these words; it is started here, and ready when this returns."""
+    """A process of a script of this folder, with these words; it is started here. Where others want what it makes as it starts, it is ready when
+    this returns."""
 
-    def __init__(self, script: str, *words: str) -> None:
+    def __init__(self, script: str, *words: str, is_awaited: bool = False) -> None:
+        self._script = script
         self._loop = asyncio.get_running_loop()
         self._socket, theirs = socket.socketpair()
         command = [sys.executable, "-B", str(pathlib.Path(__file__).with_name(script)), *words]
-        self._process = subprocess.Popen(command, stdin=theirs, stdout=theirs)
+        self._process = subprocess.Popen(command, stdin=theirs.fileno(), stdout=theirs.fileno())
         theirs.close()
         self._numbers = itertools.count(1)
         self._waiting: dict[int, asyncio.Future[Any]] = {}
@@ -66,9 +76,10 @@ class Helper:
         self._unsent: collections.deque[memoryview] = collections.deque()
         self._came = bytearray()
         self.ended: asyncio.Future[None] = self._loop.create_future()
-        self._socket.settimeout(READY_SECONDS)
-        if not self._socket.recv(HEAD + len(marshal.dumps([]))):
-            raise OSError(f"{script} did not start")
+        if is_awaited:
+            self._socket.settimeout(READY_SECONDS)
+            if not self._socket.recv(HEAD + len(marshal.dumps([]))):
+                raise OSError(f"{script} did not start")
         self._socket.setblocking(False)
         self._loop.add_reader(self._socket, self._hear)
 
@@ -76,7 +87,7 @@ class Helper:
         """What comes of a question, in the end."""
         done: asyncio.Future[Any] = self._loop.create_future()
         if self.ended.done():
-            done.set_exception(Ended())
+            done.set_exception(Ended(self._script, self._process.returncode))
             return done
         number = next(self._numbers)
         self._waiting[number] = done
@@ -135,30 +146,50 @@ class Helper:
             if is_well:
                 done.set_result(value)
             else:
-                done.set_exception(sqlite3.OperationalError(value))
+                done.set_exception(Failed(value))
 
     def _end(self) -> None:
         """Nothing more is asked; whoever waits hears that nobody knows."""
         if self.ended.done():
             return
         self.ended.set_result(None)
+        with contextlib.suppress(subprocess.TimeoutExpired):
+            self._process.wait(REAP_SECONDS)
         self._loop.remove_reader(self._socket)
         self._loop.remove_writer(self._socket)
         self._socket.close()
         for done in self._waiting.values():
             if not done.done():
-                done.set_exception(Ended())
+                done.set_exception(Ended(self._script, self._process.returncode))
         self._waiting.clear()
+
+
+class Renewed:
+    """A process that changes nothing, and is started again where it has ended: nothing is lost with it."""
+
+    def __init__(self, script: str, *words: str) -> None:
+        self._script, self._words = script, words
+        self._helper = Helper(script, *words)
+
+    def ask(self, name: str, *values: Any) -> asyncio.Future[Any]:
+        if self._helper.ended.done():
+            self._helper.kill()
+            self._helper = Helper(self._script, *self._words)
+        return self._helper.ask(name, *values)
+
+    def kill(self) -> None:
+        self._helper.kill()
 
 
 def serve(make: Callable[[list[tuple[int, str, tuple[Any, ...]]]], list[tuple[int, bool, Any]]], most: int) -> None:
     """The other end: makes what is asked, so much at once at most, until nobody can ask any more. It ends with the front, and not before."""
     for number in (signal.SIGINT, signal.SIGTERM):
         signal.signal(number, signal.SIG_IGN)
+    take_over(Seldom(Said("front")))
     end = socket.socket(fileno=0)
-    end.sendall(framed([]))
     came = bytearray()
     with contextlib.suppress(ConnectionError):
+        end.sendall(framed([]))
         # What came while the last was made is made together.
         while data := end.recv(READ_BYTES):
             came += data

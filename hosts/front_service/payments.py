@@ -41,9 +41,13 @@ class Payments:
             table.writerows(rows)
             headers = {"Content-Disposition": 'attachment; filename="payments.csv"', "Cache-Control": "no-store"}
             return web.Response(text=written.getvalue(), content_type="text/csv", headers=headers)
-        rows = await self._rulings.payments(which, page, size + 1) if page == 1 else await self._later(which, page, size)
+        rows = (
+            await self._rulings.payments(which, page, size + 1) if page == 1 else await self._later(which, page, size)
+        )
         totals = (await self._rulings.totals(which, ""))[0]
-        return web.json_response({"page": page, "size": size, "more": len(rows) > size, "totals": totals, "payments": rows[:size]})
+        return web.json_response(
+            {"page": page, "size": size, "more": len(rows) > size, "totals": totals, "payments": rows[:size]}
+        )
 
     async def _later(self, which: Filter, page: int, size: int) -> list[dict[str, object]]:
         """A later page, and one more row where there is one."""

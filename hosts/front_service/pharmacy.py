@@ -1,4 +1,4 @@
-"""A pharmacy's node as the front sees it: a message goes in once for each key, and answers come as soon as the node has them."""
+"""A pharmacy's node as the front sees it: what it is told, and answers as soon as the node has them."""
 
 from __future__ import annotations
 
@@ -6,29 +6,29 @@ import asyncio
 import contextlib
 import hashlib
 import re
-from collections.abc import AsyncIterator, Callable
+from collections.abc import Callable
 
 import nats
 import subjects
 
 from .printed import printed, unprinted
 from .problems import Problem
-from .receipts import Receipt, Receipts, digest_of
+from .receipts import Receipts
 
-REPLY_SECONDS = 10.0
+# How long a node may take to reply; to a message, which is submitted again then, under the same reference.
+REPLY_SECONDS = 5.0
+SUBMIT_SECONDS = 2.0
 # A host that waits on a caller's behalf may have ended meanwhile, and knows nothing of it then: it is asked again so often.
 ASK_AGAIN_SECONDS = 3.0
-# A host that waits for nobody, as that in C, is asked so often, and one that is down or full.
+# A host that waits for nobody is asked so often, and one that is down or full.
 POLL_SECONDS = 0.02
 BUSY_SECONDS = 0.2
 # How often it is looked at what came by other ways and what nobody waits for, and how much at once.
 LOOK_SECONDS = 2.0
 LOOK_AT_ONCE = 64
 MOST_BYTES = 32_768
-# A key that is a reference as it stands: printed bytes that spell themselves.
-REFERENCE = re.compile(r"[!-\[\]-~]{1,64}")
-# What a host refuses before its node looks for the reference: an earlier try may have entered the message all the same.
-OF_HOSTS = ("Busy", "WouldBeFull")
+# A key that is a reference as it stands: printed bytes that spell themselves, and no digest, which is another key's reference.
+REFERENCE = re.compile(r"(?![0-9a-f]{64}$)[!-\[\]-~]{1,64}")
 
 
 def reference_of(key: str) -> bytes:
@@ -52,7 +52,6 @@ class Pharmacy:
     def __init__(self, name: str, carrier: nats.Connection, receipts: Receipts, say: Callable[..., None]) -> None:
         self.name = name
         self._carrier, self._receipts, self._say = carrier, receipts, say
-        self._keys: dict[str, tuple[asyncio.Lock, list[int]]] = {}
         self._waits: dict[int, Wait] = {}
         self._host_waits = True
         self._writes: set[asyncio.Future[None]] = set()
@@ -64,22 +63,19 @@ class Pharmacy:
     def is_connected(self) -> bool:
         return self._carrier.is_open.is_set()
 
-    async def submit(self, key: str, message: bytes) -> Receipt:
-        """The receipt of a message under a key: the one that is there, or that of a new entry. Problem where nothing was entered, or where
-        that is not known yet."""
-        if len(message) > MOST_BYTES:
-            raise Problem("TooLong")
-        async with self._one_at_a_time(key):
-            is_new, kept = await self._receipts.reserve(self.name, key, message)
-            if kept.digest != digest_of(message):
-                raise Problem("KeyReused")
-            if kept.number is not None:
-                return kept
-            number = await self._enter(key, message, is_new)
-            # The answer may be on its way while the number is noted, which takes a sync.
-            self._begin(number)
-            await self._receipts.number(self.name, key, number)
-            return kept._replace(number=number)
+    async def submit_as(self, key: str, message: bytes) -> tuple[int | None, str]:
+        """The number of the entry of a message: that of an earlier try under this key, where there was one, else of a new one; or no number,
+        and the name of the refusal. Problem where the node says nothing: it may have entered the message all the same.
+        """
+        reply = await self._ask(b"submit-as %s %s" % (reference_of(key), printed(message)), SUBMIT_SECONDS)
+        word, _, told = reply.partition(b" ")
+        if word in (b"number", b"known"):
+            return int(told), ""
+        return None, told.decode(errors="replace")
+
+    def expect(self, number: int) -> None:
+        """Has the answer to an entry noted as soon as it is there, though nobody waits for it."""
+        self._begin(number)
 
     async def wait(self, number: int, seconds: float) -> bytes | None:
         """The answer to an entry, or None where it has none within so many seconds."""
@@ -87,14 +83,12 @@ class Pharmacy:
         caller: asyncio.Future[bytes | None] = loop.create_future()
         waiting = self._begin(number)
         waiting.callers.add(caller)
-        late = loop.call_later(seconds, _give_up, caller)
+        late = loop.call_later(max(0.0, seconds), _give_up, caller)
         try:
             return await caller
         finally:
             late.cancel()
             waiting.callers.discard(caller)
-            if not waiting.callers:
-                self._end(number, waiting)
 
     async def look_for_ever(self) -> None:
         """Learns what is known of entries that nobody waits for, and of those that came by another way than the front."""
@@ -108,12 +102,15 @@ class Pharmacy:
             await asyncio.sleep(LOOK_SECONDS)
 
     async def _look_beyond(self) -> None:
-        """Notes entries that came by another way, also those below numbers that the front has: a node numbers without gaps."""
+        """Notes entries that came by another way, also those below numbers that the front has: a node numbers without gaps. Of those behind
+        the last known one a single one is asked for, where there is none."""
         text = "SELECT number FROM claims WHERE pharmacy = ? AND number > ? AND number <= ?"
+        at_once = 1
         while self.is_connected:
-            upto = self._looked + LOOK_AT_ONCE
+            upto = self._looked + at_once
             known = {row[0] for row in await self._receipts.rows(text, self.name, self._looked, upto)}
-            asked = [it for it in range(self._looked + 1, upto + 1) if it not in known]
+            last = max(known, default=self._looked)
+            asked = [it for it in range(self._looked + 1, min(upto, last + at_once) + 1) if it not in known]
             replies = await asyncio.gather(*(self._ask(b"answer %d" % it, REPLY_SECONDS) for it in asked))
             absent = []
             for number, reply in zip(asked, replies):
@@ -121,14 +118,15 @@ class Pharmacy:
                     await self._note(number, reply)
                 else:
                     absent.append(number)
-            self._looked = absent[0] - 1 if absent else upto
+            self._looked = absent[0] - 1 if absent else max(asked[-1] if asked else last, last)
             if absent:
                 return
+            at_once = min(2 * at_once, LOOK_AT_ONCE)
 
     async def _look_at_open(self, after: int) -> int:
         """Asks about some open entries behind a number; the number behind which others stand."""
         text = "SELECT number FROM claims WHERE pharmacy = ? AND answer IS NULL AND number > ? ORDER BY number LIMIT ?"
-        numbers = [row[0] for row in await self._receipts.rows(text, self.name, after, LOOK_AT_ONCE)]
+        numbers: list[int] = [row[0] for row in await self._receipts.rows(text, self.name, after, LOOK_AT_ONCE)]
         if self.is_connected:
             replies = await asyncio.gather(*(self._ask(b"answer %d" % it, REPLY_SECONDS) for it in numbers))
             for number, reply in zip(numbers, replies):
@@ -145,32 +143,10 @@ class Pharmacy:
     async def _note(self, number: int, reply: bytes) -> None:
         await self._receipts.seen(self.name, number, unprinted(reply[7:]) if reply.startswith(b"answer ") else None)
         if reply.startswith(b"answer "):
+            waiting = self._waits.get(number)
+            if waiting is not None:
+                self._answered(number, waiting, unprinted(reply[7:]))
             self._tell(number)
-
-    @contextlib.asynccontextmanager
-    async def _one_at_a_time(self, key: str) -> AsyncIterator[None]:
-        """Has requests of one key wait for one another."""
-        lock, users = self._keys.setdefault(key, (asyncio.Lock(), [0]))
-        users[0] += 1
-        try:
-            async with lock:
-                yield
-        finally:
-            users[0] -= 1
-            if not users[0]:
-                del self._keys[key]
-
-    async def _enter(self, key: str, message: bytes, is_new: bool) -> int:
-        """The number of the entry of a message: that of an earlier try under this key, where there was one, else a new one."""
-        reply = await self._ask(b"submit-as %s %s" % (reference_of(key), printed(message)), REPLY_SECONDS)
-        word, _, told = reply.partition(b" ")
-        if word in (b"number", b"known"):
-            return int(told)
-        name = told.decode(errors="replace")
-        if not is_new and name in OF_HOSTS:
-            raise Problem("NoReply")
-        await self._receipts.forget(self.name, key)
-        raise Problem("KeyReused" if name == "ReferenceReused" else name)
 
     async def _ask(self, line: bytes, seconds: float) -> bytes:
         """The node's reply; Problem where none comes: what was asked may have been done all the same."""
@@ -184,15 +160,16 @@ class Pharmacy:
         waiting = self._waits.get(number)
         if waiting is None:
             waiting = self._waits[number] = Wait()
+        if waiting.again is None:
             self._ask_for(number, waiting)
         return waiting
 
     def _ask_again(self, number: int, waiting: Wait) -> None:
-        """Asks once more, where somebody waits: the host may have been started anew, and knows nothing of it then."""
+        """Asks once more, where somebody waits: the host may have been started anew, and knows nothing of it then. Where nobody waits any
+        more its reply is heard all the same, and of what a host has forgotten it is looked (look_for_ever)."""
+        waiting.again = None
         if waiting.callers:
             self._ask_for(number, waiting)
-        else:
-            self._end(number, waiting)
 
     def _ask_for(self, number: int, waiting: Wait) -> None:
         self._carrier.forget(waiting.reply)
@@ -211,11 +188,8 @@ class Pharmacy:
         """What the host says of an entry that callers wait for."""
         if reply.startswith(b"answer "):
             answer = unprinted(reply[7:])
+            self._answered(number, waiting, answer)
             self._settle(number, answer)
-            for caller in waiting.callers:
-                if not caller.done():
-                    caller.set_result(answer)
-            self._end(number, waiting)
             return
         if reply == b"none":
             for caller in waiting.callers:
@@ -228,8 +202,15 @@ class Pharmacy:
         self._later(waiting.poll if reply == b"open" else BUSY_SECONDS, number, waiting)
         waiting.poll = min(waiting.poll * 1.2, BUSY_SECONDS)
 
+    def _answered(self, number: int, waiting: Wait, answer: bytes) -> None:
+        """Hands an answer to all who wait for it."""
+        for caller in waiting.callers:
+            if not caller.done():
+                caller.set_result(answer)
+        self._end(number, waiting)
+
     def _end(self, number: int, waiting: Wait) -> None:
-        """Nobody waits for an entry any more, or it has its answer."""
+        """An entry has its answer, or there is no such entry."""
         self._carrier.forget(waiting.reply)
         if waiting.again is not None:
             waiting.again.cancel()

@@ -9,8 +9,11 @@ import json
 import os
 import pathlib
 import shutil
+import signal
 import subprocess
 import sys
+import tempfile
+from collections.abc import AsyncIterator
 from typing import Any
 
 from .printed import printed, unprinted
@@ -18,8 +21,14 @@ from .problems import Problem
 
 TOP = pathlib.Path(__file__).resolve().parent.parent.parent
 # In the repository, and where the packages lay them out.
-EXAMPLES = next((it for it in (TOP / "examples", TOP.parent / "doc" / "vogrilas" / "examples") if it.is_dir()), TOP / "examples")
+EXAMPLES = next(
+    (it for it in (TOP / "examples", TOP.parent / "doc" / "vogrilas" / "examples") if it.is_dir()), TOP / "examples"
+)
 MOST_LINE_BYTES = 16 << 20
+READ_BYTES = 1 << 16
+MOST_WRITTEN_BYTES = 256 << 20
+# Claims go before what people ask for.
+NICER = ("nice", "-n", "5")
 # How long a program may take that is asked by a person.
 SECONDS = 60.0
 
@@ -30,7 +39,7 @@ def words_of(name: str) -> list[str]:
     script = pathlib.Path(folder or TOP, name)
     found = str(script) if script.exists() else shutil.which(name)
     if not found:
-        raise Problem("NoAudit", f"there is no program {name}")
+        raise Problem("NoProgram", f"there is no program {name}")
     return [found]
 
 
@@ -45,18 +54,65 @@ def prepare(*names: str) -> None:
             sys.exit(f"front: {problem.detail}")
 
 
+class Pool:
+    """Programs that people ask for: so many at once, and so many who wait for their turn. Whoever comes beyond that is told so."""
+
+    def __init__(self, at_once: int, waiting: int) -> None:
+        self._free, self._waiting, self._most = asyncio.Semaphore(at_once), 0, waiting
+
+    @contextlib.asynccontextmanager
+    async def turn(self) -> AsyncIterator[None]:
+        """Waits for a turn, and has it."""
+        if self._waiting >= self._most:
+            raise Problem("FrontBusy")
+        self._waiting += 1
+        try:
+            await self._free.acquire()
+        finally:
+            self._waiting -= 1
+        try:
+            yield
+        finally:
+            self._free.release()
+
+
 async def run(name: str, *words: str, given: bytes = b"") -> tuple[int, bytes, bytes]:
-    """The status of a program, what it wrote, and what it said."""
-    pipe = asyncio.subprocess.PIPE
-    process = await asyncio.create_subprocess_exec(*words_of(name), *words, stdin=pipe, stdout=pipe, stderr=pipe)
+    """The status of a program, what it wrote, and what it said. What it is given is a file: it need not read it, and may end before it has."""
+    pipe, command = asyncio.subprocess.PIPE, [*NICER, *words_of(name), *words]
+    with tempfile.TemporaryFile() as file:
+        await asyncio.to_thread(file.write, given)
+        file.seek(0)
+        process = await asyncio.create_subprocess_exec(
+            *command, stdin=file, stdout=pipe, stderr=pipe, start_new_session=True
+        )
     try:
-        written, said = await asyncio.wait_for(process.communicate(given), SECONDS)
+        async with asyncio.timeout(SECONDS):
+            written, said = await asyncio.gather(_all_of(process.stdout), _all_of(process.stderr))
+            return await process.wait(), written, said
     except TimeoutError:
-        raise Problem("NoReply", f"{name} took longer than {SECONDS:.0f} s") from None
+        raise Problem("NoProgram", f"{name} took longer than {SECONDS:.0f} s") from None
     finally:
         if process.returncode is None:
-            process.kill()
-    return process.returncode, written, said
+            # With whatever it has started, which may have its output open.
+            with contextlib.suppress(ProcessLookupError):
+                os.killpg(process.pid, signal.SIGKILL)
+            await process.wait()
+
+
+async def _all_of(stream: asyncio.StreamReader | None) -> bytes:
+    """All that a program writes, to an end that it may not reach."""
+    assert stream is not None
+    parts, size = [], 0
+    while part := await stream.read(READ_BYTES):
+        parts.append(part)
+        size += len(part)
+        if size > MOST_WRITTEN_BYTES:
+            raise Problem("NoProgram", f"a program wrote more than {MOST_WRITTEN_BYTES >> 20} MiB")
+    return b"".join(parts)
+
+
+class Gone(Exception):
+    """The program that was asked has ended without an answer."""
 
 
 class Standing:
@@ -68,15 +124,27 @@ class Standing:
         self._child: Child | None = None
 
     async def line(self, text: bytes) -> bytes:
-        """What it says of a line."""
+        """What it says of a line. Where it has ended meanwhile it is asked once more: it may have been killed, and not by this line."""
+        for _ in range(2):
+            child = await self._there()
+            try:
+                return await asyncio.wait_for(child.ask(text), SECONDS)
+            except TimeoutError:
+                child.kill()
+                raise Problem("NoProgram", f"claimdecode took longer than {SECONDS:.0f} s") from None
+            except Gone:
+                continue
+        raise Problem("NoProgram", "claimdecode ends without an answer")
+
+    async def _there(self) -> Child:
+        """The program, which is started where it is not there."""
         async with self._starting:
             if self._child is None or not self._child.is_alive:
                 pipe = asyncio.subprocess.PIPE
                 words = [*words_of("claimdecode"), *self._words]
                 process = await asyncio.create_subprocess_exec(*words, stdin=pipe, stdout=pipe, limit=MOST_LINE_BYTES)
                 self._child = Child(process)
-            told = self._child.ask(text)
-        return await asyncio.wait_for(told, SECONDS)
+            return self._child
 
     async def close(self) -> None:
         if self._child is not None:
@@ -110,7 +178,8 @@ class Decoder(Standing):
             text = b"\\x23" + text[1:]
         if not text:
             return {"kind": self._kind, "bytes": 0, "parts": [], "findings": []}
-        return json.loads(await self.line(text))
+        told: dict[str, Any] = json.loads(await self.line(text))
+        return told
 
 
 class Child:
@@ -126,23 +195,36 @@ class Child:
         return self._process.returncode is None and not self._hearing.done()
 
     def ask(self, line: bytes) -> asyncio.Future[bytes]:
-        told = asyncio.get_running_loop().create_future()
+        """What it says of a line, in the end; Gone where it ends before."""
+        told: asyncio.Future[bytes] = asyncio.get_running_loop().create_future()
+        assert self._process.stdin is not None
+        try:
+            self._process.stdin.write(line + b"\n")
+        except (OSError, RuntimeError):
+            told.set_exception(Gone())
+            return told
         self._waiting.append(told)
-        self._process.stdin.write(line + b"\n")
         return told
 
-    async def close(self) -> None:
+    def kill(self) -> None:
         with contextlib.suppress(ProcessLookupError):
             self._process.kill()
+
+    async def close(self) -> None:
+        self.kill()
         await self._process.wait()
         await self._hearing
 
     async def _hear(self) -> None:
-        while line := await self._process.stdout.readline():
-            told = self._waiting.popleft()
-            if not told.done():
-                told.set_result(line)
+        assert self._process.stdout is not None
+        # A line that is longer than any is none of this program.
+        with contextlib.suppress(ValueError, OSError):
+            while line := await self._process.stdout.readline():
+                told = self._waiting.popleft()
+                if not told.done():
+                    told.set_result(line)
+        self.kill()
         while self._waiting:
             told = self._waiting.popleft()
             if not told.done():
-                told.set_exception(Problem("Fault", "claimdecode ended"))
+                told.set_exception(Gone())

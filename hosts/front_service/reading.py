@@ -34,7 +34,7 @@ class Reader:
 
     def make(self, asked: list[tuple[int, str, tuple[Any, ...]]]) -> list[tuple[int, bool, Any]]:
         """Of each question the ids of answers that nobody has read yet, and the rows of their rulings."""
-        told = []
+        told: list[tuple[int, bool, Any]] = []
         for which, _, _ in asked:
             try:
                 told.append((which, True, self._unread()))
@@ -48,7 +48,9 @@ class Reader:
         if not rows:
             return [], []
         lines = b"".join(b"%s\n" % row["answer"].hex().encode() for row in rows if row["answer"])
-        ran = subprocess.run([self._program, "--json", "--hex", "answer"], input=lines, capture_output=True, timeout=SECONDS, check=True)
+        ran = subprocess.run(
+            [self._program, "--json", "--hex", "answer"], input=lines, capture_output=True, timeout=SECONDS, check=True
+        )
         told = iter(ran.stdout.splitlines())
         found = [it for row in rows if row["answer"] for it in rulings_of(row, json.loads(next(told)))]
         return [row["id"] for row in rows], found
@@ -57,7 +59,7 @@ class Reader:
 def rulings_of(row: sqlite3.Row, told: dict[str, Any]) -> list[tuple[Any, ...]]:
     """The rows of an answer's rulings."""
     parts = {part["name"]: part["value"] for part in reversed(told["parts"]) if "value" in part}
-    found = []
+    found: list[tuple[Any, ...]] = []
     for one in told["findings"]:
         if one["finding"] == "ruling":
             authorization = one.get("authorization")

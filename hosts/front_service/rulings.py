@@ -5,7 +5,7 @@ from __future__ import annotations
 import asyncio
 from typing import Any
 
-from .helpers import Helper
+from .helpers import Renewed
 from .programs import words_of
 from .receipts import Receipts
 
@@ -33,7 +33,9 @@ NAMES = (
 class Filter:
     """Which payments are meant."""
 
-    def __init__(self, pharmacies: list[str], first: str = "", last: str = "", payer: int | None = None, state: str = "") -> None:
+    def __init__(
+        self, pharmacies: list[str], first: str = "", last: str = "", payer: int | None = None, state: str = ""
+    ) -> None:
         self._values: list[object] = [*pharmacies]
         conditions = ["1"]
         for condition, value in (("r.day >= ?", first), ("r.day <= ?", last), ("r.payer = ?", payer)):
@@ -53,7 +55,7 @@ class Rulings:
 
     def __init__(self, receipts: Receipts) -> None:
         self._receipts = receipts
-        self._reader = Helper("reading.py", receipts.name, *words_of("claimdecode"))
+        self._reader = Renewed("reading.py", receipts.name, *words_of("claimdecode"))
         self._reading = asyncio.Lock()
 
     async def read_for_ever(self) -> None:
@@ -76,7 +78,9 @@ class Rulings:
     async def payments(self, which: Filter, page: int, size: int) -> list[dict[str, Any]]:
         """A page of payments, in the order of their entries."""
         await self.catch_up()
-        text, values = which.ask(_COLUMNS, "ORDER BY r.pharmacy, r.number, r.place LIMIT ? OFFSET ?", size, (page - 1) * size)
+        text, values = which.ask(
+            _COLUMNS, "ORDER BY r.pharmacy, r.number, r.place LIMIT ? OFFSET ?", size, (page - 1) * size
+        )
         return [dict(row) for row in await self._receipts.rows(text, *values)]
 
     async def totals(self, which: Filter, by: str) -> list[dict[str, Any]]:
@@ -84,8 +88,6 @@ class Rulings:
         await self.catch_up()
         columns = {"payer": "r.payer AS payer", "pharmacy": "r.pharmacy AS pharmacy", "day": "r.day AS day"}
         sums = "count(*) AS payments, coalesce(sum(CASE WHEN back.number IS NULL THEN r.total ELSE 0 END), 0) AS standing_cents, "
-        sums += (
-            "count(back.number) AS reversed, coalesce(sum(CASE WHEN back.number IS NOT NULL THEN r.total ELSE 0 END), 0) AS reversed_cents"
-        )
+        sums += "count(back.number) AS reversed, coalesce(sum(CASE WHEN back.number IS NOT NULL THEN r.total ELSE 0 END), 0) AS reversed_cents"
         text, values = which.ask(f"{columns[by]}, {sums}" if by else sums, "GROUP BY 1 ORDER BY 1" if by else "")
         return [dict(row) for row in await self._receipts.rows(text, *values)]

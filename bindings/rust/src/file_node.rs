@@ -91,6 +91,12 @@ impl FileNode {
         self.turn(|node| node.take(from, packet))
     }
 
+    /// A packet has come from the node of this name, and the payer's own system has given this answer to the request in it. Of a
+    /// payer whose settings ask.
+    pub fn adjudicate(&mut self, from: &str, packet: &[u8], advice: &[u8]) -> Result<Said, FileError> {
+        self.turn(|node| node.adjudicate(from, packet, advice))
+    }
+
     /// Another price for a product, in ten-thousandths of a dollar a unit, or none. Of a payer.
     pub fn plan(&mut self, product: &[u8], price: Option<u64>) -> Result<Said, FileError> {
         let text = String::from_utf8_lossy(&printed(product)?).replace(' ', "\\x20");

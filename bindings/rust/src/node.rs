@@ -88,6 +88,28 @@ impl Node {
         Error::of(code, 0)
     }
 
+    /// Takes a packet that has come from the node of this name together with an advice, the answer that the payer's own system has
+    /// given to the request in it: the line `adjudicate` with the texts of these bytes. The payer's settings have to ask.
+    ///
+    /// # Errors
+    /// As of `take`.
+    pub fn adjudicate(&mut self, from: &str, packet: &[u8], advice: &[u8]) -> Result<(), Error> {
+        let (packet_at, advice_at) = (packet.as_ptr(), advice.as_ptr());
+        // SAFETY: each pointer leads to as many bytes as are said.
+        let code = unsafe {
+            sys::vogrilas_adjudicate(
+                self.handle.get(),
+                from.as_ptr(),
+                from.len(),
+                packet_at,
+                packet.len(),
+                advice_at,
+                advice.len(),
+            )
+        };
+        Error::of(code, 0)
+    }
+
     /// What is to be appended to the log, and synced: the records that `synced` has not said to be on disk.
     ///
     /// # Errors

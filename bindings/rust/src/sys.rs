@@ -96,6 +96,15 @@ extern "C" {
     pub(crate) fn vogrilas_serve(node: *mut Handle, line: *const u8, line_size: usize) -> u32;
     pub(crate) fn vogrilas_submit(node: *mut Handle, request: *const u8, request_size: usize) -> u32;
     pub(crate) fn vogrilas_take(node: *mut Handle, from: *const u8, from_size: usize, packet: *const u8, packet_size: usize) -> u32;
+    pub(crate) fn vogrilas_adjudicate(
+        node: *mut Handle,
+        from: *const u8,
+        from_size: usize,
+        packet: *const u8,
+        packet_size: usize,
+        advice: *const u8,
+        advice_size: usize,
+    ) -> u32;
     pub(crate) fn vogrilas_records(node: *mut Handle, buffer: *mut u8, room: usize, size: &mut usize) -> u32;
     pub(crate) fn vogrilas_kept(node: *mut Handle, size: usize) -> u32;
     pub(crate) fn vogrilas_written(node: *mut Handle, buffer: *mut u8, room: usize, size: &mut usize) -> u32;

@@ -161,6 +161,9 @@ fn bytes_are_as_lines() {
     assert_eq!(by_bytes.settle(), by_line.serve(b"take sw1 \\x00 \\xff"));
     assert_eq!(by_bytes.log, by_line.log);
     assert_eq!(by_bytes.node.take("sw1 ", b""), Err(Error { code: Code::Name, place: None, log: None }));
+    assert_eq!(by_bytes.node.adjudicate("sw1 ", b"", b""), Err(Error { code: Code::Name, place: None, log: None }));
+    by_bytes.node.adjudicate("sw1", b"\0", b"an advice").unwrap();
+    assert_eq!(by_bytes.settle(), by_line.serve(b"adjudicate sw1 an\\x20advice \\x00"));
 }
 
 #[test]

@@ -1,5 +1,6 @@
 // The console: which view is shown, and who may see it.
 
+import { gone, listen, watch } from "./alive.js";
 import { ask, make, Refused, say, themes, token } from "./parts.js";
 import { network } from "./network.js";
 import { claim, claims } from "./claims.js";
@@ -22,7 +23,13 @@ function enter(why) {
   field.focus();
 }
 
+let shown = 0;
+
+// Shows the view that the address names. What is shown again stays where it is, with what it had, until the new one is there.
 async function show() {
+  const mine = ++shown;
+  const isSame = show.hash === location.hash;
+  show.hash = location.hash;
   leave();
   leave = () => {};
   const [name, ...words] = (location.hash.slice(1) || (who.operator ? "network" : "claims")).split("/").map(decodeURIComponent);
@@ -34,19 +41,23 @@ async function show() {
   }
   main.setAttribute("aria-busy", "true");
   try {
-    const shown = await view({ who, words, query: new URLSearchParams(query ?? ""), show });
-    main.replaceChildren(...shown.elements);
-    leave = shown.leave ?? leave;
+    const made = await view({ who, words, query: new URLSearchParams(query ?? ""), show });
+    if (mine !== shown) { made.leave?.(); return; }
+    main.replaceChildren(...made.elements);
+    leave = made.leave ?? leave;
     document.title = `${main.querySelector("h1")?.textContent ?? "Console"} - Vogrilas`;
-    if (show.isLater) main.focus();
+    if (show.isLater && !isSame) main.focus();
     show.isLater = true;
   } catch (fault) {
     if (!(fault instanceof Refused)) throw fault;
-    if (fault.status === 401) { token.forget(); enter("That token is not known here."); return; }
-    main.replaceChildren(make("h1", {}, "That cannot be shown"), make("p", {}, fault.message));
+    if (mine !== shown) return;
+    if (fault.status === 401) { token.forget(); watch(); enter("That token is not known here."); return; }
+    // What was shown stays, greyed, where the front is away.
+    leave = fault.status ? leave : listen((what) => { if (!what) show(); });
+    if (fault.status || !isSame) main.replaceChildren(make("h1", {}, "That cannot be shown"), make("p", {}, fault.message));
     say(fault.message);
   } finally {
-    main.removeAttribute("aria-busy");
+    if (mine === shown) main.removeAttribute("aria-busy");
   }
 }
 
@@ -55,16 +66,18 @@ async function start() {
   try {
     who = await ask("/who");
   } catch (fault) {
-    token.forget();
+    if (fault.status === 401) token.forget();
     enter(fault.status === 401 ? "That token is not known here." : fault.message);
     return;
   }
+  watch();
   for (const item of views.querySelectorAll("[data-for=operator]")) item.hidden = !who.operator;
   views.hidden = document.getElementById("leave").hidden = false;
   await show();
 }
 
 themes();
-document.getElementById("leave").addEventListener("click", () => { token.forget(); leave(); location.hash = ""; enter("The token is forgotten."); });
+ask.gone = gone;
+document.getElementById("leave").addEventListener("click", () => { token.forget(); watch(); leave(); location.hash = ""; enter("The token is forgotten."); });
 addEventListener("hashchange", () => { if (who && token.get()) show(); });
 start();

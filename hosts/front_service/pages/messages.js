@@ -1,6 +1,20 @@
 // A message, field by field, beside its bytes: the field under the pointer, or with the focus, is marked in both.
 
-import { make } from "./parts.js";
+import { make, money, units } from "./parts.js";
+
+// A finding as people write it: amounts in dollars, quantities in units.
+export function sentence(it) {
+  const several = it.transaction > 1 ? `transaction ${it.transaction}: ` : "";
+  if (it.finding === "order" && it.order === "billing") {
+    const fee = it.fee === undefined || it.fee === null ? "" : `, fee ${money(it.fee)}`;
+    return `${several}fill ${it.fill} of prescription ${it.prescription} for ${it.cardholder}: ${units(it.quantity)} units of product ${it.product}, cost ${money(it.cost)}${fee}`;
+  }
+  if (!it.authorization || it.total === undefined) return it.says;
+  return `${several}${it.ruling} ${money(it.total)} under ${it.authorization}: cost ${money(it.cost)}, fee ${money(it.fee)}, less copay ${money(it.copay)}; prescription ${it.prescription}`;
+}
+
+// What a value means, as people write it.
+const meaning = (text) => (text ?? "").replace(/^(-?)([0-9.,]+) dollars$/, "$1$$$2").replace(/^([0-9]+)\.([0-9]*?)0* units$/, (_, whole, part) => `${whole}${part ? `.${part}` : ""} units`);
 
 function marked(place, one, other) {
   const marks = (is) => () => { for (const it of [one, other]) it.classList.toggle("mark", is); };
@@ -44,7 +58,7 @@ export function message(title, told) {
     const row = "transaction" in part
       ? make("tr", { class: "group", tabindex: "0" }, make("td", {}, part.at), make("td", { colspan: 4 }, `transaction ${part.transaction}`))
       : make("tr", { class: isSegment ? "segment" : null, tabindex: "0" }, make("td", { class: "amount" }, part.at), make("td", {}, part.field ?? ""),
-        make("td", {}, (part.name ?? "").replaceAll("_", " ")), make("td", {}, make("code", {}, part.value)), make("td", {}, make("span", { class: "quiet" }, part.meaning ?? ""), " ", causesHere));
+        make("td", {}, (part.name ?? "").replaceAll("_", " ")), make("td", {}, make("code", {}, part.value)), make("td", {}, make("span", { class: "quiet" }, meaning(part.meaning)), " ", causesHere));
     const span = make("span", { class: isSegment || "transaction" in part ? "segment" : null }, textOf(part, isBehindHeader));
     marked(part.at, row, span);
     rows.push(row);
@@ -54,8 +68,8 @@ export function message(title, told) {
   const kind = (it) => (it.finding === "rejected" || it.finding.startsWith("no") || it.ruling === "rejected" ? "bad" : "good");
   return make("section", { "aria-label": title },
     make("h2", {}, `${title}, ${told.bytes} bytes`),
-    make("ul", { class: "findings" }, told.findings.map((it) => make("li", {}, make("span", { class: `tag ${kind(it)}` }, it.ruling ?? it.finding.replaceAll("_", " ")), " ", it.says))),
+    make("ul", { class: "findings" }, told.findings.map((it) => make("li", {}, make("span", { class: `tag ${kind(it)}` }, it.ruling ?? it.finding.replaceAll("_", " ")), " ", sentence(it)))),
     make("div", { class: "message" },
-      make("div", { class: "scroll", role: "region", tabindex: "0", "aria-label": `${title}: fields` }, make("table", {}, make("caption", {}, "Field by field"), make("thead", {}, head), make("tbody", {}, rows))),
+      make("div", { class: "scroll", role: "region", tabindex: "0", "aria-label": `${title}: fields` }, make("table", { class: "parts" }, make("caption", {}, "Field by field"), make("thead", {}, head), make("tbody", {}, rows))),
       make("div", { class: "sheet bytes", role: "group", "aria-label": `${title}: bytes` }, bytes)));
 }

@@ -4,10 +4,13 @@ import { ask, facts, make, Refused, say, table, tag } from "./parts.js";
 
 const SECONDS = 2;
 
+// A switch forgets its oldest entries by design: a full table is as it should be.
+const fills = (node) => !node.node.startsWith("sw");
+
 function stateOf(node) {
   if (!node.up) return tag("bad", "down");
   if (!node.ready) return tag("wait", "not ready");
-  if (node.rows_most && node.rows >= 0.9 * node.rows_most) return tag("wait", "nearly full");
+  if (fills(node) && node.rows_most && node.rows >= 0.9 * node.rows_most) return tag("wait", "nearly full");
   if (node.waiting > 100) return tag("wait", "behind");
   return tag("good", "up");
 }
@@ -32,6 +35,7 @@ export async function network() {
     const oldest = Math.max(0, ...told.nodes.map((it) => it.oldest_seconds ?? 0));
     const rate = told.nodes.reduce((sum, it) => sum + (it.rate ?? 0), 0);
     body.replaceChildren(
+      told.is_settled ? "" : make("p", { class: "note" }, tag("wait", "settings have changed"), " Not everything goes by them yet."),
       told.is_watched ? "" : make("p", {}, "Hosts tell nothing here: start hosts/cluster.py and the front with --watch PORT."),
       facts([
         ["Nodes up", `${up} of ${told.nodes.length}`], ["Open claims", count(open), open ? `the oldest for ${Math.round(oldest)} s` : "all are answered"],
@@ -47,7 +51,7 @@ export async function network() {
   }
 
   await look();
-  timer = setInterval(() => look().catch((fault) => { if (fault instanceof Refused) say(fault.message); else throw fault; }), SECONDS * 1000);
+  timer = setInterval(() => look().catch((fault) => { if (!(fault instanceof Refused)) throw fault; if (fault.status) say(fault.message); }), SECONDS * 1000);
   return {
     elements: [make("h1", {}, "Network"), make("p", { class: "lead" }, `As the hosts of the nodes tell it, each ${SECONDS} seconds.`), body],
     leave: () => clearInterval(timer),

@@ -7,12 +7,18 @@ export function make(name, attributes = {}, ...inner) {
     else if (value === true) element.setAttribute(key, "");
     else if (value !== false && value !== null && value !== undefined) element.setAttribute(key, value);
   }
-  element.append(...inner.flat(3).filter((it) => it !== null && it !== undefined).map((it) => (it instanceof Node ? it : String(it))));
+  element.append(...inner.flat(Infinity).filter((it) => it !== null && it !== undefined).map((it) => (it instanceof Node ? it : String(it))));
   return element;
 }
 
-export const money = (cents) => (cents === null || cents === undefined ? "" : `${cents < 0 ? "-" : ""}${Math.floor(Math.abs(cents) / 100).toLocaleString("en-US")}.${String(Math.abs(cents) % 100).padStart(2, "0")}`);
-export const time = (text) => (text ? text.replace("T", " ").replace("Z", "") : "");
+const isNone = (value) => value === null || value === undefined;
+// Cents as dollars, thousandths as units, days and times as people write them.
+export const money = (cents) => (isNone(cents) ? "" : `${cents < 0 ? "-" : ""}$${Math.floor(Math.abs(cents) / 100).toLocaleString("en-US")}.${String(Math.abs(cents) % 100).padStart(2, "0")}`);
+export const units = (thousandths) => (isNone(thousandths) ? "" : (thousandths / 1000).toLocaleString("en-US", { maximumFractionDigits: 3 }));
+const DAY = new Intl.DateTimeFormat("en-US", { dateStyle: "medium", timeZone: "UTC" });
+export const day = (text) => (/^\d{8}$/.test(text ?? "") ? DAY.format(Date.UTC(text.slice(0, 4), text.slice(4, 6) - 1, text.slice(6))) : text ?? "");
+const MOMENT = new Intl.DateTimeFormat("en-US", { dateStyle: "medium", timeStyle: "medium" });
+export const time = (text) => (text ? make("time", { datetime: text, title: text }, MOMENT.format(new Date(text))) : "");
 export const tag = (kind, text) => make("span", { class: `tag ${kind}` }, text);
 export const KINDS = { paid: "good", standing: "good", duplicate: "plain", reversed: "wait", rejected: "bad", open: "wait", answered: "good" };
 
@@ -34,28 +40,40 @@ export class Refused extends Error {
   }
 }
 
-// What the front answers; Refused where it is a problem.
+// What the front answers; Refused where it is a problem, or where there is no front.
 export async function ask(path, { method = "GET", body, headers = {}, as = "json" } = {}) {
   const given = token.get() ? { Authorization: `Bearer ${token.get()}`, ...headers } : headers;
   let answer;
   try {
     answer = await fetch(path, { method, body, headers: given, cache: "no-store" });
   } catch {
-    throw new Refused(0, { name: "NoFront", detail: "the front is not reached" });
+    ask.gone();
+    throw new Refused(0, { name: "NoFront", detail: "the front does not answer" });
   }
   if (!answer.ok) throw new Refused(answer.status, await answer.json().catch(() => ({})));
   return as === "json" ? answer.json() : answer.text();
 }
+ask.gone = () => {};
 
-// A table: columns are pairs of a heading and a function of the row; a third word is the class.
+// A table: columns are a heading, a function of the row, and perhaps a class. On a narrow page each row is a card.
 export function table(caption, columns, rows, none = "There is nothing here.") {
-  const cells = (row) => columns.map(([, of, kind], place) => make(place ? "td" : "th", { class: kind, scope: place ? null : "row" }, of(row)));
-  const body = rows.length ? rows.map((row) => make("tr", {}, cells(row))) : [make("tr", {}, make("td", { colspan: columns.length }, none))];
+  const cell = (row, [name, of, kind], place) => make(place ? "td" : "th", { class: kind, scope: place ? null : "row", "data-name": name }, make("span", {}, of(row)));
+  const body = rows.length ? rows.map((row) => make("tr", {}, columns.map((column, place) => cell(row, column, place)))) : [make("tr", {}, make("td", { colspan: columns.length }, none))];
   const head = make("tr", {}, columns.map(([name, , kind]) => make("th", { scope: "col", class: kind }, name)));
-  return make("div", { class: "scroll", role: "region", tabindex: "0", "aria-label": caption }, make("table", {}, make("caption", {}, caption), make("thead", {}, head), make("tbody", {}, body)));
+  return make("div", { class: "scroll", role: "region", tabindex: "0", "aria-label": caption }, make("table", { class: "cards" }, make("caption", {}, caption), make("thead", {}, head), make("tbody", {}, body)));
 }
 
 export const facts = (pairs) => make("dl", { class: "facts" }, pairs.map(([name, value, more]) => make("div", {}, make("dt", {}, name), make("dd", {}, value, more ? make("small", {}, more) : null))));
+
+export const choose = (name, value, options, attributes = {}) => make("select", { name, ...attributes }, options.map(([key, text]) => make("option", { value: key, selected: key === value }, text)));
+
+// Earlier and later pages of a list.
+export const pages = (page, hasMore, go, [newer, older]) => make("div", { class: "row" },
+  make("button", { type: "button", disabled: page <= 1, onclick: () => go({ page: page - 1 }) }, newer), make("span", {}, `Page ${page}`),
+  make("button", { type: "button", disabled: !hasMore, onclick: () => go({ page: page + 1 }) }, older));
+
+// The words of a form that say something.
+export const given = (form) => Object.fromEntries([...new FormData(form)].map(([name, value]) => [name, value.trim()]).filter(([, value]) => value));
 
 export function picture(text, label) {
   const svg = new DOMParser().parseFromString(text, "image/svg+xml").documentElement;

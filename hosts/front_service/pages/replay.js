@@ -79,7 +79,18 @@ addEventListener("keydown", (event) => {
   const to = { ArrowRight: step + 1, ArrowLeft: step - 1, Home: 0, End: events.length }[event.key];
   if (to !== undefined) { event.preventDefault(); go(to); }
 });
-const { schedules, is_alone: isAlone } = await ask("/replay/schedules");
-at("console").hidden = isAlone;
-at("schedules").replaceChildren(...schedules.map((name) => make("option", {}, name)));
-await load(new URLSearchParams(location.search).get("schedule") ?? schedules[0]);
+
+async function start() {
+  const { schedules, is_alone: isAlone } = await ask("/replay/schedules");
+  at("console").hidden = isAlone;
+  at("schedules").replaceChildren(...schedules.map((name) => make("option", {}, name)));
+  await load(new URLSearchParams(location.search).get("schedule") ?? schedules[0]);
+}
+
+try {
+  await start();
+} catch (fault) {
+  if (!(fault instanceof Refused)) throw fault;
+  // Beside a network whoever has a token plays: the console asks for it.
+  at("main").replaceChildren(make("h1", {}, "Playground"), make("p", {}, fault.status === 401 ? ["It wants a token: ", make("a", { href: "/" }, "the console"), " asks for it."] : fault.message));
+}

@@ -62,6 +62,13 @@ class FileNode:
         data = as_bytes(packet, "a packet")
         return self._call(lambda node: node.take(sender, data))
 
+    def adjudicate(self, sender: str, packet: bytes, advice: bytes) -> Said:
+        """A packet has come from this node, and the payer's own system has given this answer to the request in it. Of a payer whose
+        settings ask."""
+        as_name(sender)
+        data, answer = as_bytes(packet, "a packet"), as_bytes(advice, "an advice")
+        return self._call(lambda node: node.adjudicate(sender, data, answer))
+
     def plan(self, product: bytes, price: Optional[int]) -> Said:
         """Another price for a product, in ten-thousandths of a dollar a unit, or none. Of a payer."""
         if price is not None and (not isinstance(price, int) or isinstance(price, bool)):

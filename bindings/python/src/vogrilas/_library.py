@@ -89,6 +89,7 @@ _CALLS = {
     "serve": [_NODE, *_BYTES],
     "submit": [_NODE, *_BYTES],
     "take": [_NODE, *_BYTES, *_BYTES],
+    "adjudicate": [_NODE, *_BYTES, *_BYTES, *_BYTES],
     "records": [_NODE, *_BUFFER],
     "kept": [_NODE, ctypes.c_size_t],
     "written": [_NODE, *_BUFFER],

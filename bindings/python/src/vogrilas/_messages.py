@@ -4,8 +4,8 @@ from __future__ import annotations
 
 import ctypes
 import datetime
-from dataclasses import dataclass
-from typing import Any, Callable, Optional, Union
+from dataclasses import dataclass, replace
+from typing import Any, Callable, Optional, TypeVar, Union
 
 from ._library import LIBRARY, NO_FILL, RawBilling, RawHeader, RawReversal
 from ._node import Code, Message, check_code, decoded, unprinted
@@ -14,8 +14,19 @@ Text = Union[str, bytes]
 
 # The fields by their numbers.
 _FIELDS = {
-    101: "101-A1", 104: "104-A4", 202: "202-B2", 201: "201-B1", 401: "401-D1", 110: "110-AK", 302: "302-C2", 402: "402-D2",
-    403: "403-D3", 407: "407-D7", 442: "442-E7", 409: "409-D9", 412: "412-DC",
+    101: "101-A1",
+    104: "104-A4",
+    202: "202-B2",
+    201: "201-B1",
+    401: "401-D1",
+    110: "110-AK",
+    302: "302-C2",
+    402: "402-D2",
+    403: "403-D3",
+    407: "407-D7",
+    442: "442-E7",
+    409: "409-D9",
+    412: "412-DC",
 }
 _WHY = {
     Code.FIELD_EMPTY: "is empty",
@@ -89,8 +100,12 @@ class Billing(Message):
 
     def __bytes__(self) -> bytes:
         raw = RawBilling(
-            prescription=_number(self.prescription, 402, 64), quantity=_number(self.quantity, 442, 64), cost=_number(self.cost, 409, 32),
-            fee=_number(self.fee, 412, 32), header=_header(self.header), fill_number=_number(self.fill_number, 403, 8),
+            prescription=_number(self.prescription, 402, 64),
+            quantity=_number(self.quantity, 442, 64),
+            cost=_number(self.cost, 409, 32),
+            fee=_number(self.fee, 412, 32),
+            header=_header(self.header),
+            fill_number=_number(self.fill_number, 403, 8),
         )
         _put(raw, "cardholder", self.cardholder, 302)
         _put(raw, "product", self.product, 407)
@@ -104,10 +119,18 @@ class Billing(Message):
     def read(cls, message: bytes) -> Billing:
         """The billing whose bytes these are. ValueError where they are those of none."""
         found = _Found(message, "billing")
-        return found.proved(cls(
-            found.header(), found.text("302-C2"), found.number("402-D2"), found.text("407-D7"), found.number("442-E7"),
-            found.order["cost"], found.order["fee"], found.number("403-D3"),
-        ))
+        return found.proved(
+            cls(
+                found.header(),
+                found.text("302-C2"),
+                found.number("402-D2"),
+                found.text("407-D7"),
+                found.number("442-E7"),
+                found.order["cost"],
+                found.order["fee"],
+                found.number("403-D3"),
+            )
+        )
 
 
 @dataclass(frozen=True)
@@ -126,7 +149,9 @@ class Reversal(Message):
 
     def __bytes__(self) -> bytes:
         fill = NO_FILL if self.fill_number is None else min(_number(self.fill_number, 403, 8), NO_FILL - 1)
-        raw = RawReversal(prescription=_number(self.prescription, 402, 64), header=_header(self.header), fill_number=fill)
+        raw = RawReversal(
+            prescription=_number(self.prescription, 402, 64), header=_header(self.header), fill_number=fill
+        )
         _put(raw, "product", self.product, 407)
         return _made(LIBRARY.vogrilas_make_reversal, raw)
 
@@ -175,7 +200,57 @@ class Answer:
         if told["kind"] != "answer" or not found or len(found) != len(told["findings"]):
             raise ValueError("no answer")
         names = ("ruling", "authorization", "prescription", "cost", "fee", "copay", "total")
-        return cls(tuple(Ruling(*(one.get(name) for name in names), tuple(one.get("codes", "").split())) for one in found))
+        return cls(
+            tuple(
+                Ruling(**{name: one.get(name) for name in names}, codes=tuple(one.get("codes", "").split()))
+                for one in found
+            )
+        )
+
+    def to(self, request: bytes) -> bytes:
+        """The bytes of this answer to a request, as a payer's own system gives them; the header is the request's. Of a ruling the total
+        may be left out, and the authorization, since a payer's node gives its own. ValueError where no answer reads back so.
+        """
+        head = b"D0%s%dA%s" % (request[8:10], len(self.rulings), request[21:46])
+        told = head + b"".join(_group(_whole(one)) for one in self.rulings)
+        if Answer.read(told) != Answer(tuple(_whole(one) for one in self.rulings)):
+            raise ValueError("no answer has these rulings")
+        return told
+
+
+# How an answer tells each ruling (112-AN), and the authorization that stands where there is none.
+_STATUS = {"paid": b"P", "duplicate": b"D", "reversed": b"A", "rejected": b"R"}
+_ANY_AUTHORIZATION = "0001000000000001"
+
+
+def _whole(ruling: Ruling) -> Ruling:
+    """A ruling with all that an answer tells of it."""
+    if ruling.ruling == "rejected":
+        return ruling
+    total = None if ruling.cost is None else ruling.cost + (ruling.fee or 0) - (ruling.copay or 0)
+    authorization = ruling.authorization or _ANY_AUTHORIZATION
+    return replace(ruling, authorization=authorization, total=total if ruling.total is None else ruling.total)
+
+
+def _amount(cents: Optional[int]) -> bytes:
+    """An amount: its digits, of which the last one has the sign as well."""
+    digits = "%d" % (cents or 0)
+    return (digits[:-1] + "{ABCDEFGHI"[int(digits[-1])]).encode("ascii")
+
+
+def _group(one: Ruling) -> bytes:
+    """The group of a transaction."""
+    told = b"\x1d\x1e\x1cAM21\x1cAN" + _STATUS[one.ruling]
+    if one.ruling == "rejected":
+        return told + b"\x1cFA%d" % len(one.codes) + b"".join(b"\x1cFB" + code.encode("ascii") for code in one.codes)
+    told += b"\x1cF3%s\x1e\x1cAM22\x1cEM1\x1cD2%d" % ((one.authorization or "").encode("ascii"), one.prescription or 0)
+    if one.ruling == "reversed":
+        return told
+    amounts = ((b"F5", one.copay), (b"F6", one.cost), (b"F7", one.fee), (b"F9", one.total))
+    return told + b"\x1e\x1cAM23" + b"".join(b"\x1c" + key + _amount(cents) for key, cents in amounts)
+
+
+Made = TypeVar("Made", Billing, Reversal)
 
 
 class _Found:
@@ -185,7 +260,9 @@ class _Found:
         told = decoded(message)
         self.message = bytes(message)
         self.values = {part["field"]: part["value"] for part in told.get("parts", []) if "field" in part}
-        orders = [one for one in told.get("findings", []) if one.get("finding") == "order" and one.get("order") == order]
+        orders = [
+            one for one in told.get("findings", []) if one.get("finding") == "order" and one.get("order") == order
+        ]
         if told["kind"] != "request" or len(orders) != 1:
             raise ValueError(f"no {order} of one transaction")
         self.order: dict[str, Any] = orders[0]
@@ -198,11 +275,15 @@ class _Found:
 
     def header(self) -> Header:
         return Header(
-            bin=self.text("101-A1"), provider=self.text("201-B1"), date=self.text("401-D1"), pcn=self.text("104-A4"),
-            qualifier=self.text("202-B2"), vendor=self.text("110-AK"),
+            bin=self.text("101-A1"),
+            provider=self.text("201-B1"),
+            date=self.text("401-D1"),
+            pcn=self.text("104-A4"),
+            qualifier=self.text("202-B2"),
+            vendor=self.text("110-AK"),
         )
 
-    def proved(self, made: Any) -> Any:
+    def proved(self, made: Made) -> Made:
         """What was read, where its bytes are those of the message: other spellings of the same order are left to `decoded`."""
         if bytes(made) != self.message:
             raise ValueError("the same order in other bytes than this library makes")
@@ -247,7 +328,14 @@ def _put(raw: Any, name: str, text: Any, number: int) -> None:
 
 def _header(header: Header) -> RawHeader:
     raw = RawHeader()
-    for name, number in (("bin", 101), ("pcn", 104), ("qualifier", 202), ("provider", 201), ("date", 401), ("vendor", 110)):
+    for name, number in (
+        ("bin", 101),
+        ("pcn", 104),
+        ("qualifier", 202),
+        ("provider", 201),
+        ("date", 401),
+        ("vendor", 110),
+    ):
         _put(raw, name, getattr(header, name), number)
     return raw
 

@@ -157,7 +157,8 @@ def described(message: bytes) -> str:
 
 def decoded(message: bytes) -> dict[str, Any]:
     """The same as claimdecode's object of JSON: `kind`, `parts`, `findings` and so on."""
-    return json.loads(_described(message, 1))
+    told: dict[str, Any] = json.loads(_described(message, 1))
+    return told
 
 
 @dataclass(frozen=True)
@@ -170,13 +171,15 @@ class Audit:
 
 def audited(settings: bytes, logs: Sequence[bytes]) -> Audit:
     """Whether logs, one of each node of the settings, are those of one legal run: a line for each log, then what the run left,
-    or why there is none. Raises VogrilasError where the settings are none, or a log is none of them: `log` is which one."""
+    or why there is none. Raises VogrilasError where the settings are none, or a log is none of them: `log` is which one.
+    """
     return _audited(settings, logs, 0)
 
 
 def audited_tables(settings: bytes, logs: Sequence[bytes]) -> dict[str, Any]:
     """The same as claimaudit's object of JSON, with all tables of what the run left."""
-    return json.loads(_audited(settings, logs, 1).text)
+    told: dict[str, Any] = json.loads(_audited(settings, logs, 1).text)
+    return told
 
 
 def _audited(settings: bytes, logs: Sequence[bytes], style: int) -> Audit:
@@ -227,7 +230,7 @@ def _expect_id(number: int, pharmacy: int = 1) -> None:
 
 def _payment(raw: RawPayment) -> Payment:
     """A payment of a list that the library has written."""
-    texts = {name: bytes(getattr(raw, name)) for name in ("bin", "pcn", "qualifier", "provider")}
+    texts: dict[str, Any] = {name: bytes(getattr(raw, name)) for name in ("bin", "pcn", "qualifier", "provider")}
     numbers = ("payer", "serial", "prescription", "fill_number", "cost", "fee", "copay", "total")
     by = (raw.reversed_pharmacy, raw.reversed_number) if raw.reversed_number else None
     return Payment(**texts, **{name: getattr(raw, name) for name in numbers}, reversed_by=by)
@@ -270,6 +273,14 @@ class Node:
         name, packet = as_name(sender), as_bytes(packet, "a packet")
         with self._lock:
             check_code(LIBRARY.vogrilas_take(ctypes.byref(self._handle), name, len(name), packet, len(packet)))
+
+    def adjudicate(self, sender: str, packet: bytes, advice: bytes) -> None:
+        """Takes a packet that has come from this node together with an advice, the answer that the payer's own system has given to the
+        request in it: the line `adjudicate` with the texts of these bytes. The payer's settings have to ask."""
+        name, packet, advice = as_name(sender), as_bytes(packet, "a packet"), as_bytes(advice, "an advice")
+        given = (name, len(name), packet, len(packet), advice, len(advice))
+        with self._lock:
+            check_code(LIBRARY.vogrilas_adjudicate(ctypes.byref(self._handle), *given))
 
     def records(self) -> bytes:
         """What is to be appended to the log, and synced: the records that `synced` has not said to be on disk."""

@@ -10,9 +10,15 @@ import socket
 import subprocess
 import sys
 import time
+import urllib.error
+import urllib.request
+from typing import Any
 
 OPEN_SECONDS = 20.0
 LOOK_SECONDS = 0.2
+# How long servers may take until they know all that they have, each, and then most of them.
+CURRENT_SECONDS = 60.0
+MOST_CURRENT_SECONDS = 120.0
 
 
 def is_open(port: int) -> bool:
@@ -31,11 +37,19 @@ def free_ports(count: int) -> int:
 class Servers:
     """The servers of a cluster, each a process with a folder."""
 
-    def __init__(self, folder: str | pathlib.Path, count: int = 3, port: int = 0, access: str | None = None, has_system: bool = False) -> None:
+    def __init__(
+        self,
+        folder: str | pathlib.Path,
+        count: int = 3,
+        port: int = 0,
+        access: str | None = None,
+        has_system: bool = False,
+    ) -> None:
         self.folder, self.count, self._access, self._has_system = pathlib.Path(folder), count, access, has_system
-        self.port = port or free_ports(2 * count)
-        # Routes between servers are for this machine alone.
-        self._route = self.port + count if not port else free_ports(count)
+        self.port = port or free_ports(3 * count)
+        # Routes between servers, and what they say of themselves, are for this machine alone.
+        self._route = self.port + count if not port else free_ports(2 * count)
+        self._monitor = self._route + count
         self.processes: dict[int, subprocess.Popen[bytes]] = {}
         # A new disk wants a server of a new name.
         self.names = [f"s{place + 1}" for place in range(count)]
@@ -53,20 +67,27 @@ class Servers:
         lines = [
             f'server_name: "{self.names[place]}"',
             f'listen: "127.0.0.1:{self.port + place}"',
+            f'http: "127.0.0.1:{self._monitor + place}"',
             "max_payload: 1MB",
             'ping_interval: "2s"',
             "ping_max: 2",
             f"jetstream {{ store_dir: {json.dumps(str(self.store(place)))}, max_memory_store: 0, max_file_store: 100GB }}",
         ]
         if self.count > 1:
-            lines.append(f'cluster {{ name: "tries", listen: "127.0.0.1:{self._route + place}", routes: [{routes}], no_advertise: true }}')
+            lines.append(
+                f'cluster {{ name: "tries", listen: "127.0.0.1:{self._route + place}", routes: [{routes}], no_advertise: true }}'
+            )
         if self._has_system:
             # Anybody may do what a node does, and a user of the servers' own, for tests, what who administers them does.
             users = '$SYS { users: [{ user: "system", password: "system" }] }'
-            lines.append(f'accounts {{ CLAIMS {{ jetstream: enabled, users: [{{ user: "claims", password: "claims" }}] }}, {users} }}')
+            lines.append(
+                f'accounts {{ CLAIMS {{ jetstream: enabled, users: [{{ user: "claims", password: "claims" }}] }}, {users} }}'
+            )
             lines.append('no_auth_user: "claims"')
         if self._access:
-            lines.append(f"include {json.dumps(os.path.relpath(pathlib.Path(self._access) / 'users.conf', self.folder))}")
+            lines.append(
+                f"include {json.dumps(os.path.relpath(pathlib.Path(self._access) / 'users.conf', self.folder))}"
+            )
         path = self.folder / f"server{place + 1}.conf"
         path.write_text("\n".join([*lines, ""]), encoding="utf-8")
         return path
@@ -87,6 +108,55 @@ class Servers:
             if time.monotonic() > end or any(it.poll() is not None for it in self.processes.values()):
                 self.end()
                 sys.exit(f"servers: they do not come; see {self.folder}/server1.txt")
+            time.sleep(LOOK_SECONDS)
+
+    def _says(self, place: int, path: str) -> dict[str, Any]:
+        """What a server says of itself."""
+        try:
+            with urllib.request.urlopen(f"http://127.0.0.1:{self._monitor + place}{path}", timeout=2) as answer:
+                told = answer.read()
+        except urllib.error.HTTPError as fault:
+            told = fault.read()
+        except OSError as fault:
+            return {"error": str(fault)}
+        try:
+            return dict(json.loads(told))
+        except ValueError:
+            return {"error": f"it says {told[:80]!r}"}
+
+    def not_current(self, place: int) -> str:
+        """Why a server does not yet know all that it has; nothing where it does. Its own word (`healthz`) comes too early: it knows nothing of
+        streams whose names it has not yet read from its disk, and says of them that there are none."""
+        health = self._says(place, "/healthz")
+        if health.get("status") != "ok":
+            return str(health.get("error") or health)
+        accounts = self._says(place, "/jsz?accounts=1&streams=1").get("account_details") or []
+        led = {
+            (account["name"], stream["name"])
+            for account in accounts
+            for stream in account.get("stream_detail") or []
+            if self.count == 1 or stream.get("cluster", {}).get("leader")
+        }
+        on_disk = {
+            (it.parent.parent.name, it.name)
+            for it in (self.store(place) / "jetstream").glob("*/streams/*")
+            if it.is_dir()
+        }
+        lacking = sorted(name for _, name in on_disk - led)
+        return f"it does not know who leads {', '.join(lacking)}" if lacking else ""
+
+    def wait_current(self) -> None:
+        """Waits until each server knows all that it has: before that it may say of a stream that is there that there is none. One that does not
+        come to that is told of, and the others are enough where they are most."""
+        begun = time.monotonic()
+        while lacking := {place: why for place in range(self.count) if (why := self.not_current(place))}:
+            seconds = time.monotonic() - begun
+            told = "; ".join(f"{self.names[place]}: {why}" for place, why in lacking.items())
+            if seconds > CURRENT_SECONDS and 2 * len(lacking) < self.count:
+                print(f"servers: not current: {told}; see {self.folder}/server*.txt", file=sys.stderr, flush=True)
+                return
+            if seconds > MOST_CURRENT_SECONDS:
+                sys.exit(f"servers: not current in {seconds:.0f} s: {told}; see {self.folder}/server*.txt")
             time.sleep(LOOK_SECONDS)
 
     def send(self, place: int, number: int) -> None:
