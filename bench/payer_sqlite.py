@@ -41,7 +41,12 @@ def printed(text: bytes) -> bytes:
 
 def cents(text: bytes) -> int:
     """Cents of an amount that is not negative."""
-    return int(text[:-1] or b"0") * 10 + (b"{ABCDEFGHI".find(text[-1:]) if text[-1:] not in b"0123456789" else int(text[-1:])) if text else 0
+    return (
+        int(text[:-1] or b"0") * 10
+        + (b"{ABCDEFGHI".find(text[-1:]) if text[-1:] not in b"0123456789" else int(text[-1:]))
+        if text
+        else 0
+    )
 
 
 def amount(number: int) -> bytes:
@@ -77,10 +82,22 @@ class Payer:
         copay = min(1000, cost + fee)
         found = self.db.execute(STANDING, fill).fetchone()
         serial = found[0] if found else self.serial
-        values = b"\x1cF5%s\x1cF6%s\x1cF7%s\x1cF9%s" % (amount(copay), amount(cost), amount(fee), amount(cost + fee - copay))
+        values = b"\x1cF5%s\x1cF6%s\x1cF7%s\x1cF9%s" % (
+            amount(copay),
+            amount(cost),
+            amount(fee),
+            amount(cost + fee - copay),
+        )
         answer = b"D0B11A%s\x1d\x1e\x1cAM21\x1cAN%s\x1cF30001%012d\x1e\x1cAM22\x1cEM1\x1cD2%d\x1e\x1cAM23%s" % (
-            request[21:46], b"D" if found else b"P", serial, fill[3], values)
-        self.db.execute(ENTER, (number, request, answer, *(fill if not found else (None,) * 5), None if found else serial))
+            request[21:46],
+            b"D" if found else b"P",
+            serial,
+            fill[3],
+            values,
+        )
+        self.db.execute(
+            ENTER, (number, request, answer, *(fill if not found else (None,) * 5), None if found else serial)
+        )
         self.serial += not found
         return answer
 

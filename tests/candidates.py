@@ -1,6 +1,6 @@
 """Candidates for nodes whose logs are in streams, for tests: three servers, and hosts on machines that are folders.
 
-The host in C is built once as it is, with the sanitizers of the compiler. What is told has to be in the log, which is exported. All on
+The host is built once as it is, with the sanitizers of the compiler. What is told has to be in the log, which is exported. All on
 loopback addresses."""
 
 import asyncio
@@ -18,7 +18,7 @@ sys.path.insert(0, str(pathlib.Path(__file__).resolve().parent))
 import network  # noqa: E402
 from network import HOSTS, SETTINGS, expect, nats, wait_for  # noqa: E402
 
-import engine  # noqa: E402
+import local_servers  # noqa: E402
 import logs  # noqa: E402
 
 OVERTAKEN, REFUSED = 75, 78
@@ -32,11 +32,9 @@ def claim(number, node="ph2"):
     return network.claim(number).replace("1234567893", {"ph1": "1234567893", "ph2": "1234567894"}[node])
 
 
-def built(folder, name, flags):
-    """The host in C, built with these flags."""
-    out = pathlib.Path(folder) / name
-    out.mkdir()
-    return network.build_host(folder, out, f"CFLAGS={flags}")
+def built(flags):
+    """The host, built with these flags."""
+    return network.host(f"CFLAGS={flags}")
 
 
 class Host:
@@ -47,13 +45,27 @@ class Host:
         self.folder = trial.folder / machine
         self.folder.mkdir(exist_ok=True)
         self.log, self.said = self.folder / f"{node}.log", self.folder / f"{node}.said"
-        self.words = [program or trial.program, str(SETTINGS), node, str(self.log), "--log", "stream", "--machine", machine]
+        self.words = [
+            program or trial.program,
+            str(SETTINGS),
+            node,
+            str(self.log),
+            "--log",
+            "stream",
+            "--machine",
+            machine,
+        ]
         self.words += ["--nats", trial.servers.url, "--tick", NO_TICK, *words]
         self.process = None
 
     def start(self, environment=None):
         with open(self.said, "ab") as said:
-            self.process = subprocess.Popen(self.words, stdout=said, stderr=said, env=os.environ | {"ASAN_OPTIONS": "detect_leaks=0"} | (environment or {}))
+            self.process = subprocess.Popen(
+                self.words,
+                stdout=said,
+                stderr=said,
+                env=os.environ | {"ASAN_OPTIONS": "detect_leaks=0"} | (environment or {}),
+            )
         self.trial.processes.append(self.process)
         return self
 
@@ -86,6 +98,15 @@ class Host:
         """The status with which it ends."""
         return self.process.wait(seconds)
 
+    def stays_away(self, seconds=60):
+        """It ends with 78, or says that the servers have another log, and has not the log; then it is killed."""
+        wait_for(
+            lambda: self.process.poll() is not None or self.says("have another log"), "a host refuses a log", seconds
+        )
+        expect(self.process.poll() in (None, REFUSED), f"a host that refuses a log ended with {self.process.poll()}")
+        expect(not self.says(f"{self.node} ready"), "a host that refuses a log has taken it over")
+        self.kill()
+
     def wipe(self):
         """The machine has a new disk."""
         shutil.rmtree(self.folder)
@@ -97,7 +118,7 @@ class Trial:
 
     def __init__(self, folder, program, has_system=False):
         self.folder, self.program, self.processes = pathlib.Path(folder), program, []
-        self.servers = engine.Servers(self.folder / "servers", has_system=has_system)
+        self.servers = local_servers.Servers(self.folder / "servers", has_system=has_system)
         self.servers.start_all()
         self.told, self.made = {}, set()
 
@@ -111,19 +132,21 @@ class Trial:
     def host(self, node, machine, *words, program=None):
         return Host(self, node, machine, words, program)
 
-    def built(self, name, flags):
-        """The host in C with these flags, built once."""
-        return str(self.folder / name / "node") if (self.folder / name).exists() else built(self.folder, name, flags)
-
     def current(self, node, count):
         """Waits until so many servers have all of a log."""
 
         async def is_so():
             client = await self.client()
             try:
-                reply = await client.request(f"$JS.API.STREAM.INFO.LOG_{node}", b"", 1, is_word=lambda it: b'"error"' not in it)
+                reply = await client.request(
+                    f"$JS.API.STREAM.INFO.LOG_{node}", b"", 1, is_word=lambda it: b'"error"' not in it
+                )
                 cluster = json.loads(reply)["cluster"] if reply else {}
-                current = [it for it in cluster.get("replicas") or [] if it.get("current") and not it.get("lag") and not it.get("offline")]
+                current = [
+                    it
+                    for it in cluster.get("replicas") or []
+                    if it.get("current") and not it.get("lag") and not it.get("offline")
+                ]
                 return len(current) >= count - 1
             finally:
                 await client.close()
@@ -131,7 +154,13 @@ class Trial:
         wait_for(lambda: asyncio.run(is_so()), f"{count} servers have the log of {node}", 60)
 
     def vogctl(self, *words):
-        done = subprocess.run([HOSTS / "vogctl", "--nats", self.servers.url, *words], capture_output=True, text=True, check=False, timeout=90)
+        done = subprocess.run(
+            [HOSTS / "vogctl", "--nats", self.servers.url, *words],
+            capture_output=True,
+            text=True,
+            check=False,
+            timeout=90,
+        )
         return done.stdout.strip(), done.returncode, done.stderr.strip()
 
     def make(self, *nodes):
@@ -172,6 +201,19 @@ class Trial:
 
         return asyncio.run(go())
 
+    def operate(self, node, line, seconds=1.0):
+        """The reply to an operator's line."""
+
+        async def go():
+            client = await self.client()
+            try:
+                reply = await client.request(f"claims.{node}.operate", line.encode(), seconds)
+                return None if reply is None else reply.decode()
+            finally:
+                await client.close()
+
+        return asyncio.run(go())
+
     def submit(self, number, node="ph1", tries=30):
         """Submits a claim of its own; the number that is told has never been told."""
         told = self.ask(node, f"submit {claim(number, node)}", tries=tries)
@@ -185,16 +227,21 @@ class Trial:
         data = self.export(node)
         for host in hosts:
             has = host.log.read_bytes()
-            expect(data.startswith(has) and len(has) == logs.whole_size(has), f"the copy of {host.machine} is no beginning of the log")
+            expect(
+                data.startswith(has) and len(has) == logs.whole_size(has),
+                f"the copy of {host.machine} is no beginning of the log",
+            )
         for (of, _), number in self.told.items():
-            expect(of != node or f"D2{100000 + number}".encode() in data, f"claim {number} was told, and is not in the log of {node}")
+            expect(
+                of != node or f"D2{100000 + number}".encode() in data,
+                f"claim {number} was told, and is not in the log of {node}",
+            )
         return data
 
 
 def run(name, parts, folder, words, has_system=False):
     """Runs parts of a test one after the other, those that are named or all, over one cluster; what is told at the end."""
-    network.host_in_c(name, folder)
-    trial = Trial(folder, built(folder, "sanitized", SANITIZED), has_system)
+    trial = Trial(folder, built(SANITIZED), has_system)
     told = []
     try:
         for part in parts:

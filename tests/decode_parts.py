@@ -45,7 +45,9 @@ SAID = []
 
 def made_again(wrong):
     """How many of all descriptions are made into their messages again: `--encode` gives the bytes that their parts are."""
-    run = subprocess.run([program, "--encode", "--hex"], input="\n".join(SAID).encode() + b"\n", stdout=subprocess.PIPE, check=False)
+    run = subprocess.run(
+        [program, "--encode", "--hex"], input="\n".join(SAID).encode() + b"\n", stdout=subprocess.PIPE, check=False
+    )
     lines, same = run.stdout.decode("ascii").splitlines(), 0
     if len(lines) != len(SAID):
         wrong.append(f"--encode: {len(lines)} lines for {len(SAID)} descriptions")
@@ -112,10 +114,12 @@ class Cases:
 
     def filled(self, text):
         """A text with its names filled in."""
+
         def fill(found):
             inside = found.group(1)
             times = re.fullmatch(r"(.*)\*(\d+)", inside, re.S)
             return times.group(1) * int(times.group(2)) if times else self.names[inside]
+
         return re.sub(r"<([^<>]*)>", fill, text)
 
 
@@ -140,7 +144,11 @@ def fault_of(message):
 
 def order_of(message):
     """What the first transaction comes to, as the files of cases spell it."""
-    codes = list(dict.fromkeys(f["code"] for f in message["findings"] if f.get("transaction") == 1 and f["finding"] == "rejected"))
+    codes = list(
+        dict.fromkeys(
+            f["code"] for f in message["findings"] if f.get("transaction") == 1 and f["finding"] == "rejected"
+        )
+    )
     return "rejected " + ",".join(codes[:5]) if codes else "taken"
 
 
@@ -173,8 +181,12 @@ def judged(kind, word, message):
 def main():
     cases, compared, whole, wrong = Cases(), 0, 0, []
     for name, kind, form in (
-        ("framing.rows", "framing", None), ("orders.rows", "orders", "request"), ("reversals.rows", "orders", "request"),
-        ("answers.rows", "answers", "answer"), ("envelopes.rows", "", "packet"), ("headers.rows", "", "request"),
+        ("framing.rows", "framing", None),
+        ("orders.rows", "orders", "request"),
+        ("reversals.rows", "orders", "request"),
+        ("answers.rows", "answers", "answer"),
+        ("envelopes.rows", "", "packet"),
+        ("headers.rows", "", "request"),
     ):
         for word, argument, outcome in cases.take(f"cases/messages/{name}"):
             if argument is None or len(argument) > 1_000_000:
@@ -213,7 +225,9 @@ def main():
         wrong.append("hexadecimal digits are told otherwise than printed bytes")
     again = made_again(wrong)
     print("\n".join(wrong), end="\n" if wrong else "", file=sys.stderr)
-    print(f"decode: {whole} messages told whole, {again} descriptions made again, {compared} findings compared, {len(wrong)} otherwise")
+    print(
+        f"decode: {whole} messages told whole, {again} descriptions made again, {compared} findings compared, {len(wrong)} otherwise"
+    )
     return 1 if wrong else 0
 
 

@@ -1,7 +1,9 @@
 /*
 ** A disk that fails, for tests/disks: preloaded into a host, it looks into the folder that TRIAL_DISK names. Where a file `eio` is there, syncs
-** of logs fail; where `full` is there, a log takes half of what is written to it, and then nothing; where `slow` is there, a sync takes half a
-** second. Each sync is noted in `synced`.
+** of logs fail, where `eio-folder` is there those of folders; where `full` is there, a log takes half of what is written to it, and then
+** nothing; where `slow` is there, a sync takes half a second. Each sync is noted in `synced`. For hosts/torture, where TRIAL_SIZES is set: beside
+** a log, LOG.synced has how many bytes it had when its last sync began that has succeeded, and each sync of a log takes so many microseconds
+** more, as a disk's does.
 */
 #define _GNU_SOURCE
 #include <dlfcn.h>
@@ -12,6 +14,7 @@
 #include <stdio.h>
 #include <stdlib.h>
 #include <string.h>
+#include <sys/stat.h>
 #include <sys/syscall.h>
 #include <unistd.h>
 
@@ -38,6 +41,11 @@ static bool is_log(int file) {
     return size > 4 && strcmp(name + size - 4, ".log") == 0;
 }
 
+static bool is_folder(int file) {
+    struct stat at;
+    return fstat(file, &at) == 0 && S_ISDIR(at.st_mode);
+}
+
 static void note(int file) {
     char path[PATH_MAX], line[PATH_MAX + 1];
     const char *folder = getenv("TRIAL_DISK");
@@ -49,11 +57,30 @@ static void note(int file) {
     if (to >= 0) close(to);
 }
 
+static void note_size(int file, off_t size) {
+    char path[PATH_MAX], line[32];
+    if (snprintf(path, sizeof path, "%s.synced", name_of(file)) >= (int)sizeof path) return;
+    int to = open(path, O_WRONLY | O_CREAT, 0600);
+    /* One call: who is killed has noted all of it or nothing. */
+    int written = snprintf(line, sizeof line, "%020lld", (long long)size);
+    if (to >= 0) syscall(SYS_write, to, line, (size_t)written);
+    if (to >= 0) close(to);
+}
+
 static int synced(int file, const char *name) {
     int (*real)(int) = (int (*)(int))dlsym(RTLD_NEXT, name);
+    bool notes = getenv("TRIAL_SIZES") != NULL && is_log(file);
+    struct stat at;
+    if (notes) notes = fstat(file, &at) == 0;
     note(file);
+    if (notes) usleep((useconds_t)atoi(getenv("TRIAL_SIZES")));
     if (is_log(file) && is_on("slow")) usleep(500000);
-    if (!is_log(file) || !is_on("eio")) return real(file);
+    bool fails = (is_log(file) && is_on("eio")) || (is_folder(file) && is_on("eio-folder"));
+    if (!fails) {
+        int status = real(file);
+        if (status == 0 && notes) note_size(file, at.st_size);
+        return status;
+    }
     errno = EIO;
     return -1;
 }

@@ -1,4 +1,4 @@
-"""The host in C as a node of tests/killed: asked over a NATS server, and killed at its system calls that touch its log."""
+"""The host as a node of tests/killed: asked over a NATS server, and killed at its system calls that touch its log."""
 
 import itertools
 import multiprocessing
@@ -23,14 +23,10 @@ class Died(Exception):
     """A node was killed before it had said all."""
 
 
-def build(folder, wrong):
+def build(wrong):
     """The host's program, with this mistake in it where one is named; ends the test where it cannot be built."""
     network.need("killed", "nats-server")
-    program = network.host_in_c("killed", folder)
-    if wrong:
-        pathlib.Path(program).unlink()
-        network.build_host(folder, folder, f"CFLAGS=-O1 -DWRONG_{wrong}")
-    return program
+    return network.host(*([f"CFLAGS=-O1 -DWRONG_{wrong}"] if wrong else []))
 
 
 class Servers:
@@ -62,7 +58,11 @@ class Wire:
         self.socket = socket.create_connection(("127.0.0.1", self.port))
         self.octets = b""
         self.numbers = itertools.count(1)
-        self.send(b'CONNECT {"verbose":false,"pedantic":false,"echo":false}\r\nSUB claims.*.from.* 1\r\nSUB ' + INBOX.encode() + b".* 2\r\n")
+        self.send(
+            b'CONNECT {"verbose":false,"pedantic":false,"echo":false}\r\nSUB claims.*.from.* 1\r\nSUB '
+            + INBOX.encode()
+            + b".* 2\r\n"
+        )
 
     def send(self, octets):
         self.socket.sendall(octets)
@@ -82,7 +82,7 @@ class Wire:
                 found = re.fullmatch(rb"MSG (\S+) \S+ (?:\S+ )?(\d+)", line)
                 if found and len(rest) >= int(found[2]) + 2:
                     size = int(found[2])
-                    self.octets = rest[size + 2:]
+                    self.octets = rest[size + 2 :]
                     return found[1].decode("ascii"), rest[:size]
                 if not found:
                     self.octets = rest
@@ -120,11 +120,21 @@ class Host:
         list(wire.rest())
 
     def start(self, stop=None):
-        words = [self.trial.host, str(self.trial.settings), self.name, str(self.log), "--nats", f"127.0.0.1:{self.wire.port}", *WORDS]
+        words = [
+            self.trial.host,
+            str(self.trial.settings),
+            self.name,
+            str(self.log),
+            "--nats",
+            f"127.0.0.1:{self.wire.port}",
+            *WORDS,
+        ]
         if stop:
             self.state.unlink(missing_ok=True)
             words = [self.trial.killer, "-l", str(stop), str(self.state), str(self.log), *words]
-        self.process = subprocess.Popen(words, stdin=subprocess.DEVNULL, stdout=subprocess.PIPE, stderr=subprocess.DEVNULL)
+        self.process = subprocess.Popen(
+            words, stdin=subprocess.DEVNULL, stdout=subprocess.PIPE, stderr=subprocess.DEVNULL
+        )
         if not self.process.stdout.readline().endswith(b" ready\n"):
             raise Died
 

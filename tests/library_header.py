@@ -1,4 +1,4 @@
-#!/usr/bin/env python3
+#!/usr/bin/python3
 """Compares include/vogrilas.h with what else says the same, for tests/library: the exports of crates/vogrilas_c, by names,
 parameters and results; the names in the archive; the codes of node_handle; and in each language the structs, by sizes and offsets.
 
@@ -15,16 +15,19 @@ import sys
 
 TOP = pathlib.Path(__file__).resolve().parent.parent
 HEADER = re.sub(r"/\*.*?\*/", " ", (TOP / "include" / "vogrilas.h").read_text(encoding="utf-8"), flags=re.S)
-SOURCES = {name: (TOP / path).read_text(encoding="utf-8") for name, path in {
-    "exports": "crates/vogrilas_c/src/lib.rt",
-    "refusals": "crates/node_handle/src/refusal.rt",
-    "payments": "crates/node_handle/src/payments.rt",
-    "part": "crates/node_handle/src/part.rt",
-    "handle": "crates/node_handle/src/handle.rt",
-    "messages": "crates/message_making/src/fields.rt",
-    "rust": "bindings/rust/src/sys.rs",
-    "rust codes": "bindings/rust/src/error.rs",
-}.items()}
+SOURCES = {
+    name: (TOP / path).read_text(encoding="utf-8")
+    for name, path in {
+        "exports": "crates/vogrilas_c/src/lib.rt",
+        "refusals": "crates/node_handle/src/refusal.rt",
+        "payments": "crates/node_handle/src/payments.rt",
+        "part": "crates/node_handle/src/part.rt",
+        "handle": "crates/node_handle/src/handle.rt",
+        "messages": "crates/message_making/src/fields.rt",
+        "rust": "bindings/rust/src/sys.rs",
+        "rust codes": "bindings/rust/src/error.rs",
+    }.items()
+}
 
 # What the C side has for a parameter of an export. An allocator takes no bytes, so C passes nothing for it.
 PARAMETERS = {
@@ -45,7 +48,16 @@ PARAMETERS = {
     "usize": ["size_t"],
 }
 # The size of a type, and to how much it is aligned.
-TYPES = {"u8": (1, 1), "bool": (1, 1), "u16": (2, 2), "u32": (4, 4), "u64": (8, 8), "*mut u8": (8, 8), "Part": (8, 8), "PlainHeader": (57, 1)}
+TYPES = {
+    "u8": (1, 1),
+    "bool": (1, 1),
+    "u16": (2, 2),
+    "u32": (4, 4),
+    "u64": (8, 8),
+    "*mut u8": (8, 8),
+    "Part": (8, 8),
+    "PlainHeader": (57, 1),
+}
 wrong = []
 
 
@@ -79,7 +91,9 @@ def structs():
 def program():
     """The C program that prints sizes and offsets."""
     lines = [f'    printf("{name} %zu\\n", sizeof({name}));' for name, _ in structs()]
-    lines += [f'    printf("{name}.{it} %zu\\n", offsetof({name}, {it}));' for name, fields in structs() for it in fields]
+    lines += [
+        f'    printf("{name}.{it} %zu\\n", offsetof({name}, {it}));' for name, fields in structs() for it in fields
+    ]
     lines += [f'    printf("{code} %d\\n", {code});' for code in codes()]
     return '#include <stdio.h>\n#include "vogrilas.h"\nint main(void) {\n' + "\n".join(lines) + "\n    return 0;\n}\n"
 
@@ -91,9 +105,15 @@ def codes():
 
 def laid_out(source, name):
     """The size and the offsets of a struct of the exports, as C lays out its fields."""
-    body = re.search(rf"#\[repr\(C\)\]\s*(?:#\[derive\([^)]*\)\]\s*)?pub struct {name} \{{(.*?)\n\}}", source, flags=re.S).group(1)
+    body = re.search(
+        rf"#\[repr\(C\)\]\s*(?:#\[derive\([^)]*\)\]\s*)?pub struct {name} \{{(.*?)\n\}}", source, flags=re.S
+    ).group(1)
     place, most, offsets = 0, 1, {}
-    for field, kind in re.findall(r"^\s*(?:pub )?(\w+): ([^,\n]+),", re.sub(r"///[^\n]*|pub ghost[^\n]*|^\s*ghost[^\n]*", "", body, flags=re.M), flags=re.M):
+    for field, kind in re.findall(
+        r"^\s*(?:pub )?(\w+): ([^,\n]+),",
+        re.sub(r"///[^\n]*|pub ghost[^\n]*|^\s*ghost[^\n]*", "", body, flags=re.M),
+        flags=re.M,
+    ):
         array = re.match(r"\[(\w+); (\d+)\]", kind)
         size, align = TYPES[array.group(1) if array else kind]
         place = -(-place // align) * align
@@ -134,33 +154,64 @@ def compare_codes(layout):
     header = codes()
     told = re.findall(r"Err\(Refusal::(\w+)\) => (\d+)", SOURCES["refusals"])
     variants = re.search(r"pub enum Refusal \{(.*?)\n\}", SOURCES["refusals"], flags=re.S).group(1)
-    exported = {re.sub("^VOGRILAS_OUT_OF_MEMORY$", "VOGRILAS_NO_MEMORY", it): number for it, number in rust_enum(told).items()}
+    exported = {
+        re.sub("^VOGRILAS_OUT_OF_MEMORY$", "VOGRILAS_NO_MEMORY", it): number for it, number in rust_enum(told).items()
+    }
     expect("codes", header, {"VOGRILAS_OK": 0, **exported})
     expect("how many codes", len(header) - 1, len(re.findall(r"^    (\w+),", variants, flags=re.M)))
-    expect("codes as C has them", {name: str(number) for name, number in header.items()}, {name: layout.get(name) for name in header})
-    expect("codes in Rust", header, {"VOGRILAS_OK": 0, **rust_enum(re.findall(r"^    (\w+) = (\d+),", SOURCES["rust codes"], flags=re.M))})
+    expect(
+        "codes as C has them",
+        {name: str(number) for name, number in header.items()},
+        {name: layout.get(name) for name in header},
+    )
+    expect(
+        "codes in Rust",
+        header,
+        {"VOGRILAS_OK": 0, **rust_enum(re.findall(r"^    (\w+) = (\d+),", SOURCES["rust codes"], flags=re.M))},
+    )
     expect("codes in Python", header, {f"VOGRILAS_{it.name}": int(it) for it in vogrilas.Code})
 
 
 def compare_structs(c_layout, rust_layout):
     layouts = {"C": c_layout}
-    exported = {"vogrilas_payment": laid_out(SOURCES["payments"], "PlainPayment"), "vogrilas_node": laid_out(SOURCES["handle"], "NodeHandle")}
-    exported |= {f"vogrilas_{name.lower()}": laid_out(SOURCES["messages"], f"Plain{name}") for name in ("Header", "Billing", "Reversal")}
+    exported = {
+        "vogrilas_payment": laid_out(SOURCES["payments"], "PlainPayment"),
+        "vogrilas_node": laid_out(SOURCES["handle"], "NodeHandle"),
+    }
+    exported |= {
+        f"vogrilas_{name.lower()}": laid_out(SOURCES["messages"], f"Plain{name}")
+        for name in ("Header", "Billing", "Reversal")
+    }
     python = {"vogrilas_payment": vogrilas_library.RawPayment, "vogrilas_node": vogrilas_library.Handle}
-    python |= {f"vogrilas_{name.lower()}": getattr(vogrilas_library, f"Raw{name}") for name in ("Header", "Billing", "Reversal")}
+    python |= {
+        f"vogrilas_{name.lower()}": getattr(vogrilas_library, f"Raw{name}")
+        for name in ("Header", "Billing", "Reversal")
+    }
     for name, fields in structs():
         size, offsets = exported[name]
         expect(f"the size of {name}", c_layout.get(name), str(size))
         expect(f"the size of {name} in Python", c_layout.get(name), str(ctypes.sizeof(python[name])))
-        expect(f"the offsets of {name}", [c_layout.get(f"{name}.{it}") for it in fields], [str(it) for it in offsets.values()])
-        expect(f"the offsets of {name} in Python", [c_layout.get(f"{name}.{it}") for it in fields], [str(getattr(python[name], it).offset) for it, _ in python[name]._fields_])
+        expect(
+            f"the offsets of {name}",
+            [c_layout.get(f"{name}.{it}") for it in fields],
+            [str(it) for it in offsets.values()],
+        )
+        expect(
+            f"the offsets of {name} in Python",
+            [c_layout.get(f"{name}.{it}") for it in fields],
+            [str(getattr(python[name], it).offset) for it, _ in python[name]._fields_],
+        )
         if name != "vogrilas_node":
             expect(f"the fields of {name}", fields, list(offsets))
             expect(f"the fields of {name} in Python", fields, [it for it, _ in python[name]._fields_])
         if rust_layout:
             expect(f"the size of {name} in Rust", c_layout.get(name), rust_layout.get(name))
             there = {it: c_layout[it] for it in c_layout if it.startswith(f"{name}.") and name != "vogrilas_node"}
-            expect(f"the offsets of {name} in Rust", there, {it: rust_layout[it] for it in rust_layout if it.startswith(f"{name}.")})
+            expect(
+                f"the offsets of {name} in Rust",
+                there,
+                {it: rust_layout[it] for it in rust_layout if it.startswith(f"{name}.")},
+            )
     return layouts
 
 
@@ -175,6 +226,17 @@ compare_calls(sys.argv[1])
 compare_codes(c_told)
 compare_structs(c_told, read_layout(sys.argv[3]) if len(sys.argv) > 3 else None)
 expect("the version", re.search(r"define VOGRILAS_VERSION (\d+)", HEADER).group(1), str(vogrilas_library.VERSION))
-expect("the version of the exports", str(vogrilas_library.VERSION), re.search(r"VERSION: u32 = ([\d_]+);", SOURCES["exports"]).group(1).replace("_", ""))
-print("\n".join([*wrong, f"{len(list(prototypes()))} calls, {len(codes())} codes, {len(list(structs()))} structs, {len(wrong)} differences"]))
+expect(
+    "the version of the exports",
+    str(vogrilas_library.VERSION),
+    re.search(r"VERSION: u32 = ([\d_]+);", SOURCES["exports"]).group(1).replace("_", ""),
+)
+print(
+    "\n".join(
+        [
+            *wrong,
+            f"{len(list(prototypes()))} calls, {len(codes())} codes, {len(list(structs()))} structs, {len(wrong)} differences",
+        ]
+    )
+)
 sys.exit(1 if wrong else 0)

@@ -84,6 +84,7 @@ static bool is_closed(vogrilas_node *node) {
            vogrilas_request(node, 1, &byte, 1, &size) == VOGRILAS_CLOSED &&
            vogrilas_answer(node, 1, 1, &byte, 1, &size) == VOGRILAS_CLOSED &&
            vogrilas_payments(node, &payment, 1, &size) == VOGRILAS_CLOSED && payment.fill_number == 'x' &&
+           vogrilas_adjudicate(node, "sw1", 3, &byte, 1, &byte, 1) == VOGRILAS_CLOSED &&
            vogrilas_clear(node) == VOGRILAS_CLOSED && size == 77 && calls == 77 && byte == 'x' && !node->held;
 }
 
@@ -392,6 +393,124 @@ static void try_typed(void) {
     vogrilas_close(&by_bytes);
 }
 
+/* A payer that asks its own system, and the packet of the request as the first of pharmacy 1. */
+static char asking[MOST], packet[MOST];
+static size_t asking_size, packet_size;
+static const char advice[] = "D0B11A011234567893     20240115\x1d\x1e\x1c" "AM21\x1c" "ANP\x1c" "F37777000000000042\x1e\x1c" "AM22\x1c" "EM1\x1c"
+                             "D2123456\x1e\x1c" "AM23\x1c" "F550{\x1c" "F6500{\x1c" "F715{\x1c" "F9465{";
+
+static void open_payer(vogrilas_node *node, const char *given, size_t given_size) {
+    size_t kept;
+    check(vogrilas_open(node, given, given_size, "pr1", 3, "", 0, "0123456789abcdef", 16, &kept) == VOGRILAS_OK, "a payer");
+    check(vogrilas_records(node, record, MOST, &record_size) == VOGRILAS_OK && vogrilas_kept(node, record_size) == VOGRILAS_OK, "its head");
+}
+
+static vogrilas_code adjudicate(vogrilas_node *node, const char *text, size_t size) {
+    return vogrilas_adjudicate(node, "sw1", 3, packet, packet_size, text, size);
+}
+
+/* A call is refused for this cause: nothing is recorded, and nothing sent. */
+static void try_refused(vogrilas_node *node, const char *text, size_t size, const char *wanted) {
+    check(adjudicate(node, text, size) == VOGRILAS_OK, wanted);
+    check(vogrilas_records(node, record, MOST, &record_size) == VOGRILAS_OK && record_size == 0, "a refusal has no record");
+    check(vogrilas_written(node, said, MOST, &said_size) == VOGRILAS_OK && vogrilas_clear(node) == VOGRILAS_OK, "a refusal is said");
+    check(said_size == strlen(wanted) && memcmp(said, wanted, said_size) == 0, wanted);
+}
+
+/* A payer's log with an adjudication, cut anywhere and with any byte altered: only the whole one has the answer. */
+static void try_advised_logs(char *log, size_t whole) {
+    size_t kept_size;
+    uint64_t rows = 77;
+    for (size_t size = 0; size <= whole; size++) {
+        vogrilas_node node = VOGRILAS_NODE_INIT;
+        size_t left_size = size == whole ? whole : size < 46 ? 0 : 46;
+        check(vogrilas_open(&node, asking, asking_size, "pr1", 3, log, size, "", 0, &kept_size) == VOGRILAS_OK && kept_size == left_size, "a log that is cut");
+        check(vogrilas_kept(&node, size < 46 ? 46 : 0) == VOGRILAS_OK && vogrilas_count(&node, &rows) == VOGRILAS_OK && rows == (size == whole), "its rows");
+        vogrilas_close(&node);
+    }
+    for (size_t at = 0; at < whole; at++) {
+        vogrilas_node node = VOGRILAS_NODE_INIT;
+        log[at] ^= 4;
+        check(vogrilas_open(&node, asking, asking_size, "pr1", 3, log, whole, "", 0, &kept_size) != VOGRILAS_OK && !node.held, "a byte that is altered");
+        log[at] ^= 4;
+    }
+}
+
+/* Adjudications by bytes are those by lines, what is no advice is refused, and so is every advice where nobody asks or is up. */
+static void try_asking(void) {
+    static char text[MOST], bytes[MOST], other[MOST], log[MOST];
+    vogrilas_node by_line = VOGRILAS_NODE_INIT, by_bytes = VOGRILAS_NODE_INIT, planned = VOGRILAS_NODE_INIT;
+    const size_t advice_size = sizeof advice - 1;
+    size_t size = 0, again = 0, place = 0;
+    const char *prices = strstr(settings, "[payer.prices]");
+    if (prices == NULL) exit(2);
+    asking_size = (size_t)snprintf(asking, MOST, "%.*sasks = \"claims\"\n%s", (int)(prices - settings), settings, prices);
+    check(vogrilas_unprint(line + 7, line_size - 7, packet + 18, MOST - 18, &size) == VOGRILAS_OK && size < 256, "the bytes of the request");
+    memcpy(packet, "PS\x01\x01\x00\x01\x00\x00\x00\x00\x00\x00\x00\x01\x00\x00\x00", 17);
+    packet[17] = (char)size;
+    packet_size = 18 + size;
+    check(adjudicate(&by_bytes, advice, advice_size) == VOGRILAS_CLOSED && is_closed(&by_bytes), "a closed handle takes no advice");
+    open_payer(&by_line, asking, asking_size);
+    open_payer(&by_bytes, asking, asking_size);
+    memcpy(log, record, record_size);
+    size_t head_size = record_size;
+    check(vogrilas_take(&by_bytes, "sw1", 3, packet, packet_size) == VOGRILAS_OK, "a packet without an advice");
+    check(vogrilas_written(&by_bytes, said, MOST, &said_size) == VOGRILAS_OK && said_size == 19 &&
+          memcmp(said, "refused NotAdvised\n", 19) == 0 && vogrilas_clear(&by_bytes) == VOGRILAS_OK, "is refused");
+    try_refused(&by_bytes, "", 0, "refused NotAdvised\n");
+    try_refused(&by_bytes, "x", 1, "refused NotAdvised\n");
+    try_refused(&by_bytes, "\x00 \xff", 3, "refused NotAdvised\n");
+    for (size_t cut = 0; cut < advice_size; cut++) try_refused(&by_bytes, advice, cut, "refused NotAdvised\n");
+    /* A total that is not the sum, another prescription, an answer of two places with one. */
+    const char *wrongs[] = { "F9465{", "F9465A", "D2123456", "D2123457", "D0B11A", "D0B12A" };
+    for (size_t at = 0; at < 6; at += 2) {
+        memcpy(text, advice, advice_size);
+        for (place = 0; memcmp(text + place, wrongs[at], strlen(wrongs[at])) != 0; place++) continue;
+        memcpy(text + place, wrongs[at + 1], strlen(wrongs[at + 1]));
+        try_refused(&by_bytes, text, advice_size, "refused NotAdvised\n");
+    }
+    check(vogrilas_adjudicate(&by_bytes, "sw1 ", 4, packet, packet_size, advice, advice_size) == VOGRILAS_NAME, "an advice of nobody");
+    size = (size_t)snprintf(text, MOST, "adjudicate sw1 ");
+    for (place = 0; place < advice_size; place++) {
+        check(vogrilas_print(advice + place, 1, bytes, MOST, &again) == VOGRILAS_OK, "the text of a byte");
+        size += (size_t)snprintf(text + size, MOST - size, "%.*s", advice[place] == ' ' ? 4 : (int)again, advice[place] == ' ' ? "\\x20" : bytes);
+    }
+    check(vogrilas_print(packet, packet_size, bytes, MOST, &again) == VOGRILAS_OK, "the text of a packet");
+    size += (size_t)snprintf(text + size, MOST - size, " %.*s", (int)again, bytes);
+    check(vogrilas_serve(&by_line, text, size) == VOGRILAS_OK, "an advice by a line");
+    check(adjudicate(&by_bytes, advice, advice_size) == VOGRILAS_OK, "an advice by bytes");
+    check(vogrilas_records(&by_line, record, MOST, &size) == VOGRILAS_OK && size > advice_size, "the record by a line");
+    check(vogrilas_records(&by_bytes, bytes, MOST, &again) == VOGRILAS_OK && again == size && memcmp(record, bytes, size) == 0, "the record by bytes");
+    memcpy(log + head_size, bytes, size);
+    try_advised_logs(log, head_size + size);
+    check(vogrilas_kept(&by_line, size) == VOGRILAS_OK && vogrilas_kept(&by_bytes, size) == VOGRILAS_OK, "the records are kept");
+    check(vogrilas_written(&by_line, said, MOST, &size) == VOGRILAS_OK && size > 9 && memcmp(said, "send sw1 ", 9) == 0, "an answer is sent");
+    check(vogrilas_written(&by_bytes, other, MOST, &again) == VOGRILAS_OK && again == size && memcmp(said, other, size) == 0, "the same is written");
+    check(memmem_text(said, size, "\\FF30001000000000001") && memmem_text(said, size, "\\FF9465{\nok\n"), "what the system says, under the book's number");
+    check(vogrilas_clear(&by_bytes) == VOGRILAS_OK && vogrilas_serve(&by_bytes, "stop", 4) == VOGRILAS_OK, "a stop");
+    check(vogrilas_records(&by_bytes, record, MOST, &size) == VOGRILAS_OK && vogrilas_kept(&by_bytes, size) == VOGRILAS_OK &&
+          vogrilas_clear(&by_bytes) == VOGRILAS_OK, "is kept");
+    try_refused(&by_bytes, advice, advice_size, "refused Down\n");
+    open_payer(&planned, settings, settings_size);
+    try_refused(&planned, advice, advice_size, "refused NotAsked\n");
+    vogrilas_close(&by_line);
+    vogrilas_close(&by_bytes);
+    vogrilas_close(&planned);
+    check(open_as(&planned, "ph1", log_bytes, log_size, &size) == VOGRILAS_OK && vogrilas_kept(&planned, 0) == VOGRILAS_OK, "a pharmacy");
+    try_refused(&planned, advice, advice_size, "refused NoSuchNode\n");
+    vogrilas_close(&planned);
+    for (long turn = 0;; turn += each) {
+        open_payer(&by_bytes, asking, asking_size);
+        left = turn;
+        vogrilas_code code = adjudicate(&by_bytes, advice, advice_size);
+        left = -1;
+        check(code == VOGRILAS_OK || (code == VOGRILAS_NO_MEMORY && is_closed(&by_bytes)), "memory refused while an advice is taken");
+        vogrilas_close(&by_bytes);
+        check(lent == 0, "memory is given back");
+        if (code == VOGRILAS_OK) break;
+    }
+}
+
 /* A network in this process: a pharmacy, a switch and a payer, each with the bytes of its log. */
 struct one {
     const char *name;
@@ -686,6 +805,8 @@ int main(int count, char **words) {
     try_texts();
     try_numbers();
     try_typed();
+    lent = 0;
+    try_asking();
     lent = 0;
     try_readers();
     try_reading_memory();

@@ -1,4 +1,4 @@
-#!/usr/bin/env python3
+#!/usr/bin/python3
 """Trials of the Python binding, for tests/library: VOGRILAS_TRIAL_SETTINGS and VOGRILAS_TRIAL_REQUEST name the files."""
 
 import datetime
@@ -58,8 +58,8 @@ class Trials(unittest.TestCase):
         self.addCleanup(folder.cleanup)
         self.folder = pathlib.Path(folder.name)
 
-    def opened(self, name):
-        node = FileNode(SETTINGS, name, self.folder / f"{name}.log")
+    def opened(self, name, settings=SETTINGS):
+        node = FileNode(settings, name, self.folder / f"{name}.log")
         self.addCleanup(node.close)
         return node
 
@@ -87,17 +87,64 @@ class Trials(unittest.TestCase):
         again = self.opened("ph1")
         self.assertEqual((again.answer(1), again.calls), (answer, 2))
 
+    def test_payer_that_asks(self):
+        asking = SETTINGS.replace(b"[payer.prices]", b'asks = "claims"\n[payer.prices]')
+        pharmacy, switch, payer = (self.opened(name, asking) for name in ("ph1", "sw1", "pr1"))
+        asked = switch.take("ph1", pharmacy.submit(REQUEST).sent[0].data).sent[0]
+        head = b"D0B11A011234567893     20240115\x1d\x1e\x1cAM21\x1cANP\x1cF37777000000000042\x1e\x1cAM22\x1cEM1\x1cD2123456"
+        advice = head + b"\x1e\x1cAM23\x1cF550{\x1cF6500{\x1cF715{\x1cF9465{"
+        for call in (
+            lambda: payer.take("sw1", asked.data),
+            lambda: payer.adjudicate("sw1", asked.data, b""),
+            lambda: payer.adjudicate("sw1", asked.data, advice[:-1]),
+        ):
+            with self.assertRaises(Refused) as caught:
+                call()
+            self.assertEqual((caught.exception.name, payer.calls), ("NotAdvised", 0))
+        self.fails(Code.NAME, payer.adjudicate, "sw1 ", asked.data, advice)
+        ruled = payer.adjudicate("sw1", asked.data, advice).sent[0]
+        self.assertEqual((ruled.to, payer.take("sw1", asked.data).sent), ("sw1", (ruled,)))
+        (booked,) = payer.payments()
+        self.assertEqual(
+            (booked.authorization, booked.cost, booked.copay, booked.total), ("0001000000000001", 5000, 500, 4650)
+        )
+        self.assertEqual(pharmacy.take("sw1", switch.take("pr1", ruled.data).sent[0].data).sent, ())
+        self.assertEqual(pharmacy.payments(), [booked])
+        payer.close()
+        self.assertEqual((self.opened("pr1", asking).held(1, 1), payer.name), (pharmacy.answer(1), "pr1"))
+        with self.assertRaises(Refused) as caught:
+            pharmacy.adjudicate("sw1", asked.data, advice)
+        self.assertEqual(caught.exception.name, "NoSuchNode")
+
     def test_arguments(self):
         pharmacy, payer = self.opened("ph1"), self.opened("pr1")
         log = self.folder / "ph1.log"
         before = log.read_bytes()
         wrong = [
-            lambda: pharmacy.submit("text"), lambda: pharmacy.submit(None), lambda: pharmacy.submit(5), lambda: pharmacy.submit([1]),
-            lambda: pharmacy.take(b"sw1", b"packet"), lambda: pharmacy.take("sw1", "packet"), lambda: pharmacy.take(None, b"packet"),
-            lambda: payer.plan("00093721410", 1), lambda: payer.plan(b"00093721410", 1.5), lambda: payer.plan(b"00093721410", True),
-            lambda: payer.plan(b"00093721410", "1"), lambda: pharmacy.answer("1"), lambda: pharmacy.request(None),
-            lambda: FileNode("settings", "ph1", self.folder / "other.log"), lambda: FileNode(SETTINGS, b"ph1", self.folder / "other.log"),
-            lambda: vogrilas.audited("text", []), lambda: vogrilas.audited(SETTINGS, ["text"]), lambda: vogrilas.printed("text"), lambda: vogrilas.unprinted("text"), lambda: vogrilas.described("text"), lambda: vogrilas.decoded(7),
+            lambda: pharmacy.submit("text"),
+            lambda: pharmacy.submit(None),
+            lambda: pharmacy.submit(5),
+            lambda: pharmacy.submit([1]),
+            lambda: pharmacy.take(b"sw1", b"packet"),
+            lambda: pharmacy.take("sw1", "packet"),
+            lambda: pharmacy.take(None, b"packet"),
+            lambda: payer.adjudicate("sw1", b"packet", "advice"),
+            lambda: payer.adjudicate("sw1", b"packet", None),
+            lambda: payer.adjudicate(b"sw1", b"packet", b"advice"),
+            lambda: payer.plan("00093721410", 1),
+            lambda: payer.plan(b"00093721410", 1.5),
+            lambda: payer.plan(b"00093721410", True),
+            lambda: payer.plan(b"00093721410", "1"),
+            lambda: pharmacy.answer("1"),
+            lambda: pharmacy.request(None),
+            lambda: FileNode("settings", "ph1", self.folder / "other.log"),
+            lambda: FileNode(SETTINGS, b"ph1", self.folder / "other.log"),
+            lambda: vogrilas.audited("text", []),
+            lambda: vogrilas.audited(SETTINGS, ["text"]),
+            lambda: vogrilas.printed("text"),
+            lambda: vogrilas.unprinted("text"),
+            lambda: vogrilas.described("text"),
+            lambda: vogrilas.decoded(7),
         ]
         for place, call in enumerate(wrong):
             with self.subTest(place), self.assertRaises(TypeError):
@@ -130,12 +177,20 @@ class Trials(unittest.TestCase):
         self.assertEqual([node.count for node in nodes], [1, 1, 1])
         (counted,) = pharmacy.payments()
         self.assertEqual(payer.payments(), [counted])
-        self.assertEqual((counted.authorization, counted.cost, counted.fee, counted.copay, counted.total), ("0001000000000001", 5570, 150, 1000, 4720))
-        self.assertEqual((counted.bin, counted.pcn, counted.qualifier, counted.provider), (b"610455", b"A1        ", b"01", b"1234567893     "))
+        self.assertEqual(
+            (counted.authorization, counted.cost, counted.fee, counted.copay, counted.total),
+            ("0001000000000001", 5570, 150, 1000, 4720),
+        )
+        self.assertEqual(
+            (counted.bin, counted.pcn, counted.qualifier, counted.provider),
+            (b"610455", b"A1        ", b"01", b"1234567893     "),
+        )
         self.assertEqual((counted.prescription, counted.fill_number, counted.reversed_by), (123456, 0, None))
         reversal = REQUEST[:8] + b"B2" + REQUEST[10:56] + b"\x1d\x1e\x1cAM07\x1cEM1\x1cD2123456\x1cD30"
         self.carry(nodes, "ph1", pharmacy.submit(reversal))
-        self.assertEqual((pharmacy.payments(), [one.reversed_by for one in payer.payments()], switch.payments()), ([], [(1, 2)], []))
+        self.assertEqual(
+            (pharmacy.payments(), [one.reversed_by for one in payer.payments()], switch.payments()), ([], [(1, 2)], [])
+        )
         logs = [(self.folder / f"{name}.log").read_bytes() for name in ("ph1", "sw1", "pr1")]
         told = vogrilas.audited(SETTINGS, logs)
         self.assertTrue(told.legal and "\none legal run of " in told.text, told)
@@ -197,6 +252,7 @@ class Trials(unittest.TestCase):
                 self.assertEqual(pharmacy.calls, 0)
             self.assertEqual(path.read_bytes(), whole[:46])
             self.assertEqual((self.folder / name).read_bytes(), whole[46:-1])
+            self.assertEqual((self.folder / name).stat().st_mode & 0o777, 0o600)
         damaged = bytearray(whole)
         damaged[-1] ^= 1
         path.write_bytes(damaged)
@@ -280,23 +336,38 @@ class Trials(unittest.TestCase):
             "os.write(node._file, b'') if node._file > 2 else sys.exit(3)\n"
         )
         path = self.folder / "ph1.log"
-        done = subprocess.run([sys.executable, "-c", script, os.environ["VOGRILAS_TRIAL_SETTINGS"], str(path)], check=False)
+        done = subprocess.run(
+            [sys.executable, "-c", script, os.environ["VOGRILAS_TRIAL_SETTINGS"], str(path)], check=False
+        )
         self.assertEqual(done.returncode, 0)
         self.assertEqual(self.opened("ph1").calls, 1)
 
     def test_messages_are_made(self):
         self.assertEqual(bytes(BILLING), REQUEST)
-        reversal = REQUEST[:8] + b"B2" + REQUEST[10:56] + b"\x1d\x1e\x1cAM07\x1cEM1\x1cD2123456\x1cD30\x1cE103\x1cD700093721410"
+        reversal = (
+            REQUEST[:8]
+            + b"B2"
+            + REQUEST[10:56]
+            + b"\x1d\x1e\x1cAM07\x1cEM1\x1cD2123456\x1cD30\x1cE103\x1cD700093721410"
+        )
         self.assertEqual(bytes(BILLING.reversal()), reversal)
         self.assertEqual(bytes(Reversal(HEADER, 123456, b"00093721410", None)), reversal.replace(b"\x1cD30", b""))
         self.assertEqual((Billing.read(REQUEST), Reversal.read(reversal)), (BILLING, BILLING.reversal()))
-        for wrong in (lambda: Billing.read(reversal), lambda: Reversal.read(REQUEST), lambda: Billing.read(b""), lambda: Billing.read(REQUEST + b" ")):
+        for wrong in (
+            lambda: Billing.read(reversal),
+            lambda: Reversal.read(REQUEST),
+            lambda: Billing.read(b""),
+            lambda: Billing.read(REQUEST + b" "),
+        ):
             with self.assertRaises(ValueError):
                 wrong()
         self.assertEqual(self.opened("ph1").submit(BILLING).number, 1)
 
     def test_answers_are_read(self):
-        front, behind = "D0B11A011234567893     20240115\x1d\x1e\x1cAM21\x1cAN", "\x1cF30001000000000001\x1e\x1cAM22\x1cEM1\x1cD2123456"
+        front, behind = (
+            "D0B11A011234567893     20240115\x1d\x1e\x1cAM21\x1cAN",
+            "\x1cF30001000000000001\x1e\x1cAM22\x1cEM1\x1cD2123456",
+        )
         amounts = "\x1e\x1cAM23\x1cF5100{\x1cF6557{\x1cF715{\x1cF9472{"
         paid = ("0001000000000001", 123456, 5570, 150, 1000, 4720)
         for text, ruling in (
@@ -319,16 +390,31 @@ class Trials(unittest.TestCase):
             return Billing(**{**fields, **change})
 
         wrong = [
-            ("101-A1", "DIGITS", {"header": header(bin="61045")}), ("101-A1", "DIGITS", {"header": header(bin="6104551234")}),
-            ("104-A4", "TOO_LONG", {"header": header(pcn="ABCDEFGHIJK")}), ("202-B2", "TOO_LONG", {"header": header(qualifier="0123456")}),
-            ("201-B1", "SEPARATOR", {"header": header(provider=b"1\x1c")}), ("201-B1", "SEPARATOR", {"header": header(provider=b"1\0")}),
-            ("401-D1", "DAY", {"header": header(date="20240230")}), ("401-D1", "DIGITS", {"header": header(date="2024-01-15")}),
-            ("110-AK", "TOO_LONG", {"header": header(vendor="12345678901")}), ("302-C2", "EMPTY", {"cardholder": ""}),
-            ("302-C2", "TOO_LONG", {"cardholder": b"1" * 21}), ("302-C2", "SPACE", {"cardholder": "1 "}), ("302-C2", "SEPARATOR", {"cardholder": b"\x1e"}),
-            ("402-D2", "TOO_LONG", {"prescription": 10**12}), ("402-D2", "TOO_LONG", {"prescription": 1 << 64}), ("402-D2", "DIGITS", {"prescription": -1}),
-            ("403-D3", "TOO_LONG", {"fill_number": 100}), ("403-D3", "TOO_LONG", {"fill_number": 255}), ("403-D3", "TOO_LONG", {"fill_number": 256}),
-            ("407-D7", "EMPTY", {"product": b""}), ("407-D7", "TOO_LONG", {"product": "1" * 40}), ("407-D7", "SPACE", {"product": " "}),
-            ("442-E7", "TOO_LONG", {"quantity": 10**10}), ("409-D9", "TOO_LONG", {"cost": 10**8}), ("412-DC", "TOO_LONG", {"fee": 1 << 32}),
+            ("101-A1", "DIGITS", {"header": header(bin="61045")}),
+            ("101-A1", "DIGITS", {"header": header(bin="6104551234")}),
+            ("104-A4", "TOO_LONG", {"header": header(pcn="ABCDEFGHIJK")}),
+            ("202-B2", "TOO_LONG", {"header": header(qualifier="0123456")}),
+            ("201-B1", "SEPARATOR", {"header": header(provider=b"1\x1c")}),
+            ("201-B1", "SEPARATOR", {"header": header(provider=b"1\0")}),
+            ("401-D1", "DAY", {"header": header(date="20240230")}),
+            ("401-D1", "DIGITS", {"header": header(date="2024-01-15")}),
+            ("110-AK", "TOO_LONG", {"header": header(vendor="12345678901")}),
+            ("302-C2", "EMPTY", {"cardholder": ""}),
+            ("302-C2", "TOO_LONG", {"cardholder": b"1" * 21}),
+            ("302-C2", "SPACE", {"cardholder": "1 "}),
+            ("302-C2", "SEPARATOR", {"cardholder": b"\x1e"}),
+            ("402-D2", "TOO_LONG", {"prescription": 10**12}),
+            ("402-D2", "TOO_LONG", {"prescription": 1 << 64}),
+            ("402-D2", "DIGITS", {"prescription": -1}),
+            ("403-D3", "TOO_LONG", {"fill_number": 100}),
+            ("403-D3", "TOO_LONG", {"fill_number": 255}),
+            ("403-D3", "TOO_LONG", {"fill_number": 256}),
+            ("407-D7", "EMPTY", {"product": b""}),
+            ("407-D7", "TOO_LONG", {"product": "1" * 40}),
+            ("407-D7", "SPACE", {"product": " "}),
+            ("442-E7", "TOO_LONG", {"quantity": 10**10}),
+            ("409-D9", "TOO_LONG", {"cost": 10**8}),
+            ("412-DC", "TOO_LONG", {"fee": 1 << 32}),
         ]
         for field, why, change in wrong:
             with self.subTest(field=field, why=why), self.assertRaises(WrongField) as caught:
@@ -339,8 +425,14 @@ class Trials(unittest.TestCase):
             with self.assertRaises(WrongField):
                 bytes(Reversal(HEADER, 1, "1", fill))
         for call in (
-            lambda: billing(cardholder=5), lambda: billing(prescription="1"), lambda: billing(cost=1.5), lambda: billing(fee=True),
-            lambda: billing(header="x"), lambda: billing(fill_number=None), lambda: header(bin=610455), lambda: Reversal(HEADER, 1, None),
+            lambda: billing(cardholder=5),
+            lambda: billing(prescription="1"),
+            lambda: billing(cost=1.5),
+            lambda: billing(fee=True),
+            lambda: billing(header="x"),
+            lambda: billing(fill_number=None),
+            lambda: header(bin=610455),
+            lambda: Reversal(HEADER, 1, None),
         ):
             with self.assertRaises(TypeError):
                 call()

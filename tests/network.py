@@ -3,8 +3,6 @@
 What a test wants and this machine does not have ends it with status 3, and says so."""
 
 import asyncio
-import fcntl
-import hashlib
 import os
 import pathlib
 import random
@@ -80,52 +78,46 @@ def certificate(folder):
     subprocess.run([*new, "-x509", "-days", "2", "-subj", "/CN=trial", "-keyout", "ca.key", "-out", "ca.pem"], **quiet)
     subprocess.run([*new, "-subj", "/CN=127.0.0.1", "-keyout", "server.key", "-out", "server.csr"], **quiet)
     (pathlib.Path(folder) / "names").write_text("subjectAltName=IP:127.0.0.1,DNS:localhost\n", encoding="ascii")
-    sign = ["openssl", "x509", "-req", "-in", "server.csr", "-CA", "ca.pem", "-CAkey", "ca.key", "-CAcreateserial", "-days", "2"]
+    sign = [
+        "openssl",
+        "x509",
+        "-req",
+        "-in",
+        "server.csr",
+        "-CA",
+        "ca.pem",
+        "-CAkey",
+        "ca.key",
+        "-CAcreateserial",
+        "-days",
+        "2",
+    ]
     subprocess.run([*sign, "-extfile", "names", "-out", "server.pem"], **quiet)
 
 
-def host_in_c(name, folder):
-    """Builds the host in C; ends the test where that cannot be done."""
-    if not shutil.which("cc") or not pathlib.Path("/usr/include/nats/nats.h").exists():
-        print(f"{name}: skipped, since there is no C compiler or no libnats")
-        sys.exit(3)
-    made = subprocess.run([TOP / "bindings" / "make", f"{folder}/library"], stdout=subprocess.DEVNULL, check=False)
+def host(*flags):
+    """The host of a node, as tools/host builds it: of a wrong one, or a tormented one, with these words to `make`. Ends the test where it
+    cannot be built."""
+    made = subprocess.run([TOP / "tools" / "host", *flags], stdout=subprocess.PIPE, text=True, check=False)
     if made.returncode:
         sys.exit(made.returncode)
-    return build_host(folder, folder)
-
-
-def build_host(folder, out, *flags):
-    """Builds the host in C over the library in a folder, with these words to `make`; its path. Where VOGRILAS_KEPT names a folder, it is built in
-    there once, by who comes first."""
-    words = ["make", "-s", "-C", HOSTS / "c", f"LIBRARY={folder}/library", *flags]
-    kept = os.environ.get("VOGRILAS_KEPT")
-    if kept is None:
-        subprocess.run([*words, f"OUT={out}"], check=True)
-    else:
-        place = pathlib.Path(kept, hashlib.sha256(" ".join(flags).encode()).hexdigest()[:16])
-        place.mkdir(parents=True, exist_ok=True)
-        with open(place / "lock", "w", encoding="ascii") as lock:
-            fcntl.flock(lock, fcntl.LOCK_EX)
-            if not (place / "node").exists():
-                subprocess.run([*words, f"OUT={place}"], check=True)
-        shutil.copy2(place / "node", out)
-    return f"{out}/node"
-
-
-def python_of():
-    """A Python that has the client of Prometheus, or None."""
-    for python in (sys.executable, "/usr/bin/python3"):
-        if subprocess.run([python, "-c", "import prometheus_client, tomllib"], capture_output=True, check=False).returncode == 0:
-            return python
-    return None
+    return made.stdout.strip()
 
 
 class Network:
     """A cluster of six nodes in a folder of its own."""
 
-    def __init__(self, folder, tls=False, jetstream=False, words=(), host=None, settings=SETTINGS, python=sys.executable, url=None):
-        self.folder, self.tls, self.host, self.python = pathlib.Path(folder), tls, host, python
+    def __init__(
+        self,
+        folder,
+        tls=False,
+        jetstream=False,
+        words=(),
+        settings=SETTINGS,
+        url=None,
+        program=None,
+    ):
+        self.folder, self.tls, self.host = pathlib.Path(folder), tls, program or host()
         self.port = free_port()
         self.url = url or f"{'tls://' if tls else ''}127.0.0.1:{self.port}"
         # Servers of a given URL are the test's.
@@ -153,12 +145,20 @@ class Network:
 
     def words(self):
         """The words of the cluster."""
-        words = [self.python, HOSTS / "cluster.py", self.settings, self.logs, "--access", self.access_folder, "--nats", self.url]
+        words = [
+            sys.executable,
+            HOSTS / "cluster.py",
+            self.settings,
+            self.logs,
+            "--access",
+            self.access_folder,
+            "--nats",
+            self.url,
+        ]
         words += ["--server"] * self._has_server
         words += ["--ca", self.ca] if self.ca else []
         words += ["--jetstream"] if self._jetstream else []
-        words += ["--host", self.host] if self.host else ["--program", programs.program("claimnode")]
-        return list(map(str, [*words, *self._words]))
+        return list(map(str, [*words, "--host", self.host, *self._words]))
 
     def start(self):
         with open(self.said, "ab") as said:
@@ -198,7 +198,9 @@ class Network:
     def ask(self, *words):
         """Asks by vogctl; what it prints and its status."""
         given = ["--nats", self.url, "--access", str(self.access_folder)] + (["--ca", self.ca] if self.ca else [])
-        done = subprocess.run([sys.executable, HOSTS / "vogctl", *given, *words], capture_output=True, text=True, check=False)
+        done = subprocess.run(
+            [sys.executable, HOSTS / "vogctl", *given, *words], capture_output=True, text=True, check=False
+        )
         return done.stdout.strip(), done.returncode
 
     def pay(self, number, pharmacy="ph1"):
@@ -222,8 +224,13 @@ class Network:
     def audit(self):
         """All logs, at rest, have to be those of one legal run; what the audit tells."""
         logs = [str(self.logs / f"{node}.log") for node in NODES]
-        done = subprocess.run([programs.program("claimaudit"), self.settings, *logs], capture_output=True, text=True, check=False)
-        expect(done.returncode == 0 and "one legal run" in done.stdout, f"the audit: {done.stdout[-500:]}{done.stderr[-300:]}")
+        done = subprocess.run(
+            [programs.program("claimaudit"), self.settings, *logs], capture_output=True, text=True, check=False
+        )
+        expect(
+            done.returncode == 0 and "one legal run" in done.stdout,
+            f"the audit: {done.stdout[-500:]}{done.stderr[-300:]}",
+        )
         return done.stdout
 
 
@@ -233,7 +240,7 @@ def memory_of(pid):
     return tuple(int(re.search(rf"^{key}:\s+(\d+)", text, re.MULTILINE).group(1)) for key in ("VmHWM", "VmRSS"))
 
 
-def main(name, trial, needs=("claimnode", "claimaudit")):
+def main(name, trial, needs=("claimaudit",)):
     """Runs a trial in a folder of its own, over these programs: `trial(folder, words)`; the words are those of the command line."""
     need(name, "nats-server", "openssl", *map(programs.program, needs))
     with tempfile.TemporaryDirectory(prefix=f"{name}-") as folder:

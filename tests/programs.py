@@ -7,7 +7,12 @@ import pathlib
 TOP = pathlib.Path(__file__).resolve().parent.parent
 
 
-def program(name):
-    """The path of a program, whether it is there or not."""
+def program(name: str, crate: str = "") -> str:
+    """The path of a program, or of another file that a crate's build leaves, whether it is there or not."""
     folder = os.environ.get("VOGRILAS_PROGRAMS")
-    return str(pathlib.Path(folder, name) if folder else TOP / "crates" / name / "out" / name)
+    return str(pathlib.Path(folder, name) if folder else TOP / "crates" / (crate or name) / "out" / name)
+
+
+def library() -> str:
+    """The path of the static library."""
+    return program("libvogrilas_c.a", "vogrilas_c")

@@ -23,8 +23,8 @@ def restart_command(net):
     lines = [
         "#!/usr/bin/env bash",
         f"said={net.said}",
-        "before=$(grep -c \"^$1 ready$\" \"$said\")",
-        f"kill -TERM $(pgrep -f \"^.*(node.py|/node) {net.settings} $1 \" | head -n 1)",
+        'before=$(grep -c "^$1 ready$" "$said")',
+        f'kill -TERM $(pgrep -f "^.*/node {net.settings} $1 " | head -n 1)',
         'for _ in $(seq 300); do [ "$(grep -c "^$1 ready$" "$said")" -gt "$before" ] && exit 0; sleep 0.1; done',
         "exit 1",
     ]
@@ -39,7 +39,11 @@ async def under_load(net, first=1):
     told = {}
     environment = os.environ | {"VOGRILAS_RESTART": restart_command(net)}
     upgrade = await asyncio.create_subprocess_exec(
-        str(network.HOSTS / "upgrade"), *NODES, env=environment, stdout=asyncio.subprocess.PIPE, stderr=asyncio.subprocess.STDOUT
+        str(network.HOSTS / "upgrade"),
+        *NODES,
+        env=environment,
+        stdout=asyncio.subprocess.PIPE,
+        stderr=asyncio.subprocess.STDOUT,
     )
     claim = first - 1
     while claim < first - 1 + CLAIMS or upgrade.returncode is None:

@@ -14,9 +14,9 @@ from check_parts import Part
 from check_programs import TOP, programs
 
 # What no part is made of.
-LEFT_OUT = {'.git', 'out', '__pycache__'}
+LEFT_OUT = {".git", "out", "__pycache__"}
 # What of a crate its programs are made of, or proofs are.
-SOURCES = {'src', 'specs', 'proofs', 'must-fail'}
+SOURCES = {"src", "specs", "proofs", "must-fail"}
 
 
 def files(folder: pathlib.Path, left_out: set[str]) -> list[pathlib.Path]:
@@ -34,26 +34,32 @@ def sum_of_files(paths: list[pathlib.Path]) -> str:
     for path in paths:
         if path.is_file():
             text = path.read_bytes()
-            made_of.update(f'{path.relative_to(TOP)} {len(text)} {os.access(path, os.X_OK)}\n'.encode() + text)
+            made_of.update(f"{path.relative_to(TOP)} {len(text)} {os.access(path, os.X_OK)}\n".encode() + text)
     return made_of.hexdigest()
 
 
 class Kept:
     """The parts that passed, each with its sum, in a file that has a line for each."""
 
-    def __init__(self, path: pathlib.Path, toolchain: pathlib.Path) -> None:
-        self.path, self.toolchain = path, toolchain
-        lines = path.read_text(encoding='ascii').splitlines() if path.is_file() else []
+    def __init__(
+        self, path: pathlib.Path, toolchain: pathlib.Path, is_proved: bool = False, is_all: bool = False
+    ) -> None:
+        """Of proved programs or others, with all kills and refusals or without."""
+        self.path, self.toolchain, self.is_proved, self.is_all = path, toolchain, is_proved, is_all
+        lines = path.read_text(encoding="ascii").splitlines() if path.is_file() else []
         self.passed = dict(line.split() for line in lines)
-        self.of_all = sum_of_files(files(TOP, LEFT_OUT | SOURCES)) + (toolchain / 'KIT-ID').read_text(encoding='utf-8')
-        self.of_crates = {}
-        for crate in sorted(it for it in (TOP / 'crates').iterdir() if it.is_dir()):
-            self.of_crates[crate.name] = sum_of_files([it for it in files(crate, LEFT_OUT) if SOURCES.intersection(it.relative_to(TOP).parts)])
-        self.programs, self.of_programs = programs(), {}
+        self.of_all = sum_of_files(files(TOP, LEFT_OUT | SOURCES)) + (toolchain / "KIT-ID").read_text(encoding="utf-8")
+        self.of_crates: dict[str, str] = {}
+        for crate in sorted(it for it in (TOP / "crates").iterdir() if it.is_dir()):
+            self.of_crates[crate.name] = sum_of_files(
+                [it for it in files(crate, LEFT_OUT) if SOURCES.intersection(it.relative_to(TOP).parts)]
+            )
+        self.programs = programs()
+        self.of_programs: dict[tuple[str, int, int], str] = {}
 
     def of_program(self, name: str) -> str:
         """The sum of a program as it stands."""
-        path = self.programs[name].path
+        path = self.programs[name].proved if self.is_proved else self.programs[name].path
         told = path.stat()
         known = (name, told.st_mtime_ns, told.st_size)
         if known not in self.of_programs:
@@ -62,9 +68,13 @@ class Kept:
 
     def sum_of(self, part: Part) -> str:
         """The sum of what a part is made of, once all of its programs are there."""
-        made_of = [part.told(), self.of_all, *(f'{name} {self.of_program(name)}' for name in part.needs)]
-        made_of += [f'{crate} {self.of_crates[crate]}' for crate in part.reads(self.of_crates)]
-        return hashlib.sha256('\n'.join(made_of).encode()).hexdigest()
+        made_of = [
+            *part.words(self.is_proved, self.is_all),
+            self.of_all,
+            *(f"{name} {self.of_program(name)}" for name in part.needs),
+        ]
+        made_of += [f"{crate} {self.of_crates[crate]}" for crate in part.sources(self.of_crates)]
+        return hashlib.sha256("\n".join(made_of).encode()).hexdigest()
 
     def has(self, part: Part) -> bool:
         """Whether a part passed as it is, where all of its programs are there."""
@@ -75,6 +85,8 @@ class Kept:
         self.passed.pop(part.name, None)
         if made_of:
             self.passed[part.name] = made_of
-        beside = self.path.with_suffix('.new')
-        beside.write_text(''.join(f'{name} {made_of}\n' for name, made_of in sorted(self.passed.items())), encoding='ascii')
+        beside = self.path.with_suffix(".new")
+        beside.write_text(
+            "".join(f"{name} {made_of}\n" for name, made_of in sorted(self.passed.items())), encoding="ascii"
+        )
         beside.replace(self.path)

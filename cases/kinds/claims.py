@@ -2,8 +2,8 @@
 from kinds.day import compared
 from suite.case import Case, Group
 
-PROGRAMS = ('claimswitch',)
+PROGRAMS = ("claimswitch",)
 
 
 def groups(path: str, name: str, kind: type[Case]) -> list[Group]:
-    return [Group([kind(name, compared(path, 'read'))])]
+    return [Group([kind(name, compared(path, "read"))])]

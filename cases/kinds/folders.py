@@ -6,19 +6,19 @@ from suite import days
 from suite.case import Case, Group, rows_apart
 from suite.rows import HERE, read_rows
 
-PROGRAMS = ('claimswitch',)
+PROGRAMS = ("claimswitch",)
 
 
 def tell(word: str, argument: bytes) -> str:
     """Runs all cases of a folder under a word of claimswitch."""
     folder, others, count = f'{HERE}/{argument.decode("ascii")}', [], 0
     for name in sorted(os.listdir(folder)):
-        given, wanted = days.parts(f'{folder}/{name}')
+        given, wanted = days.parts(f"{folder}/{name}")
         if told(word, given) == wanted:
             count += 1
         else:
             others.append(name)
-    return ' '.join([*others, f'as-told={count}'])
+    return " ".join([*others, f"as-told={count}"])
 
 
 def groups(path: str, name: str, kind: type[Case]) -> list[Group]:

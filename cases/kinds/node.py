@@ -1,4 +1,5 @@
-"""One node as a process, step by step: a pharmacy, a payer's book over many prescriptions, and a switch's table beside a plain list."""
+"""One node as a process, step by step: a pharmacy, a payer's book over many prescriptions, a payer that asks, and a switch's table beside a
+plain list."""
 import json
 from collections.abc import Callable
 
@@ -8,32 +9,41 @@ from suite.printed import printed
 from suite.programs import run
 from suite.rows import read_rows
 
-PROGRAMS = ('claimnode', 'claimdecode')
-SETTINGS = ('again = {again}\ntries = {tries}\n[[pharmacy]]\nqualifier = "01"\nprovider = "1234567893"\nnodes = [1, 2]\ncap = {journal}\n'
-            '[[switch]]\ncap = {table}\n[[switch]]\ncap = 64\n[[payer]]\nfee = 150\ncopay = 1000\ncap = {book}\n[payer.prices]\n'
-            '00093721410 = 18567\n[[route]]\nbin = "610455"\npayer = 1\n')
-USUAL = {'again': 1, 'tries': 1, 'journal': 100, 'table': 64, 'book': 1000}
+PROGRAMS = ("claimnode", "claimdecode")
+SETTINGS = (
+    'again = {again}\ntries = {tries}\n[[pharmacy]]\nqualifier = "01"\nprovider = "1234567893"\nnodes = [1, 2]\ncap = {journal}\n'
+    "[[switch]]\ncap = {table}\n[[switch]]\ncap = 64\n[[payer]]\nfee = 150\ncopay = 1000\ncap = {book}\n{asks}[payer.prices]\n"
+    '00093721410 = 18567\n[[route]]\nbin = "610455"\npayer = 1\n'
+)
+USUAL = {"again": 1, "tries": 1, "journal": 100, "table": 64, "book": 1000, "asks": ""}
 REQUEST, ANSWER = 1, 2
 # Words of rows whose line tells a list.
-LISTS = {'row-of': 'row', 'payments-of': 'payments'}
+LISTS = {"row-of": "row", "payments-of": "payments"}
 # How many lines a node is given at once: so many as pipes hold.
 FEW = 100
 
 
 def packet_of(kind: int, pharmacy: int, number: int, text: bytes) -> bytes:
     """The envelope of a text (docs/FORMATS.md)."""
-    return b'PS\x01' + bytes([kind]) + pharmacy.to_bytes(2, 'big') + number.to_bytes(8, 'big') + len(text).to_bytes(4, 'big') + text
+    return (
+        b"PS\x01"
+        + bytes([kind])
+        + pharmacy.to_bytes(2, "big")
+        + number.to_bytes(8, "big")
+        + len(text).to_bytes(4, "big")
+        + text
+    )
 
 
 class Node:
     """One node of the usual settings, some of them otherwise, in a folder of its own."""
 
-    def __init__(self, name: str, **terms: int):
+    def __init__(self, name: str, **terms: int | str):
         self.folder = room()
-        self.settings = f'{self.folder.name}/settings.toml'
-        with open(self.settings, 'w', encoding='ascii') as file:
+        self.settings = f"{self.folder.name}/settings.toml"
+        with open(self.settings, "w", encoding="ascii") as file:
             file.write(SETTINGS.format(**(USUAL | terms)))
-        self.served = Served(self.settings, name, f'{self.folder.name}/{name}.log')
+        self.served = Served(self.settings, name, f"{self.folder.name}/{name}.log")
 
     def ask(self, line: str) -> Answer:
         return self.served.ask(line)
@@ -42,8 +52,16 @@ class Node:
         """What it says to each of many lines, of which it is given a few at a time."""
         said = []
         for at in range(0, len(lines), FEW):
-            said += self.served.ask_all(lines[at:at + FEW])
+            said += self.served.ask_all(lines[at : at + FEW])
         return said
+
+    def turn(self) -> str:
+        """What claimnode says where it closes the log; the node goes on in the new one."""
+        name, log = self.served.node, self.served.log
+        self.served.end()
+        ran = run("claimnode", "--turn", self.settings, name, log, given=b"")
+        self.served = Served(self.settings, name, log)
+        return " ".join((ran.out + ran.err).decode().replace(f"{self.folder.name}/", "").split())
 
     def end(self) -> None:
         self.served.end()
@@ -56,7 +74,7 @@ class Steps:
     def __init__(self):
         self.node: Node | None = None
 
-    def open(self, name: str, **terms: int) -> None:
+    def open(self, name: str, **terms: int | str) -> None:
         self.end()
         self.node = Node(name, **terms)
 
@@ -68,7 +86,7 @@ class Steps:
     def list_of(self, line: str) -> str:
         """What the node tells as a list: its lines, and the last one."""
         said = self.node.ask(line)
-        return ' | '.join([*said.lines, said.last])
+        return " | ".join([*said.lines, said.last])
 
 
 class Journal(Steps):
@@ -76,52 +94,64 @@ class Journal(Steps):
 
     def tell(self, word: str, argument: bytes) -> str:
         """What a row comes to."""
-        if word == 'open':
-            again, tries, cap = map(int, argument.split(b' '))
-            self.open('ph1', again=again, tries=tries, journal=cap)
-            return 'ok'
-        if word == 'restart':
-            said = [self.node.ask('stop').last, self.node.ask('start').last]
-            return 'ok' if said == ['ok', 'ok'] else ' '.join(said)
-        if word.startswith('hear'):
-            pharmacy, number, text = argument.split(b' ', 2)
-            kind = REQUEST if word == 'hear-request' else ANSWER
-            return self.node.ask(f'take sw1 {printed(packet_of(kind, int(pharmacy), int(number), text))}').last
-        if word == 'count':
-            return self.node.ask('count').last.removeprefix('count ')
+        if word == "open":
+            again, tries, cap = map(int, argument.split(b" "))
+            self.open("ph1", again=again, tries=tries, journal=cap)
+            return "ok"
+        if word == "restart":
+            said = [self.node.ask("stop").last, self.node.ask("start").last]
+            return "ok" if said == ["ok", "ok"] else " ".join(said)
+        if word.startswith("hear"):
+            pharmacy, number, text = argument.split(b" ", 2)
+            kind = REQUEST if word == "hear-request" else ANSWER
+            return self.node.ask(f"take sw1 {printed(packet_of(kind, int(pharmacy), int(number), text))}").last
+        if word == "count":
+            return self.node.ask("count").last.removeprefix("count ")
         if word in LISTS:
-            return self.list_of(f'{LISTS[word]} {argument.decode()}')
-        return {'submit': self.submit, 'send': self.send, 'tick': self.tick, 'held': self.held, 'open-of': self.open_of}[word](argument)
+            return self.list_of(f"{LISTS[word]} {argument.decode()}")
+        return {
+            "submit": self.submit,
+            "send": self.send,
+            "tick": self.tick,
+            "held": self.held,
+            "open-of": self.open_of,
+        }[word](argument)
 
     def submit(self, text: bytes) -> str:
-        return self.node.ask(f'submit {printed(text)}').last.removeprefix('number ')
+        return self.node.ask(f"submit {printed(text)}").last.removeprefix("number ")
 
     def send(self, text: bytes) -> str:
-        said = self.node.ask(f'submit {printed(text)}')
-        return ' '.join([said.last.removeprefix('number '), *(f'switch={to[2:]} {printed(packet)}' for to, packet in said.sent)])
+        said = self.node.ask(f"submit {printed(text)}")
+        return " ".join(
+            [said.last.removeprefix("number "), *(f"switch={to[2:]} {printed(packet)}" for to, packet in said.sent)]
+        )
 
     def tick(self, _: bytes) -> str:
-        return ' '.join(f'switch={to[2:]} bytes={len(packet)}' for to, packet in self.node.ask('tick').sent) or 'nothing'
+        return (
+            " ".join(f"switch={to[2:]} bytes={len(packet)}" for to, packet in self.node.ask("tick").sent) or "nothing"
+        )
 
     def open_of(self, argument: bytes) -> str:
-        said = self.node.ask(f'open {argument.decode()}')
-        return ' '.join([*said.entries, said.last])
+        said = self.node.ask(f"open {argument.decode()}")
+        return " ".join([*said.entries, said.last])
 
     def held(self, number: bytes) -> str:
-        last = self.node.ask(f'answer {int(number)}').last
-        return 'nothing' if last in ('open', 'none') else last.removeprefix('answer ')
+        last = self.node.ask(f"answer {int(number)}").last
+        return "nothing" if last in ("open", "none") else last.removeprefix("answer ")
 
 
 def rulings(answers: list[bytes]) -> list[str]:
     """What each answer of one transaction rules."""
-    lines = ''.join(f'{it.hex()}\n' for it in answers)
+    lines = "".join(f"{it.hex()}\n" for it in answers)
     told = []
-    for line in run('claimdecode', 'answer', '--json', '--hex', given=lines.encode()).out.splitlines():
-        found, = json.loads(line)['findings']
-        if found.get('codes') == '87':
-            told.append('not-processed')
+    for line in run("claimdecode", "answer", "--json", "--hex", given=lines.encode()).out.splitlines():
+        (found,) = json.loads(line)["findings"]
+        if found.get("codes") == "87":
+            told.append("not-processed")
         else:
-            told.append(f'{found["ruling"]}={int(found["authorization"][4:])}' if 'authorization' in found else str(found))
+            told.append(
+                f'{found["ruling"]}={int(found["authorization"][4:])}' if "authorization" in found else str(found)
+            )
     return told
 
 
@@ -134,19 +164,21 @@ class Book(Steps):
 
     def tell(self, word: str, argument: bytes) -> str:
         """What a row comes to."""
-        if word == 'book':
-            self.open('pr1', book=int(argument))
+        if word == "book":
+            self.open("pr1", book=int(argument))
             self.number = 0
-            return 'ok'
-        if word == 'refused':
+            return "ok"
+        if word == "refused":
             self.number += 1
-            return self.node.served.take('sw1', packet_of(REQUEST, 1, self.number, argument)).refused or 'answered'
+            return self.node.served.take("sw1", packet_of(REQUEST, 1, self.number, argument)).refused or "answered"
         if word in LISTS:
-            return self.list_of(f'{LISTS[word]} {argument.decode()}')
-        if word == 'packet':
-            pharmacy, number, request = argument.split(b' ', 2)
-            return printed(self.node.served.take('sw1', packet_of(REQUEST, int(pharmacy), int(number), request)).sent[0][1][:18])
-        count, _, request = argument.partition(b' ')
+            return self.list_of(f"{LISTS[word]} {argument.decode()}")
+        if word == "packet":
+            pharmacy, number, request = argument.split(b" ", 2)
+            return printed(
+                self.node.served.take("sw1", packet_of(REQUEST, int(pharmacy), int(number), request)).sent[0][1][:18]
+            )
+        count, _, request = argument.partition(b" ")
         return self.each(int(count), request)
 
     def each(self, count: int, request: bytes) -> str:
@@ -154,12 +186,46 @@ class Book(Steps):
         lines = []
         for prescription in range(1, count + 1):
             self.number += 1
-            lines.append(f'take sw1 {printed(packet_of(REQUEST, 1, self.number, request.replace(b"@", str(prescription).encode())))}')
+            lines.append(
+                f'take sw1 {printed(packet_of(REQUEST, 1, self.number, request.replace(b"@", str(prescription).encode())))}'
+            )
         said = self.node.ask_many(lines)
         told = rulings([it.sent[0][1][18:] for it in said])
-        name, _, first = told[0].partition('=')
-        wanted = [f'{name}={int(first) + place}' if first else name for place in range(count)]
-        return f'{told[0]} to {told[-1]}' if told == wanted else ' '.join(told)
+        name, _, first = told[0].partition("=")
+        wanted = [f"{name}={int(first) + place}" if first else name for place in range(count)]
+        return f"{told[0]} to {told[-1]}" if told == wanted else " ".join(told)
+
+
+class Asking(Steps):
+    """The book of payer 1, which asks its own system or does not."""
+
+    def __init__(self):
+        super().__init__()
+        self.advice = b""
+
+    def tell(self, word: str, argument: bytes) -> str:
+        """What a row comes to."""
+        if word == "payer":
+            self.open("pr1", book=10, asks={b"asks": 'asks = "claims"\n', b"plans": ""}[argument])
+            return "ok"
+        if word == "advice":
+            self.advice = argument
+            return "ok"
+        if word == "turn":
+            return self.node.turn()
+        if word in LISTS:
+            return self.list_of(f"{LISTS[word]} {argument.decode()}")
+        if word in ("take", "adjudicate"):
+            number, _, request = argument.partition(b" ")
+            return self.answer(word, printed(packet_of(REQUEST, 1, int(number), request)))
+        line = argument.decode("latin-1")
+        return self.node.ask(line if word == "line" else f"{word} {line}".rstrip()).last
+
+    def answer(self, word: str, packet: str) -> str:
+        """What a node answers to a packet, with the advice or without."""
+        spelled = printed(self.advice).replace(" ", "\\x20")
+        said = self.node.ask(f"take sw1 {packet}" if word == "take" else f"adjudicate sw1 {spelled} {packet}")
+        return printed(said.sent[0][1][18:]) if said.last == "ok" and len(said.sent) == 1 else said.last
 
 
 class Dice:
@@ -169,18 +235,18 @@ class Dice:
         self.state = state
 
     def roll(self, sides: int) -> int:
-        self.state = (self.state * 6_364_136_223_846_793_005 + 1_442_695_040_888_963_407) % 2 ** 64
+        self.state = (self.state * 6_364_136_223_846_793_005 + 1_442_695_040_888_963_407) % 2**64
         return (self.state >> 33) % sides
 
 
 # Two billings that have a route, one that has none, and no request; two answers, and no answer; the rejection of the billings.
-BILLED = b'D0B1A1        1011234567893     20240115SW00000001\x1d\x1e\x1cAM07\x1cEM1\x1cD2123456\x1cD3'
-REQUESTS = [b'610455' + BILLED + b'0', b'610455' + BILLED + b'1', b'999999' + BILLED + b'0', b'x']
-ACCEPTED = b'D0B11A011234567893     20240115\x1d\x1e\x1cAM21\x1cANR\x1cFA1\x1cFB'
-REFUSED = b'D0B11R011234567893     20240115\x1d\x1e\x1cAM21\x1cANR\x1cFA1\x1cFB01'
-ANSWERS = [ACCEPTED + b'70', ACCEPTED + b'83', b'x']
+BILLED = b"D0B1A1        1011234567893     20240115SW00000001\x1d\x1e\x1cAM07\x1cEM1\x1cD2123456\x1cD3"
+REQUESTS = [b"610455" + BILLED + b"0", b"610455" + BILLED + b"1", b"999999" + BILLED + b"0", b"x"]
+ACCEPTED = b"D0B11A011234567893     20240115\x1d\x1e\x1cAM21\x1cANR\x1cFA1\x1cFB"
+REFUSED = b"D0B11R011234567893     20240115\x1d\x1e\x1cAM21\x1cANR\x1cFA1\x1cFB01"
+ANSWERS = [ACCEPTED + b"70", ACCEPTED + b"83", b"x"]
 UNROUTED, NO_REQUEST, NO_ANSWER = 2, 3, 2
-COUNTED = ('forwarded', 'answered', 'rejected', 'refused', 'sent', 'stopped')
+COUNTED = ("forwarded", "answered", "rejected", "refused", "sent", "stopped")
 
 
 class PlainTable:
@@ -192,30 +258,30 @@ class PlainTable:
     def request(self, number: int, which: int) -> tuple[str, str]:
         """What is done with a request, and what it is counted as."""
         if which == NO_REQUEST:
-            return 'refused Unreadable', 'refused'
+            return "refused Unreadable", "refused"
         if number in self.entries:
             request, answer = self.entries[number]
             if request != which:
-                return 'refused NumberReused', 'refused'
+                return "refused NumberReused", "refused"
             if answer is not None:
-                return f'ph1 {answer}', 'answered'
+                return f"ph1 {answer}", "answered"
         elif which != UNROUTED:
             if len(self.entries) >= self.cap:
                 del self.entries[next(iter(self.entries))]
             self.entries[number] = (which, None)
-        return ('ph1 rejected', 'rejected') if which == UNROUTED else ('pr1', 'forwarded')
+        return ("ph1 rejected", "rejected") if which == UNROUTED else ("pr1", "forwarded")
 
     def response(self, number: int, which: int) -> tuple[str, str]:
         """What is done with a response, and what it is counted as."""
         if which == NO_ANSWER:
-            return 'refused Unreadable', 'stopped'
+            return "refused Unreadable", "stopped"
         if number not in self.entries:
-            return 'refused NotWaiting', 'stopped'
+            return "refused NotWaiting", "stopped"
         request, answer = self.entries[number]
         if answer not in (None, which):
-            return 'refused Differs', 'stopped'
+            return "refused Differs", "stopped"
         self.entries[number] = (request, which)
-        return f'ph1 {which}', 'sent'
+        return f"ph1 {which}", "sent"
 
 
 class Table(Steps):
@@ -223,8 +289,8 @@ class Table(Steps):
 
     def tell(self, word: str, argument: bytes) -> str:
         """How they fare over so many turns."""
-        cap, turns = map(int, argument.split(b' '))
-        self.open('sw1', table=cap)
+        cap, turns = map(int, argument.split(b" "))
+        self.open("sw1", table=cap)
         plain, dice, counts = PlainTable(cap), Dice(20_240_115), dict.fromkeys(COUNTED, 0)
         lines, wanted = [], []
         for _ in range(turns):
@@ -233,33 +299,38 @@ class Table(Steps):
                 which = dice.roll(4)
                 done, counted = plain.request(number, which)
                 packet = packet_of(REQUEST, 1, number, REQUESTS[which])
-                lines.append(f'take ph1 {printed(packet)}')
+                lines.append(f"take ph1 {printed(packet)}")
             else:
                 which = dice.roll(3)
                 done, counted = plain.response(number, which)
                 packet = packet_of(ANSWER, 1, number, ANSWERS[which])
-                lines.append(f'take pr1 {printed(packet)}')
+                lines.append(f"take pr1 {printed(packet)}")
             counts[counted] += 1
             wanted.append(self.said(done, number, packet))
         for turn, (said, want) in enumerate(zip(self.node.ask_many(lines), wanted, strict=True)):
             if (said.sent, said.last) != want:
-                return f'differs at turn {turn}: {said} in place of {want}'
-        return ' '.join(['agrees', *(f'{name}={count}' for name, count in counts.items())])
+                return f"differs at turn {turn}: {said} in place of {want}"
+        return " ".join(["agrees", *(f"{name}={count}" for name, count in counts.items())])
 
     @staticmethod
     def said(done: str, number: int, packet: bytes) -> tuple[list[tuple[str, bytes]], str]:
         """What a node says where this is done."""
-        if done.startswith('refused'):
+        if done.startswith("refused"):
             return [], done
-        to, _, which = done.partition(' ')
-        if to == 'ph1':
-            packet = packet_of(ANSWER, 1, number, REFUSED if which == 'rejected' else ANSWERS[int(which)])
-        return [(to, packet)], 'ok'
+        to, _, which = done.partition(" ")
+        if to == "ph1":
+            packet = packet_of(ANSWER, 1, number, REFUSED if which == "rejected" else ANSWERS[int(which)])
+        return [(to, packet)], "ok"
 
 
-SUBJECTS: dict[str, Callable[[], Steps]] = {'journal': Journal, 'prescriptions': Book, 'switch_table': Table}
+SUBJECTS: dict[str, Callable[[], Steps]] = {
+    "journal": Journal,
+    "prescriptions": Book,
+    "advised": Asking,
+    "switch_table": Table,
+}
 
 
 def groups(path: str, name: str, kind: type[Case]) -> list[Group]:
-    subject = SUBJECTS[name.rsplit('/', 1)[1].rsplit('.', 1)[0]]()
+    subject = SUBJECTS[name.rsplit("/", 1)[1].rsplit(".", 1)[0]]()
     return [rows_in_order(name, read_rows(path), subject.tell, kind, end=subject.end, weight=20)]

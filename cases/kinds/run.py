@@ -3,25 +3,27 @@ outcomes, each behind a line `===`, comes."""
 from suite.case import Case, Group
 from suite.programs import run, text_of
 
-PROGRAMS = ('claimswitch',)
+PROGRAMS = ("claimswitch",)
 
 
 def parts(path: str) -> tuple[bytes, list[str]]:
     """The input, and each outcome."""
-    with open(path, 'rb') as file:
-        given, *outcomes = file.read().split(b'===\n')
+    with open(path, "rb") as file:
+        given, *outcomes = file.read().split(b"===\n")
     return given, list(map(text_of, outcomes))
 
 
 def compared(path: str):
     """Compares what claimswitch writes of a file's input, and its complaint behind it, with the outcomes."""
+
     def body(case: Case) -> None:
         given, outcomes = parts(path)
-        ran = run('claimswitch', 'run', given=given)
+        ran = run("claimswitch", "run", given=given)
         told = text_of(ran.out + ran.err)
         if told not in outcomes:
             case.compare(outcomes[0], told)
         case.assertEqual(1 if ran.err else 0, ran.status)
+
     return body
 
 

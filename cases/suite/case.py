@@ -10,11 +10,12 @@ SHORT, MOST_TOLD = 12, 40
 class Case(unittest.TestCase):
     """A case under its name, FILE or FILE:LINE, and what it says where it does not come out as it tells. `body` compares, by what the
     library `unittest` asserts."""
+
     longMessage = True
     maxDiff = None
 
-    def __init__(self, name: str, body: Callable[['Case'], None], says: str = ''):
-        super().__init__('runTest')
+    def __init__(self, name: str, body: Callable[["Case"], None], says: str = ""):
+        super().__init__("runTest")
         self.name, self.body, self.says = name, body, says
 
     def runTest(self) -> None:
@@ -27,13 +28,13 @@ class Case(unittest.TestCase):
         """Fails with the difference where what came is another text."""
         if wanted == came:
             return
-        lines, others = wanted.split('\n'), came.split('\n')
+        lines, others = wanted.split("\n"), came.split("\n")
         if max(len(lines), len(others)) <= SHORT:
-            told = [line.rstrip('\n') for line in difflib.ndiff(lines, others)]
+            told = [line.rstrip("\n") for line in difflib.ndiff(lines, others)]
         else:
-            told = list(difflib.unified_diff(lines, others, 'wanted', 'came', n=1, lineterm=''))
-        more = [f'.. and {len(told) - MOST_TOLD} lines more'] if len(told) > MOST_TOLD else []
-        self.fail('\n'.join(told[:MOST_TOLD] + more))
+            told = list(difflib.unified_diff(lines, others, "wanted", "came", n=1, lineterm=""))
+        more = [f".. and {len(told) - MOST_TOLD} lines more"] if len(told) > MOST_TOLD else []
+        self.fail("\n".join(told[:MOST_TOLD] + more))
 
 
 class Differing(Case):
@@ -44,7 +45,7 @@ class Differing(Case):
             self.body(self)
         except self.failureException:
             return
-        self.fail('this came out as it tells, which is wrong on purpose')
+        self.fail("this came out as it tells, which is wrong on purpose")
 
 
 class Group:
@@ -59,12 +60,17 @@ def rows_in_order(name: str, rows, tell: Callable[[str, bytes], str], kind: type
     return Group([row_case(name, row, tell, kind) for row in rows], **more)
 
 
-def rows_apart(name: str, rows, tell: Callable[[str, bytes], str], kind: type[Case] = Case,
-               weight: Callable[[str, bytes], int] = lambda word, argument: 1) -> list[Group]:
+def rows_apart(
+    name: str,
+    rows,
+    tell: Callable[[str, bytes], str],
+    kind: type[Case] = Case,
+    weight: Callable[[str, bytes], int] = lambda word, argument: 1,
+) -> list[Group]:
     """The rows of a file, none of which needs another: each is a group of its own."""
     return [Group([row_case(name, row, tell, kind)], weight(row.word, row.argument)) for row in rows]
 
 
 def row_case(name: str, row, tell: Callable[[str, bytes], str], kind: type[Case]) -> Case:
     """The case of a row."""
-    return kind(f'{name}:{row.line}', lambda case: case.compare(row.outcome, tell(row.word, row.argument)), row.spelled)
+    return kind(f"{name}:{row.line}", lambda case: case.compare(row.outcome, tell(row.word, row.argument)), row.spelled)

@@ -7,11 +7,12 @@ from suite.logs import TAKE, Call, Log, Sent, taking
 # How often a log is looked for that can be changed.
 DRAWS = 8
 # A bit of a packet that was sent or taken; two calls change places; a call is left out, or is there twice.
-CHANGES = ('sent', 'taken', 'exchanged', 'left out', 'doubled')
+CHANGES = ("sent", "taken", "exchanged", "left out", "doubled")
 
 
 class Spot(NamedTuple):
     """Where a log is changed: the place of a call, that of the call with which it changes places, and a bit of a packet."""
+
     place: int
     other: int
     bit: int
@@ -29,23 +30,25 @@ def can_change(log: Log, change: str, spot: Spot) -> bool:
     if spot.place >= len(log.calls):
         return False
     call = log.calls[spot.place]
-    return {'sent': bool(call.sent), 'taken': call.kind == TAKE, 'exchanged': spot.other != spot.place}.get(change, True)
+    return {"sent": bool(call.sent), "taken": call.kind == TAKE, "exchanged": spot.other != spot.place}.get(
+        change, True
+    )
 
 
 def changed_calls(calls: list[Call], change: str, spot: Spot) -> list[Call]:
     """Calls that are changed at a spot."""
     at, call = spot.place, calls[spot.place]
-    if change == 'exchanged':
+    if change == "exchanged":
         calls[at], calls[spot.other] = calls[spot.other], calls[at]
         return calls
-    if change == 'sent':
+    if change == "sent":
         first, *others = call.sent
         instead = [call._replace(sent=(Sent(first.to, turned(first.octets, spot.bit)), *others))]
-    elif change == 'taken':
+    elif change == "taken":
         instead = [taking(call.sender, turned(call.octets, spot.bit), call.sent)]
     else:
-        instead = [call, call] if change == 'doubled' else []
-    return calls[:at] + instead + calls[at + 1:]
+        instead = [call, call] if change == "doubled" else []
+    return calls[:at] + instead + calls[at + 1 :]
 
 
 def changed_at(logs: list[Log], place: int, change: str, spot: Spot) -> list[Log] | None:
@@ -53,7 +56,7 @@ def changed_at(logs: list[Log], place: int, change: str, spot: Spot) -> list[Log
     log = logs[place]
     if not can_change(log, change, spot):
         return None
-    return [*logs[:place], log._replace(calls=tuple(changed_calls(list(log.calls), change, spot))), *logs[place + 1:]]
+    return [*logs[:place], log._replace(calls=tuple(changed_calls(list(log.calls), change, spot))), *logs[place + 1 :]]
 
 
 def changed(draws: Draws, logs: list[Log], change: str) -> tuple[int, list[Log]] | None:

@@ -17,7 +17,7 @@ def spread(function: Callable[[Any], Any], items: Iterable[Any]) -> list[Any]:
     items = list(items)
     WORK.append((function, items))
     try:
-        with multiprocessing.get_context('fork').Pool(min(os.cpu_count() or 1, len(items))) as pool:
+        with multiprocessing.get_context("fork").Pool(min(os.cpu_count() or 1, len(items))) as pool:
             return pool.map(one, range(len(items)), chunksize=max(1, len(items) // 32))
     finally:
         WORK.pop()

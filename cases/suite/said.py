@@ -4,7 +4,7 @@ import tomllib
 
 
 def number(value: int) -> bytes:
-    return struct.pack('>Q', value)
+    return struct.pack(">Q", value)
 
 
 def text(octets: bytes) -> bytes:
@@ -13,7 +13,7 @@ def text(octets: bytes) -> bytes:
 
 def listed(items: list[bytes]) -> bytes:
     """How many there are, and each."""
-    return number(len(items)) + b''.join(items)
+    return number(len(items)) + b"".join(items)
 
 
 def filled(value: str, width: int) -> bytes:
@@ -22,25 +22,44 @@ def filled(value: str, width: int) -> bytes:
 
 
 def pharmacy_said(document: dict, pharmacy: dict) -> bytes:
-    numbers = document['again'], document['tries'], pharmacy['cap']
-    parts = [filled(pharmacy['qualifier'], 2), filled(pharmacy['provider'], 15), listed([number(it) for it in pharmacy['nodes']])]
-    return b''.join([*parts, *map(number, numbers)])
+    numbers = document["again"], document["tries"], pharmacy["cap"]
+    parts = [
+        filled(pharmacy["qualifier"], 2),
+        filled(pharmacy["provider"], 15),
+        listed([number(it) for it in pharmacy["nodes"]]),
+    ]
+    return b"".join([*parts, *map(number, numbers)])
 
 
 def payer_said(payer: dict) -> bytes:
-    numbers = payer.get('serial', 1), payer['cap'], payer['fee'], payer['copay']
-    prices = sorted((product.encode(), price) for product, price in payer.get('prices', {}).items())
-    return b''.join(map(number, numbers)) + listed([text(product) + number(price) for product, price in prices])
+    numbers = payer.get("serial", 1), payer["cap"], payer["fee"], payer["copay"]
+    asks = number(0) if "asks" in payer else b""
+    prices = sorted((product.encode(), price) for product, price in payer.get("prices", {}).items())
+    return asks + b"".join(map(number, numbers)) + listed([text(product) + number(price) for product, price in prices])
 
 
 def route_said(route: dict) -> bytes:
-    pcn = number(1) + text(route['pcn'].encode()) if 'pcn' in route else number(0)
-    return text(route['bin'].encode()) + pcn + number(route['payer'])
+    kind = ("pcn" in route) + 2 * ("qualifier" in route)
+    pcn = text(route["pcn"].encode()) if "pcn" in route else b""
+    return text(route["bin"].encode()) + number(kind) + pcn + providers_said(route) + number(route["payer"])
+
+
+def providers_said(route: dict) -> bytes:
+    """The providers that a route is for: nothing, where it is for all."""
+    if "qualifier" not in route:
+        return b""
+    ends = [route.get("provider", route.get(end)) for end in ("first", "last")]
+    return filled(route["qualifier"], 2) + b"".join(filled(end, 15) for end in ends)
 
 
 def said_of(settings: bytes) -> bytes:
     """What settings say."""
     document = tomllib.loads(settings.decode())
-    return b''.join([
-        listed([pharmacy_said(document, it) for it in document['pharmacy']]), listed([number(it['cap']) for it in document['switch']]),
-        listed([payer_said(it) for it in document['payer']]), listed([route_said(it) for it in document['route']])])
+    return b"".join(
+        [
+            listed([pharmacy_said(document, it) for it in document["pharmacy"]]),
+            listed([number(it["cap"]) for it in document["switch"]]),
+            listed([payer_said(it) for it in document["payer"]]),
+            listed([route_said(it) for it in document["route"]]),
+        ]
+    )

@@ -21,10 +21,10 @@ def mixed(a: int, b: int, c: int, d: int) -> tuple[int, int, int, int]:
 
 def siphash(octets: bytes) -> int:
     """SipHash-1-3 of bytes with both keys 0: one round for each eight bytes, the low one first, and three at the end."""
-    a, b, c, d = (int.from_bytes(it) for it in (b'somepseu', b'dorandom', b'lygenera', b'tedbytes'))
+    a, b, c, d = (int.from_bytes(it) for it in (b"somepseu", b"dorandom", b"lygenera", b"tedbytes"))
     whole = len(octets) // 8 * 8
-    words = struct.unpack(f'<{whole // 8}Q', octets[:whole])
-    for word in (*words, (len(octets) & 255) << 56 | int.from_bytes(octets[whole:], 'little')):
+    words = struct.unpack(f"<{whole // 8}Q", octets[:whole])
+    for word in (*words, (len(octets) & 255) << 56 | int.from_bytes(octets[whole:], "little")):
         a, b, c, d = mixed(a, b, c, d ^ word)
         a ^= word
     c ^= 255
@@ -35,5 +35,5 @@ def siphash(octets: bytes) -> int:
 
 def check_sum(version: int, number: int, octets: bytes) -> bytes:
     """What vouches in a log of a version for the head, number 0, or for the body of a record."""
-    given = struct.pack('>Q', number) + octets
-    return hashlib.sha256(given).digest()[:8] if version == 1 else struct.pack('>Q', siphash(given))
+    given = struct.pack(">Q", number) + octets
+    return hashlib.sha256(given).digest()[:8] if version == 1 else struct.pack(">Q", siphash(given))

@@ -10,10 +10,10 @@ from suite.logs import Log, read_log
 from suite.printed import octets_of, printed
 from suite.programs import TOP, run
 
-sys.path.append(f'{TOP}/tests')
+sys.path.append(f"{TOP}/tests")
 from report_walk import Broken, Report, Walk  # noqa: E402
 
-__all__ = ['Broken', 'Day', 'Dump', 'Packet', 'Report', 'Settings', 'Walk']
+__all__ = ["Broken", "Day", "Dump", "Packet", "Report", "Settings", "Walk"]
 
 
 class Settings:
@@ -21,10 +21,13 @@ class Settings:
 
     def __init__(self, octets: bytes):
         self.octets = octets
-        table = tomllib.loads(octets.decode('utf-8'))
-        self.pharmacies, self.payers = table['pharmacy'], [{'serial': 1, **payer} for payer in table['payer']]
-        self.switches = [switch['cap'] for switch in table['switch']]
-        self.routes = {(route['bin'], None if 'pcn' not in route else route['pcn'].ljust(10)): route['payer'] for route in table['route']}
+        table = tomllib.loads(octets.decode("utf-8"))
+        self.pharmacies, self.payers = table["pharmacy"], [{"serial": 1, **payer} for payer in table["payer"]]
+        self.switches = [switch["cap"] for switch in table["switch"]]
+        self.routes = {
+            (route["bin"], None if "pcn" not in route else route["pcn"].ljust(10)): route["payer"]
+            for route in table["route"]
+        }
 
     def route(self, request) -> int | None:
         """The payer of a request: by its BIN and PCN, else by its BIN alone."""
@@ -32,34 +35,34 @@ class Settings:
 
     def nodes(self) -> list[str]:
         """The nodes by their places."""
-        counts = (('ph', self.pharmacies), ('sw', self.switches), ('pr', self.payers))
-        return [f'{kind}{number}' for kind, many in counts for number in range(1, len(many) + 1)]
+        counts = (("ph", self.pharmacies), ("sw", self.switches), ("pr", self.payers))
+        return [f"{kind}{number}" for kind, many in counts for number in range(1, len(many) + 1)]
 
 
 def event_of(line: str) -> tuple:
     """An event as a walk over reports takes it."""
-    word, _, rest = line.partition(' ')
-    if word == 'submit':
-        pharmacy, _, text = rest.partition(' ')
+    word, _, rest = line.partition(" ")
+    if word == "submit":
+        pharmacy, _, text = rest.partition(" ")
         return word, int(pharmacy[2:]), octets_of(text)
-    if word == 'tick':
+    if word == "tick":
         return word, int(rest[2:])
-    return (word, int(rest)) if word == 'deliver' else (word, *rest.split(' '))
+    return (word, int(rest)) if word == "deliver" else (word, *rest.split(" "))
 
 
 def line_of(event: tuple) -> str:
     """The line of an event."""
     word = event[0]
-    if word == 'submit':
-        return f'submit ph{event[1]} {printed(event[2])}'
-    return f'tick ph{event[1]}' if word == 'tick' else ' '.join(str(it) for it in event)
+    if word == "submit":
+        return f"submit ph{event[1]} {printed(event[2])}"
+    return f"tick ph{event[1]}" if word == "tick" else " ".join(str(it) for it in event)
 
 
 def addressee(event: tuple) -> str | None:
     """The node that an event calls; none is known of a delivery."""
-    if event[0] == 'deliver':
+    if event[0] == "deliver":
         return None
-    return f'ph{event[1]}' if event[0] in ('submit', 'tick') else event[1]
+    return f"ph{event[1]}" if event[0] in ("submit", "tick") else event[1]
 
 
 class Day:
@@ -69,13 +72,13 @@ class Day:
         self.name = name
         self.input, self.outcome = days.parts(days.named(name))
         self.settings = Settings(days.settings(days.named(name)))
-        schedule = (self.input + b'\n').partition(b'\n---\n')[2].decode('latin-1').split('\n')
-        self.events = [event_of(line) for line in schedule if line and not line.startswith('#')]
+        schedule = (self.input + b"\n").partition(b"\n---\n")[2].decode("latin-1").split("\n")
+        self.events = [event_of(line) for line in schedule if line and not line.startswith("#")]
 
     @property
     def nodes(self) -> str:
         """The lines on the nodes after all events."""
-        return ''.join(self.outcome.splitlines(keepends=True)[len(self.events):])
+        return "".join(self.outcome.splitlines(keepends=True)[len(self.events) :])
 
     def report(self) -> Report:
         """The report on it, as the program writes it."""
@@ -84,20 +87,20 @@ class Day:
 
 def schedule(settings: Settings, events: list[tuple]) -> bytes:
     """The input of a replay."""
-    return settings.octets + b'---\n' + ''.join(line_of(event) + '\n' for event in events).encode('latin-1')
+    return settings.octets + b"---\n" + "".join(line_of(event) + "\n" for event in events).encode("latin-1")
 
 
 def replayed(settings: Settings, events: list[tuple]) -> str:
     """What claimswitch writes of a run."""
-    ran = run('claimswitch', 'replay', given=schedule(settings, events))
+    ran = run("claimswitch", "replay", given=schedule(settings, events))
     if ran.status or ran.err:
-        raise AssertionError(f'status {ran.status}, {ran.err!r}')
-    return ran.out.decode('latin-1')
+        raise AssertionError(f"status {ran.status}, {ran.err!r}")
+    return ran.out.decode("latin-1")
 
 
 def nodes_in(report: str) -> str:
     """The lines on the nodes in a report."""
-    return report[re.search('^pharmacy ', report, re.MULTILINE).start():]
+    return report[re.search("^pharmacy ", report, re.MULTILINE).start() :]
 
 
 class Dump:
@@ -106,19 +109,19 @@ class Dump:
     def __init__(self, folder: str, given: bytes):
         self.folder = folder
         os.makedirs(folder, exist_ok=True)
-        ran = run('claimdump', folder, given=given)
+        ran = run("claimdump", folder, given=given)
         if ran.status or ran.out or ran.err:
-            raise AssertionError(f'claimdump: {ran}')
+            raise AssertionError(f"claimdump: {ran}")
 
     def path(self, name: str) -> str:
-        return f'{self.folder}/{name}'
+        return f"{self.folder}/{name}"
 
     def read(self, name: str) -> bytes:
-        with open(self.path(name), 'rb') as file:
+        with open(self.path(name), "rb") as file:
             return file.read()
 
     def log(self, node: str) -> Log:
-        return read_log(self.read(f'{node}.log'))
+        return read_log(self.read(f"{node}.log"))
 
 
 def dump(folder: str, day: Day) -> Dump:
@@ -128,6 +131,7 @@ def dump(folder: str, day: Day) -> Dump:
 
 class Packet(NamedTuple):
     """A packet of a run: who sent it to whom, and its bytes."""
+
     sender: str
     to: str
     octets: bytes
@@ -142,6 +146,8 @@ def packets_of(day: Day, report: Report, dumped: Dump) -> list[Packet]:
             node = addressee(event) or found[event[1] - 1].to
             sent = left[node].pop(0).sent
             if len(sent) != len(outcome.sent):
-                raise AssertionError(f'{line_of(event)} sent {len(sent)} packets by its log, {len(outcome.sent)} by the report')
+                raise AssertionError(
+                    f"{line_of(event)} sent {len(sent)} packets by its log, {len(outcome.sent)} by the report"
+                )
             found += [Packet(node, to, octets) for to, octets in sent]
     return found

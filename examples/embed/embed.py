@@ -1,4 +1,4 @@
-#!/usr/bin/env python3
+#!/usr/bin/python3
 """A pharmacy, a switch and a payer in one process: a claim goes there, and its answer comes back.
 
     embed.py SETTINGS FOLDER REQUEST
@@ -22,6 +22,7 @@ def main() -> int:
     request = vogrilas.unprinted(pathlib.Path(sys.argv[3]).read_bytes().rstrip(b"\n"))
     nodes = {name: vogrilas.FileNode(settings, name, folder / f"{name}.log") for name in ("ph1", "sw1", "pr1")}
     said = nodes["ph1"].submit(request)
+    assert said.number is not None
     print("number", said.number)
     packets = collections.deque(("ph1", packet) for packet in said.sent)
     while packets:

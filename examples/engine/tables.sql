@@ -1,0 +1,30 @@
+-- What the engine keeps. Amounts are cents; a day is its number in the calendar.
+PRAGMA journal_mode = WAL;
+PRAGMA synchronous = FULL;
+CREATE TABLE IF NOT EXISTS members (cardholder TEXT PRIMARY KEY, deductible INTEGER);
+-- Products that do not go together, each pair both ways.
+CREATE TABLE IF NOT EXISTS interactions (product TEXT, other TEXT);
+
+-- What it has answered, by what it was asked under: of a claim that it would pay the part that is deductible, of one that it rejects none.
+CREATE TABLE IF NOT EXISTS answers (pharmacy INTEGER, number INTEGER, request BLOB, place INTEGER, cardholder TEXT, product TEXT, day INTEGER,
+    deductible INTEGER, said BLOB, PRIMARY KEY (pharmacy, number, place));
+CREATE INDEX IF NOT EXISTS answers_of_member ON answers (cardholder);
+
+-- What the book has, as the feed tells it, and nothing else; `taken_back` is the row that reversed a payment.
+CREATE TABLE IF NOT EXISTS ledger (row INTEGER, place INTEGER, pharmacy INTEGER, number INTEGER, ruling TEXT, authorization TEXT,
+    cents INTEGER, taken_back INTEGER, PRIMARY KEY (row, place));
+CREATE INDEX IF NOT EXISTS ledger_by_number ON ledger (pharmacy, number, place);
+CREATE INDEX IF NOT EXISTS ledger_by_authorization ON ledger (authorization);
+CREATE TRIGGER IF NOT EXISTS reversed AFTER INSERT ON ledger WHEN new.ruling = 'reversed' BEGIN
+    UPDATE ledger SET taken_back = new.row WHERE authorization = new.authorization AND ruling = 'paid';
+END;
+
+-- What counts for a member: payments that stand, and what was answered and is in no row yet, so that two claims at once do not both have the
+-- same deductible.
+CREATE VIEW IF NOT EXISTS standing AS SELECT answers.* FROM answers LEFT JOIN ledger USING (pharmacy, number, place)
+    WHERE deductible IS NOT NULL AND (ledger.row IS NULL OR ledger.ruling = 'paid' AND ledger.taken_back IS NULL);
+-- How much of each member's deductible is left.
+CREATE VIEW IF NOT EXISTS deductibles AS SELECT cardholder, members.deductible - COALESCE((SELECT SUM(standing.deductible) FROM standing
+    WHERE standing.cardholder = members.cardholder), 0) AS available FROM members;
+-- Whose standing products go together badly with which.
+CREATE VIEW IF NOT EXISTS interacting AS SELECT cardholder, interactions.product FROM standing JOIN interactions ON other = standing.product;
