@@ -18,7 +18,7 @@ PASSED, FAILED, SKIPPED = "passed", "FAILED", "skipped"
 # Of what differs, or of what a script says, so many lines are shown; all of it is kept.
 MOST_LINES = 40
 # How long a part may take; with all kills and refusals; and a compilation, on a machine that does much else.
-MOST_SECONDS, MOST_SECONDS_OF_ALL, MOST_SECONDS_OF_COMPILING = 900, 7200, 3600
+MOST_SECONDS, MOST_SECONDS_OF_ALL, MOST_SECONDS_OF_COMPILING = 900, 2400, 3600
 # The status with which a script says that something lacks here. Where it runs all is there that it wants, so that this is a failure like any other.
 NOT_RUN = 3
 
@@ -118,6 +118,12 @@ class Runner:
     def keep(self, part: Part, told: str) -> None:
         """Keeps what a part said."""
         (self.room / f"{part.name}.log").write_text(told + "\n", encoding="utf-8")
+
+    def last_said(self, part: Part) -> str:
+        """The last two lines of what a part said: what was not so, and which command ended so."""
+        kept = self.room / f"{part.name}.log"
+        said = kept.read_text(encoding="utf-8").splitlines() if kept.is_file() else []
+        return " | ".join(line.strip()[:200] for line in said[-2:])
 
     def script(self, part: Part, folder: pathlib.Path) -> tuple[str, str]:
         """Runs a script."""

@@ -31,6 +31,8 @@ MOST_WRITTEN_BYTES = 256 << 20
 NICER = ("nice", "-n", "5")
 # How long a program may take that is asked by a person.
 SECONDS = 60.0
+# How long a killed program, whose output something else may have open, is waited for.
+END_SECONDS = 10.0
 
 
 def words_of(name: str) -> list[str]:
@@ -87,27 +89,51 @@ async def run(name: str, *words: str, given: bytes = b"") -> tuple[int, bytes, b
         )
     try:
         async with asyncio.timeout(SECONDS):
-            written, said = await asyncio.gather(_all_of(process.stdout), _all_of(process.stderr))
-            return await process.wait(), written, said
+            written, said = await asyncio.gather(_all_of(process, process.stdout), _all_of(process, process.stderr))
+            status = await process.wait()
     except TimeoutError:
         raise Problem("NoProgram", f"{name} took longer than {SECONDS:.0f} s") from None
     finally:
         if process.returncode is None:
-            # With whatever it has started, which may have its output open.
-            with contextlib.suppress(ProcessLookupError):
-                os.killpg(process.pid, signal.SIGKILL)
-            await process.wait()
+            await _ended(process)
+    if written is None or said is None:
+        raise Problem("NoProgram", f"{name} wrote more than {MOST_WRITTEN_BYTES >> 20} MiB")
+    return status, written, said
 
 
-async def _all_of(stream: asyncio.StreamReader | None) -> bytes:
-    """All that a program writes, to an end that it may not reach."""
+def _kill(process: asyncio.subprocess.Process) -> None:
+    """Kills a program with whatever it has started, which may have its output open."""
+    with contextlib.suppress(ProcessLookupError):
+        os.killpg(process.pid, signal.SIGKILL)
+
+
+async def _ended(process: asyncio.subprocess.Process) -> None:
+    """Kills a program and waits for its end. Its pipes are read meanwhile: asyncio waits for their ends too, and a pipe whose reading is
+    held up, since nobody takes what is there, has none."""
+    _kill(process)
+    with contextlib.suppress(TimeoutError):
+        async with asyncio.timeout(END_SECONDS):
+            await asyncio.gather(_drained(process.stdout), _drained(process.stderr), process.wait())
+
+
+async def _drained(stream: asyncio.StreamReader | None) -> None:
+    """Reads a pipe to its end, and keeps nothing."""
+    with contextlib.suppress(ValueError, OSError):
+        while stream is not None and await stream.read(READ_BYTES):
+            pass
+
+
+async def _all_of(process: asyncio.subprocess.Process, stream: asyncio.StreamReader | None) -> bytes | None:
+    """All that a program writes; None where that is more than it may, which ends the program."""
     assert stream is not None
     parts, size = [], 0
     while part := await stream.read(READ_BYTES):
         parts.append(part)
         size += len(part)
         if size > MOST_WRITTEN_BYTES:
-            raise Problem("NoProgram", f"a program wrote more than {MOST_WRITTEN_BYTES >> 20} MiB")
+            _kill(process)
+            await _drained(stream)
+            return None
     return b"".join(parts)
 
 
@@ -228,3 +254,4 @@ class Child:
             told = self._waiting.popleft()
             if not told.done():
                 told.set_exception(Gone())
+        await _drained(self._process.stdout)
