@@ -3,7 +3,9 @@
 use crate::Ungone;
 use crate::finding::Finding;
 use command_line::End;
+use log_turning::check_regular;
 use std::fs::{File, OpenOptions, TryLockError};
+use std::io;
 
 /// The file of a log, which no node's process has while this lives.
 #[derive(Drop)]
@@ -25,7 +27,7 @@ pub(crate) fn lock_all<'a>(rt: &HostRuntime, names: &[&'a str]) -> Result<Vec<Lo
 
 /// Takes the file of a name.
 fn lock<'a>(rt: &HostRuntime, name: &'a str) -> Result<Locked<'a>, Ungone> {
-    let file = match OpenOptions::new().read(true).open(rt, name) {
+    let file = match open_regular(rt, name) {
         Ok(file) => file,
         Err(error) => return Err(End::of_file(rt.alloc(), name, error)),
     };
@@ -37,4 +39,10 @@ fn lock<'a>(rt: &HostRuntime, name: &'a str) -> Result<Locked<'a>, Ungone> {
         },
         Err(TryLockError::Error(error)) => Err(End::of_file(rt.alloc(), name, error)),
     }
+}
+
+/// Opens a regular file; what else has the name is not opened.
+fn open_regular(rt: &HostRuntime, name: &str) -> io::Result<File> {
+    check_regular(rt, name)?;
+    OpenOptions::new().read(true).open(rt, name)
 }

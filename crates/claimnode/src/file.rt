@@ -3,7 +3,7 @@
 use crate::finding::Finding;
 use crate::turning::leave_mark;
 use command_line::End;
-use log_turning::{BEFORE_REST, rest_size};
+use log_turning::{BEFORE_REST, check_regular, rest_size};
 use node_process::{mark_of_failed_sync, sync_folder};
 use std::alloc::Global;
 use std::fs::{File, OpenOptions, TryLockError};
@@ -38,18 +38,25 @@ impl Opened {
 /// nobody else may read: it has what was claimed for whom. One whose sync failed is refused.
 pub(crate) fn open_log(rt: &HostRuntime, path: &str) -> Result<Opened, End<Finding>> {
     check_mark(rt, path)?;
-    let file = match OpenOptions::new()
-        .read(true)
-        .append(true)
-        .create(true)
-        .mode(0o600)
-        .open(rt, path)
-    {
-        Ok(file) => file,
-        Err(error) => return Err(End::of_file(rt.alloc(), path, error)),
-    };
+    let mut options = OpenOptions::new();
+    options.read(true).append(true).create(true).mode(0o600);
+    let file = opened(rt, path, &options)?;
     sync_name(rt, path)?;
     taken(rt, path, file)
+}
+
+/// Opens a regular file, or makes it where that is asked for.
+fn opened(rt: &HostRuntime, path: &str, options: &OpenOptions) -> Result<File, End<Finding>> {
+    match open_regular(rt, path, options) {
+        Ok(file) => Ok(file),
+        Err(error) => Err(End::of_file(rt.alloc(), path, error)),
+    }
+}
+
+/// The same; what else has the name is not opened.
+fn open_regular(rt: &HostRuntime, path: &str, options: &OpenOptions) -> io::Result<File> {
+    check_regular(rt, path)?;
+    options.open(rt, path)
 }
 
 /// Has the name of a log on disk. Where that fails it leaves a mark, as a log does whose sync failed.
@@ -65,10 +72,10 @@ pub(crate) fn sync_name(rt: &HostRuntime, path: &str) -> Result<(), End<Finding>
 
 /// Opens the file of a log that is there, and takes it for this process.
 pub(crate) fn open_found(rt: &HostRuntime, path: &str) -> Result<Opened, End<Finding>> {
-    match OpenOptions::new().read(true).append(true).open(rt, path) {
-        Ok(file) => taken(rt, path, file),
-        Err(error) => Err(End::of_file(rt.alloc(), path, error)),
-    }
+    let mut options = OpenOptions::new();
+    options.read(true).append(true);
+    let file = opened(rt, path, &options)?;
+    taken(rt, path, file)
 }
 
 /// Takes a file for this process, and reads what stands before its log.

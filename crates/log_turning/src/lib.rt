@@ -17,5 +17,6 @@ pub use laws::{files_have_their_parts, turned_logs_go_on};
 pub use leaving::check_rests;
 pub use turning::{Turned, turn_log};
 pub use whole::{
-    LogBehind, LogFile, WholeFault, closed_name, join_files, log_behind, log_files, whole_log,
+    LogBehind, LogFile, WholeFault, check_regular, closed_name, join_files, log_behind, log_files,
+    whole_log,
 };

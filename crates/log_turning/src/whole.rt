@@ -6,6 +6,7 @@ use crate::joining::{Part, join_logs};
 use crate::leaving::check_rests;
 use kept_logs::{Rest, read_rest};
 use std::alloc::{AllocError, Global};
+use std::io::ErrorKind;
 use std::{fs, io};
 use thiserror::Error;
 use world_setup::Node;
@@ -110,23 +111,39 @@ enum Reach {
     There,
 }
 
-/// The files of a node's logs, the newest first, so far back.
+/// The files of a node's logs, the newest first, so far back. Each was closed with fewer calls than the next one, so that a log
+/// which names itself, or a newer one, as the one before it is refused, and not read again.
 fn files_back(rt: &HostRuntime, path: &str, reach: Reach) -> Result<Vec<LogFile>, WholeFault> {
     let alloc = rt.alloc();
     let mut files = Vec::new(alloc);
     let mut wanted = Some(format!(in alloc; "{path}")?);
+    let mut least = u64::MAX;
     for _ in 0..MOST_LOGS {
         let Some(name) = wanted else {
             return Ok(files);
         };
         let bytes = read_log_file(rt, name.as_str())?;
-        wanted = match rest_of(alloc, bytes.as_slice())? {
-            Some(rest) => file_before(rt, path, rest.calls, reach)?,
+        wanted = match calls_in(alloc, bytes.as_slice())? {
+            Some(calls) => {
+                if calls >= least {
+                    return Err(WholeFault::Logs(name, JoinFault::NotNext(files.len())));
+                }
+                least = calls;
+                file_before(rt, path, calls, reach)?
+            }
             None => None,
         };
         put(&mut files, LogFile { name, bytes })?;
     }
     Ok(files)
+}
+
+/// How many calls were made before the log in a file, where it goes on behind closed ones.
+fn calls_in(alloc: Global, bytes: &[u8]) -> Result<Option<u64>, AllocError> {
+    match rest_of(alloc, bytes)? {
+        Some(rest) => Ok(Some(rest.calls)),
+        None => Ok(None),
+    }
 }
 
 /// The file of the log that was closed with so many calls, where it is read.
@@ -276,10 +293,37 @@ fn rest_of(alloc: Global, bytes: &[u8]) -> Result<Option<Rest<'_>>, AllocError> 
     }
 }
 
-/// The bytes of a file.
+/// The bytes of a regular file.
 fn read_log_file(rt: &HostRuntime, name: &str) -> Result<Vec<u8>, WholeFault> {
-    match fs::read(rt, name) {
+    match read_regular(rt, name) {
         Ok(bytes) => Ok(bytes),
         Err(error) => Err(WholeFault::File(format!(in rt.alloc(); "{name}")?, error)),
+    }
+}
+
+/// The bytes of a regular file: what else has a name may have no end, or wait for ever.
+fn read_regular(rt: &HostRuntime, name: &str) -> io::Result<Vec<u8>> {
+    check_regular(rt, name)?;
+    fs::read(rt, name)
+}
+
+/// Refuses a name that is there and is no regular file's.
+///
+/// # Errors
+/// It is a folder, a pipe, a device; or the system does not tell what it is.
+pub fn check_regular(rt: &HostRuntime, name: &str) -> io::Result<()> {
+    match fs::metadata(rt, name) {
+        Ok(found) => {
+            if found.is_file() {
+                return Ok(());
+            }
+            Err(io::Error::new(ErrorKind::InvalidInput, "not a regular file"))
+        }
+        Err(error) => {
+            if error.kind() == ErrorKind::NotFound {
+                return Ok(());
+            }
+            Err(error)
+        }
     }
 }

@@ -1,12 +1,12 @@
-//! Files beside a log: what was cut off it, and the mark of a sync that failed.
+//! Files beside a log: what was cut off it, what it had where it lost its name, and the mark of a sync that failed.
 
 use std::alloc::Global;
 use std::fs::{File, OpenOptions};
-use std::io::{ErrorKind, Write};
+use std::io::{ErrorKind, Read, Seek, SeekFrom, Write};
 use std::os::unix::fs::OpenOptionsExt;
 use std::{fs, io};
 
-/// The most files beside one log that were cut at one place.
+/// The most files beside one log that end alike.
 const MOST_FILES: u32 = 1_000;
 
 /// Keeps what stands in a file behind so many bytes in a new file beside it, and says so on standard error: at the name of the
@@ -16,7 +16,8 @@ pub fn keep_end(rt: &HostRuntime, path: &str, size: u64) -> io::Result<()> {
     let Some(end) = bytes.get(size as usize..) else {
         return Ok(());
     };
-    let (name, mut file) = new_beside(rt, path, size)?;
+    let ending = format!(in rt.alloc(); ".cut-{size}")?;
+    let (name, mut file) = new_beside(rt, path, ending.as_str())?;
     file.write_all(end)?;
     file.sync_all()?;
     sync_folder(rt, path)?;
@@ -24,6 +25,20 @@ pub fn keep_end(rt: &HostRuntime, path: &str, size: u64) -> io::Result<()> {
     let _ = eprintln!(rt;
         "claimnode: {count} bytes behind byte {size} are cut off, and kept in {name}"
     );
+    Ok(())
+}
+
+/// Keeps all that the file of a log has, which has lost its name, in a new file beside its place, and says so on standard error.
+pub(crate) fn keep_all(rt: &HostRuntime, path: &str, file: &File) -> io::Result<()> {
+    let mut log = file;
+    let mut bytes = Vec::new(rt.alloc());
+    log.seek(SeekFrom::Start(0))?;
+    log.read_to_end(&mut bytes)?;
+    let (name, mut kept) = new_beside(rt, path, ".removed")?;
+    kept.write_all(bytes.as_slice())?;
+    kept.sync_all()?;
+    sync_folder(rt, path)?;
+    let _ = eprintln!(rt; "claimnode: what the log had is kept in {name}");
     Ok(())
 }
 
@@ -37,10 +52,10 @@ pub fn sync_folder(rt: &HostRuntime, path: &str) -> io::Result<()> {
     File::open(rt, folder)?.sync_all()
 }
 
-/// A file beside a log that was not there.
-fn new_beside(rt: &HostRuntime, path: &str, size: u64) -> io::Result<(String, File)> {
+/// A file beside a log that was not there, with its name: that of the log, this ending, and from the second on its number.
+fn new_beside(rt: &HostRuntime, path: &str, ending: &str) -> io::Result<(String, File)> {
     for number in 1..=MOST_FILES {
-        let name = name_of(rt.alloc(), path, size, number)?;
+        let name = name_of(rt.alloc(), path, ending, number)?;
         match private_file()
             .write(true)
             .create_new(true)
@@ -56,15 +71,15 @@ fn new_beside(rt: &HostRuntime, path: &str, size: u64) -> io::Result<(String, Fi
     }
     Err(io::Error::new(
         ErrorKind::AlreadyExists,
-        "too many files were cut off at one place",
+        "too many files with that ending stand beside the log",
     ))
 }
 
 /// The name of the file of that number.
-fn name_of(alloc: Global, path: &str, size: u64, number: u32) -> io::Result<String> {
+fn name_of(alloc: Global, path: &str, ending: &str, number: u32) -> io::Result<String> {
     match number {
-        1 => Ok(format!(in alloc; "{path}.cut-{size}")?),
-        _ => Ok(format!(in alloc; "{path}.cut-{size}-{number}")?),
+        1 => Ok(format!(in alloc; "{path}{ending}")?),
+        _ => Ok(format!(in alloc; "{path}{ending}-{number}")?),
     }
 }
 

@@ -3,13 +3,14 @@
 ghost use Rattle.std.specs.Prelude.{◌≡◌, ◌≤◌, []};
 ghost use Rattle.std.specs.Prelude.{length, IfOk};
 
-use crate::beside::{keep_end, leave_mark};
+use crate::beside::{keep_all, keep_end, leave_mark};
 use crate::machine::Machine;
 use crate::noted::Noted;
 use std::alloc::Global;
 use std::fs::File;
-use std::io;
-use std::io::{Read, Write};
+use std::io::{ErrorKind, Read, Write};
+use std::os::unix::fs::MetadataExt;
+use std::{fs, io};
 
 /// Kinds of acts, as they are noted.
 const FOUND: u64 = 0;
@@ -115,12 +116,45 @@ fn cut_off(rt: &HostRuntime, path: &str, file: &File, size: u64) -> io::Result<(
     file.set_len(size)
 }
 
-/// Has a file on disk; a mark beside it stays where that fails.
+/// Has a file on disk, under its name still; a mark beside it stays where that fails.
 fn synced(rt: &HostRuntime, path: &str, file: &File) -> io::Result<()> {
     match file.sync_all() {
-        Ok(()) => Ok(()),
+        Ok(()) => check_name(rt, path, file),
         Err(error) => {
-            let _ = leave_mark(rt, path);
+            mark(rt, path);
+            Err(error)
+        }
+    }
+}
+
+/// Leaves the mark of a log whose sync failed; where that fails too, it says so on standard error.
+fn mark(rt: &HostRuntime, path: &str) {
+    if let Err(error) = leave_mark(rt, path) {
+        let _ = eprintln!(rt; "claimnode: there is no mark of the failed sync: {error}");
+    }
+}
+
+/// Refuses to go on with a file that has lost its name, since no later process would find it; what it has is kept beside.
+fn check_name(rt: &HostRuntime, path: &str, file: &File) -> io::Result<()> {
+    if has_name(rt, path, file)? {
+        return Ok(());
+    }
+    keep_all(rt, path, file)?;
+    Err(io::Error::new(
+        ErrorKind::NotFound,
+        "the log was removed or replaced while the node ran",
+    ))
+}
+
+/// Whether this name is still the file's.
+fn has_name(rt: &HostRuntime, path: &str, file: &File) -> io::Result<bool> {
+    let held = file.metadata()?;
+    match fs::metadata(rt, path) {
+        Ok(named) => Ok(named.dev() == held.dev() && named.ino() == held.ino()),
+        Err(error) => {
+            if error.kind() == ErrorKind::NotFound {
+                return Ok(false);
+            }
             Err(error)
         }
     }
