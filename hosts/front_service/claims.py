@@ -94,8 +94,10 @@ class Claims:
             if told.receipt is not None:
                 headers |= heads_of(told.receipt)
         except Ended:
-            # What was noted last nobody knows, so nothing is said; the front ends.
-            raise ConnectionResetError from None
+            # What was noted last nobody knows, so nothing is said: the connection ends, and the front.
+            if request.transport is not None:
+                request.transport.abort()
+            return web.Response(status=499)
         except (Problem, web.HTTPException, sqlite3.Error, Failed) as fault:
             problem = (
                 Problem("TooLong") if isinstance(fault, web.HTTPException) else problem_of(fault, request.app["seldom"])
