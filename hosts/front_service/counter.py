@@ -21,7 +21,7 @@ from .problems import Problem
 from .profile import Refusal, Secondary, not_carried, refusal_of
 from .receipts import TOLD, Receipt, Receipts, digest_of
 from .rejections import rejected
-from .standard import rejection, touches_of
+from .standard import rejection, rejection_of_others, touches_of
 
 # What a host refuses before its node looks for the reference: an earlier try may have entered the message all the same.
 OF_HOSTS = ("Busy", "WouldBeFull")
@@ -127,7 +127,7 @@ class Counter:
         until = asyncio.get_running_loop().time() + seconds
         receipt = await self._placed(message, key, until)
         if receipt is None:
-            return Told(self._rejected(message), None, "FillOpen")
+            return Told(await self._late(message), None, "FillOpen")
         answer = receipt.answer or await self._answer_of(receipt, until)
         kept: Receipt | None
         if not is_there():
@@ -137,8 +137,10 @@ class Counter:
         else:
             kept = await self._receipts.give_up(self.pharmacy.name, _key_of(receipt), self.terms.late)
         if kept is None:
-            return Told(self._rejected(message), None, "NoReply")
-        return self._told(message, kept)
+            return Told(await self._late(message), None, "NoReply")
+        if kept.told == TOLD and kept.answer is not None:
+            return Told(kept.answer, kept)
+        return Told(await self._late(message, kept.code), kept)
 
     async def enter(self, message: bytes, key: str | None, seconds: float, least: float) -> Receipt:
         """The receipt of a message whose caller asks for the answer by itself: with the answer, where it is there in so many seconds. Problem
@@ -307,16 +309,15 @@ class Counter:
             return receipt
         return await self._receipts.tell(self.pharmacy.name, _key_of(receipt), answer)
 
-    def _told(self, message: bytes, receipt: Receipt) -> Told:
-        return Told(receipt.told_answer or self._rejected(message), receipt)
-
-    def _rejected(self, message: bytes) -> bytes:
-        return rejection(message, (self.terms.late.encode(),))
+    async def _late(self, message: bytes, code: str | None = None) -> bytes:
+        """What is told where there is no answer in time. Of transactions that somebody was told of as they stand nobody is told no."""
+        told = await self._receipts.told_before(self.pharmacy.name, message, self.terms.grace)
+        return rejection_of_others(message, told, (code or self.terms.late).encode())
 
     def refused(self, message: bytes, problem: Problem) -> bytes:
         """The answer to a message of which nothing was entered, or nobody knows."""
         if problem.name == "NoReply":
-            return self._rejected(message)
+            return rejection(message, (self.terms.late.encode(),))
         return rejected(message, problem.name, problem.codes if isinstance(problem, Refused) else ())
 
     def _spawn(self, work: Coroutine[Any, Any, Any]) -> asyncio.Task[Any]:

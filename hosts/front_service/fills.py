@@ -73,13 +73,40 @@ def told_lately(
 ) -> int | None:
     """The claim of these very bytes whose answer was told to somebody since then: who asks again has not heard it. What was rejected may be
     judged otherwise now, and what was turned since says nothing of what stands: that is a new claim."""
+    claim, answer = _told_since(file, pharmacy, digest, touched, since) or (0, None)
+    if answer is None or any(it.status == REJECTED for it in rulings_of(answer)):
+        return None
+    return None if is_turned(file, pharmacy, claim, code, touched) else claim
+
+
+def told_of_some(
+    file: sqlite3.Connection, pharmacy: str, digest: bytes, code: bytes, touched: Touched, since: float
+) -> dict[int, bytes]:
+    """Of these very bytes, whose answer was told to somebody since then, what it said of those transactions that stand as it said, by their
+    places: where others of them were turned it is a new claim, and yet nobody is told no of these."""
+    claim, answer = _told_since(file, pharmacy, digest, touched, since) or (0, None)
+    if answer is None:
+        return {}
+    rulings, groups = rulings_of(answer), parts_of(answer, RESPONSE_HEADER)[1:]
+    found = {}
+    for it in touched:
+        ruling = rulings[it[0]] if it[0] < len(rulings) else None
+        if ruling is None or ruling.status == REJECTED or is_turned(file, pharmacy, claim, code, [it]):
+            continue
+        if code != BILLING or fate_of(file, pharmacy, ruling.authorization) != REVERSED:
+            found[it[0]] = groups[it[0]]
+    return found
+
+
+def _told_since(
+    file: sqlite3.Connection, pharmacy: str, digest: bytes, touched: Touched, since: float
+) -> tuple[int, bytes | None] | None:
+    """The claim of these very bytes whose answer was told to somebody since then, and its answer."""
     text = """SELECT c.id, c.answer FROM touches t JOIN claims c ON c.id = t.claim WHERE t.pharmacy = ? AND t.prescription = ?
         AND c.digest = ? AND c.told_at >= ? ORDER BY c.id DESC LIMIT 1"""
     for _, prescription, _ in touched[:1]:
-        row = file.execute(text, (pharmacy, prescription, digest, since)).fetchone()
-        if row is None or row[1] is None or any(it.status == REJECTED for it in rulings_of(row[1])):
-            return None
-        return None if is_turned(file, pharmacy, row[0], code, touched) else int(row[0])
+        row: tuple[int, bytes | None] | None = file.execute(text, (pharmacy, prescription, digest, since)).fetchone()
+        return row
     return None
 
 

@@ -23,6 +23,7 @@ from front_service.fills import (
     primary_of,
     repeated,
     told_lately,
+    told_of_some,
     touch,
 )  # noqa: E402
 from front_service.helpers import serve  # noqa: E402
@@ -137,6 +138,17 @@ def there(
     return row
 
 
+def told_before(
+    file: sqlite3.Connection,
+    pharmacy: str,
+    digest: bytes,
+    code: bytes,
+    touched: list[tuple[int, str, int | None]],
+    seconds: float,
+) -> dict[int, bytes]:
+    return told_of_some(file, pharmacy, digest, code, touched, time.time() - seconds)
+
+
 def forget(file: sqlite3.Connection, pharmacy: str, key: str) -> None:
     text = "SELECT id, request FROM claims WHERE pharmacy = ? AND key = ? AND number IS NULL AND repeats IS NULL"
     for claim, request in file.execute(text, (pharmacy, key)).fetchall():
@@ -216,7 +228,7 @@ def write_rulings(file: sqlite3.Connection, ruled: list[int], rows: list[tuple[A
 
 
 _DEEDS: tuple[Any, ...] = (
-    reserve, there, forget, number, seen, of_number, of_key, tell, hand_over, give_up, adopt, due, write_rulings,
+    reserve, there, told_before, forget, number, seen, of_number, of_key, tell, hand_over, give_up, adopt, due, write_rulings,
 )  # fmt: skip
 DEEDS: dict[str, Callable[..., Any]] = {it.__name__: it for it in _DEEDS}
 

@@ -148,6 +148,14 @@ class Receipts:
         row = await self._keeper.ask("there", pharmacy, key, digest_of(request), code_of(request), touched, seconds)
         return None if row is None else Receipt(*row)
 
+    async def told_before(self, pharmacy: str, request: bytes, seconds: float) -> dict[int, bytes]:
+        """What somebody was told of these very bytes less than so many seconds ago, and what stands: the groups of its answer, by their places."""
+        touched = [(it.place, it.prescription, it.fill) for it in touches_of(request)]
+        found: dict[int, bytes] = await self._keeper.ask(
+            "told_before", pharmacy, digest_of(request), code_of(request), touched, seconds
+        )
+        return found
+
     async def forget(self, pharmacy: str, key: str) -> None:
         """Takes back the row of a message that the node has refused: nothing was entered."""
         await self._keeper.ask("forget", pharmacy, key)

@@ -142,7 +142,19 @@ def rejection(message: bytes, codes: Iterable[bytes]) -> bytes:
     code of its place; of more transactions than codes the last one counts."""
     several = list(codes)
     groups = [several[min(place, len(several) - 1)] for place in range(count_of(message))]
-    return header_of(message, REJECTED) + b"".join(b"\x1d\x1e\x1cAM21\x1cANR\x1cFA1\x1cFB" + code for code in groups)
+    return header_of(message, REJECTED) + b"".join(map(_rejected, groups))
+
+
+def _rejected(code: bytes) -> bytes:
+    return b"\x1d\x1e\x1cAM21\x1cANR\x1cFA1\x1cFB" + code
+
+
+def rejection_of_others(message: bytes, groups: dict[int, bytes], code: bytes) -> bytes:
+    """The answer that rejects the transactions of a request but for those of these places, which have been answered so before."""
+    if not groups:
+        return rejection(message, (code,))
+    several = (b"\x1d" + groups[it] if it in groups else _rejected(code) for it in range(count_of(message)))
+    return header_of(message, APPROVED) + b"".join(several)
 
 
 def answer_again(message: bytes, groups: list[bytes]) -> bytes:
