@@ -18,7 +18,7 @@ from typing import Any, NamedTuple
 from .given_up import WAS_REFUSED
 from .pharmacy import MOST_BYTES, Pharmacy
 from .problems import Problem
-from .profile import Refusal, Secondary, not_carried, refusal_of
+from .profile import Refusal, not_carried, refusal_of
 from .receipts import TOLD, Receipt, Receipts, digest_of
 from .rejections import rejected
 from .standard import rejection, rejection_of_others, touches_of
@@ -178,7 +178,8 @@ class Counter:
         reserving: asyncio.Task[tuple[str, Receipt | None, Any]] = self._spawn(self._reserved(message, key, until))
         word, receipt, more = await asyncio.shield(reserving)
         if word == "secondary":
-            raise Refused(refusal_of(Secondary(*more), message))
+            place, why = more
+            raise Refused(refusal_of(place, why, message))
         if receipt is not None and receipt.digest != digest_of(message):
             raise Problem("KeyReused")
         return receipt

@@ -8,6 +8,7 @@ from __future__ import annotations
 import sqlite3
 from collections.abc import Sequence
 
+from .profile import Secondary, Why, secondaries
 from .standard import (
     BILLING,
     DUPLICATE,
@@ -153,32 +154,38 @@ def _may_be_billed(file: sqlite3.Connection, pharmacy: str, prescription: str, n
 
 
 def primary_of(
-    file: sqlite3.Connection, pharmacy: str, touched: Touched, marks: list[tuple[int, str, bytes, bool]]
-) -> tuple[int, str, bytes, bool] | None:
-    """The first transaction that says that another payer comes first, and goes to that payer: the pharmacy was paid for this fill there; or the
-    other payer has the BIN number of this one, and was not billed under another PCN."""
+    file: sqlite3.Connection, pharmacy: str, touched: Touched, marks: Sequence[Secondary]
+) -> tuple[int, Why] | None:
+    """The first transaction that says that another payer comes first, and is not for its payer to judge, and why: that payer has paid the fill
+    itself; or it may be the one that comes first, and the fill was not paid under another PCN of its BIN number. What was paid there as a
+    secondary claim is the payer's to judge: it pays it once."""
     fills = {place: (prescription, fill) for place, prescription, fill in touched}
-    for mark in marks:
-        if mark[0] not in fills:
+    for place, paid_here, unknown in marks:
+        if place not in fills:
             continue
-        prescription, fill = fills[mark[0]]
+        prescription, fill = fills[place]
         paid_at = _paid_at(file, pharmacy, prescription, fill)
-        if prescription in paid_at or (mark[3] and not paid_at):
-            return mark
+        is_secondary = paid_at.get(prescription)
+        if is_secondary is False:
+            return place, paid_here
+        if is_secondary is None and unknown is not None and not paid_at:
+            return place, unknown
     return None
 
 
-def _paid_at(file: sqlite3.Connection, pharmacy: str, prescription: str, fill: int | None) -> set[str]:
-    """Where a fill was paid, and not taken back, as far as the front knows: the prescription at each payer of its BIN number."""
+def _paid_at(file: sqlite3.Connection, pharmacy: str, prescription: str, fill: int | None) -> dict[str, bool]:
+    """Where a fill was paid, and not taken back, as far as the front knows: the prescription at each payer of its BIN number, and whether it was
+    billed there as a secondary claim."""
     front = all_of_bin(prescription)
-    text = """SELECT t.prescription, c.answer, t.place FROM touches t JOIN claims c ON c.id = t.claim
+    text = """SELECT t.prescription, c.request, c.answer, t.place FROM touches t JOIN claims c ON c.id = t.claim
         WHERE t.pharmacy = ? AND t.prescription >= ? AND t.prescription < ? AND t.fill = ? AND c.answer IS NOT NULL"""
-    found = set()
-    for at, answer, place in file.execute(text, (pharmacy, front, f"{front}\U0010ffff", fill)):
+    found: dict[str, bool] = {}
+    for at, request, answer, place in file.execute(text, (pharmacy, front, f"{front}\U0010ffff", fill)):
         rulings = rulings_of(answer)
         if place < len(rulings) and rulings[place].status in (PAID, DUPLICATE):
             if fate_of(file, pharmacy, rulings[place].authorization) != REVERSED:
-                found.add(at)
+                is_secondary = any(it.place == place for it in secondaries(request))
+                found[at] = is_secondary and found.get(at, True)
     return found
 
 

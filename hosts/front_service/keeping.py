@@ -83,7 +83,7 @@ def reserve(
     digest: bytes,
     request: bytes,
     touched: list[tuple[int, str, int | None]],
-    marks: list[tuple[int, str, bytes, bool]],
+    marks: list[Any],
     seconds: float,
 ) -> tuple[str, Any, Any]:
     """What becomes of a message, and its row, or that of the one that it waits for (receipts.Receipts.reserve)."""

@@ -34,6 +34,7 @@ KNOWN = {
     "RebillNotCarried": (422, "rebills (B3) are not carried: send a reversal and a billing"),
     "EligibilityNotCarried": (422, "eligibility (E1) is not carried"),
     "OtherPayerPaid": (422, "another payer comes first (308-C8 02 to 08, or segment 05), and it is the one that this is for"),
+    "OtherPayerNotNamed": (422, "another payer comes first (308-C8 02 to 08, or segment 05), and it is not named by its BIN number (339-6C 03, 340-7C)"),
     "CompoundNotCarried": (422, "a compound (406-D6 2, or segment 10) is not carried"),
     "PartialFillNotCarried": (422, "a partial fill, or its completion (343-HD), is not carried"),
     "Fault": (500, "the front failed"),

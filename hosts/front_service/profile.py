@@ -1,5 +1,5 @@
 """What the profile (docs/FORMATS.md) cannot judge: refused by name, and in the standard's form by a reject code, before it is entered, since a
-payer would pay it as if it were a simple, primary claim. docs/RULES.md has the table."""
+payer would pay it as if it were a simple, primary claim. docs/FRONT.md has the table."""
 
 from __future__ import annotations
 
@@ -13,9 +13,13 @@ _SUSPECT = re.compile(rb"\x1c(?:C8|D6|HD|AM(?:05|10))")
 # Codes of transactions that enter no node, by the name of their refusal; all others are CodeNotCarried.
 _CODES = {b"B3": "RebillNotCarried", b"E1": "EligibilityNotCarried"}
 NOT_PROCESSED = b"85"
-_OTHER_COVERAGE = (b"2", b"3", b"4", b"5", b"6", b"7", b"8")
+# 308-C8 that says nothing of another payer, or that there is none.
+_NO_OTHER_COVERAGE = (b"", b"1")
 # 339-6C: the other payer is named by its BIN number.
 _BY_BIN = b"03"
+# Why a transaction is not taken: the name, the field that says so, and the reject code.
+Why = tuple[str, str, bytes]
+PAID_HERE, NOT_NAMED = "OtherPayerPaid", "OtherPayerNotNamed"
 
 
 class Refusal(NamedTuple):
@@ -27,13 +31,12 @@ class Refusal(NamedTuple):
 
 
 class Secondary(NamedTuple):
-    """A transaction that says that another payer comes first: its place, from 0, the field that says so, the reject code for it, and whether
-    that payer is named by the very BIN number to which the claim goes."""
+    """A transaction that says that another payer comes first: its place, from 0; why it is refused where that payer is the one to which it goes; and
+    why where nobody knows which one that is: None where each is named by the BIN number of another."""
 
     place: int
-    field: str
-    code: bytes
-    is_same_bin: bool
+    paid_here: Why
+    unknown: Why | None
 
 
 def not_carried(message: bytes) -> Refusal | None:
@@ -54,7 +57,7 @@ def not_carried(message: bytes) -> Refusal | None:
     return Refusal(first[0], first[1], codes)
 
 
-def _kind_of(part: bytes) -> tuple[str, str, bytes] | None:
+def _kind_of(part: bytes) -> Why | None:
     """What of a transaction is not carried: name, field and reject code."""
     for segment, field, value in fields_of(part):
         value = value.strip()
@@ -69,7 +72,7 @@ def _kind_of(part: bytes) -> tuple[str, str, bytes] | None:
 
 def secondaries(message: bytes) -> list[Secondary]:
     """The transactions of a billing that say that another payer comes first. Each payer sees what was billed to it alone, so these are judged as
-    others, unless that other payer is the one to which they go."""
+    others, where that other payer is known not to be the one to which they go."""
     if code_of(message) != BILLING or not _SUSPECT.search(message, REQUEST_HEADER):
         return []
     shared, *parts = parts_of(message, REQUEST_HEADER)
@@ -78,22 +81,34 @@ def secondaries(message: bytes) -> list[Secondary]:
 
 
 def _secondary(place: int, own_bin: bytes, part: bytes) -> Secondary | None:
-    segment_said, code_said, is_same, qualifier = False, False, False, b""
+    has_segment, has_code, qualifier = False, False, b""
+    named: list[tuple[bytes, bytes]] = []
     for segment, field, value in fields_of(part):
         value = value.strip()
-        code_said |= field == b"C8" and value.lstrip(b"0") in _OTHER_COVERAGE
-        segment_said |= segment == b"05"
+        has_code |= field == b"C8" and value.lstrip(b"0") not in _NO_OTHER_COVERAGE
+        has_segment |= segment == b"05"
         if field == b"6C":
             qualifier = value
-        is_same |= field == b"7C" and qualifier == _BY_BIN and value.lstrip(b"0") == own_bin.lstrip(b"0")
-    if not segment_said and not code_said:
+        if field == b"7C" and value:
+            named.append((qualifier, value))
+    if not has_segment and not has_code:
         return None
-    if is_same:
-        return Secondary(place, "340-7C", b"7C", True)
-    return Secondary(place, "308-C8" if code_said else "111-AM", b"13" if code_said else b"PE", False)
+    paid_here = (PAID_HERE, "308-C8", b"13") if has_code else (PAID_HERE, "111-AM", b"PE")
+    return Secondary(place, paid_here, _unknown(has_segment, named, own_bin))
 
 
-def refusal_of(secondary: Secondary, message: bytes) -> Refusal:
-    """The refusal of a secondary claim that goes to its primary payer."""
-    codes = tuple(secondary.code if it == secondary.place else NOT_PROCESSED for it in range(count_of(message)))
-    return Refusal("OtherPayerPaid", secondary.field, codes)
+def _unknown(has_segment: bool, named: list[tuple[bytes, bytes]], own_bin: bytes) -> Why | None:
+    """Why it is not known that the other payers, by their kinds of ID and IDs, are others; None where it is."""
+    if not has_segment:
+        return NOT_NAMED, "111-AM", b"PE"
+    if any(kind == _BY_BIN and it.lstrip(b"0") == own_bin.lstrip(b"0") for kind, it in named):
+        return PAID_HERE, "340-7C", b"7C"
+    if any(kind != _BY_BIN for kind, _ in named):
+        return NOT_NAMED, "339-6C", b"6C"
+    return None if named and all(it.isdigit() for _, it in named) else (NOT_NAMED, "340-7C", b"7C")
+
+
+def refusal_of(place: int, why: Why, message: bytes) -> Refusal:
+    """The refusal of a message for one of its transactions."""
+    name, field, code = why
+    return Refusal(name, field, tuple(code if it == place else NOT_PROCESSED for it in range(count_of(message))))
