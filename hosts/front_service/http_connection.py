@@ -41,7 +41,7 @@ class HttpConnection(asyncio.Protocol):
         # What is waited for, of which request, and since when.
         self._awaited, self._since = ("head", 0), others.now()
         self._heads = 0
-        self._unread, self._unread_since = 0, 0.0
+        self._unread, self._unread_since = 0, others.now()
 
     def connection_made(self, transport: asyncio.BaseTransport) -> None:
         self._transport = cast(asyncio.Transport, transport)
