@@ -98,12 +98,13 @@ class Outages:
                     self._silent[pid] = time.monotonic() + self._random.uniform(0.1, 4.0)
 
     def _wake(self, now: float) -> None:
-        """Starts what was stopped long enough."""
-        for pid in [it for it, until in self._silent.items() if until <= now]:
+        """Has hosts that were silent long enough go on, and starts what was stopped long enough: for that no host may be silent."""
+        due = [it for it, until in self._down.items() if until <= now]
+        for pid in [it for it, until in self._silent.items() if due or until <= now]:
             with contextlib.suppress(ProcessLookupError):
                 os.kill(pid, signal.SIGCONT)
             del self._silent[pid]
-        for node in [it for it, until in self._down.items() if until <= now]:
+        for node in due:
             wait_for(
                 lambda node=node: "AlreadyUp" in (told := self._net.ask(node, "start")[0]) or told == "ok",
                 f"{node} starts",
