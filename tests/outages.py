@@ -69,12 +69,17 @@ class Outages:
             self._kill(self._random.choice((b"pr1", b"sw1", b"sw2", b"ph1")))
         elif drawn < 0.75:
             node = self._random.choice(("pr1", "pr1", "pr1", "sw1", "sw2", "ph1"))
-            if node not in self._down and self._net.ask(node, "stop")[1] == 0:
-                self._count("a node stopped")
-                most = 1.0 if node == "ph1" else MOST_SILENT_SECONDS
-                self._down[node] = time.monotonic() + self._random.uniform(0.1, most)
+            if node not in self._down:
+                self._stop(node)
         else:
             self._silence(self._random.choice((b"pr1", b"sw1", b"sw2", b"ph1")))
+
+    def _stop(self, node: str) -> None:
+        """Stops a node for a while. A host that is silent says nothing to that, and does it later."""
+        if self._net.ask(node, "stop")[1] == 0:
+            self._count("a node stopped")
+        most = 1.0 if node == "ph1" else MOST_SILENT_SECONDS
+        self._down[node] = time.monotonic() + self._random.uniform(0.1, most)
 
     def _hosts(self, node: bytes) -> list[int]:
         """The processes that are hosts of a node."""
