@@ -10,7 +10,7 @@ PROBLEM = "application/problem+json"
 REFUSED = {
     400: "BadRequest", 401: "NoToken", 403: "NotAllowed", 404: "NoSuchPharmacy, NoSuchClaim", 408: "Slow", 409: "KeyReused", 413: "TooLong",
     415: "MediaType", 422: "The message is refused, and nothing was entered: the name says why",
-    503: "Down, Busy, JournalFull, WouldBeFull, FrontBusy, NotKept, NotReady, NoAudit, NoProgram, SettingsChanged", 504: "NoReply",
+    503: "Down, Busy, JournalFull, WouldBeFull, FillOpen, FrontBusy, NotKept, NotReady, NoAudit, NoProgram, SettingsChanged", 504: "NoReply",
 }  # fmt: skip
 
 
