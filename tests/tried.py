@@ -3,6 +3,7 @@
 from __future__ import annotations
 
 import pathlib
+import signal
 import sys
 import unittest
 
@@ -50,4 +51,6 @@ def is_whole() -> bool:
 
 def main(argv: list[str] | None = None) -> None:
     """Runs the tests of the script, or those that its words name."""
+    # A shell that starts this in the background has it ignored, and with it by all that is tried.
+    signal.signal(signal.SIGINT, signal.default_int_handler)
     unittest.main(argv=argv or sys.argv, testLoader=InOrder(), verbosity=2, warnings="ignore")
