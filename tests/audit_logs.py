@@ -137,7 +137,7 @@ def packets(logs):
                 packet, at = text_in(body, at)
                 sent.add((node, addressee, packet))
             if at != len(body):
-                sys.exit(f"audit: {log}: a record is longer than its call")
+                raise AssertionError(f"{log}: a record is longer than its call")
     return took, sent
 
 
@@ -223,7 +223,7 @@ def logs_of(folder):
 
 
 def nodes_of(text):
-    """The lines of a report behind those of its events."""
+    """The lines of a report after those of its events."""
     lines = text.split("\n")
     first = next((i for i, line in enumerate(lines) if line.startswith("pharmacy ")), len(lines))
     return lines[first:]
@@ -234,11 +234,11 @@ def strict(text):
 
     def members(pairs):
         if len(dict(pairs)) != len(pairs):
-            sys.exit(f"audit: tables: a name twice in {pairs}")
+            raise AssertionError(f"a name twice in {pairs}")
         return dict(pairs)
 
     def refused(name):
-        sys.exit(f"audit: tables: the constant {name}")
+        raise AssertionError(f"the constant {name}")
 
     return json.loads(text, object_pairs_hook=members, parse_constant=refused)
 
