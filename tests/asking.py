@@ -26,37 +26,13 @@ import nats  # noqa: E402
 import programs  # noqa: E402
 from front_service.printed import printed, unprinted  # noqa: E402
 from network import expect, wait_for  # noqa: E402
+from suite import networks  # noqa: E402
 
-SETTINGS = """again = 2
-tries = 2
-[[pharmacy]]
-qualifier = "01"
-provider = "1234567893"
-nodes = [1, 2]
-cap = 60000
-[[pharmacy]]
-qualifier = "01"
-provider = "1234567894"
-nodes = [2, 1]
-cap = 60000
-[[switch]]
-cap = 60000
-[[switch]]
-cap = 60000
-[[payer]]
-asks = "claims"
-fee = 150
-copay = 1000
-cap = 60000
-[[route]]
-bin = "610455"
-payer = 1
-"""
+SETTINGS = networks.settings(((1, 2), (2, 1)), (60000, 60000), (60000, 60000), rows=60000, again=2, tries=2, asks=True)
 NODES = ("ph1", "ph2", "sw1", "sw2", "pr1")
 # How long the host waits for a system, where a test says nothing else.
 WAIT_SECONDS = 1
 CARDHOLDER = "987654321"
-REVERSAL = (network.TOP / "examples" / "messages" / "reversal.txt").read_text(encoding="ascii").strip()
 
 
 def billing(number: int) -> bytes:
@@ -65,7 +41,7 @@ def billing(number: int) -> bytes:
 
 
 def reversal(number: int) -> bytes:
-    return unprinted(REVERSAL.replace("D2123456", f"D2{100000 + number}").encode())
+    return unprinted(networks.reversal(100000 + number).encode())
 
 
 def enveloped(request: bytes, number: int, pharmacy: int = 1) -> bytes:

@@ -10,35 +10,10 @@ import sys
 
 sys.dont_write_bytecode = True
 sys.path.append(os.path.join(os.path.dirname(os.path.dirname(os.path.abspath(__file__))), "cases"))
+from suite import networks  # noqa: E402
 from suite.sums import check_sum  # noqa: E402
 
-HEAD = """again = 2
-tries = 2
-[[pharmacy]]
-qualifier = "01"
-provider = "1234567893"
-nodes = [1, 2]
-cap = 100
-[[pharmacy]]
-qualifier = "01"
-provider = "1234567894"
-nodes = [2]
-cap = 100
-[[switch]]
-cap = 3
-[[switch]]
-cap = 64
-[[payer]]
-fee = 150
-copay = 1000
-cap = 1000
-[payer.prices]
-00093721410 = 18567
-[[route]]
-bin = "610455"
-payer = 1
----
-"""
+HEAD = networks.settings(((1, 2), (2,)), (100, 100), (3, 64), again=2, tries=2) + "---\n"
 
 
 def claim(provider, rx, fill):

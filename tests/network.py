@@ -17,13 +17,14 @@ import time
 sys.dont_write_bytecode = True
 TOP = pathlib.Path(__file__).resolve().parent.parent
 HOSTS = TOP / "hosts"
-sys.path[:0] = [str(TOP / "tests"), str(HOSTS)]
+sys.path[:0] = [str(TOP / "tests"), str(TOP / "cases"), str(HOSTS)]
 import nats  # noqa: E402
 import programs  # noqa: E402
+from suite import networks  # noqa: E402
 
 SETTINGS = TOP / "examples" / "six-nodes.toml"
 NODES = ["ph1", "ph2", "sw1", "sw2", "pr1", "pr2"]
-BILLING = (TOP / "examples" / "messages" / "billing.txt").read_text(encoding="ascii").strip()
+BILLING = networks.BILLING
 
 
 class Failed(AssertionError):
@@ -68,7 +69,7 @@ def wait_for(is_so, what, seconds=30.0):
 
 def claim(number):
     """A billing of its own, in printed bytes."""
-    return BILLING.replace("D2123456", f"D2{100000 + number}")
+    return networks.billing(100000 + number)
 
 
 def certificate(folder):
