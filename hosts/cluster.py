@@ -9,7 +9,7 @@ SETTINGS is a file of settings alone, as examples/six-nodes.toml. Logs go to FOL
 built where it is not there; --host names another. One that dies is started again, at first at once, then ever later, also where it
 was killed before it was ready; one that says that its words, its log or its settings are refused (status 2 or 78) is not. With --server
 a server is started too; its program is `nats-server` (Debian: apt-get install nats-server). --access is a folder that hosts/permissions has written: each
-node comes as a user of its own, and the server is the one of its server.conf. Without it, anybody who reaches the server can speak
+node comes as a user of its own, signs where there are keys, and the server is the one of its server.conf. Without it, anybody who reaches the server can speak
 as any node. With --log stream logs are in streams, which `vogctl log make` has made, and each node has N hosts, whose folders are
 FOLDER/a, FOLDER/b ..: as on as many machines. Ends by Ctrl-C or SIGTERM: its nodes finish what they have taken, and end.
 """
@@ -28,6 +28,7 @@ from typing import Any
 
 import built
 import nats
+from keys import Keys
 from said import Said
 from settings import REFUSED, Settings
 
@@ -152,6 +153,7 @@ class Cluster:
         words += ["--reserve", given.reserve] if given.reserve else []
         words += ["--ping", given.ping] if given.ping else []
         words += ["--rules", given.rules] if given.rules and name.startswith("pr") else []
+        words += ["--keys", given.access] if given.access and Keys.are_there(pathlib.Path(given.access)) else []
         words += ["--jetstream"] * given.jetstream + ["-v"] * given.v
         return Keeper(name, words, self._say)
 

@@ -59,6 +59,11 @@ class Settings:
             return sorted({it for one in named for it in one})
         return payers + [f"ph{place}" for place, one in enumerate(named, 1) if node in one]
 
+    def routes(self) -> list[dict[str, Any]]:
+        """The rows of the routes, as the file has them."""
+        rows: list[dict[str, Any]] = self._given.get("route", [])
+        return rows
+
     def asks(self, payer: str) -> bool:
         """Whether a payer asks its own system; ends the program where there is no such payer."""
         return bool(self._one(payer).get("asks"))

@@ -117,8 +117,9 @@ class Network:
         settings=SETTINGS,
         url=None,
         program=None,
+        keys=False,
     ):
-        self.folder, self.tls, self.host = pathlib.Path(folder), tls, program or host()
+        self.folder, self.tls, self.keys, self.host = pathlib.Path(folder), tls, keys, program or host()
         self.port = free_port()
         self.url = url or f"{'tls://' if tls else ''}127.0.0.1:{self.port}"
         # Servers of a given URL are the test's.
@@ -134,12 +135,13 @@ class Network:
             certificate(self.folder)
         self.permit()
 
-    def permit(self):
-        """Writes who may do what."""
+    def permit(self, *more):
+        """Writes who may do what, with more words."""
         words = [HOSTS / "permissions", self.settings, self.access_folder, "--listen", f"127.0.0.1:{self.port}"]
         words += ["--tls", self.folder / "server.pem", self.folder / "server.key"] if self.tls else []
         words += ["--jetstream", self.folder / "store"] if self._jetstream else []
-        subprocess.run([sys.executable, *words], check=True, stdout=subprocess.DEVNULL)
+        words += ["--keys"] * self.keys
+        subprocess.run([sys.executable, *words, *more], check=True, stdout=subprocess.DEVNULL)
 
     def login(self, user):
         return str(self.access_folder / f"{user}.login")

@@ -19,8 +19,8 @@ PROGRAMS = {
 }
 WANTED = {
     "server": "nats-server openssl",
-    "host": "nats-server openssl cc libnats libcurl",
-    "front": "nats-server openssl cc libnats libcurl aiohttp curl",
+    "host": "nats-server openssl cc libnats libcurl libsodium",
+    "front": "nats-server openssl cc libnats libcurl libsodium aiohttp curl",
 }
 PRODUCTS = PROGRAMS["products"].split()
 FIELDS = 6

@@ -92,6 +92,7 @@ WANTS = {
             ("libcurl4-openssl-dev",),
             lambda: runs("cc", "-E", "-include", "curl/curl.h", "-x", "c", "/dev/null"),
         ),
+        Want("libsodium", ("libsodium-dev",), files("/usr/include/sodium.h")),
         Want("openssl", ("openssl",), commands("openssl")),
         Want("hypothesis", ("python3-hypothesis",), modules("hypothesis")),
         Want("aiohttp", ("python3-aiohttp", "python3-uvloop"), modules("aiohttp", "uvloop")),

@@ -2,7 +2,7 @@
 #include <ctype.h>
 #include <math.h>
 
-#include "node.h"
+#include "signed.h"
 
 /* What may wait for the node at most; what comes beyond it is refused, or lost, as a packet may be. */
 #define MOST_WAITING 4096
@@ -212,10 +212,23 @@ struct message *take_all(struct carrier *carrier, double seconds) {
     return batch;
 }
 
-void send_packet(struct carrier *carrier, const char *to, size_t to_size, const char *text, size_t size) {
-    char subject[64];
+void publish_packet(natsConnection *connection, const char *subject, const char *text, size_t size, const char *signature) {
+    natsMsg *packet = NULL;
+    if (signature == NULL) {
+        natsConnection_Publish(connection, subject, text, (int)size);
+        return;
+    }
+    if (natsMsg_Create(&packet, subject, NULL, text, (int)size) != NATS_OK) fail_memory();
+    if (natsMsgHeader_Set(packet, SIGNED_HEADER, signature) != NATS_OK) fail_memory();
+    natsConnection_PublishMsg(connection, packet);
+    natsMsg_Destroy(packet);
+}
+
+void send_packet(struct carrier *carrier, const char *to, size_t to_size, const char *text, size_t size, const char *handed) {
+    char subject[64], own[SIGNED_TEXT];
+    if (carrier->keys != NULL && handed == NULL && keys_sign(carrier->keys, text, size, own)) handed = own;
     snprintf(subject, sizeof subject, "claims.%.*s.from.%s", (int)to_size, to, carrier->name);
-    if (!torment_packet(carrier->connection, subject, text, size)) natsConnection_Publish(carrier->connection, subject, text, (int)size);
+    if (!torment_packet(carrier->connection, subject, text, size, handed)) publish_packet(carrier->connection, subject, text, size, handed);
     counts_sent(to, to_size);
 }
 

@@ -18,7 +18,8 @@ struct named {
 static const double class_end[CLASSES] = { 0.0001, 0.00025, 0.0005, 0.001, 0.0025, 0.005, 0.01, 0.025,
                                            0.05,   0.1,     0.25,   0.5,   1,      2.5,   5,    10 };
 static const char *const call_name[CALLS] = { "submit", "answer", "take", "adjudicate", "tick", "plan", "stop", "start", "other" };
-static const char *const why_name[WHYS] = { "not_a_packet", "held_back", "full", "reply", "would_be_full", "under_way", "rules_full" };
+static const char *const why_name[WHYS] = { "not_a_packet", "held_back", "full", "reply", "would_be_full", "under_way", "rules_full",
+                                             "unsigned", "forged", "wrong_payer" };
 
 /* Times in classes. */
 struct times {
@@ -44,6 +45,7 @@ static struct {
     uint64_t asked, ruled;
     size_t under_way;
     struct named unruled[MOST_NAMES];
+    uint64_t keys, asked_anew;
     /* When each open entry was first known to be open, by its number; 0 of one that is settled. */
     double *open;
     uint64_t open_room, open_count;
@@ -103,6 +105,18 @@ void counts_taken(const char *from) {
 void counts_dropped(enum why why) {
     locked();
     seen.dropped[why]++;
+    unlocked();
+}
+
+void counts_keys(size_t count) {
+    locked();
+    seen.keys = count;
+    unlocked();
+}
+
+void counts_asked_anew(void) {
+    locked();
+    seen.asked_anew++;
     unlocked();
 }
 
@@ -327,6 +341,13 @@ static void add_rules(struct bytes *text, const char *node) {
     add_times(text, node, "rules_seconds", "How long a request took, whatever came of it.", &seen.rules);
 }
 
+/* What is told of packets that are signed. */
+static void add_keys(struct bytes *text, const char *node) {
+    add_one(text, node, "keys", "gauge", "Keys of nodes under which signatures hold.", (double)seen.keys);
+    add_one(text, node, "answers_asked_anew_total", "counter", "Answers that a payer was asked for anew, since their signatures were lost.",
+            (double)seen.asked_anew);
+}
+
 static void add_entries(struct bytes *text, const char *node) {
     double oldest = 0;
     for (uint64_t number = 0; number < seen.open_room; number++)
@@ -372,6 +393,7 @@ struct bytes counts_text(const char *node, const char *log) {
     add_times(&text, node, "call_seconds", "From a message that came to the last word on it, its sync included.", &seen.answers);
     if (begins(node, strlen(node), "pr")) add_rules(&text, node);
     if (seen.is_stream) add_stream(&text, node);
+    if (seen.keys > 0) add_keys(&text, node);
     unlocked();
     return text;
 }

@@ -2,7 +2,7 @@
 ** One node of the network as one process over NATS: the library keeps the node, this host its log and its carrier.
 **
 **     node SETTINGS NODE LOG [--nats URL[,URL..]] [--ca FILE] [--creds FILE] [--login FILE] [--tick SECONDS] [--jetstream]
-**          [--watch ADDRESS:PORT] [--hold-back MS] [--reserve ROWS] [--ping SECONDS] [-v] [--log file|stream] [--copies 1|2]
+**          [--keys FOLDER] [--watch ADDRESS:PORT] [--hold-back MS] [--reserve ROWS] [--ping SECONDS] [-v] [--log file|stream] [--copies 1|2]
 **          [--machine NAME] [--patience SECONDS] [--part BYTES] [--at-least CALLS]
 **          [--rules URL | --rules-tcp [tls://]HOST:PORT [--rules-framing stx|length2|length4]] [--rules-ca FILE]
 **          [--rules-token FILE] [--rules-wait SECONDS] [--rules-most REQUESTS]
@@ -32,6 +32,9 @@
 ** --rules-wait seconds (5) is not taken, and its pharmacy asks again; at most --rules-most requests (256) are under way. --rules-ca has the
 ** certificates to trust, --rules-token a file with what stands behind `Authorization: Bearer`.
 **
+** With --keys packets are signed, and a packet whose signature lacks or does not hold is not taken: signed.h. FOLDER has `keys`, those of all
+** nodes, and NODE.key, as hosts/permissions writes them; both are read again when they change.
+**
 ** With --at-least a log of fewer calls is refused: it was cut, or is an old copy, and who has seen more of it knows.
 **
 ** A pharmacy is ticked while an entry of it is open. So many entries of a pharmacy and rows of a payer as --reserve says, a tenth of the cap
@@ -45,6 +48,7 @@
 #include <unistd.h>
 
 #include "rules.h"
+#include "signed.h"
 #include "stream.h"
 
 /* How long requests that are under way are waited for, where the host is told to end. */
@@ -184,11 +188,16 @@ static void let_go(struct host *host) {
     }
 }
 
+static void open_carrier(struct host *host) {
+    host->carrier = carrier_open(host->given.name, &host->given.access, &is_stopping);
+    host->carrier->keys = host->keys;
+}
+
 /* Hears the node's callers while the log is being moved here, or no more. */
 static void hear_callers(void *closure, bool is_called) {
     struct host *host = closure;
     if (is_called) {
-        host->carrier = carrier_open(host->given.name, &host->given.access, &is_stopping);
+        open_carrier(host);
         host->carrier->is_silent = true;
         return;
     }
@@ -218,7 +227,7 @@ static bool own(struct host *host) {
 
 /* Serves the node of a log that this host has; the status: 1 where the connection is closed for good. */
 static int serve_node(struct host *host) {
-    if (host->carrier == NULL) host->carrier = carrier_open(host->given.name, &host->given.access, &is_stopping);
+    if (host->carrier == NULL) open_carrier(host);
     host->carrier->is_silent = false;
     host->rules = rules_start(&host->given, host->carrier);
     if (!is_stopping) {
@@ -240,6 +249,7 @@ int main(int count, char **word) {
     struct host host = { .given = words(count, word), .is_stopping = &is_stopping };
     said_for(host.given.name, host.given.says);
     rules_check(&host.given.rules);
+    host.keys = keys_open(host.given.keys, host.given.name);
     struct sigaction action = { .sa_handler = stop }, ignored = { .sa_handler = SIG_IGN };
     sigaction(SIGTERM, &action, NULL);
     sigaction(SIGINT, &action, NULL);
@@ -254,6 +264,7 @@ int main(int count, char **word) {
     if (host.candidate != NULL) candidate_leave(host.candidate);
     nats_Close();
     node_close(&host.node);
+    keys_close(host.keys);
     free(host.line.at);
     if (status == 1) fail("the connection was closed for good", NULL);
     say("info", "ended", NULL);

@@ -2,7 +2,7 @@
 ** The rooms of the host: bytes (bytes.c), what it says (said.c), the file of a log (file.c), the node with its log (log.c), the way to
 ** servers (access.c), the carrier (carrier.c), packets that are held back or go out later (packets.c), callers who wait (waits.c), turns
 ** (turn.c), room for reversals (reserve.c), what it has seen (counts.c), who asks for that (watch.c), and what a command line asks for (words.c).
-** stream.h has those of a log in a stream, rules.h those of a payer that asks its own system.
+** stream.h has those of a log in a stream, rules.h those of a payer that asks its own system, signed.h those of packets that are signed.
 */
 #ifndef NODE_H
 #define NODE_H
@@ -147,6 +147,8 @@ struct head {
 
 /* Reads so many bytes at the start of printed bytes; false where fewer stand there. */
 bool unprinted(const char *text, size_t size, unsigned char *bytes, size_t count);
+/* Reads all of them; how many there are, 0 where they are more than there is room, or none. */
+size_t unprinted_all(const char *text, size_t size, unsigned char *bytes, size_t room);
 /* Reads the head of a packet in printed bytes; false of anything else. */
 bool head_of(const char *text, size_t size, struct head *head);
 /* Adds bytes as printed ones, in one word: a space is spelled too. */
@@ -154,6 +156,9 @@ void add_printed(struct bytes *line, const void *at, size_t size);
 
 /* Who a message is from. */
 enum sender { FROM_NODE, FROM_CALLER, FROM_OPERATOR };
+
+/* Why a message is not handed to the node. */
+enum why { NOT_A_PACKET, HELD_BACK, FULL, NO_INBOX, WOULD_BE_FULL, UNDER_WAY, RULES_FULL, UNSIGNED, FORGED, WRONG_PAYER, WHYS };
 
 /* A message that waits, or is being served. */
 struct message {
@@ -164,6 +169,9 @@ struct message {
     bool is_served;
     /* It would have the node enter a billing while only the reserve is left. */
     bool is_over;
+    /* It is a packet whose signature lacks or does not hold, and why it is not taken. */
+    bool is_faulty;
+    enum why fault;
     /* What became of the request in this packet at the payer's own system, which was asked for it; else nothing. */
     struct asked *asked;
 };
@@ -178,6 +186,8 @@ struct access {
 /* A connection, and the messages that came and wait, in order. */
 struct carrier {
     const char *name;
+    /* The keys by which packets of the node are signed; NULL where they are not. */
+    struct keys *keys;
     natsConnection *connection;
     natsSubscription *subscriptions[3];
     pthread_mutex_t lock;
@@ -198,7 +208,10 @@ natsConnection *access_connect(natsOptions *options, volatile sig_atomic_t *is_s
 struct carrier *carrier_open(const char *name, const struct access *access, volatile sig_atomic_t *is_stopping);
 /* All messages that wait; where there is none, those that come within so many seconds, or none. */
 struct message *take_all(struct carrier *carrier, double seconds);
-void send_packet(struct carrier *carrier, const char *to, size_t to_size, const char *text, size_t size);
+/* Sends a packet with the signature that was handed over beside it, or with the node's own where none was and it has keys. */
+void send_packet(struct carrier *carrier, const char *to, size_t to_size, const char *text, size_t size, const char *handed);
+/* Publishes a packet, with its signature unless that is NULL. */
+void publish_packet(natsConnection *connection, const char *subject, const char *text, size_t size, const char *signature);
 /* Replies to a message. A reply goes to an inbox alone: elsewhere the host would speak in its own name what a caller wrote. */
 void reply(struct carrier *carrier, natsMsg *to, const char *line, size_t size);
 /* Tells a server that keeps a packet that the node has it on disk, or has refused it, which is as good. */
@@ -250,7 +263,7 @@ struct rules_given {
 
 /* What a command line asks for. `kept` says where the log is kept: in a file alone, or in a stream as well. */
 struct given {
-    const char *settings, *name, *log, *watch, *kept, *machine;
+    const char *settings, *name, *log, *watch, *kept, *machine, *keys;
     struct access access;
     struct rules_given rules;
     double tick, hold_back, patience, part, copies, reserve, at_least;
@@ -267,6 +280,7 @@ struct host {
     struct carrier *carrier;
     struct candidate *candidate;
     struct rules *rules;
+    struct keys *keys;
     volatile sig_atomic_t *is_stopping;
     struct bytes line;
     struct later later;
@@ -291,7 +305,6 @@ void turn(struct host *host, struct message *batch, bool is_tick);
 
 /* What the host has seen since it started. Each call may come from any thread. */
 enum call { CALL_SUBMIT, CALL_ANSWER, CALL_TAKE, CALL_ADJUDICATE, CALL_TICK, CALL_PLAN, CALL_STOP, CALL_START, CALL_OTHER, CALLS };
-enum why { NOT_A_PACKET, HELD_BACK, FULL, NO_INBOX, WOULD_BE_FULL, UNDER_WAY, RULES_FULL, WHYS };
 
 void counts_call(const char *line, size_t size);
 void counts_refusal(const char *name, size_t size);
@@ -299,6 +312,9 @@ void counts_sent(const char *to, size_t size);
 void counts_again(uint64_t more);
 void counts_taken(const char *from);
 void counts_dropped(enum why why);
+/* Of a network with keys: how many a host has; a payer was asked for an answer whose signature was lost. */
+void counts_keys(size_t count);
+void counts_asked_anew(void);
 void counts_sync(double seconds);
 void counts_answered(double seconds);
 /* Of a log in a stream: how long the servers' word on what was appended took, and how often the same was sent again. */
@@ -343,11 +359,11 @@ bool counts_lives(void);
 #ifdef TORMENTED
 void torment(natsConnection *said);
 void torment_late(natsConnection *connection);
-bool torment_packet(natsConnection *connection, const char *subject, const char *text, size_t size);
+bool torment_packet(natsConnection *connection, const char *subject, const char *text, size_t size, const char *signature);
 #else
 #define torment(said) ((void)0)
 #define torment_late(connection) ((void)0)
-#define torment_packet(connection, subject, text, size) false
+#define torment_packet(connection, subject, text, size, signature) false
 #endif
 
 /* Serves /metrics, /healthz and /readyz at ADDRESS:PORT, by a thread of its own. */

@@ -41,6 +41,16 @@ bool unprinted(const char *text, size_t size, unsigned char *bytes, size_t count
     return true;
 }
 
+size_t unprinted_all(const char *text, size_t size, unsigned char *bytes, size_t room) {
+    size_t count = 0;
+    for (size_t used; size > 0; text += used, size -= used) {
+        int one = byte_of(text, size, &used);
+        if (one < 0 || count == room) return 0;
+        bytes[count++] = (unsigned char)one;
+    }
+    return count;
+}
+
 void add_printed(struct bytes *line, const void *bytes, size_t size) {
     static const char digit[] = "0123456789abcdef";
     const unsigned char *at = bytes;
@@ -79,7 +89,7 @@ double later_send(struct later *later, struct carrier *carrier, bool all) {
         double due = later->start + later->seconds * (double)(later->gone - later->gone % group) / (double)later->count;
         if (!all && due > now()) return due - now();
         char *line = later->packets.at + later->sent, *end = strchr(line, '\n'), *text = strchr(line, ' ');
-        send_packet(carrier, line, (size_t)(text - line), text + 1, (size_t)(end - text - 1));
+        send_packet(carrier, line, (size_t)(text - line), text + 1, (size_t)(end - text - 1), NULL);
         later->sent += (size_t)(end - line) + 1;
         later->gone++;
     }

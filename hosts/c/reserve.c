@@ -33,7 +33,7 @@ static enum entry entry_of_line(const struct message *one, const char *text, siz
 /* Of a packet for a payer; what the payer has is asked of one that is up alone. */
 static enum entry entry_of_packet(struct host *host, const struct message *one, const char *text, size_t size, bool is_up) {
     struct head head;
-    if (one->from != FROM_NODE || !head_of(text, size, &head) || head.kind != 1) return NOTHING;
+    if (one->from != FROM_NODE || one->is_faulty || !head_of(text, size, &head) || head.kind != 1) return NOTHING;
     if (!has_code(text, size, ENVELOPE_BYTES, "B1")) return REVERSAL;
     return is_up && node_has_answer(&host->node, head.pharmacy, head.number) ? NOTHING : BILLING;
 }

@@ -11,7 +11,7 @@
 struct late {
     double due;
     char subject[64];
-    struct bytes text;
+    struct bytes text, signature;
 };
 
 static struct late late[MOST_LATE];
@@ -29,29 +29,31 @@ void torment(natsConnection *said) {
     raise(SIGKILL);
 }
 
-static bool delay(const char *subject, const char *text, size_t size) {
+static bool delay(const char *subject, const char *text, size_t size, const char *signature) {
     int at = 0;
     while (at < MOST_LATE && late[at].due != 0) at++;
     if (at == MOST_LATE) return false;
     late[at] = (struct late){ .due = now() + (double)random() / (double)RAND_MAX };
     snprintf(late[at].subject, sizeof late[at].subject, "%s", subject);
     add(&late[at].text, text, size);
+    if (signature != NULL) add_text(&late[at].signature, signature);
     return true;
 }
 
 void torment_late(natsConnection *connection) {
     for (int at = 0; at < MOST_LATE; at++) {
         if (late[at].due == 0 || late[at].due > now()) continue;
-        natsConnection_Publish(connection, late[at].subject, late[at].text.at, (int)late[at].text.size);
+        publish_packet(connection, late[at].subject, late[at].text.at, late[at].text.size, late[at].signature.at);
         free(late[at].text.at);
+        free(late[at].signature.at);
         late[at] = (struct late){ .due = 0 };
     }
 }
 
-bool torment_packet(natsConnection *connection, const char *subject, const char *text, size_t size) {
+bool torment_packet(natsConnection *connection, const char *subject, const char *text, size_t size, const char *signature) {
     if (getenv("TORMENT") == NULL) return false;
     if (happens(50)) return true;
-    if (happens(50)) natsConnection_Publish(connection, subject, text, (int)size);
-    return happens(100) && delay(subject, text, size);
+    if (happens(50)) publish_packet(connection, subject, text, size, signature);
+    return happens(100) && delay(subject, text, size, signature);
 }
 #endif

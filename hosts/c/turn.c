@@ -2,6 +2,7 @@
 #include <unistd.h>
 
 #include "rules.h"
+#include "signed.h"
 #include "stream.h"
 
 /* The part of a tick's time over which its packets go out. */
@@ -115,7 +116,9 @@ static void serve(struct host *host, struct message *one) {
     if (one->asked != NULL && !rules_has_advice(one)) return;
     if (is_others(host, one) || is_deed(host, one)) return;
     if (host->mover != NULL && natsMsg_GetReply(one->text) != NULL) add_form(&host->served, " %.500s", natsMsg_GetReply(one->text));
-    if (one->is_over) {
+    if (one->is_faulty) {
+        signed_refuse(host, one);
+    } else if (one->is_over) {
         turn_away(host, one);
     } else if (is_held_back(host, one)) {
         counts_dropped(HELD_BACK);
@@ -150,13 +153,13 @@ static void note(const struct host *host, const struct message *one, const char 
     if (!has_sent) held_forget(text, text_size);
 }
 
-/* Sends a packet that a line of the node has: now, or where a tick sent it, later. */
-static void send_line(struct host *host, const char *line, size_t size, bool later) {
+/* Sends a packet that a line of the node has, behind the message that had it sent; where a tick did, later. */
+static void send_line(struct host *host, const struct message *one, const char *line, size_t size) {
     const char *text = memchr(line + 5, ' ', size - 5);
     if (text == NULL) fail("the node has a packet without a text", NULL);
     size_t to_size = (size_t)(text - line - 5), text_size = (size_t)(line + size - text - 1);
-    if (later) later_add(&host->later, line + 5, to_size, text + 1, text_size);
-    else send_packet(host->carrier, line + 5, to_size, text + 1, text_size);
+    if (one == NULL) later_add(&host->later, line + 5, to_size, text + 1, text_size);
+    else signed_send(host, one, line + 5, to_size, text + 1, text_size);
 }
 
 /* Says that the node has refused a message, by the name of the refusal. */
@@ -205,7 +208,7 @@ static void tell(struct host *host, struct message *batch) {
         if (stop_at == NULL) fail("the node has a line without an end", NULL);
         size_t size = (size_t)(stop_at - line);
         if (begins(line, size, "send ")) {
-            send_line(host, line, size, batch == NULL);
+            send_line(host, batch, line, size);
             again += batch == NULL;
             has_sent = true;
         } else if (is_of_list(line, size)) {
@@ -244,6 +247,7 @@ static void let_go(struct host *host, struct message *batch) {
 void turn(struct host *host, struct message *batch, bool is_tick) {
     size_t waiting = 0;
     bool speaks = false;
+    signed_mark(host, batch);
     reserve_mark(host, batch);
     for (struct message *one = batch; one != NULL; one = one->next, waiting++) {
         serve(host, one);

@@ -10,7 +10,7 @@
 
 static _Noreturn void usage(int status) {
     fputs("usage: node SETTINGS NODE LOG [--nats URL[,URL..]] [--ca FILE] [--creds FILE] [--login FILE] [--tick SECONDS]\n"
-          "            [--jetstream] [--watch ADDRESS:PORT] [--hold-back MS] [--reserve ROWS] [--ping SECONDS] [-v]\n"
+          "            [--keys FOLDER] [--jetstream] [--watch ADDRESS:PORT] [--hold-back MS] [--reserve ROWS] [--ping SECONDS] [-v]\n"
           "            [--log file|stream] [--copies 1|2] [--machine NAME] [--patience SECONDS] [--part BYTES] [--at-least CALLS]\n"
           "            [--rules URL | --rules-tcp [tls://]HOST:PORT [--rules-framing stx|length2|length4]] [--rules-ca FILE]\n"
           "            [--rules-token FILE] [--rules-wait SECONDS] [--rules-most REQUESTS]\n",
@@ -24,6 +24,7 @@ static const char **text_of(struct given *given, const char *word) {
     if (strcmp(word, "--ca") == 0) return &given->access.authorities;
     if (strcmp(word, "--creds") == 0) return &given->access.credentials;
     if (strcmp(word, "--login") == 0) return &given->access.login;
+    if (strcmp(word, "--keys") == 0) return &given->keys;
     if (strcmp(word, "--watch") == 0) return &given->watch;
     if (strcmp(word, "--log") == 0) return &given->kept;
     if (strcmp(word, "--machine") == 0) return &given->machine;
