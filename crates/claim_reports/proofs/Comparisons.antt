@@ -1,5 +1,5 @@
 -- Maps of the elements of lists, and what is found by them.
-use Rattle.std.proofs.Common.{◌≡◌, ◌<◌, ℕ, ◌+◌, ◌==◌, Bool, true, false, cond, List, [], ◌∷◌, ◌++◌, length, get_or, take, refl, sym, ap, subst, ◌∙◌, inl, inr, arith}
+use Rattle.std.proofs.Common.{◌≡◌, ◌<◌, ℕ, ◌+◌, ◌==◌, Bool, cond, List, [], ◌∷◌, ◌++◌, length, get_or, take, refl, sym, ap, subst, ◌∙◌, inl, inr}
 use Rattle.std.specs.Prelude.{Option, Some, None}
 use Rattle.std.specs.Option.{option_or}
 use Rattle.std.specs.Ordering.{nat_cmp}
@@ -42,6 +42,28 @@ pub last_more : {A : Type 0} (number : A → ℕ) (xs : List A) (i : ℕ) (d : A
     → (n : ℕ) → get nat_cmp new n ≡ last_with number n (take (i + 1) xs)
 last_more {A} number xs i d old new lt updates before n =
     last_at number (take i xs) (get_or xs i d) old new updates before n ∙ ap (λ (ys : List A). last_with number n ys) (sym (take_more xs i d lt))
+
+-- the last of some elements, or else the one that a map has, where one of them is entered before the others
+settled : {A : Type 0} (o : Option A) (x : A) (p : Option A) → option_or o (Some x) ≡ option_or (option_or o (Some x)) p
+settled None x p = refl
+settled (Some y) x p = refl
+
+passed : {A : Type 0} (o p : Option A) → option_or o p ≡ option_or (option_or o None) p
+passed None p = refl
+passed (Some y) p = refl
+
+pub last_later : {A : Type 0} (number : A → ℕ) (n : ℕ) (x : A) (more : List A) (old new : BTreeMap ℕ A) → Updates nat_cmp old new (number x) (Some x)
+    → option_or (last_with number n more) (get nat_cmp new n) ≡ option_or (last_with number n (x ∷ more)) (get nat_cmp old n)
+last_later {A} number n x more old new updates =
+    let rest = last_with number n more in
+    elim (cases_Bool (number x == n)) [
+      | inl same ↦
+          ap (option_or rest) (subst (λ (k : ℕ). get nat_cmp new k ≡ Some x) (eqb-true (number x) n same) updates.1)
+          ∙ settled rest x (get nat_cmp old n) ∙ sym (ap (λ (b : Bool). option_or (option_or rest (cond b (Some x) None)) (get nat_cmp old n)) same)
+      | inr other ↦
+          ap (option_or rest) (updates.2 n (apart_at (number x) n (eqb-false (number x) n other)))
+          ∙ passed rest (get nat_cmp old n) ∙ sym (ap (λ (b : Bool). option_or (option_or rest (cond b (Some x) None)) (get nat_cmp old n)) other)
+    ]
 
 -- what is found by maps is what is found of the lists
 pub found_is : (counted : List Counted) (entries : List Entry) (made : List Made) (held : ℕ → Option Entry) (known : ℕ → Option Counted) (paid : ℕ → Option Made) (some all : List Finding)

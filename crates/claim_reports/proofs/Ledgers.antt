@@ -1,10 +1,9 @@
 -- A ledger behind one ruling more, and behind some.
-use Rattle.std.proofs.Common.{◌≡◌, ◌<◌, ◌≤◌, ℕ, ◌+◌, ◌==◌, Bool, true, false, cond, List, [], ◌∷◌, ◌++◌, length, get_or, take, drop, refl, sym, ap, subst, ◌∙◌, append_assoc, append-nil, inl, inr, arith}
+use Rattle.std.proofs.Common.{◌≡◌, ◌<◌, ◌≤◌, ℕ, ◌+◌, Bool, true, false, cond, List, [], ◌∷◌, ◌++◌, length, get_or, take, drop, refl, sym, ap, subst, ◌∙◌, append_assoc, append-nil, inl, inr, arith}
 use Rattle.std.specs.Prelude.{Option, Some, None, option_map, unwrap_or}
 use Rattle.std.specs.Ordering.{nat_cmp}
-use Rattle.std.specs.List.{sum_by}
 use Rattle.std.specs.BTreeMap.{get}
-use Rattle.std.proofs.lemmas.Bool.{cases_Bool, cases_eq, eqb-false, ne_eqb}
+use Rattle.std.proofs.lemmas.Bool.{cases_eq, ne_eqb}
 use Rattle.std.proofs.lemmas.List.{take_more, take_all, take-append-drop}
 use Rattle.std.proofs.lemmas.List.Sums.{sum_by-append}
 use Rattle.claim_reports.specs.declared.ledger.Move.{Move}
@@ -12,7 +11,7 @@ use Rattle.claim_reports.specs.declared.ledger.Move.TheVariants.{Paid, Reversed}
 use Rattle.claim_reports.specs.declared.ledger.Held.{Held}
 use Rattle.claim_reports.specs.declared.ledger.Ledger.{Ledger}
 use Rattle.claim_reports.specs.declared.ledger.Moved.{Moved}
-use Rattle.claim_reports.specs.Ledger.{paid_for, is_reversed, standing_cents, standing_total, paid_cents, paid_total, back_cents, taken_back, PaidOnce, held_at, IsLedgerOf, standing_in, Pays, Reverses, Takes, TakesAll}
+use Rattle.claim_reports.specs.Ledger.{paid_for, is_reversed, standing_cents, paid_cents, paid_total, back_cents, taken_back, held_at, IsLedgerOf, standing_in, Pays, Reverses, Takes, TakesAll}
 use Rattle.claim_reports.proofs.Adding.{apart_at}
 use Rattle.claim_reports.proofs.Snocs.{paid_stays, not_paid_before, paid_behind_other, paid_behind_own, paid_behind_reversal, reversed_behind_payment, reversed_behind_other, reversed_behind_own, once_behind_payment, once_behind_reversal, standing_alike, standing_less}
 

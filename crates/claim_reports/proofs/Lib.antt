@@ -6,3 +6,5 @@ pub mod Continuing
 pub mod Firsts
 pub mod Lines
 pub mod Rowwise
+pub mod Received
+pub mod Remittances

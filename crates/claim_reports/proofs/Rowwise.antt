@@ -1,5 +1,5 @@
 -- What rows give, row by row.
-use Rattle.std.proofs.Common.{◌≡◌, ◌<◌, ℕ, ◌+◌, List, [], ◌∷◌, ◌++◌, length, get_or, map, drop, refl, sym, ap, subst, ◌∙◌, append_assoc, append-nil}
+use Rattle.std.proofs.Common.{◌≡◌, ◌<◌, ℕ, ◌+◌, List, [], ◌∷◌, ◌++◌, length, get_or, map, drop, refl, sym, ap, ◌∙◌, append_assoc, append-nil}
 use Rattle.std.specs.Prelude.{Option, Some, None, option_map, option_and_then}
 use Rattle.std.proofs.lemmas.List.{drop_more}
 use Rattle.claim_reports.specs.Tables.{given, given_by}
@@ -19,7 +19,7 @@ more_behind : {A : Type 0} (xs one : List A) (o : Option (List A)) → behind xs
 more_behind xs one None = refl
 more_behind xs one (Some ys) = ap Some (sym (append_assoc xs one ys))
 
-by_one : {A : Type 0} (read : List (List ℕ) → Option (Option A)) (row : List (List ℕ)) (rows : List (List (List ℕ))) (o : Option A) → read row ≡ Some o
+pub by_one : {A : Type 0} (read : List (List ℕ) → Option (Option A)) (row : List (List ℕ)) (rows : List (List (List ℕ))) (o : Option A) → read row ≡ Some o
     → given_by read (row ∷ rows) ≡ option_map (λ ys. given o ++ ys) (given_by read rows)
 by_one {A = A} read row rows o e = rw e (last (given_by read rows))
   where

@@ -1,8 +1,8 @@
 -- What a pharmacy counts beside what a payer paid, of tables, as a table.
-use Rattle.std.specs.Prelude.{◌≡◌, ℕ, ◌==◌, ◌++◌, ◌-◌, Bool, true, false, not, cond, if◌then◌else◌, List, [], ◌∷◌, Option, Some, None, option_map, codes, decimal, length, replicate}
+use Rattle.std.specs.Prelude.{◌≡◌, ℕ, ◌==◌, ◌++◌, Bool, true, false, cond, if◌then◌else◌, List, [], ◌∷◌, Option, Some, None, option_map, codes}
 use Rattle.std.specs.Option.{option_or}
 use Rattle.std.specs.List.{flat_map, list_all}
-use Rattle.table_text.specs.Members.{Row, Value, Number, Text, Flag, Nothing, number_or_nothing}
+use Rattle.table_text.specs.Members.{Row, Text, Flag, number_or_nothing}
 use Rattle.table_text.specs.Rows.{head_text, csv_row}
 use Rattle.claim_reports.specs.declared.beside.Figures.{Figures}
 use Rattle.claim_reports.specs.declared.beside.Counted.{Counted}
@@ -16,6 +16,7 @@ use Rattle.claim_reports.specs.declared.sides.FigureColumns.{FigureColumns}
 use Rattle.claim_reports.specs.declared.sides.CountedColumns.{CountedColumns}
 use Rattle.claim_reports.specs.declared.sides.EntryColumns.{EntryColumns}
 use Rattle.claim_reports.specs.declared.sides.MadeColumns.{MadeColumns}
+use Rattle.claim_reports.specs.Digits.{filled}
 use Rattle.claim_reports.specs.Tables.{AreRecordsOf, rows_of, column_of, number_in, optional_in, word_in, given_by, ◌>>=◌}
 use Rattle.claim_reports.specs.Comparing.{Findings}
 
@@ -114,8 +115,8 @@ entry_in c pharmacy row = do
 abbrev pub AreCounted : Between → List ℕ → List Counted → Type 0
 AreCounted b table counted = (records : List (List (List ℕ))) × (c : CountedColumns) × AreRecordsOf table records × AreCountedColumns records c × (given_by (counted_in c b) (rows_of records) ≡ Some counted)
 
-abbrev pub AreEntries : Between → List ℕ → List Entry → Type 0
-AreEntries b table entries = (records : List (List (List ℕ))) × (c : EntryColumns) × AreRecordsOf table records × AreEntryColumns records c × (given_by (entry_in c b.pharmacy) (rows_of records) ≡ Some entries)
+abbrev pub AreEntries : ℕ → List ℕ → List Entry → Type 0
+AreEntries pharmacy table entries = (records : List (List (List ℕ))) × (c : EntryColumns) × AreRecordsOf table records × AreEntryColumns records c × (given_by (entry_in c pharmacy) (rows_of records) ≡ Some entries)
 
 abbrev pub AreMade : Between → List ℕ → List Made → Type 0
 AreMade b table made = (records : List (List (List ℕ))) × (c : MadeColumns) × AreRecordsOf table records × AreMadeColumns records c × (given_by (made_in c b) (rows_of records) ≡ Some made)
@@ -142,7 +143,7 @@ first_apart a b =
 
 -- the digits of an authorization: its number, filled with zeros to 16 digits
 abbrev pub auth_digits : ℕ → List ℕ
-auth_digits number = replicate (16 - length (decimal number)) 48 ++ decimal number
+auth_digits number = filled 16 number
 
 -- the names of the columns
 abbrev pub finding_names : List (List ℕ)
@@ -195,7 +196,7 @@ pub record IsCompared (counted entries payments : List ℕ) (between : Between) 
   pub paid : List Counted
   pub counts : AreCounted between counted paid
   pub journal : List Entry
-  pub enters : AreEntries between entries journal
+  pub enters : AreEntries between.pharmacy entries journal
   pub book : List Made
   pub makes : AreMade between payments book
   pub found : List Finding

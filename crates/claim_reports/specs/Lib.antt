@@ -1,4 +1,5 @@
 pub mod Tables
+pub mod Digits
 pub mod Totals
 pub mod Totalled
 pub mod Ledger
@@ -7,3 +8,10 @@ pub mod Compared
 pub mod Showing
 pub mod Ruled
 pub mod Wider
+pub mod WhenRuled
+pub mod Replies
+pub mod Received
+pub mod Rulings
+pub mod RulingsSeen
+pub mod Remitted
+pub mod NumbersSeen

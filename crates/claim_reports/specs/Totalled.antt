@@ -1,8 +1,8 @@
 -- Totals of a table of payments, as a table.
-use Rattle.std.specs.Prelude.{◌≡◌, ℕ, Bool, List, [], ◌∷◌, ◌++◌, Option, Some, None, option_map, filter, map, codes}
+use Rattle.std.specs.Prelude.{◌≡◌, ℕ, List, [], ◌∷◌, ◌++◌, Option, Some, option_map, filter, codes}
 use Rattle.std.specs.List.{flat_map}
 use Rattle.std.specs.BTreeMap.{BTreeMap, IsOrdered, get}
-use Rattle.table_text.specs.Members.{Row, Member, Number, number_or_nothing}
+use Rattle.table_text.specs.Members.{Row, Number, number_or_nothing}
 use Rattle.table_text.specs.Rows.{head_text, csv_row}
 use Rattle.claim_reports.specs.declared.choice.Paid.{Paid}
 use Rattle.claim_reports.specs.declared.choice.Choice.{Choice}

@@ -85,17 +85,20 @@ pub fn compare(
 ) -> Result<Vec<Finding>, ReportFault>
     ensures { IfOk result (λ found. Findings counted.now entries.now made.now found.items) }
 {
-    let open = entries_by_number(alloc, entries)?;
+    let held = entries_by_number(alloc, entries)?;
     let paid = made_by_auth(alloc, made)?;
     let known = counted_by_auth(alloc, counted)?;
     let mut found = Vec::new(alloc);
-    put_counted(&mut found, &open, &paid, counted)?;
-    put_made(&mut found, &open, &known, made)?;
+    put_counted(&mut found, &held, &paid, counted)?;
+    put_made(&mut found, &held, &known, made)?;
     Ok(found)
 }
 
 /// The entries by their numbers.
-fn entries_by_number(alloc: Global, entries: &[Entry]) -> Result<BTreeMap<u64, Entry>, ReportFault>
+pub(crate) fn entries_by_number(
+    alloc: Global,
+    entries: &[Entry],
+) -> Result<BTreeMap<u64, Entry>, ReportFault>
     ensures { IfOk result (λ by. (number : ℕ) → get nat_cmp by number ≡ entry_under number entries.now) }
 {
     let mut by = BTreeMap::new(alloc);
@@ -133,15 +136,15 @@ fn counted_by_auth(
 /// Adds what is found of each payment that the pharmacy counts.
 fn put_counted(
     found: &mut Vec<Finding>,
-    open: &BTreeMap<u64, Entry>,
+    held: &BTreeMap<u64, Entry>,
     paid: &BTreeMap<u64, Made>,
     counted: &[Counted],
 ) -> Result<(), AllocError>
     ensures { OnOk result (found.new.items ≡ found.old.items
-        ++ flat_map (λ c. told (counted_finding (get nat_cmp open.now) (get nat_cmp paid.now) c)) counted.now) }
+        ++ flat_map (λ c. told (counted_finding (get nat_cmp held.now) (get nat_cmp paid.now) c)) counted.now) }
 {
     for payment in counted {
-        put(found, counted_finding(open, paid, payment))?;
+        put(found, counted_finding(held, paid, payment))?;
     }
     Ok(())
 }
@@ -149,15 +152,15 @@ fn put_counted(
 /// Adds what is found of each payment of the book.
 fn put_made(
     found: &mut Vec<Finding>,
-    open: &BTreeMap<u64, Entry>,
+    held: &BTreeMap<u64, Entry>,
     known: &BTreeMap<u64, Counted>,
     made: &[Made],
 ) -> Result<(), AllocError>
     ensures { OnOk result (found.new.items ≡ found.old.items
-        ++ flat_map (λ m. told (made_finding (get nat_cmp open.now) (get nat_cmp known.now) m)) made.now) }
+        ++ flat_map (λ m. told (made_finding (get nat_cmp held.now) (get nat_cmp known.now) m)) made.now) }
 {
     for payment in made {
-        put(found, made_finding(open, known, payment))?;
+        put(found, made_finding(held, known, payment))?;
     }
     Ok(())
 }
@@ -178,18 +181,18 @@ fn put(found: &mut Vec<Finding>, finding: Option<Finding>) -> Result<(), AllocEr
 /// What is found of a payment that the pharmacy counts.
 #[tactic(auto, unfolding(crate::specs::Comparing::counted_finding))]
 fn counted_finding(
-    open: &BTreeMap<u64, Entry>,
+    held: &BTreeMap<u64, Entry>,
     paid: &BTreeMap<u64, Made>,
     counted: &Counted,
 ) -> Option<Finding>
-    ensures { result ≡ counted_finding (get nat_cmp open.now) (get nat_cmp paid.now) counted.now }
+    ensures { result ≡ counted_finding (get nat_cmp held.now) (get nat_cmp paid.now) counted.now }
 {
     let Some(made) = paid.get(&counted.auth) else {
         return Some(Finding::NotPaid(counted.auth, counted.figures));
     };
     match made.reversed_by {
         Some(number) => {
-            let is_open = is_open(open, number);
+            let is_open = is_open(held, number);
             Some(Finding::Reversed(counted.auth, counted.figures, is_open))
         }
         None => {
@@ -203,16 +206,16 @@ fn counted_finding(
 
 /// What is found of a payment of the book.
 fn made_finding(
-    open: &BTreeMap<u64, Entry>,
+    held: &BTreeMap<u64, Entry>,
     known: &BTreeMap<u64, Counted>,
     made: &Made,
 ) -> Option<Finding>
-    ensures { result ≡ made_finding (get nat_cmp open.now) (get nat_cmp known.now) made.now }
+    ensures { result ≡ made_finding (get nat_cmp held.now) (get nat_cmp known.now) made.now }
 {
     if made.reversed_by.is_some() || known.contains_key(&made.auth) {
         return None;
     }
-    let is_open = is_open(open, made.number);
+    let is_open = is_open(held, made.number);
     Some(Finding::NotCounted(made.auth, made.figures, is_open))
 }
 
@@ -231,10 +234,10 @@ impl Figures {
 }
 
 /// Whether the entry of a number has no answer yet.
-fn is_open(open: &BTreeMap<u64, Entry>, number: u64) -> bool
-    ensures { result ≡ is_open_entry (get nat_cmp open.now number) }
+fn is_open(held: &BTreeMap<u64, Entry>, number: u64) -> bool
+    ensures { result ≡ is_open_entry (get nat_cmp held.now number) }
 {
-    match open.get(&number) {
+    match held.get(&number) {
         Some(entry) => entry.open,
         None => false,
     }

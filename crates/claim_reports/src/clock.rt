@@ -1,20 +1,24 @@
 //! What clocks in UTC show.
 
-ghost use Rattle.std.specs.Prelude.{◌≡◌, ◌*◌, ◌↔◌, pos, IsSome, IfSome};
+ghost use Rattle.std.specs.Prelude.{◌≡◌, ◌*◌, ◌↔◌, pos, IsSome, IfSome, IfOk};
+ghost use Rattle.std.specs.List.{flat_map};
 ghost use Rattle.jiff_core.specs.DateTime.{civil_nanos};
 ghost use Rattle.jiff.specs.Words.{IsTimestampNanos};
+ghost use Rattle.claim_reports.specs.Digits.{part_text, time_text, day_text};
 
-use crate::fault::ReportFault;
+use crate::numbers::filled_text;
 use jiff::Timestamp;
 use jiff::civil::DateTime;
 use jiff::tz::Offset;
-use std::alloc::Global;
+use std::alloc::{AllocError, Global};
 
-/// How a date and a time are written.
-const TIME: &str = "%Y-%m-%dT%H:%M:%SZ";
-
-/// How a day is written.
-const DAY: &str = "%Y%m%d";
+/// A number of a date or a time, how many digits it has, and the letter behind it.
+#[derive(Clone, Copy)]
+struct Part {
+    number: u64,
+    width: usize,
+    mark: u8,
+}
 
 /// What a clock in UTC shows so many milliseconds after 1970 began; nothing where that is behind the last year of four digits.
 pub(crate) fn shown_at(milliseconds: u64) -> Option<DateTime>
@@ -31,19 +35,58 @@ pub(crate) fn shown_at(milliseconds: u64) -> Option<DateTime>
 }
 
 /// A date and a time, `CCYY-MM-DDThh:mm:ssZ`.
-pub(crate) fn time_text(alloc: Global, shown: DateTime) -> Result<String, ReportFault> {
-    text_of(alloc, shown, TIME)
+#[tactic(auto, unfolding(crate::specs::Digits::time_text))]
+pub(crate) fn time_text(alloc: Global, shown: DateTime) -> Result<Vec<u8>, AllocError>
+    ensures { IfOk result (λ text. text.items ≡ time_text shown) }
+{
+    let plain = shown.to_plain();
+    let parts = [
+        Part::of(plain.date.year.unsigned_abs() as u64, 4, b'-'),
+        Part::of(plain.date.month as u64, 2, b'-'),
+        Part::of(plain.date.day as u64, 2, b'T'),
+        Part::of(plain.time.hour as u64, 2, b':'),
+        Part::of(plain.time.minute as u64, 2, b':'),
+        Part::of(plain.time.second as u64, 2, b'Z'),
+    ];
+    parts_text(alloc, &parts)
+}
+
+/// The text of numbers, each with the letter behind it.
+fn parts_text(alloc: Global, parts: &[Part]) -> Result<Vec<u8>, AllocError>
+    ensures { IfOk result (λ text. text.items ≡ flat_map part_text parts.now) }
+{
+    let mut text = Vec::new(alloc);
+    for part in parts {
+        let digits = filled_text(alloc, part.number, part.width)?;
+        text.extend_from_slice(digits.as_slice())?;
+        text.push(part.mark)?;
+    }
+    Ok(text)
 }
 
 /// The day of it, CCYYMMDD.
-pub(crate) fn day_text(alloc: Global, shown: DateTime) -> Result<String, ReportFault> {
-    text_of(alloc, shown, DAY)
+#[tactic(auto, unfolding(crate::specs::Digits::day_text))]
+pub(crate) fn day_text(alloc: Global, shown: DateTime) -> Result<Vec<u8>, AllocError>
+    ensures { IfOk result (λ text. text.items ≡ day_text shown) }
+{
+    let plain = shown.to_plain();
+    let month = filled_text(alloc, plain.date.month as u64, 2)?;
+    let day = filled_text(alloc, plain.date.day as u64, 2)?;
+    let mut text = filled_text(alloc, plain.date.year.unsigned_abs() as u64, 4)?;
+    text.extend_from_slice(month.as_slice())?;
+    text.extend_from_slice(day.as_slice())?;
+    Ok(text)
 }
 
-/// A date and a time as they are written so.
-fn text_of(alloc: Global, shown: DateTime, form: &str) -> Result<String, ReportFault> {
-    match shown.strftime(alloc, form) {
-        Ok(text) => Ok(text),
-        Err(_) => Err(ReportFault::OutOfMemory),
+impl Part {
+    /// A number of so many digits, and the letter behind it.
+    fn of(number: u64, width: usize, mark: u8) -> Part
+        ensures { result ≡ record { number = number; width = width; mark = mark } }
+    {
+        Part {
+            number,
+            width,
+            mark,
+        }
     }
 }

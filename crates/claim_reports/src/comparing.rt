@@ -58,7 +58,7 @@ pub fn compare_tables(
     ensures { IfOk result (λ told. IsCompared counted.now entries.now payments.now between told.text.items told.agrees) }
 {
     let counted = counted_in(alloc, counted, between)?;
-    let entries = entries_in(alloc, entries, between)?;
+    let entries = entries_in(alloc, entries, between.pharmacy)?;
     let made = made_in(alloc, payments, between)?;
     let found = compare(
         alloc,

@@ -2,6 +2,8 @@
 
 ghost use Rattle.std.specs.Prelude.{◌≡◌, decimal, IfOk};
 ghost use Rattle.claim_reports.specs.Compared.{auth_digits};
+ghost use Rattle.claim_reports.specs.Digits.{filled};
+ghost use Rattle.claim_reports.specs.Remitted.{below_zero};
 
 use input_text::put_decimal;
 use std::alloc::{AllocError, Global};
@@ -13,9 +15,16 @@ const DIGITS: usize = 16;
 pub(crate) fn auth_text(alloc: Global, number: u64) -> Result<Vec<u8>, AllocError>
     ensures { IfOk result (λ text. text.items ≡ auth_digits number) }
 {
+    filled_text(alloc, number, DIGITS)
+}
+
+/// A number, filled with zeros to so many digits.
+pub(crate) fn filled_text(alloc: Global, number: u64, width: usize) -> Result<Vec<u8>, AllocError>
+    ensures { IfOk result (λ text. text.items ≡ filled width number) }
+{
     let digits = number_text(alloc, number)?;
     let mut text = Vec::new(alloc);
-    text.resize(DIGITS.saturating_sub(digits.len()), b'0')?;
+    text.resize(width.saturating_sub(digits.len()), b'0')?;
     text.extend_from_slice(digits.as_slice())?;
     Ok(text)
 }
@@ -30,11 +39,15 @@ fn number_text(alloc: Global, number: u64) -> Result<Vec<u8>, AllocError>
 }
 
 /// Cents that were taken back, as a number below zero.
-pub(crate) fn taken_back(alloc: Global, cents: u64) -> Result<Vec<u8>, AllocError> {
-    let mut text = Vec::new(alloc);
-    if cents > 0 {
-        text.push(b'-')?;
+pub(crate) fn taken_back(alloc: Global, cents: u64) -> Result<Vec<u8>, AllocError>
+    ensures { IfOk result (λ text. text.items ≡ below_zero cents) }
+{
+    let digits = number_text(alloc, cents)?;
+    if cents == 0 {
+        return Ok(digits);
     }
-    put_decimal(&mut text, cents)?;
+    let mut text = Vec::new(alloc);
+    text.push(b'-')?;
+    text.extend_from_slice(digits.as_slice())?;
     Ok(text)
 }

@@ -1,58 +1,25 @@
 //! The remittance that a payer sends a pharmacy, made of the payer's table of rows.
 
+ghost use Rattle.std.specs.Prelude.{◌≡◌, Some, codes, IfOk, OnOk};
+ghost use Rattle.csv.specs.Records.{fields_of};
+ghost use Rattle.table_text.specs.Adding.{Adds, AddsRow};
+ghost use Rattle.table_text.specs.Rows.{head_text};
+ghost use Rattle.table_text.specs.Seen.{field_seen};
+ghost use Rattle.table_text.specs.declared.layout.Style.TheVariants.{Csv};
+ghost use Rattle.claim_reports.specs.RulingsSeen.{line_seen, lines_seen};
+ghost use Rattle.claim_reports.specs.Remitted.{kind_of, auth_of, cents_of, numbers_of, line_names, line_row, AddsLine, AddsLines, IsRemitted, sum_names, sums_row, IsSummed};
+ghost use Rattle.claim_reports.specs.NumbersSeen.{numbers_seen};
+
 use crate::fault::ReportFault;
-use crate::ledger::{Ledger, Move, Moved, period_of};
+use crate::ledger::{Ledger, Move, Period, period_of};
 use crate::numbers::{auth_text, taken_back};
-use crate::settling::settle;
-use crate::table::{Column, Table, TableRow};
+use crate::rulings::{
+    Line, Remittance, RulingColumns, lines_behind, moves_before, moves_of, rulings_in,
+};
+use crate::settling::{Settled, settle};
+use crate::table::{Table, TableRow};
 use std::alloc::{AllocError, Global};
 use table_text::{Field, Style, put_head, put_row};
-
-/// Whose remittance it is, and of which rulings.
-#[derive(Clone, Copy)]
-pub struct Remittance {
-    /// The payer.
-    pub payer: u64,
-    /// The pharmacy.
-    pub pharmacy: u64,
-    /// How many rulings of the payer, each a row of its table, stand before the period.
-    pub after: u64,
-    /// The last ruling of the period, counted from 1.
-    pub up_to: u64,
-    /// What the pharmacy owed at its beginning, in cents.
-    pub owed: u64,
-}
-
-/// The columns of a table of rows that remittances are made of.
-#[derive(Clone, Copy)]
-struct Columns {
-    payer: Column,
-    pharmacy: Column,
-    number: Column,
-    transaction: Column,
-    ruling: Column,
-    auth: Column,
-    prescription: Column,
-    day: Column,
-    cents: Column,
-}
-
-/// A ruling of the period: its row in the table, from 0, its number among those of the payer, and what it moves.
-#[derive(Clone, Copy)]
-struct Line {
-    place: usize,
-    ruling: u64,
-    moves: Move,
-}
-
-/// The rulings before a period and those in it, and how many the payer made up to its end.
-#[derive(Drop)]
-struct Rulings {
-    before: Vec<Move>,
-    lines: Vec<Line>,
-    moves: Vec<Move>,
-    up_to: u64,
-}
 
 /// A row for each payment and each reversal of the period, as CSV; the cents of a reversal are below zero.
 ///
@@ -63,13 +30,24 @@ pub fn remittance_lines(
     alloc: Global,
     rows: &[u8],
     asked: &Remittance,
-) -> Result<Vec<u8>, ReportFault> {
+) -> Result<Vec<u8>, ReportFault>
+    // What is written is, row by row, the rulings that a reader of CSV finds in the table.
+    ensures { IfOk result (λ text. IsRemitted rows.now asked.now text.items) }
+{
     let table = Table::read(alloc, 1, rows)?;
-    let columns = Columns::of(&table)?;
+    let columns = RulingColumns::of(&table)?;
     let rulings = rulings_in(alloc, &table, &columns, asked)?;
+    let before = moves_before(alloc, rulings.lines.as_slice(), asked.after)?;
+    let lines = lines_behind(alloc, rulings.lines.as_slice(), asked.after)?;
     let mut out = Vec::new(alloc);
     put_line_names(&mut out)?;
-    put_lines(&mut out, &table, &columns, asked, &rulings)?;
+    put_lines(
+        &mut out,
+        &columns,
+        asked,
+        before.as_slice(),
+        lines.as_slice(),
+    )?;
     Ok(out)
 }
 
@@ -82,163 +60,68 @@ pub fn remittance_sums(
     alloc: Global,
     rows: &[u8],
     asked: &Remittance,
-) -> Result<Vec<u8>, ReportFault> {
+) -> Result<Vec<u8>, ReportFault>
+    // What is written is the sums of the rulings that a reader of CSV finds in the table.
+    ensures { IfOk result (λ text. IsSummed rows.now asked.now text.items) }
+{
     let table = Table::read(alloc, 1, rows)?;
-    let columns = Columns::of(&table)?;
+    let columns = RulingColumns::of(&table)?;
     let rulings = rulings_in(alloc, &table, &columns, asked)?;
-    let period = period_of(alloc, rulings.before.as_slice(), rulings.moves.as_slice())?;
+    let before = moves_before(alloc, rulings.lines.as_slice(), asked.after)?;
+    let lines = lines_behind(alloc, rulings.lines.as_slice(), asked.after)?;
+    let moves = moves_of(alloc, lines.as_slice())?;
+    let period = period_of(alloc, before.as_slice(), moves.as_slice())?;
     let settled = settle(period.moved, asked.owed)?;
     let mut out = Vec::new(alloc);
     put_sum_names(&mut out)?;
-    let fields = [
-        Field::number(b"payer", asked.payer),
-        Field::number(b"pharmacy", asked.pharmacy),
-        Field::number(b"after", asked.after),
-        Field::number(b"up_to", rulings.up_to),
-        Field::number(b"standing_before_cents", period.begin),
-        Field::number(b"paid_cents", period.moved.paid),
-        Field::number(b"reversed_cents", period.moved.reversed),
-        Field::number(b"standing_after_cents", period.end),
-        Field::number(b"owed_before_cents", asked.owed),
-        Field::number(b"check_cents", settled.check),
-        Field::number(b"owed_after_cents", settled.owed),
-    ];
-    put_row(&mut out, Style::Csv, &fields)?;
+    put_sums(&mut out, asked, rulings.up_to, period, settled)?;
     Ok(out)
 }
 
-impl Columns {
-    /// Those of a table.
-    fn of(table: &Table) -> Result<Columns, ReportFault> {
-        Ok(Columns {
-            payer: table.column("payer")?,
-            pharmacy: table.column("pharmacy")?,
-            number: table.column("number")?,
-            transaction: table.column("transaction")?,
-            ruling: table.column("ruling")?,
-            auth: table.column("authorization")?,
-            prescription: table.column("prescription")?,
-            day: table.column("date_of_service")?,
-            cents: table.column("paid_cents")?,
-        })
-    }
-
-    /// What the ruling of a row moves, if it moves anything.
-    fn moves(&self, row: &TableRow<'_>) -> Result<Option<Move>, ReportFault> {
-        match row.text(self.ruling) {
-            b"paid" => {
-                let auth = row.number(self.auth)?;
-                Ok(Some(Move::Paid(auth, row.number(self.cents)?)))
-            }
-            b"reversed" => Ok(Some(Move::Reversed(row.number(self.auth)?))),
-            b"duplicate" | b"rejected" => Ok(None),
-            _ => Err(row.bad(self.ruling)),
-        }
-    }
-}
-
-/// The rulings of a table before a period and in it.
-fn rulings_in(
-    alloc: Global,
-    table: &Table,
-    columns: &Columns,
-    asked: &Remittance,
-) -> Result<Rulings, ReportFault> {
-    let mut rulings = Rulings {
-        before: Vec::new(alloc),
-        lines: Vec::new(alloc),
-        moves: Vec::new(alloc),
-        up_to: 0,
-    };
-    for (place, record) in table.rows().iter().enumerate() {
-        let row = table.row(place, record);
-        take_row(&mut rulings, place, &row, columns, asked)?;
-    }
-    Ok(rulings)
-}
-
-/// Takes a row of the table.
-fn take_row(
-    rulings: &mut Rulings,
-    place: usize,
-    row: &TableRow<'_>,
-    columns: &Columns,
-    asked: &Remittance,
-) -> Result<(), ReportFault> {
-    let is_payer = row.number(columns.payer)? == asked.payer;
-    if !is_payer || rulings.up_to >= asked.up_to {
-        return Ok(());
-    }
-    let ruling = rulings.up_to.saturating_add(1);
-    rulings.up_to = ruling;
-    if row.number(columns.pharmacy)? != asked.pharmacy {
-        return Ok(());
-    }
-    let Some(moves) = columns.moves(row)? else {
-        return Ok(());
-    };
-    if ruling <= asked.after {
-        rulings.before.push(moves)?;
-        return Ok(());
-    }
-    rulings.moves.push(moves)?;
-    rulings.lines.push(Line {
-        place,
-        ruling,
-        moves,
-    })?;
-    Ok(())
-}
-
-/// Appends a row for each ruling of the period.
+/// Appends a row for each ruling of the period, behind those before it.
 fn put_lines(
     out: &mut Vec<u8>,
-    table: &Table,
-    columns: &Columns,
+    columns: &RulingColumns,
     asked: &Remittance,
-    rulings: &Rulings,
-) -> Result<(), ReportFault> {
+    before: &[Move],
+    lines: &[Line<'_>],
+) -> Result<(), ReportFault>
+    ensures { OnOk result (AddsLines columns.now asked.now before.now (lines_seen lines.now) out.old.items out.new.items) }
+{
     let mut ledger = Ledger::new(*out.allocator());
-    let mut passed = rulings.before.len() as u64;
-    ledger.take_all(0, rulings.before.as_slice())?;
-    for line in &rulings.lines {
-        let moved = ledger.take_all(passed, &[line.moves])?;
+    let mut passed = before.len() as u64;
+    ledger.take_all(0, before)?;
+    for line in lines {
+        let one = [line.moves];
+        let moved = ledger.take_all(passed, &one)?;
         passed = passed.saturating_add(1);
-        if let Some(record) = table.rows().get(line.place) {
-            let row = table.row(line.place, record);
-            put_line(out, &row, columns, asked, line, moved)?;
-        }
+        put_line(out, columns, asked, line, moved.reversed)?;
     }
     Ok(())
 }
 
-/// Appends the row of a ruling that moved this.
+/// Appends the row of a ruling that takes back so many cents.
 fn put_line(
     out: &mut Vec<u8>,
-    row: &TableRow<'_>,
-    columns: &Columns,
+    columns: &RulingColumns,
     asked: &Remittance,
-    line: &Line,
-    moved: Moved,
-) -> Result<(), ReportFault> {
-    let numbers = Numbers {
-        number: row.number(columns.number)?,
-        transaction: row.number(columns.transaction)?,
-        prescription: row.number(columns.prescription)?,
-    };
-    let (kind, auth) = kind_of(line.moves);
-    let digits = auth_text(*out.allocator(), auth)?;
-    let back = taken_back(*out.allocator(), moved.reversed)?;
-    let cents = cents_field(line.moves, moved, back.as_slice());
+    line: &Line<'_>,
+    reversed: u64,
+) -> Result<(), ReportFault>
+    ensures { OnOk result (AddsLine columns.now asked.now reversed (line_seen line.now) out.old.items out.new.items) }
+{
+    let numbers = Numbers::of(&line.row, columns)?;
+    let digits = auth_text(*out.allocator(), auth_of(line.moves))?;
+    let back = taken_back(*out.allocator(), reversed)?;
+    let day = line.row.text(columns.day);
     put_fields(
         out,
         asked,
-        line.ruling,
+        line,
         numbers,
-        kind,
         digits.as_slice(),
-        row.text(columns.day),
-        cents,
+        day,
+        back.as_slice(),
     )?;
     Ok(())
 }
@@ -251,50 +134,109 @@ struct Numbers {
     prescription: u64,
 }
 
+impl Numbers {
+    /// Those of a row.
+    fn of(row: &TableRow<'_>, columns: &RulingColumns) -> Result<Numbers, ReportFault>
+        ensures { IfOk result (λ numbers. numbers_of columns.now (fields_of row.now.record.now) ≡ Some (numbers_seen numbers)) }
+    {
+        Ok(Numbers {
+            number: row.number(columns.number)?,
+            transaction: row.number(columns.transaction)?,
+            prescription: row.number(columns.prescription)?,
+        })
+    }
+}
+
 /// Appends the fields of a ruling.
-fn put_fields<'a>(
+#[tactic(auto, unfolding(crate::specs::Remitted::line_row))]
+fn put_fields(
     out: &mut Vec<u8>,
     asked: &Remittance,
-    ruling: u64,
+    line: &Line<'_>,
     numbers: Numbers,
-    kind: &'static [u8],
-    digits: &'a [u8],
-    day: &'a [u8],
-    cents: Field<'a>,
-) -> Result<(), AllocError> {
+    digits: &[u8],
+    day: &[u8],
+    back: &[u8],
+) -> Result<(), AllocError>
+    ensures { OnOk result (AddsRow Csv out.old out.new (line_row asked.now line.now.ruling (numbers_seen numbers)
+        (kind_of line.now.moves) digits.now day.now (cents_of back.now line.now.moves))) }
+{
     let fields = [
         Field::number(b"payer", asked.payer),
         Field::number(b"pharmacy", asked.pharmacy),
-        Field::number(b"ruling", ruling),
+        Field::number(b"ruling", line.ruling),
         Field::number(b"number", numbers.number),
         Field::number(b"transaction", numbers.transaction),
-        Field::word(b"kind", kind),
+        Field::word(b"kind", kind_of(line.moves)),
         Field::text(b"authorization", digits),
         Field::number(b"prescription", numbers.prescription),
         Field::text(b"date_of_service", day),
-        cents,
+        cents_field(line.moves, back),
     ];
     put_row(out, Style::Csv, &fields)
 }
 
-/// The word for a ruling that moves money, and its authorization.
-fn kind_of(moves: Move) -> (&'static [u8], u64) {
+/// The word for a ruling that moves money.
+fn kind_of(moves: Move) -> &'static [u8]
+    ensures { result.now ≡ kind_of moves }
+{
     match moves {
-        Move::Paid(auth, _) => (b"paid", auth),
-        Move::Reversed(auth) => (b"reversed", auth),
+        Move::Paid(_, _) => b"paid",
+        Move::Reversed(_) => b"reversed",
     }
 }
 
-/// The cents that a ruling moved, below zero where they were taken back.
-fn cents_field<'a>(moves: Move, moved: Moved, back: &'a [u8]) -> Field<'a> {
+/// Its authorization.
+fn auth_of(moves: Move) -> u64
+    ensures { result ≡ auth_of moves }
+{
     match moves {
-        Move::Paid(_, _) => Field::number(b"cents", moved.paid),
+        Move::Paid(auth, _) => auth,
+        Move::Reversed(auth) => auth,
+    }
+}
+
+/// The cents that a ruling moved; those that were taken back are given.
+fn cents_field<'a>(moves: Move, back: &'a [u8]) -> Field<'a>
+    ensures { field_seen result ≡ record { name = codes "cents"; value = cents_of back.now moves } }
+{
+    match moves {
+        Move::Paid(_, cents) => Field::number(b"cents", cents),
         Move::Reversed(_) => Field::text(b"cents", back),
     }
 }
 
+/// Appends the sums of a period.
+#[tactic(auto, unfolding(crate::specs::Remitted::sums_row))]
+fn put_sums(
+    out: &mut Vec<u8>,
+    asked: &Remittance,
+    up_to: u64,
+    period: Period,
+    settled: Settled,
+) -> Result<(), AllocError>
+    ensures { OnOk result (AddsRow Csv out.old out.new (sums_row asked.now up_to period settled)) }
+{
+    let fields = [
+        Field::number(b"payer", asked.payer),
+        Field::number(b"pharmacy", asked.pharmacy),
+        Field::number(b"after", asked.after),
+        Field::number(b"up_to", up_to),
+        Field::number(b"standing_before_cents", period.begin),
+        Field::number(b"paid_cents", period.moved.paid),
+        Field::number(b"reversed_cents", period.moved.reversed),
+        Field::number(b"standing_after_cents", period.end),
+        Field::number(b"owed_before_cents", asked.owed),
+        Field::number(b"check_cents", settled.check),
+        Field::number(b"owed_after_cents", settled.owed),
+    ];
+    put_row(out, Style::Csv, &fields)
+}
+
 /// Appends the names of the columns of rulings.
-fn put_line_names(out: &mut Vec<u8>) -> Result<(), AllocError> {
+fn put_line_names(out: &mut Vec<u8>) -> Result<(), AllocError>
+    ensures { OnOk result (Adds out.old out.new (head_text line_names)) }
+{
     put_head(
         out,
         &[
@@ -313,7 +255,9 @@ fn put_line_names(out: &mut Vec<u8>) -> Result<(), AllocError> {
 }
 
 /// Appends the names of the columns of the sums.
-fn put_sum_names(out: &mut Vec<u8>) -> Result<(), AllocError> {
+fn put_sum_names(out: &mut Vec<u8>) -> Result<(), AllocError>
+    ensures { OnOk result (Adds out.old out.new (head_text sum_names)) }
+{
     put_head(
         out,
         &[

@@ -1,13 +1,15 @@
 //! A table of rows or payments of payers, with when each was ruled.
 
-ghost use Rattle.std.specs.Prelude.{map, IfOk, OnOk};
+ghost use Rattle.std.specs.Prelude.{◌≡◌, ◌++◌, None, Some, get_or, map, IfOk, OnOk};
 ghost use Rattle.csv.specs.Records.{fields_of};
-ghost use Rattle.claim_reports.specs.Wider.{AreWider, AddsWider, IsWiderTable};
+ghost use Rattle.claim_reports.specs.Digits.{time_text, day_text};
+ghost use Rattle.claim_reports.specs.Wider.{wider_text};
+ghost use Rattle.claim_reports.specs.WhenRuled.{AreNamed, AreRowColumns, AreCallColumns, request_to, request_in, payer_named, taken_by, taken_in, AreRequests, AreTaken, AddsRuled, AddsTimed, IsTimed, IsRuledTable};
 
 use crate::clock::{day_text, shown_at, time_text};
 use crate::fault::ReportFault;
 use crate::ruled::{Request, Taken, ruled_times};
-use crate::table::{Column, Table, TableRow};
+use crate::table::{Column, Table, TableRow, add};
 use crate::wider::put_wider;
 use csv::ByteRecord;
 use input_text::read_decimal;
@@ -27,14 +29,31 @@ struct Named {
     number: Column,
 }
 
+/// The columns of a table of rows that are read.
+#[derive(Clone, Copy)]
+struct RowColumns {
+    payer: Column,
+    named: Named,
+}
+
+/// The columns of a table of calls that are read.
+#[derive(Clone, Copy)]
+struct CallColumns {
+    node: Column,
+    time: Column,
+    carries: Column,
+    named: Named,
+}
+
 /// A table of `rows` or `payments` as it stands, with two columns behind it: the date and the time at which each row was ruled,
 /// and the day of it, by a table of `calls` of the payers' logs. Both are empty where that is not known.
 ///
 /// # Errors
 /// A table that is none, or has a value of another kind; a table that has one of the two columns; want of memory.
 pub fn ruled_table(alloc: Global, rows: &[u8], calls: &[u8]) -> Result<Vec<u8>, ReportFault>
-    // What is written is, line by line, the records that a reader of CSV gives of the table, each with two fields behind.
-    ensures { IfOk result (λ text. IsWiderTable rows.now text.items) }
+    // What is written is, line by line, the records that a reader of CSV gives of the table, each row with the time of its own
+    // ruling behind it.
+    ensures { IfOk result (λ text. IsRuledTable rows.now calls.now text.items) }
 {
     let table = Table::read(alloc, 1, rows)?;
     table.lacks(RULED_AT)?;
@@ -46,49 +65,47 @@ pub fn ruled_table(alloc: Global, rows: &[u8], calls: &[u8]) -> Result<Vec<u8>, 
 }
 
 /// The request of each row of a table.
-fn requests_of(alloc: Global, table: &Table) -> Result<Vec<Request>, ReportFault> {
-    let payer = table.column("payer")?;
-    let named = Named::of(table)?;
+fn requests_of(alloc: Global, table: &Table) -> Result<Vec<Request>, ReportFault>
+    ensures { IfOk result (λ requests. AreRequests (map fields_of table.now.records.items) requests.items) }
+{
+    let columns = RowColumns::of(table)?;
     let mut requests = Vec::new(alloc);
     for (place, record) in table.rows().iter().enumerate() {
         let row = table.row(place, record);
-        requests.push(named.request(&row, row.number(payer)?)?)?;
+        requests.push(columns.request(&row)?)?;
     }
     Ok(requests)
 }
 
 /// The packets with requests that payers took, by a table of `calls`.
-fn taken_in(alloc: Global, text: &[u8]) -> Result<Vec<Taken>, ReportFault> {
+fn taken_in(alloc: Global, text: &[u8]) -> Result<Vec<Taken>, ReportFault>
+    ensures { IfOk result (λ taken. AreTaken text.now taken.items) }
+{
     let table = Table::read(alloc, 2, text)?;
-    let node = table.column("node")?;
-    let time = table.column("time")?;
-    let carries = table.column("carries")?;
-    let named = Named::of(&table)?;
+    let columns = CallColumns::of(&table)?;
     let mut taken = Vec::new(alloc);
     for (place, record) in table.rows().iter().enumerate() {
-        let row = table.row(place, record);
-        if row.text(carries) == b"request".as_slice() {
-            if let Some(payer) = payer_named(row.text(node)) {
-                let request = named.request(&row, payer)?;
-                let time = row.optional_number(time)?;
-                taken.push(Taken { request, time })?;
-            }
-        }
+        let call = columns.taken(&table.row(place, record))?;
+        add(&mut taken, call)?;
     }
     Ok(taken)
 }
 
 /// The number of the payer that a node is, where it is one.
-fn payer_named(node: &[u8]) -> Option<u64> {
-    match node {
-        [b'p', b'r', digits @ ..] => read_decimal(digits, 18),
-        _ => None,
+fn payer_named(node: &[u8]) -> Option<u64>
+    ensures { result ≡ payer_named node.now }
+{
+    match node.strip_prefix(b"pr") {
+        Some(digits) => read_decimal(digits, 18),
+        None => None,
     }
 }
 
 impl Named {
     /// Those of a table.
-    fn of(table: &Table) -> Result<Named, ReportFault> {
+    fn of(table: &Table) -> Result<Named, ReportFault>
+        ensures { IfOk result (λ columns. AreNamed (map fields_of table.now.records.items) columns) }
+    {
         Ok(Named {
             pharmacy: table.column("pharmacy")?,
             number: table.column("number")?,
@@ -96,12 +113,71 @@ impl Named {
     }
 
     /// The request to a payer that a row names.
-    fn request(&self, row: &TableRow<'_>, payer: u64) -> Result<Request, ReportFault> {
+    fn request(&self, row: &TableRow<'_>, payer: u64) -> Result<Request, ReportFault>
+        ensures { IfOk result (λ request. request_to self.now payer (fields_of row.now.record.now) ≡ Some request) }
+    {
         Ok(Request {
             payer,
             pharmacy: row.number(self.pharmacy)?,
             number: row.number(self.number)?,
         })
+    }
+}
+
+impl RowColumns {
+    /// Those of a table.
+    fn of(table: &Table) -> Result<RowColumns, ReportFault>
+        ensures { IfOk result (λ columns. AreRowColumns (map fields_of table.now.records.items) columns) }
+    {
+        Ok(RowColumns {
+            payer: table.column("payer")?,
+            named: Named::of(table)?,
+        })
+    }
+
+    /// The request that a row is about.
+    fn request(&self, row: &TableRow<'_>) -> Result<Request, ReportFault>
+        ensures { IfOk result (λ request. request_in self.now (fields_of row.now.record.now) ≡ Some request) }
+    {
+        let payer = row.number(self.payer)?;
+        self.named.request(row, payer)
+    }
+}
+
+impl CallColumns {
+    /// Those of a table.
+    fn of(table: &Table) -> Result<CallColumns, ReportFault>
+        ensures { IfOk result (λ columns. AreCallColumns (map fields_of table.now.records.items) columns) }
+    {
+        Ok(CallColumns {
+            node: table.column("node")?,
+            time: table.column("time")?,
+            carries: table.column("carries")?,
+            named: Named::of(table)?,
+        })
+    }
+
+    /// What a payer took by a call, where it is one with a request.
+    #[tactic(auto, unfolding(crate::specs::WhenRuled::taken_in))]
+    fn taken(&self, row: &TableRow<'_>) -> Result<Option<Taken>, ReportFault>
+        ensures { IfOk result (λ taken. taken_in self.now (fields_of row.now.record.now) ≡ Some taken) }
+    {
+        if row.text(self.carries) != b"request".as_slice() {
+            return Ok(None);
+        }
+        self.taken_by(payer_named(row.text(self.node)), row)
+    }
+
+    /// What this payer took by a call with a request.
+    fn taken_by(&self, payer: Option<u64>, row: &TableRow<'_>) -> Result<Option<Taken>, ReportFault>
+        ensures { IfOk result (λ taken. taken_by self.now payer (fields_of row.now.record.now) ≡ Some taken) }
+    {
+        let Some(payer) = payer else {
+            return Ok(None);
+        };
+        let request = self.named.request(row, payer)?;
+        let time = row.optional_number(self.time)?;
+        Ok(Some(Taken { request, time }))
     }
 }
 
@@ -112,47 +188,70 @@ fn with_times(
     records: &[ByteRecord],
     times: &[Option<u64>],
 ) -> Result<Vec<u8>, ReportFault>
-    ensures { IfOk result (λ text. AreWider (map fields_of records.now) text.items) }
+    ensures { IfOk result (λ text. IsTimed (map fields_of records.now) times.now text.items) }
 {
     let mut out = Vec::new(alloc);
-    for (place, record) in records.iter().enumerate() {
-        put_ruled(&mut out, record, place, times)?;
+    match records {
+        [names, rows @ ..] => {
+            put_wider(&mut out, names, RULED_AT.as_bytes(), RULED_ON.as_bytes())?;
+            put_rows(&mut out, rows, times)?;
+            Ok(out)
+        }
+        [] => Ok(out),
     }
-    Ok(out)
 }
 
-/// Appends the line of the record at a place.
-fn put_ruled(
+/// Appends the lines of rows, each with its time.
+fn put_rows(
     out: &mut Vec<u8>,
-    row: &ByteRecord,
-    place: usize,
+    rows: &[ByteRecord],
     times: &[Option<u64>],
 ) -> Result<(), ReportFault>
-    ensures { OnOk result (AddsWider out.old.items out.new.items (fields_of row.now)) }
+    ensures { OnOk result (AddsTimed out.old.items out.new.items (map fields_of rows.now) times.now) }
 {
-    if place == 0 {
-        return put_wider(out, row, RULED_AT.as_bytes(), RULED_ON.as_bytes());
+    for (place, row) in rows.iter().enumerate() {
+        put_ruled(out, row, time_at(times, place))?;
     }
-    match shown_of(times, place - 1) {
+    Ok(())
+}
+
+/// The time at a place, where there is one.
+fn time_at(times: &[Option<u64>], place: usize) -> Option<u64>
+    ensures { result ≡ get_or times.now place None }
+{
+    match times.get(place) {
+        Some(time) => *time,
+        None => None,
+    }
+}
+
+/// Appends the line of a row that was ruled at this time.
+fn put_ruled(out: &mut Vec<u8>, row: &ByteRecord, time: Option<u64>) -> Result<(), ReportFault>
+    ensures { OnOk result (AddsRuled out.old.items out.new.items (fields_of row.now) time) }
+{
+    match time {
+        Some(milliseconds) => put_moment(out, row, milliseconds),
+        None => put_wider(out, row, b"", b""),
+    }
+}
+
+/// Appends the line of a row that was ruled so many milliseconds after 1970 began.
+fn put_moment(out: &mut Vec<u8>, row: &ByteRecord, milliseconds: u64) -> Result<(), ReportFault>
+    ensures { OnOk result (AddsRuled out.old.items out.new.items (fields_of row.now) (Some milliseconds)) }
+{
+    match shown_at(milliseconds) {
         Some(shown) => put_shown(out, row, shown),
         None => put_wider(out, row, b"", b""),
     }
 }
 
-/// Appends the line of a record that was ruled when a clock in UTC showed this.
+/// Appends the line of a row that was ruled when a clock in UTC showed this.
 fn put_shown(out: &mut Vec<u8>, row: &ByteRecord, shown: DateTime) -> Result<(), ReportFault>
-    ensures { OnOk result (AddsWider out.old.items out.new.items (fields_of row.now)) }
+    ensures { OnOk result (out.new.items ≡ out.old.items
+        ++ wider_text (fields_of row.now) (time_text shown) (day_text shown)) }
 {
     let alloc = *out.allocator();
     let at = time_text(alloc, shown)?;
     let on = day_text(alloc, shown)?;
-    put_wider(out, row, at.as_bytes(), on.as_bytes())
-}
-
-/// What a clock in UTC showed at the time that a row has, where it has one.
-fn shown_of(times: &[Option<u64>], row: usize) -> Option<DateTime> {
-    match times.get(row) {
-        Some(Some(milliseconds)) => shown_at(*milliseconds),
-        _ => None,
-    }
+    put_wider(out, row, at.as_slice(), on.as_slice())
 }

@@ -1,14 +1,13 @@
 //! The tables of both sides: what a pharmacy counts and entered, and what a payer paid.
 
-ghost use Rattle.std.specs.Prelude.{◌≡◌, ◌++◌, map, Some, IfOk, OnOk};
+ghost use Rattle.std.specs.Prelude.{◌≡◌, map, Some, IfOk};
 ghost use Rattle.csv.specs.Records.{fields_of};
-ghost use Rattle.claim_reports.specs.Tables.{given};
 ghost use Rattle.claim_reports.specs.Compared.{AreParties, AreFigureColumns, AreCountedColumns, AreEntryColumns, AreMadeColumns, is_between, figures_in, counted_payment, made_payment, entry_of, counted_in, made_in, entry_in, AreCounted, AreEntries, AreMade};
 
 use crate::beside::{Counted, Entry, Figures, Made};
 use crate::fault::ReportFault;
-use crate::table::{Column, Table, TableRow};
-use std::alloc::{AllocError, Global};
+use crate::table::{Column, Table, TableRow, add};
+use std::alloc::Global;
 
 /// Which payer and which pharmacy.
 #[derive(Clone, Copy)]
@@ -81,19 +80,19 @@ pub(crate) fn counted_in(
     Ok(counted)
 }
 
-/// The entries of the pharmacy, by the second table.
+/// The entries of a pharmacy, by the second table.
 pub(crate) fn entries_in(
     alloc: Global,
     text: &[u8],
-    between: Between,
+    pharmacy: u64,
 ) -> Result<Vec<Entry>, ReportFault>
-    ensures { IfOk result (λ entries. AreEntries between text.now entries.items) }
+    ensures { IfOk result (λ entries. AreEntries pharmacy text.now entries.items) }
 {
     let table = Table::read(alloc, 2, text)?;
     let columns = EntryColumns::of(&table)?;
     let mut entries = Vec::new(alloc);
     for (place, record) in table.rows().iter().enumerate() {
-        let entry = columns.entry(&table.row(place, record), between.pharmacy)?;
+        let entry = columns.entry(&table.row(place, record), pharmacy)?;
         add(&mut entries, entry)?;
     }
     Ok(entries)
@@ -115,19 +114,6 @@ pub(crate) fn made_in(
         add(&mut made, payment)?;
     }
     Ok(made)
-}
-
-/// Adds what a row gives, where it gives something.
-fn add<T: Copy>(list: &mut Vec<T>, one: Option<T>) -> Result<(), AllocError>
-    ensures { OnOk result (list.new.items ≡ list.old.items ++ given one) }
-{
-    match one {
-        Some(one) => {
-            list.push(one)?;
-            Ok(())
-        }
-        None => Ok(()),
-    }
 }
 
 impl Parties {

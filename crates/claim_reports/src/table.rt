@@ -1,15 +1,15 @@
 //! Tables as they are read: rows of fields under the names of columns.
 
-ghost use Rattle.std.specs.Prelude.{◌≡◌, ℕ, List, map, IfOk, Some, bytes_eq};
+ghost use Rattle.std.specs.Prelude.{◌≡◌, ℕ, ◌++◌, List, map, IfOk, OnOk, Some, None, bytes_eq};
 ghost use Rattle.std.specs.List.{position_from};
 ghost use Rattle.csv.specs.Records.{fields_of};
-ghost use Rattle.claim_reports.specs.Tables.{AreRecordsOf, rows_of, column_of, cell, number_in, optional_in, word_in};
+ghost use Rattle.claim_reports.specs.Tables.{AreRecordsOf, rows_of, column_of, cell, number_in, optional_in, word_in, given};
 
 use crate::fault::ReportFault;
 use crate::wider::field_at;
 use csv::{ByteRecord, Error, ErrorKind, ReaderBuilder};
 use input_text::read_decimal;
-use std::alloc::Global;
+use std::alloc::{AllocError, Global};
 
 /// The most digits of a number in a table.
 const DIGITS: usize = 18;
@@ -96,10 +96,12 @@ impl Table {
     }
 
     /// That it has no column of a name.
-    pub(crate) fn lacks(&self, name: &'static str) -> Result<(), ReportFault> {
-        match self.column(name) {
-            Ok(_) => Err(ReportFault::HasColumn(self.number, name)),
-            Err(_) => Ok(()),
+    pub(crate) fn lacks(&self, name: &'static str) -> Result<(), ReportFault>
+        ensures { OnOk result (column_of (map fields_of self.now.records.items) name.now ≡ None) }
+    {
+        match self.place(name.as_bytes()) {
+            Some(_) => Err(ReportFault::HasColumn(self.number, name)),
+            None => Ok(()),
         }
     }
 
@@ -121,13 +123,13 @@ impl Table {
     }
 
     /// The row at a place behind the names, from 0.
-    pub(crate) fn row<'a>(&self, place: usize, record: &'a ByteRecord) -> TableRow<'a>
-        ensures { result.record.now ≡ record.now }
+    pub(crate) fn row<'a>(&self, place: usize, held: &'a ByteRecord) -> TableRow<'a>
+        ensures { result.record.now ≡ held.now }
     {
         TableRow {
             table: self.number,
             number: (place as u64).saturating_add(1),
-            record,
+            record: held,
         }
     }
 }
@@ -194,5 +196,18 @@ impl<'a> TableRow<'a> {
     /// That a column has no value of its kind.
     pub(crate) fn bad(&self, column: Column) -> ReportFault {
         ReportFault::BadValue(self.table, self.number, column.name)
+    }
+}
+
+/// Adds what a row gives, where it gives something.
+pub(crate) fn add<T: Copy>(list: &mut Vec<T>, one: Option<T>) -> Result<(), AllocError>
+    ensures { OnOk result (list.new.items ≡ list.old.items ++ given one) }
+{
+    match one {
+        Some(one) => {
+            list.push(one)?;
+            Ok(())
+        }
+        None => Ok(()),
     }
 }

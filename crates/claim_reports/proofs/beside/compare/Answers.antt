@@ -5,5 +5,5 @@ use Rattle.claim_reports.proofs.beside.compare.Goals as goal
 
 pub returns : goal.returns
 returns c =
-    found_is c.args.counted.now c.args.entries.now c.args.made.now (get nat_cmp c.in_ok-open.open) (get nat_cmp c.in_ok-known.known) (get nat_cmp c.in_ok-paid.paid) _ _
-    c.in_ok-open.ensures c.in_ok-known.ensures c.in_ok-paid.ensures (rw c.new-found.ensures.items at c.in_ok-put_counted.ensures) c.in_ok-put_made.ensures
+    found_is c.args.counted.now c.args.entries.now c.args.made.now (get nat_cmp c.in_ok-held.held) (get nat_cmp c.in_ok-known.known) (get nat_cmp c.in_ok-paid.paid) _ _
+    c.in_ok-held.ensures c.in_ok-known.ensures c.in_ok-paid.ensures (rw c.new-found.ensures.items at c.in_ok-put_counted.ensures) c.in_ok-put_made.ensures

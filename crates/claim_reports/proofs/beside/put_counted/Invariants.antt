@@ -8,5 +8,5 @@ use Rattle.claim_reports.proofs.beside.put_counted.Given as goal
 -- what is found so far, and then of the payments that are left
 abbrev pub invariant-loop-payment : goal.invariant-loop-payment
 invariant-loop-payment l =
-    l.found.items ++ flat_map (λ x. told (counted_finding (get nat_cmp l.open) (get nat_cmp l.paid) x)) (drop l.payment-index l.counted)
-    ≡ l.initial.found.items ++ flat_map (λ x. told (counted_finding (get nat_cmp l.open) (get nat_cmp l.paid) x)) l.counted
+    l.found.items ++ flat_map (λ x. told (counted_finding (get nat_cmp l.held) (get nat_cmp l.paid) x)) (drop l.payment-index l.counted)
+    ≡ l.initial.found.items ++ flat_map (λ x. told (counted_finding (get nat_cmp l.held) (get nat_cmp l.paid) x)) l.counted

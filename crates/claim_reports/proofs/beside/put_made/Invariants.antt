@@ -8,5 +8,5 @@ use Rattle.claim_reports.proofs.beside.put_made.Given as goal
 -- what is found so far, and then of the payments that are left
 abbrev pub invariant-loop-payment : goal.invariant-loop-payment
 invariant-loop-payment l =
-    l.found.items ++ flat_map (λ x. told (made_finding (get nat_cmp l.open) (get nat_cmp l.known) x)) (drop l.payment-index l.made)
-    ≡ l.initial.found.items ++ flat_map (λ x. told (made_finding (get nat_cmp l.open) (get nat_cmp l.known) x)) l.made
+    l.found.items ++ flat_map (λ x. told (made_finding (get nat_cmp l.held) (get nat_cmp l.known) x)) (drop l.payment-index l.made)
+    ≡ l.initial.found.items ++ flat_map (λ x. told (made_finding (get nat_cmp l.held) (get nat_cmp l.known) x)) l.made

@@ -1,4 +1,4 @@
-use Rattle.std.proofs.Common.{◌≡◌, append-nil, arith}
+use Rattle.std.proofs.Common.{append-nil, arith}
 use Rattle.std.proofs.lemmas.Grind.{common_steps}
 use Rattle.std.proofs.lemmas.List.Elements.{filter_more}
 use Rattle.claim_reports.proofs.choice.chosen.Goals as goal

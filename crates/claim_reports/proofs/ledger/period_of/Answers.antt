@@ -1,4 +1,4 @@
-use Rattle.std.proofs.Common.{◌≡◌, ◌∙◌, [], arith}
+use Rattle.std.proofs.Common.{◌∙◌, [], arith}
 use Rattle.claim_reports.proofs.ledger.period_of.Goals as goal
 
 pub returns-clause-figures : goal.returns-clause-figures

@@ -1,4 +1,3 @@
-use Rattle.std.proofs.Common.{◌∙◌}
 use Rattle.csv.specs.Records.{fields_of}
 use Rattle.claim_reports.specs.Compared.{entry_in}
 use Rattle.claim_reports.proofs.Rowwise.{goes_on}
@@ -7,5 +6,5 @@ use Rattle.claim_reports.proofs.sides.entries_in.Goals as goal
 pub loop-place-preserved : goal.loop-place-preserved
 loop-place-preserved c =
     rw c.in_ok-add.ensures
-    (goes_on (entry_in c.in_ok-columns.columns c.args.between.pharmacy) fields_of c.rows-record-items.result.now c.loop-place.place _ c.loop-place.entries.items _ _ c.loop-place-test.true
+    (goes_on (entry_in c.in_ok-columns.columns c.args.pharmacy) fields_of c.rows-record-items.result.now c.loop-place.place _ c.loop-place.entries.items _ _ c.loop-place-test.true
     (rw (c.row.ensures, c.record-item.is) at c.in_ok-entry.ensures) c.loop-place.invariant)

@@ -8,5 +8,5 @@ use Rattle.claim_reports.proofs.sides.entries_in.Given as goal
 -- those so far, and then those of the rows that are left
 abbrev pub invariant-loop-place : goal.invariant-loop-place
 invariant-loop-place l =
-    given_by (entry_in l.columns l.between.pharmacy) (map fields_of l.record-items)
-    ≡ behind l.entries.items (given_by (entry_in l.columns l.between.pharmacy) (map fields_of (drop l.place l.record-items)))
+    given_by (entry_in l.columns l.pharmacy) (map fields_of l.record-items)
+    ≡ behind l.entries.items (given_by (entry_in l.columns l.pharmacy) (map fields_of (drop l.place l.record-items)))

@@ -1,4 +1,3 @@
-use Rattle.std.proofs.Common.{◌∙◌}
 use Rattle.csv.specs.Records.{fields_of}
 use Rattle.claim_reports.specs.Compared.{made_in}
 use Rattle.claim_reports.proofs.Rowwise.{goes_on}

@@ -1,4 +1,4 @@
-use Rattle.std.proofs.Common.{Bor, ◌≡◌, ◌∙◌, ◌∷◌, [], ℕ, List, Some, inl, inr, map, refl, rules, sym}
+use Rattle.std.proofs.Common.{Bor, ◌∙◌, ◌∷◌, [], ℕ, List, Some, inl, inr, map, refl, sym}
 use Rattle.std.specs.Prelude.{Option}
 use Rattle.std.proofs.lemmas.List.{map-append}
 use Rattle.csv.specs.Reading.{Reached, default_config, strip_bom}

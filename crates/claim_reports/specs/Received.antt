@@ -1,0 +1,124 @@
+-- What callers were told beside what a run has of a pharmacy, of tables, as a table.
+use Rattle.std.specs.Prelude.{◌≡◌, ℕ, ◌==◌, ◌&&◌, ◌++◌, Bool, false, List, [], ◌∷◌, Option, Some, None, bytes_eq, codes, decimal, drop, if◌then◌else◌, is_none, length}
+use Rattle.std.specs.List.{flat_map, list_all}
+use Rattle.std.specs.Result.{result_ok}
+use Rattle.input_text.specs.Printing.{unprinted}
+use Rattle.table_text.specs.Members.{Row, Number, Text}
+use Rattle.table_text.specs.Rows.{head_text, csv_row}
+use Rattle.claim_reports.specs.declared.beside.Entry.{Entry}
+use Rattle.claim_reports.specs.declared.replies.PacketColumns.{PacketColumns}
+use Rattle.claim_reports.specs.declared.replies.ReceiptColumns.{ReceiptColumns}
+use Rattle.claim_reports.specs.Compared.{AreEntries, wanted}
+use Rattle.claim_reports.specs.Comparing.{entry_under, last_with}
+use Rattle.claim_reports.specs.Replies.{Reply}
+use Rattle.claim_reports.specs.Tables.{AreRecordsOf, rows_of, column_of, cell, number_in, given_by, ◌>>=◌}
+
+-- ---- what the tables say
+
+-- the columns of packets, and those of receipts
+pub record ArePacketColumns (records : List (List (List ℕ))) (c : PacketColumns) : Type 0 where
+  pub to : column_of records (codes "to") ≡ Some c.to.place
+  pub carries : column_of records (codes "carries") ≡ Some c.carries.place
+  pub pharmacy : column_of records (codes "pharmacy") ≡ Some c.pharmacy.place
+  pub number : column_of records (codes "number") ≡ Some c.number.place
+  pub bytes : column_of records (codes "bytes") ≡ Some c.bytes.place
+
+pub record AreReceiptColumns (records : List (List (List ℕ))) (c : ReceiptColumns) : Type 0 where
+  pub pharmacy : column_of records (codes "pharmacy") ≡ Some c.pharmacy.place
+  pub number : column_of records (codes "number") ≡ Some c.number.place
+  pub answer : column_of records (codes "answer") ≡ Some c.answer.place
+
+-- the bytes that a column spells
+abbrev pub spelled_in : ℕ → List (List ℕ) → Option (List ℕ)
+spelled_in place row = result_ok (unprinted (cell place row))
+
+-- the name of a pharmacy's node
+abbrev pub node_name : ℕ → List ℕ
+node_name pharmacy = codes "ph" ++ decimal pharmacy
+
+-- the answer of a packet stands behind the 18 bytes of its head
+abbrev pub answer_of : PacketColumns → List (List ℕ) → Option Reply
+answer_of c row = do
+  number ← number_in c.number.place row
+  bytes ← spelled_in c.bytes.place row
+  Some (record { number = number; bytes = drop 18 bytes })
+
+-- a packet carries an answer to a node
+abbrev pub is_answer_to : PacketColumns → List ℕ → List (List ℕ) → Bool
+is_answer_to c node row = bytes_eq (cell c.carries.place row) (codes "answer") && bytes_eq (cell c.to.place row) node
+
+-- the answer of a packet to a pharmacy's node, where it is one of the pharmacy's own
+unfoldable pub sent_in : PacketColumns → List ℕ → ℕ → List (List ℕ) → Option (Option Reply)
+sent_in c node pharmacy row =
+    if is_answer_to c node row
+    then (number_in c.pharmacy.place row >>= (λ of. wanted (of == pharmacy) (answer_of c row)))
+    else Some None
+
+-- what a pharmacy's callers were told of an entry; nothing was told where it is no bytes
+abbrev pub receipt_of : ReceiptColumns → List (List ℕ) → Option Reply
+receipt_of c row = do
+  number ← number_in c.number.place row
+  bytes ← spelled_in c.answer.place row
+  Some (record { number = number; bytes = bytes })
+
+unfoldable pub receipt_in : ReceiptColumns → ℕ → List (List ℕ) → Option (Option Reply)
+receipt_in c pharmacy row = do
+  of ← number_in c.pharmacy.place row
+  wanted (of == pharmacy) (receipt_of c row)
+
+-- the answers that were sent to a pharmacy, by a table of packets; the receipts of its callers
+abbrev pub AreSent : ℕ → List ℕ → List Reply → Type 0
+AreSent pharmacy table sent =
+    (records : List (List (List ℕ))) × (c : PacketColumns) × AreRecordsOf table records × ArePacketColumns records c × (given_by (sent_in c (node_name pharmacy) pharmacy) (rows_of records) ≡ Some sent)
+
+abbrev pub AreReceipts : ℕ → List ℕ → List Reply → Type 0
+AreReceipts pharmacy table receipts =
+    (records : List (List (List ℕ))) × (c : ReceiptColumns) × AreRecordsOf table records × AreReceiptColumns records c × (given_by (receipt_in c pharmacy) (rows_of records) ≡ Some receipts)
+
+-- ---- what is told of them
+
+-- the answer that was sent for a number; of several the last
+abbrev pub sent_under : ℕ → List Reply → Option Reply
+sent_under number sent = last_with (λ (r : Reply). r.number) number sent
+
+-- an answer that was sent has the bytes that were told
+abbrev pub is_answer : Option Reply → List ℕ → Bool
+is_answer None told = false
+is_answer (Some r) told = bytes_eq r.bytes told
+
+-- what is found of a receipt: that the run has no such entry; where an answer was told, that the entry is open, or that none was sent with these bytes
+abbrev pub found_of : Option Entry → Option Reply → List ℕ → Option (List ℕ)
+found_of None sent told = Some (codes "no_entry")
+found_of (Some e) sent told =
+    if length told == 0 then None else
+    if e.open then Some (codes "not_answered") else
+    if is_answer sent told then None else Some (codes "differs")
+
+abbrev pub receipt_finding : (ℕ → Option Entry) → (ℕ → Option Reply) → Reply → Option (List ℕ)
+receipt_finding entries sent r = found_of (entries r.number) (sent r.number) r.bytes
+
+-- the row of it, where something is found
+unfoldable pub finding_row : List ℕ → ℕ → Row
+finding_row word number = record { name = codes "finding"; value = Text word } ∷ record { name = codes "number"; value = Number number } ∷ []
+
+abbrev pub row_if : Option (List ℕ) → ℕ → List ℕ
+row_if None number = []
+row_if (Some word) number = csv_row (finding_row word number)
+
+abbrev pub receipt_rows : (ℕ → Option Entry) → (ℕ → Option Reply) → List Reply → List ℕ
+receipt_rows entries sent receipts = flat_map (λ (r : Reply). row_if (receipt_finding entries sent r) r.number) receipts
+
+-- nothing is found of them
+abbrev pub is_nothing_found : (ℕ → Option Entry) → (ℕ → Option Reply) → List Reply → Bool
+is_nothing_found entries sent receipts = list_all (λ (r : Reply). is_none (receipt_finding entries sent r)) receipts
+
+-- a text is what is found of the receipts of a pharmacy beside the entries and the packets of a run, and whether that is nothing
+pub record IsReceived (receipts entries packets : List ℕ) (pharmacy : ℕ) (text : List ℕ) (agrees : Bool) : Type 0 where
+  pub journal : List Entry
+  pub enters : AreEntries pharmacy entries journal
+  pub sent : List Reply
+  pub sends : AreSent pharmacy packets sent
+  pub told : List Reply
+  pub tells : AreReceipts pharmacy receipts told
+  pub rows : text ≡ head_text (codes "finding" ∷ codes "number" ∷ []) ++ receipt_rows (λ n. entry_under n journal) (λ n. sent_under n sent) told
+  pub agreed : agrees ≡ is_nothing_found (λ n. entry_under n journal) (λ n. sent_under n sent) told

@@ -1,0 +1,108 @@
+-- The rulings of a payer's table of rows that move a pharmacy's money, before a period and in it.
+use Rattle.std.specs.Prelude.{◌≡◌, ℕ, ◌+◌, ◌==◌, ◌++◌, cond, List, [], ◌∷◌, Option, Some, None, bytes_eq, codes, filter, if◌then◌else◌, length, map, nat_le, nat_lt, option_map, take}
+use Rattle.claim_reports.specs.declared.ledger.Move.{Move}
+use Rattle.claim_reports.specs.declared.ledger.Move.TheVariants.{Paid, Reversed}
+use Rattle.claim_reports.specs.declared.rulings.Remittance.{Remittance}
+use Rattle.claim_reports.specs.declared.rulings.RulingColumns.{RulingColumns}
+use Rattle.claim_reports.specs.Tables.{rows_of, column_of, cell, number_in, given, given_by, ◌>>=◌}
+
+-- the columns of a table of rows
+pub record AreRulingColumns (records : List (List (List ℕ))) (c : RulingColumns) : Type 0 where
+  pub payer : column_of records (codes "payer") ≡ Some c.payer.place
+  pub pharmacy : column_of records (codes "pharmacy") ≡ Some c.pharmacy.place
+  pub number : column_of records (codes "number") ≡ Some c.number.place
+  pub transaction : column_of records (codes "transaction") ≡ Some c.transaction.place
+  pub ruling : column_of records (codes "ruling") ≡ Some c.ruling.place
+  pub auth : column_of records (codes "authorization") ≡ Some c.auth.place
+  pub prescription : column_of records (codes "prescription") ≡ Some c.prescription.place
+  pub day : column_of records (codes "date_of_service") ≡ Some c.day.place
+  pub cents : column_of records (codes "paid_cents") ≡ Some c.cents.place
+
+-- a ruling that moves money: its number among those of the payer, its row, and what it moves
+pub record Ruling : Type 0 where
+  pub number : ℕ
+  pub row : List (List ℕ)
+  pub moves : Move
+
+-- a row, where it is one of the payer's
+abbrev pub own_row : RulingColumns → ℕ → List (List ℕ) → Option (Option (List (List ℕ)))
+own_row c payer row = option_map (λ (of : ℕ). cond (of == payer) (Some row) None) (number_in c.payer.place row)
+
+-- what a payment moves, and a reversal
+abbrev pub payment_of : RulingColumns → List (List ℕ) → Option (Option Move)
+payment_of c row = do
+  auth ← number_in c.auth.place row
+  cents ← number_in c.cents.place row
+  Some (Some (Paid auth cents))
+
+abbrev pub reversal_of : RulingColumns → List (List ℕ) → Option (Option Move)
+reversal_of c row = option_map (λ (auth : ℕ). Some (Reversed auth)) (number_in c.auth.place row)
+
+-- what a ruling moves, if it moves anything
+unfoldable pub move_of : RulingColumns → List (List ℕ) → Option (Option Move)
+move_of c row =
+    if bytes_eq (cell c.ruling.place row) (codes "paid") then payment_of c row else
+    if bytes_eq (cell c.ruling.place row) (codes "reversed") then reversal_of c row else
+    if bytes_eq (cell c.ruling.place row) (codes "duplicate") then Some None else
+    if bytes_eq (cell c.ruling.place row) (codes "rejected") then Some None else None
+
+-- where it is one of the pharmacy's
+abbrev pub move_to : RulingColumns → ℕ → List (List ℕ) → Option (Option Move)
+move_to c pharmacy row = do
+  of ← number_in c.pharmacy.place row
+  if of == pharmacy then move_of c row else Some None
+
+-- a ruling of this number, where it moves something
+abbrev pub numbered : ℕ → List (List ℕ) → Option Move → List Ruling
+numbered number row one = map (λ (m : Move). record { number = number; row = row; moves = m }) (given one)
+
+-- those rulings of a payer that move the pharmacy's money, of all its rulings in their order, of which the first has this number
+abbrev pub rulings_from : RulingColumns → ℕ → ℕ → List (List (List ℕ)) → Option (List Ruling)
+rulings_from c pharmacy number [] = Some []
+rulings_from c pharmacy number (row ∷ more) = do
+  one ← move_to c pharmacy row
+  others ← rulings_from c pharmacy (number + 1) more
+  Some (numbered number row one ++ others)
+
+-- those of a table, up to the end of a period, and how many rulings the payer made up to there
+pub record AreRulings (asked : Remittance) (records : List (List (List ℕ))) (c : RulingColumns) (rulings : List Ruling) (up_to : ℕ) : Type 0 where
+  pub made : List (List (List ℕ))
+  pub own : given_by (own_row c asked.payer) (rows_of records) ≡ Some made
+  pub moved : rulings_from c asked.pharmacy 1 (take asked.up_to made) ≡ Some rulings
+  pub count : up_to ≡ length (take asked.up_to made)
+
+-- what those before a period moved; those in it, and what they moved
+abbrev pub moves_before : ℕ → List Ruling → List Move
+moves_before after rulings = map (λ (r : Ruling). r.moves) (filter (λ (r : Ruling). nat_le r.number after) rulings)
+
+abbrev pub rulings_behind : ℕ → List Ruling → List Ruling
+rulings_behind after rulings = filter (λ (r : Ruling). nat_lt after r.number) rulings
+
+abbrev pub moves_behind : ℕ → List Ruling → List Move
+moves_behind after rulings = map (λ (r : Ruling). r.moves) (rulings_behind after rulings)
+
+-- ---- row by row
+
+-- what was read so far
+pub record Read : Type 0 where
+  pub rulings : List Ruling
+  pub up_to : ℕ
+
+-- with a ruling more of the payer
+abbrev pub with_ruling : Read → List (List ℕ) → Option Move → Read
+with_ruling r row one = record { rulings = r.rulings ++ numbered (r.up_to + 1) row one; up_to = r.up_to + 1 }
+
+abbrev pub read_own : RulingColumns → ℕ → Read → List (List ℕ) → Option Read
+read_own c pharmacy r row = option_map (with_ruling r row) (move_to c pharmacy row)
+
+-- with a row more: one of the payer counts up to the end of the period
+unfoldable pub read_row : RulingColumns → Remittance → Read → List (List ℕ) → Option Read
+read_row c asked r row = do
+  payer ← number_in c.payer.place row
+  if payer == asked.payer then (if nat_lt r.up_to asked.up_to then read_own c asked.pharmacy r row else Some r) else Some r
+
+abbrev pub read_rows : RulingColumns → Remittance → Read → List (List (List ℕ)) → Option Read
+read_rows c asked r [] = Some r
+read_rows c asked r (row ∷ more) = do
+  next ← read_row c asked r row
+  read_rows c asked next more

@@ -1,0 +1,98 @@
+-- A table of rows or payments of payers, with when each was ruled behind it.
+use Rattle.std.specs.Prelude.{◌≡◌, ℕ, List, [], ◌∷◌, ◌++◌, Option, Some, None, bytes_eq, codes, drop, get_or, if◌then◌else◌, map, option_map, take}
+use Rattle.input_text.specs.Decimals.{decimal_number}
+use Rattle.claim_reports.specs.declared.ruled.Request.{Request}
+use Rattle.claim_reports.specs.declared.ruled.Taken.{Taken}
+use Rattle.claim_reports.specs.declared.ruled_rows.Named.{Named}
+use Rattle.claim_reports.specs.declared.ruled_rows.RowColumns.{RowColumns}
+use Rattle.claim_reports.specs.declared.ruled_rows.CallColumns.{CallColumns}
+use Rattle.claim_reports.specs.Digits.{ShowsTime}
+use Rattle.claim_reports.specs.Ruled.{ruled_at}
+use Rattle.claim_reports.specs.Tables.{AreRecordsOf, rows_of, column_of, cell, number_in, optional_in, given_by, ◌>>=◌}
+use Rattle.claim_reports.specs.Wider.{wider_text}
+
+-- ---- what the two tables say
+
+-- the columns that name a request, those of a table of rows, and those of a table of calls
+pub record AreNamed (records : List (List (List ℕ))) (c : Named) : Type 0 where
+  pub pharmacy : column_of records (codes "pharmacy") ≡ Some c.pharmacy.place
+  pub number : column_of records (codes "number") ≡ Some c.number.place
+
+pub record AreRowColumns (records : List (List (List ℕ))) (c : RowColumns) : Type 0 where
+  pub payer : column_of records (codes "payer") ≡ Some c.payer.place
+  pub named : AreNamed records c.named
+
+pub record AreCallColumns (records : List (List (List ℕ))) (c : CallColumns) : Type 0 where
+  pub node : column_of records (codes "node") ≡ Some c.node.place
+  pub time : column_of records (codes "time") ≡ Some c.time.place
+  pub carries : column_of records (codes "carries") ≡ Some c.carries.place
+  pub named : AreNamed records c.named
+
+-- the request to a payer that a row names
+abbrev pub request_to : Named → ℕ → List (List ℕ) → Option Request
+request_to c payer row = do
+  pharmacy ← number_in c.pharmacy.place row
+  number ← number_in c.number.place row
+  Some (record { payer = payer; pharmacy = pharmacy; number = number })
+
+-- the request that a row of a payer's table is about
+abbrev pub request_in : RowColumns → List (List ℕ) → Option Request
+request_in c row = do
+  payer ← number_in c.payer.place row
+  request_to c.named payer row
+
+-- the number of the payer that a node is, where it is one
+abbrev pub payer_named : List ℕ → Option ℕ
+payer_named node = if bytes_eq (take 2 node) (codes "pr") then decimal_number 18 (drop 2 node) else None
+
+-- what a payer took by a call that carries a request
+abbrev pub taken_by : CallColumns → Option ℕ → List (List ℕ) → Option (Option Taken)
+taken_by c None row = Some None
+taken_by c (Some payer) row = do
+  request ← request_to c.named payer row
+  time ← optional_in c.time.place row
+  Some (Some (record { request = request; time = time }))
+
+unfoldable pub taken_in : CallColumns → List (List ℕ) → Option (Option Taken)
+taken_in c row = if bytes_eq (cell c.carries.place row) (codes "request") then taken_by c (payer_named (cell c.node.place row)) row else Some None
+
+-- the requests of the rows of a table, one of each; and the requests that payers took, by a table of calls
+abbrev pub AreRequests : List (List (List ℕ)) → List Request → Type 0
+AreRequests records requests = (c : RowColumns) × AreRowColumns records c × (given_by (λ row. option_map Some (request_in c row)) (rows_of records) ≡ Some requests)
+
+abbrev pub AreTaken : List ℕ → List Taken → Type 0
+AreTaken table taken = (records : List (List (List ℕ))) × (c : CallColumns) × AreRecordsOf table records × AreCallColumns records c × (given_by (taken_in c) (rows_of records) ≡ Some taken)
+
+-- ---- what is told of them
+
+-- a text has the lines of rows, each with two fields behind its own that say its time
+abbrev pub AreTimed : List (List (List ℕ)) → List (Option ℕ) → List ℕ → Type 0
+AreTimed [] times text = text ≡ []
+AreTimed (row ∷ more) times text =
+    (at : List ℕ) × (on : List ℕ) × (rest : List ℕ)
+    × ShowsTime (get_or times 0 None) at on × (text ≡ wider_text row at on ++ rest) × AreTimed more (drop 1 times) rest
+
+-- a text goes on with the line of a row; with those of rows
+abbrev pub AddsRuled : List ℕ → List ℕ → List (List ℕ) → Option ℕ → Type 0
+AddsRuled old new row time = (at : List ℕ) × (on : List ℕ) × ShowsTime time at on × (new ≡ old ++ wider_text row at on)
+
+abbrev pub AddsTimed : List ℕ → List ℕ → List (List (List ℕ)) → List (Option ℕ) → Type 0
+AddsTimed old new rows times = (text : List ℕ) × (new ≡ old ++ text) × AreTimed rows times text
+
+-- before them the names of the columns, and of the two behind
+abbrev pub IsTimed : List (List (List ℕ)) → List (Option ℕ) → List ℕ → Type 0
+IsTimed [] times text = text ≡ []
+IsTimed (names ∷ rows) times text =
+    (rest : List ℕ) × (text ≡ wider_text names (codes "ruled_at") (codes "ruled_on") ++ rest) × AreTimed rows times rest
+
+-- a text has each row of a table with when that row's request was ruled: at the first call in another table by which its payer took it
+pub record IsRuledTable (table calls text : List ℕ) : Type 0 where
+  pub records : List (List (List ℕ))
+  pub are : AreRecordsOf table records
+  pub no_time : column_of records (codes "ruled_at") ≡ None
+  pub no_day : column_of records (codes "ruled_on") ≡ None
+  pub requests : List Request
+  pub asked : AreRequests records requests
+  pub taken : List Taken
+  pub took : AreTaken calls taken
+  pub told : IsTimed records (map (ruled_at taken) requests) text

@@ -1,0 +1,240 @@
+//! Answers for a pharmacy's entries, by tables: those that were sent to it, and those that its callers were told.
+
+ghost use Rattle.std.specs.Prelude.{◌≡◌, ◌++◌, drop, map, Some, IfOk, OnOk};
+ghost use Rattle.csv.specs.Records.{fields_of};
+ghost use Rattle.claim_reports.specs.Tables.{given};
+ghost use Rattle.claim_reports.specs.Received.{ArePacketColumns, AreReceiptColumns, spelled_in, node_name, answer_of, is_answer_to, sent_in, receipt_of, receipt_in, AreSent, AreReceipts};
+
+use crate::fault::ReportFault;
+use crate::table::{Column, Table, TableRow};
+use input_text::{PrintedFault, put_decimal, unprint};
+use std::alloc::{AllocError, Global};
+use std::marker::Model;
+
+/// How many bytes the head of an envelope has.
+const HEAD: usize = 18;
+
+/// An answer, and the number of the entry that it is for.
+#[derive(Drop)]
+pub(crate) struct Reply {
+    number: u64,
+    bytes: Vec<u8>,
+}
+
+impl Model for Reply {
+    ghost use Rattle.claim_reports.specs.Replies.{Reply as Seen};
+
+    ghost Value = { Seen };
+
+    ghost view = { λ r. record { number = r.number; bytes = r.bytes.items } };
+}
+
+/// The columns of a table of packets.
+#[derive(Clone, Copy)]
+struct PacketColumns {
+    to: Column,
+    carries: Column,
+    pharmacy: Column,
+    number: Column,
+    bytes: Column,
+}
+
+/// The columns of a table of receipts.
+#[derive(Clone, Copy)]
+struct ReceiptColumns {
+    pharmacy: Column,
+    number: Column,
+    answer: Column,
+}
+
+impl Reply {
+    /// An answer for an entry.
+    fn new(number: u64, bytes: Vec<u8>) -> Reply
+        ensures { result ≡ record { number = number; bytes = bytes.items } }
+    {
+        Reply { number, bytes }
+    }
+
+    /// The number of the entry.
+    pub(crate) fn number(&self) -> u64
+        ensures { result ≡ self.now.number }
+    {
+        self.number
+    }
+
+    /// The bytes of the answer.
+    pub(crate) fn bytes(&self) -> &[u8]
+        ensures { result.now ≡ self.now.bytes }
+    {
+        self.bytes.as_slice()
+    }
+}
+
+/// The answers that were sent to a pharmacy, by the third table.
+pub(crate) fn sent_in(alloc: Global, text: &[u8], pharmacy: u64) -> Result<Vec<Reply>, ReportFault>
+    ensures { IfOk result (λ sent. AreSent pharmacy text.now sent.items) }
+{
+    let table = Table::read(alloc, 3, text)?;
+    let columns = PacketColumns::of(&table)?;
+    let node = node_name(alloc, pharmacy)?;
+    let mut sent = Vec::new(alloc);
+    for (place, record) in table.rows().iter().enumerate() {
+        let row = table.row(place, record);
+        let reply = columns.sent(alloc, &row, node.as_slice(), pharmacy)?;
+        add(&mut sent, reply)?;
+    }
+    Ok(sent)
+}
+
+/// What the callers of a pharmacy were told, by the first table.
+pub(crate) fn receipts_in(
+    alloc: Global,
+    text: &[u8],
+    pharmacy: u64,
+) -> Result<Vec<Reply>, ReportFault>
+    ensures { IfOk result (λ receipts. AreReceipts pharmacy text.now receipts.items) }
+{
+    let table = Table::read(alloc, 1, text)?;
+    let columns = ReceiptColumns::of(&table)?;
+    let mut receipts = Vec::new(alloc);
+    for (place, record) in table.rows().iter().enumerate() {
+        let receipt = columns.receipt(alloc, &table.row(place, record), pharmacy)?;
+        add(&mut receipts, receipt)?;
+    }
+    Ok(receipts)
+}
+
+/// Adds what a row gives, where it gives something.
+fn add(list: &mut Vec<Reply>, one: Option<Reply>) -> Result<(), ReportFault>
+    ensures { OnOk result (list.new.items ≡ list.old.items ++ given one) }
+{
+    match one {
+        Some(one) => {
+            list.push(one)?;
+            Ok(())
+        }
+        None => Ok(()),
+    }
+}
+
+/// The name of a pharmacy's node.
+fn node_name(alloc: Global, pharmacy: u64) -> Result<Vec<u8>, AllocError>
+    ensures { IfOk result (λ text. text.items ≡ node_name pharmacy) }
+{
+    let mut text = Vec::new(alloc);
+    text.extend_from_slice(b"ph")?;
+    put_decimal(&mut text, pharmacy)?;
+    Ok(text)
+}
+
+/// The bytes that a column spells.
+fn bytes_of(alloc: Global, row: &TableRow<'_>, column: Column) -> Result<Vec<u8>, ReportFault>
+    ensures { IfOk result (λ bytes. spelled_in column.place (fields_of row.now.record.now) ≡ Some bytes.items) }
+{
+    match unprint(alloc, row.text(column)) {
+        Ok(bytes) => Ok(bytes),
+        Err(PrintedFault::OutOfMemory) => Err(ReportFault::OutOfMemory),
+        Err(PrintedFault::BadByte(_)) => Err(row.bad(column)),
+    }
+}
+
+/// Bytes without the head of an envelope.
+fn behind_head(bytes: &[u8]) -> &[u8]
+    ensures { result.now ≡ drop 18 bytes.now }
+{
+    if bytes.len() < HEAD {
+        &[]
+    } else {
+        &bytes[HEAD..]
+    }
+}
+
+impl PacketColumns {
+    /// Those of a table.
+    fn of(table: &Table) -> Result<PacketColumns, ReportFault>
+        ensures { IfOk result (λ columns. ArePacketColumns (map fields_of table.now.records.items) columns) }
+    {
+        Ok(PacketColumns {
+            to: table.column("to")?,
+            carries: table.column("carries")?,
+            pharmacy: table.column("pharmacy")?,
+            number: table.column("number")?,
+            bytes: table.column("bytes")?,
+        })
+    }
+
+    /// The answer of a packet to the node of a pharmacy, where it is one of the pharmacy's own.
+    #[tactic(auto, unfolding(crate::specs::Received::sent_in))]
+    fn sent(
+        &self,
+        alloc: Global,
+        row: &TableRow<'_>,
+        node: &[u8],
+        pharmacy: u64,
+    ) -> Result<Option<Reply>, ReportFault>
+        ensures { IfOk result (λ sent. sent_in self.now node.now pharmacy (fields_of row.now.record.now) ≡ Some sent) }
+    {
+        if !self.is_answer_to(row, node) {
+            return Ok(None);
+        }
+        if row.number(self.pharmacy)? != pharmacy {
+            return Ok(None);
+        }
+        Ok(Some(self.answer(alloc, row)?))
+    }
+
+    /// Whether a packet carries an answer to a node.
+    fn is_answer_to(&self, row: &TableRow<'_>, node: &[u8]) -> bool
+        ensures { result ≡ is_answer_to self.now node.now (fields_of row.now.record.now) }
+    {
+        row.text(self.carries) == b"answer".as_slice() && row.text(self.to) == node
+    }
+
+    /// The answer of a packet.
+    fn answer(&self, alloc: Global, row: &TableRow<'_>) -> Result<Reply, ReportFault>
+        ensures { IfOk result (λ answer. answer_of self.now (fields_of row.now.record.now) ≡ Some answer) }
+    {
+        let number = row.number(self.number)?;
+        let bytes = bytes_of(alloc, row, self.bytes)?;
+        let answer = Vec::from_slice(alloc, behind_head(bytes.as_slice()))?;
+        Ok(Reply::new(number, answer))
+    }
+}
+
+impl ReceiptColumns {
+    /// Those of a table.
+    fn of(table: &Table) -> Result<ReceiptColumns, ReportFault>
+        ensures { IfOk result (λ columns. AreReceiptColumns (map fields_of table.now.records.items) columns) }
+    {
+        Ok(ReceiptColumns {
+            pharmacy: table.column("pharmacy")?,
+            number: table.column("number")?,
+            answer: table.column("answer")?,
+        })
+    }
+
+    /// What a caller of a pharmacy was told, by a row of it.
+    #[tactic(auto, unfolding(crate::specs::Received::receipt_in))]
+    fn receipt(
+        &self,
+        alloc: Global,
+        row: &TableRow<'_>,
+        pharmacy: u64,
+    ) -> Result<Option<Reply>, ReportFault>
+        ensures { IfOk result (λ receipt. receipt_in self.now pharmacy (fields_of row.now.record.now) ≡ Some receipt) }
+    {
+        if row.number(self.pharmacy)? != pharmacy {
+            return Ok(None);
+        }
+        Ok(Some(self.told(alloc, row)?))
+    }
+
+    /// What a caller was told.
+    fn told(&self, alloc: Global, row: &TableRow<'_>) -> Result<Reply, ReportFault>
+        ensures { IfOk result (λ told. receipt_of self.now (fields_of row.now.record.now) ≡ Some told) }
+    {
+        let number = row.number(self.number)?;
+        let bytes = bytes_of(alloc, row, self.answer)?;
+        Ok(Reply::new(number, bytes))
+    }
+}
