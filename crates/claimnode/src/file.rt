@@ -40,13 +40,13 @@ pub(crate) fn open_log(rt: &HostRuntime, path: &str) -> Result<Opened, End<Findi
     check_mark(rt, path)?;
     let mut options = OpenOptions::new();
     options.read(true).append(true).create(true).mode(0o600);
-    let file = opened(rt, path, &options)?;
+    let file = file_named(rt, path, &options)?;
     sync_name(rt, path)?;
     taken(rt, path, file)
 }
 
 /// Opens a regular file, or makes it where that is asked for.
-fn opened(rt: &HostRuntime, path: &str, options: &OpenOptions) -> Result<File, End<Finding>> {
+fn file_named(rt: &HostRuntime, path: &str, options: &OpenOptions) -> Result<File, End<Finding>> {
     match open_regular(rt, path, options) {
         Ok(file) => Ok(file),
         Err(error) => Err(End::of_file(rt.alloc(), path, error)),
@@ -74,7 +74,7 @@ pub(crate) fn sync_name(rt: &HostRuntime, path: &str) -> Result<(), End<Finding>
 pub(crate) fn open_found(rt: &HostRuntime, path: &str) -> Result<Opened, End<Finding>> {
     let mut options = OpenOptions::new();
     options.read(true).append(true);
-    let file = opened(rt, path, &options)?;
+    let file = file_named(rt, path, &options)?;
     taken(rt, path, file)
 }
 
