@@ -264,7 +264,8 @@ class Run(Tries):
             move(self, self.watcher),
             *(it.go() for it in callers),
         ]
-        await first(tasks, asyncio.gather(*work))
+        # Where a wrong host has spoiled a log, nobody goes on.
+        await first(tasks, asyncio.wait_for(asyncio.gather(*work), self.given.seconds + SETTLE_SECONDS))
         await first(tasks, asyncio.wait_for(operator.settle(), SETTLE_SECONDS))
         entries = await first(tasks, asyncio.wait_for(asyncio.gather(*(it.settle() for it in callers)), SETTLE_SECONDS))
         self.over = True
