@@ -11,7 +11,7 @@ from typing import Any
 
 from aiohttp import web
 
-from . import asked, fields
+from . import asked, events, fields
 from .counter import Counter, Refused
 from .eligibility import Eligibility, is_asked
 from .helpers import Ended, Failed
@@ -129,22 +129,15 @@ class Claims:
     async def events(self, request: web.Request) -> web.StreamResponse:
         """Tells the numbers of claims as their answers come, as server-sent events, for as long as the caller listens."""
         pharmacy = asked.pharmacy(request)
-        response = web.StreamResponse(headers={"Content-Type": "text/event-stream", "Cache-Control": "no-store"})
-        await response.prepare(request)
         heard: asyncio.Queue[int] = asyncio.Queue(MOST_EVENTS)
+
+        def answered(number: int) -> str:
+            told = json.dumps({"number": number, "location": where(pharmacy.name, number)})
+            return f"event: answered\nid: {number}\ndata: {told}\n\n"
+
         pharmacy.listeners.add(heard)
         try:
-            await response.write(b": listening\n\n")
-            while True:
-                try:
-                    number = await asyncio.wait_for(heard.get(), ALIVE_SECONDS)
-                    told = json.dumps({"number": number, "location": where(pharmacy.name, number)})
-                    await response.write(f"event: answered\nid: {number}\ndata: {told}\n\n".encode())
-                except TimeoutError:
-                    await response.write(b": alive\n\n")
-        except ConnectionError:
-            # The caller has gone.
-            return response
+            return await events.tell(request, heard, answered, ALIVE_SECONDS)
         finally:
             pharmacy.listeners.discard(heard)
 

@@ -10,7 +10,7 @@ from typing import Any
 
 from aiohttp import web
 
-from . import asked
+from . import asked, events
 from .claims import where
 from .helpers import Renewed
 from .problems import Problem
@@ -75,24 +75,12 @@ class Found:
     async def events(self, request: web.Request) -> web.StreamResponse:
         """Tells the claims of all pharmacies that the caller may see as their answers come, and that the front is there."""
         seen = [request.app["pharmacies"][name] for name in asked.pharmacies(request)]
-        response = web.StreamResponse(headers={"Content-Type": "text/event-stream", "Cache-Control": "no-store"})
-        await response.prepare(request)
         heard: asyncio.Queue[tuple[str, int]] = asyncio.Queue(MOST_EVENTS)
         listeners = [Listener(it.name, heard) for it in seen]
         for pharmacy, listener in zip(seen, listeners):
             pharmacy.listeners.add(listener)
         try:
-            await response.write(b": listening\n\n")
-            while True:
-                try:
-                    name, number = await asyncio.wait_for(heard.get(), ALIVE_SECONDS)
-                    told = json.dumps({"pharmacy": name, "number": number, "location": where(name, number)})
-                    await response.write(f"event: answered\ndata: {told}\n\n".encode())
-                except TimeoutError:
-                    await response.write(b": alive\n\n")
-        except ConnectionError:
-            # The caller has gone.
-            return response
+            return await events.tell(request, heard, _answered, ALIVE_SECONDS)
         finally:
             for pharmacy, listener in zip(seen, listeners):
                 pharmacy.listeners.discard(listener)
@@ -107,6 +95,13 @@ class Listener(asyncio.Queue[int]):
 
     def put_nowait(self, item: int) -> None:
         self._heard.put_nowait((self._told, item))
+
+
+def _answered(heard: tuple[str, int]) -> str:
+    """The event of an answer: whose, and of which number."""
+    name, number = heard
+    told = json.dumps({"pharmacy": name, "number": number, "location": where(name, number)})
+    return f"event: answered\ndata: {told}\n\n"
 
 
 def told_of(row: dict[str, Any]) -> dict[str, Any]:
