@@ -1,19 +1,13 @@
 /* payer_sqlite DATABASE: what one would write in the place of this product's payer: rulings on billings of one transaction over a table
  * in SQLite, with a unique index on the fill. It takes the lines `take sw1 TEXT` of claimnode and writes `send sw1 TEXT` and `ok`, and is
  * as durable: the journal is a write-ahead log, each commit is synced, and nothing is said before. Lines that wait together are one
- * transaction. It knows no reversals, no refusals and one price, and reads just the fields that it needs: it is for bench/against alone. */
+ * transaction. It knows no reversals, no refusals and one price, and reads just the fields that it needs: it is for bench/against and bench/path. */
 #include <sqlite3.h>
-#include <stdio.h>
-#include <stdlib.h>
-#include <string.h>
-#include <unistd.h>
 
-enum { HEAD = 18, HEADER = 56, MOST = 1 << 16, LINES = 1 << 20 };
+#include "payer_plain.h"
 
 static sqlite3 *db;
 static sqlite3_stmt *begin, *commit, *kept, *standing, *enter;
-static char said[4 * LINES];
-static size_t said_size;
 static long long serial = 1;
 
 static void must(int status)
@@ -37,87 +31,12 @@ static void done(sqlite3_stmt *it)
     must(sqlite3_reset(it));
 }
 
-static int digit(char c)
-{
-    return c <= '9' ? c - '0' : (c | 32) - 'a' + 10;
-}
-
-/* Printed bytes, read; their count. */
-static int unprinted(const char *text, int size, unsigned char *bytes)
-{
-    int n = 0;
-    for (int i = 0; i < size && n < MOST; i++) {
-        if (text[i] != '\\') { bytes[n++] = text[i]; continue; }
-        switch (text[++i]) {
-        case 'F': bytes[n++] = 0x1c; break;
-        case 'G': bytes[n++] = 0x1d; break;
-        case 'S': bytes[n++] = 0x1e; break;
-        case 'x': bytes[n++] = digit(text[i + 1]) * 16 + digit(text[i + 2]); i += 2; break;
-        default: bytes[n++] = text[i];
-        }
-    }
-    return n;
-}
-
-/* Bytes, printed onto what is to be said. */
-static void print(const unsigned char *bytes, int size)
-{
-    for (int i = 0; i < size; i++) {
-        char *to = said + said_size;
-        unsigned char b = bytes[i];
-        if (b >= 0x1c && b <= 0x1e) said_size += sprintf(to, "\\%c", "FGS"[b - 0x1c]);
-        else if (b == '\\') said_size += sprintf(to, "\\\\");
-        else if (b < 0x20 || b > 0x7e) said_size += sprintf(to, "\\x%02x", b);
-        else said[said_size++] = b;
-    }
-}
-
-/* The value of a field, ended by a zero byte. */
-static const char *field(const unsigned char *bytes, int size, const char *id, char *value)
-{
-    for (int i = HEADER; i + 3 <= size; i++) {
-        if (bytes[i] == 0x1c && bytes[i + 1] == id[0] && bytes[i + 2] == id[1]) {
-            int n = 0;
-            for (i += 3; i < size && (bytes[i] < 0x1c || bytes[i] > 0x1e) && n < 31; i++) value[n++] = bytes[i];
-            value[n] = 0;
-            return value;
-        }
-    }
-    value[0] = 0;
-    return value;
-}
-
-/* Cents of an amount that is not negative. */
-static long long cents(const char *text)
-{
-    size_t n = strlen(text);
-    char head[32] = {0}, last = n ? text[n - 1] : '{';
-    if (n) memcpy(head, text, n - 1);
-    return atoll(head) * 10 + (last == '{' ? 0 : last >= 'A' && last <= 'I' ? last - 'A' + 1 : last - '0');
-}
-
-static int amount(char *to, const char *id, long long n)
-{
-    char last = "{ABCDEFGHI"[n % 10];
-    return n >= 10 ? sprintf(to, "\x1c%s%lld%c", id, n / 10, last) : sprintf(to, "\x1c%s%c", id, last);
-}
-
-static long long least(long long a, long long b)
-{
-    return a < b ? a : b;
-}
-
 /* The answer to a billing, entered; its size. */
 static int ruled(const unsigned char *id, const unsigned char *request, int size, unsigned char *answer)
 {
-    char rx[32], fill[32], product[32], quantity[32], cost[32], fee[32], auth[32], *to = (char *)answer;
+    char rx[32], fill[32];
     field(request, size, "D2", rx);
     field(request, size, "D3", fill);
-    field(request, size, "D7", product);
-    long long paid_fee = least(cents(field(request, size, "DC", fee)), 150);
-    long long paid = least(cents(field(request, size, "D9", cost)), atoll(field(request, size, "E7", quantity)) * 18567 / 100000);
-    long long copay = least(1000, paid + paid_fee);
-    char status = 'P';
     sqlite3_bind_blob(standing, 1, request, 6, SQLITE_STATIC);
     sqlite3_bind_blob(standing, 2, request + 10, 10, SQLITE_STATIC);
     sqlite3_bind_blob(standing, 3, request + 21, 17, SQLITE_STATIC);
@@ -125,19 +44,9 @@ static int ruled(const unsigned char *id, const unsigned char *request, int size
     sqlite3_bind_int64(standing, 5, atoll(fill));
     int found = sqlite3_step(standing);
     must(found);
-    long long number = found == SQLITE_ROW ? sqlite3_column_int64(standing, 0) : serial;
-    if (found == SQLITE_ROW) status = 'D';
+    char status = found == SQLITE_ROW ? 'D' : 'P';
+    int length = composed(request, size, status, found == SQLITE_ROW ? sqlite3_column_int64(standing, 0) : serial, answer);
     must(sqlite3_reset(standing));
-    sprintf(auth, "0001%012lld", number);
-    to += sprintf(to, "D0B11A");
-    memcpy(to, request + 21, 25);
-    to += 25;
-    to += sprintf(to, "\x1d\x1e\x1c" "AM21\x1c" "AN%c\x1c" "F3%s\x1e\x1c" "AM22\x1c" "EM1\x1c" "D2%lld\x1e\x1c" "AM23", status, auth, atoll(rx));
-    to += amount(to, "F5", copay);
-    to += amount(to, "F6", paid);
-    to += amount(to, "F7", paid_fee);
-    to += amount(to, "F9", paid + paid_fee - copay);
-    int length = to - (char *)answer;
     sqlite3_bind_blob(enter, 1, id, 10, SQLITE_STATIC);
     sqlite3_bind_blob(enter, 2, request, size, SQLITE_STATIC);
     sqlite3_bind_blob(enter, 3, answer, length, SQLITE_STATIC);
@@ -170,14 +79,7 @@ static void serve(const char *line, int size)
     }
     must(sqlite3_reset(kept));
     if (found != SQLITE_ROW) length = ruled(packet + 4, packet + HEAD, n - HEAD, answer);
-    unsigned char head[HEAD];
-    memcpy(head, packet, HEAD);
-    head[3] = 2;
-    for (int i = 0; i < 4; i++) head[14 + i] = length >> (24 - 8 * i);
-    said_size += sprintf(said + said_size, "send sw1 ");
-    print(head, HEAD);
-    print(answer, length);
-    said_size += sprintf(said + said_size, "\nok\n");
+    say(packet, answer, length);
 }
 
 int main(int count, char **words)
@@ -210,12 +112,7 @@ int main(int count, char **words)
         done(commit);
         have -= at - heard;
         memmove(heard, at, have);
-        for (size_t wrote = 0; wrote < said_size;) {
-            ssize_t n = write(1, said + wrote, said_size - wrote);
-            if (n <= 0) return 1;
-            wrote += n;
-        }
-        said_size = 0;
+        if (!tell()) return 1;
     }
     sqlite3_stmt *all[] = {begin, commit, kept, standing, enter};
     for (size_t i = 0; i < sizeof all / sizeof *all; i++) sqlite3_finalize(all[i]);

@@ -3,15 +3,16 @@
 
     hosts/cluster.py SETTINGS FOLDER [--server] [--access FOLDER] [--nats URL[,URL..]] [--ca FILE] [--jetstream] [--tick SECONDS]
                      [--watch PORT] [--hold-back MS] [--reserve ROWS] [--ping SECONDS] [--host PATH]
-                     [--log stream] [--copies 2] [--candidates N] [-v]
+                     [--log stream] [--copies 2] [--candidates N] [--switch-logs] [-v]
 
-SETTINGS is a file of settings alone, as examples/six-nodes.toml. Logs go to FOLDER, one a node. The host is that of hosts/c, which is
+SETTINGS is a file of settings alone, as examples/six-nodes.toml. Logs of pharmacies and payers go to FOLDER; a switch keeps nothing, and has
+a log with --switch-logs alone. The host is that of hosts/c, which is
 built where it is not there; --host names another. One that dies is started again, at first at once, then ever later, also where it
 was killed before it was ready; one that says that its words, its log or its settings are refused (status 2 or 78) is not. With --server
 a server is started too; its program is `nats-server` (Debian: apt-get install nats-server). --access is a folder that hosts/permissions has written: each
 node comes as a user of its own, signs where there are keys, and the server is the one of its server.conf. Without it, anybody who reaches the server can speak
 as any node. With --log stream logs are in streams, which `vogctl log make` has made, and each node has N hosts, whose folders are
-FOLDER/a, FOLDER/b ..: as on as many machines. Ends by Ctrl-C or SIGTERM: its nodes finish what they have taken, and end.
+FOLDER/a, FOLDER/b ..: as on as many machines; of those of a switch all serve. Ends by Ctrl-C or SIGTERM: its nodes finish what they have taken, and end.
 """
 
 import argparse
@@ -146,8 +147,10 @@ class Cluster:
         given = self._given
         folder = self._folder / machine
         folder.mkdir(mode=0o700, exist_ok=True)
-        words = [program, given.settings, name, str(folder / f"{name}.log"), *self._login(name), "--tick", given.tick]
-        words += ["--log", "stream", "--machine", machine, "--copies", given.copies] if machine else []
+        words = [program, given.settings, name, *self._login(name), "--tick", given.tick]
+        if given.switch_logs or not name.startswith("sw"):
+            words.insert(3, str(folder / f"{name}.log"))
+            words += ["--log", "stream", "--machine", machine, "--copies", given.copies] if machine else []
         words += ["--watch", f"127.0.0.1:{given.watch + place}"] if given.watch else []
         words += ["--hold-back", given.hold_back] if given.hold_back else []
         words += ["--reserve", given.reserve] if given.reserve else []
@@ -219,6 +222,7 @@ def words() -> argparse.Namespace:
         metavar="N",
         help="hosts of each node, with --log stream: 2, and 3 with --copies 2, so that one copy less silences nobody",
     )
+    parser.add_argument("--switch-logs", action="store_true", help="switches have logs as well")
     parser.add_argument("-v", action="store_true", help="words for people on standard error")
     given = parser.parse_args()
     given.candidates = given.candidates or (3 if given.copies == "2" else 2)

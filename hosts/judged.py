@@ -23,6 +23,7 @@ T = TypeVar("T")
 REFUSED = 78
 PROVIDERS = ["1234567893", "1234567894"]
 NODES = ["ph1", "ph2", "sw1", "sw2", "pr1", "pr2"]
+KEEPERS = [node for node in NODES if not node.startswith("sw")]
 SETTINGS = TOP / "examples" / "six-nodes.toml"
 
 
@@ -39,6 +40,8 @@ class Tries:
         shutil.copyfile(SETTINGS, self.settings)
         self.calm_file = self.folder / "calm"
         self.calm = self.over = False
+        # The nodes that have logs.
+        self.keepers: list[str] = NODES if given.switch_logs else KEEPERS
         self.fills = 0
         self.counts: dict[str, int] = {}
 
@@ -223,7 +226,7 @@ def event_of(line: str) -> tuple[Any, ...]:
 
 def judge(run: Tries, callers: list[Caller], entries: list[int]) -> dict[str, int]:
     """What the logs tell has to be what callers were told, and every promise has to hold of it."""
-    logs = [str(run.folder / f"{name}.log") for name in NODES]
+    logs = [str(run.folder / f"{name}.log") for name in run.keepers]
     verdict = ran([run.given.audit, str(run.settings), *logs])
     if verdict.returncode or "one legal run" not in verdict.stdout:
         raise Failed(f"claimaudit: {verdict.stdout[-600:]}{verdict.stderr[-300:]}")

@@ -3,7 +3,8 @@
 Hosts are killed, stopped, and woken; they die by themselves behind the servers' word, behind the file, behind what was said, and between
 the parts of a record; packets are lost, doubled and late; machines lose their disks while another has the log; servers are killed, one or all
 at once, stopped, and lose their stores while the other two are current; logs are moved. In the end nothing dies any more, and all has to settle. A
-host that refuses its log fails the run, and so does a log that cannot be read to its end."""
+host that refuses its log fails the run, and so does a log that cannot be read to its end. Of a switch both processes serve at once, and keep
+nothing, but with --switch-logs."""
 
 from __future__ import annotations
 
@@ -27,7 +28,8 @@ from judged import NODES, REFUSED, Caller, Failed, Operator, Tries, first, host_
 
 MACHINES = ("a", "b")
 OVERTAKEN = 75
-SETTLE_SECONDS = 240
+# How long what is left alone may take; where a wrong host has spoiled a log, nobody goes on.
+SETTLE_SECONDS, SETTLE_SECONDS_OF_WRONG = 240, 60
 TICK_SECONDS = 0.2
 # Of a thousand moments at which a host may die it dies at so many; a wrong one at more, so that it is soon found on a busy machine too.
 DEATHS, DEATHS_OF_WRONG = 3, 20
@@ -62,17 +64,11 @@ class Candidate:
         self.is_stopped = self.loses_disk = False
 
     def words(self) -> list[str]:
-        words = [
-            self.run.host,
-            str(self.run.settings),
-            self.name,
-            str(self.log),
-            "--log",
-            "stream",
-            "--machine",
-            self.machine,
-        ]
-        words += ["--nats", self.run.servers.url, "--tick", str(TICK_SECONDS)]
+        words = [self.run.host, str(self.run.settings), self.name]
+        about = ["--nats", self.run.servers.url, "--tick", str(TICK_SECONDS)]
+        if self.name not in self.run.keepers:
+            return words + about
+        words += [str(self.log), "--log", "stream", "--machine", self.machine, *about]
         words += ["--copies", str(self.run.given.copies)]
         return words + ["--part", str(PART_BYTES)] * (self.machine == MACHINES[-1])
 
@@ -128,7 +124,7 @@ async def move(run: Run, connection: nats.Connection) -> None:
     """Has logs moved to stand-bys, now and then; a move may be refused, or end half way."""
     while not run.calm:
         await asyncio.sleep(run.dice.expovariate(0.5))
-        reply = await connection.request(subjects.operations(run.dice.choice(NODES)), b"move", 1)
+        reply = await connection.request(subjects.operations(run.dice.choice(run.keepers)), b"move", 1)
         run.count("moves" if reply == b"ok" else "moves refused or lost")
 
 
@@ -181,7 +177,7 @@ class Cluster:
     async def are_current(self, count: int) -> bool:
         """Whether so many servers have all of each log, as its leader says, twice."""
         for _ in range(2):
-            for name in NODES:
+            for name in self.run.keepers:
                 reply = await self.run.watcher.request(
                     f"$JS.API.STREAM.INFO.LOG_{name}", b"", 1, is_word=lambda it: b'"error"' not in it
                 )
@@ -238,7 +234,7 @@ class Run(Tries):
         try:
             await asyncio.wait_for(asyncio.gather(*(it.start() for it in connections)), SETTLE_SECONDS)
             self.watcher = connections[3]
-            await asyncio.gather(*(logs.Log(self.watcher, name).make(3) for name in NODES))
+            await asyncio.gather(*(logs.Log(self.watcher, name).make(3) for name in self.keepers))
             tasks += [asyncio.create_task(it.live()) for it in self.candidates]
             return await self.among(tasks, connections)
         finally:
@@ -256,6 +252,7 @@ class Run(Tries):
     ) -> tuple[list[Caller], list[int]]:
         callers: list[Caller] = [Watchful(self, number, connections[number - 1]) for number in (1, 2)]
         operator, cluster = Operator(self, connections[2]), Cluster(self, self.servers)
+        settle = SETTLE_SECONDS_OF_WRONG if self.given.wrong else SETTLE_SECONDS
         await first(tasks, asyncio.wait_for(operator.settle(), SETTLE_SECONDS))
         work = [
             self.torment(self.given.seconds),
@@ -264,10 +261,9 @@ class Run(Tries):
             move(self, self.watcher),
             *(it.go() for it in callers),
         ]
-        # Where a wrong host has spoiled a log, nobody goes on.
-        await first(tasks, asyncio.wait_for(asyncio.gather(*work), self.given.seconds + SETTLE_SECONDS))
-        await first(tasks, asyncio.wait_for(operator.settle(), SETTLE_SECONDS))
-        entries = await first(tasks, asyncio.wait_for(asyncio.gather(*(it.settle() for it in callers)), SETTLE_SECONDS))
+        await first(tasks, asyncio.wait_for(asyncio.gather(*work), self.given.seconds + settle))
+        await first(tasks, asyncio.wait_for(operator.settle(), settle))
+        entries = await first(tasks, asyncio.wait_for(asyncio.gather(*(it.settle() for it in callers)), settle))
         self.over = True
         for one in self.candidates:
             one.send(signal.SIGTERM)
@@ -277,7 +273,7 @@ class Run(Tries):
 
     async def export(self) -> None:
         """Reads each log to its end; each machine's file has to be its beginning."""
-        for name in NODES:
+        for name in self.keepers:
             data, messages = await logs.Log(self.watcher, name).read()
             (self.folder / f"{name}.log").write_bytes(data)
             self.count("messages", messages)

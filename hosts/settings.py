@@ -1,6 +1,8 @@
 """What a settings file says of nodes: their names, and who sends to whom."""
 
+import functools
 import pathlib
+import re
 import sys
 import tomllib
 from typing import Any, NoReturn
@@ -33,10 +35,11 @@ class Settings:
                 data = file.read(MOST_BYTES + 1)
             if len(data) > MOST_BYTES:
                 refuse(f"{name}: settings have at most {MOST_BYTES} bytes")
-            lines = data.decode().split("\n")
-            if "---" in lines:
-                refuse(f"{name}: settings alone are wanted, the part before line {lines.index('---') + 1}, `---`")
-            return cls(tomllib.loads("\n".join(lines)))
+            text = data.decode()
+            if divided := re.search("^---$", text, re.MULTILINE):
+                line = text.count("\n", 0, divided.start()) + 1
+                refuse(f"{name}: settings alone are wanted, the part before line {line}, `---`")
+            return cls(tomllib.loads(text))
         except (OSError, ValueError) as fault:
             refuse(f"{name}: {fault}")
 
@@ -44,20 +47,36 @@ class Settings:
         """The names of the nodes, pharmacies first."""
         return [f"{short}{place}" for short, key in KINDS for place in range(1, len(self._given.get(key, [])) + 1)]
 
+    def keepers(self) -> list[str]:
+        """The nodes that keep a log: a switch keeps nothing."""
+        return [node for node in self.nodes() if not node.startswith("sw")]
+
     def pharmacies(self) -> list[str]:
         return [node for node in self.nodes() if node.startswith("ph")]
 
     def addressees(self, node: str) -> list[str]:
         """To whom a node sends: a pharmacy to its switches, a switch to the payers of routes and the pharmacies that name it, a payer
         to the switches that some pharmacy names."""
-        number = int(node[2:])
-        named = [[f"sw{it}" for it in one.get("nodes", [])] for one in self._given.get("pharmacy", [])]
-        payers = [f"pr{it}" for it in sorted({route["payer"] for route in self._given.get("route", [])})]
         if node.startswith("ph"):
-            return sorted(set(named[number - 1]))
+            return self._named[int(node[2:]) - 1]
         if node.startswith("pr"):
-            return sorted({it for one in named for it in one})
-        return payers + [f"ph{place}" for place, one in enumerate(named, 1) if node in one]
+            return sorted(self._naming)
+        payers = [f"pr{it}" for it in sorted({route["payer"] for route in self.routes()})]
+        return payers + self._naming.get(node, [])
+
+    @functools.cached_property
+    def _named(self) -> list[list[str]]:
+        """The switches that each pharmacy names."""
+        return [sorted({f"sw{it}" for it in one.get("nodes", [])}) for one in self._given.get("pharmacy", [])]
+
+    @functools.cached_property
+    def _naming(self) -> dict[str, list[str]]:
+        """The pharmacies that name each switch which is named."""
+        naming: dict[str, list[str]] = {}
+        for place, switches in enumerate(self._named, 1):
+            for switch in switches:
+                naming.setdefault(switch, []).append(f"ph{place}")
+        return naming
 
     def routes(self) -> list[dict[str, Any]]:
         """The rows of the routes, as the file has them."""

@@ -15,15 +15,15 @@
 **
 ** What a node tells before its records are on disk, a crash takes back: two answers to one claim, or a payment that nobody has
 ** made. So the node waits for your word: from vogrilas_open(), and from each call that it makes, until vogrilas_kept() has said
-** that all is on disk, every call that tells of the node says VOGRILAS_UNSYNCED and tells nothing. docs/DEPLOYING.md says what a
-** host owes, docs/FORMATS.md has the lines, and examples/embed a whole host. bindings/make lays out the library: link
-** lib/libvogrilas.a, or -lvogrilas.
+** that all is on disk, every call that tells of the node says VOGRILAS_UNSYNCED and tells nothing, but for vogrilas_heard(), whose
+** answers a crash takes back for no one. docs/DEPLOYING.md says what a host owes, docs/FORMATS.md has the lines, and examples/embed a
+** whole host. bindings/make lays out the library: link lib/libvogrilas.a, or -lvogrilas.
 **
 ** The calls, by what they are for:
 **
 **     a node        vogrilas_open, vogrilas_serve, vogrilas_submit, vogrilas_take, vogrilas_adjudicate, vogrilas_records,
 **                   vogrilas_kept, vogrilas_written, vogrilas_clear, vogrilas_close
-**     what it has   vogrilas_calls, vogrilas_count, vogrilas_most, vogrilas_request, vogrilas_answer, vogrilas_payments
+**     what it has   vogrilas_calls, vogrilas_count, vogrilas_most, vogrilas_request, vogrilas_answer, vogrilas_heard, vogrilas_payments
 **     messages      vogrilas_make_billing, vogrilas_make_reversal, vogrilas_describe
 **     no node       vogrilas_print, vogrilas_unprint, vogrilas_audit, vogrilas_version
 **
@@ -89,7 +89,7 @@ enum {
     VOGRILAS_UNANSWERED = 17,     /* the entry is open: it has no answer yet */
     VOGRILAS_NOT_FOUND = 18,      /* there is no such entry, slot or row */
     VOGRILAS_NO_RUN = 19,         /* the logs are those of no legal run */
-    VOGRILAS_UNSYNCED = 20,       /* the host has not said that all is on disk: nothing is told */
+    VOGRILAS_UNSYNCED = 20,       /* the host has not said that all is on disk: this is not told */
     VOGRILAS_TOO_MANY = 21,       /* more bytes are said to be on disk than there are records */
     VOGRILAS_FIELD_EMPTY = 22,    /* a field has no byte; its number is told here and below */
     VOGRILAS_FIELD_TOO_LONG = 23, /* a text has more bytes than its field, or a number more digits */
@@ -310,6 +310,19 @@ vogrilas_code vogrilas_request(vogrilas_node *node, uint64_t number, void *buffe
 ** and the node at each code. So with no room the code alone says whether an entry is settled (VOGRILAS_SHORT_BUFFER), open, or not there.
 */
 vogrilas_code vogrilas_answer(vogrilas_node *node, uint16_t pharmacy, uint64_t number, void *buffer, size_t room, size_t *size);
+
+/*
+** Copies the answer of a pharmacy's own entry that a payer gave, which is one whose request has a route by the node's settings, also while
+** the records of it are not on disk: where they are lost, the payer gives the same bytes again, and no other answer is ever held under that
+** number. So who waits for an answer need not wait for the disk. An answer to a request without a route is a switch's, which a later route
+** may take back: that one is told by vogrilas_answer() alone. Where routes have grown a host takes no late rejection of a request that has
+** one now, which is an answer whose sixth byte is R (501-F1) to an entry of which this call says VOGRILAS_UNANSWERED: no payer gives it.
+**
+** VOGRILAS_OK and VOGRILAS_SHORT_BUFFER are as of vogrilas_records(). VOGRILAS_UNSYNCED: the request has no route; ask
+** vogrilas_answer() once all is on disk. VOGRILAS_UNANSWERED: it is an open entry. VOGRILAS_NOT_FOUND: the node has no such entry, or is
+** another. VOGRILAS_CLOSED, VOGRILAS_NO_MEMORY. Buffer and *size are as they were at these five, and the node at each code.
+*/
+vogrilas_code vogrilas_heard(vogrilas_node *node, uint16_t pharmacy, uint64_t number, void *buffer, size_t room, size_t *size);
 
 /* A payment. Texts are bytes with spaces at their ends and no 0 behind them; amounts are cents. */
 typedef struct vogrilas_payment {

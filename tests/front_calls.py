@@ -53,7 +53,7 @@ def billing(number):
 class Front:
     """A front beside the nodes of a network."""
 
-    def __init__(self, net, python, name, words=(), tls=True, limits=None):
+    def __init__(self, net, python, name, words=(), tls=True, limits=None, framed="ph1"):
         # What the front may have at most, as `resource` names it.
         self._limits = limits or {}
         self.net, self.folder, self.tls = net, net.folder, tls
@@ -79,7 +79,7 @@ class Front:
             "--listen",
             f"127.0.0.1:{self.port}",
             "--tcp",
-            f"ph1=127.0.0.1:{self.framed}",
+            f"{framed}=127.0.0.1:{self.framed}",
         ]
         made += ["--tls", self.folder / "server.pem", self.folder / "server.key"] if tls else []
         self._words = [str(it) for it in (*made, *words)]

@@ -120,18 +120,12 @@ class Host:
         list(wire.rest())
 
     def start(self, stop=None):
-        words = [
-            self.trial.host,
-            str(self.trial.settings),
-            self.name,
-            str(self.log),
-            "--nats",
-            f"127.0.0.1:{self.wire.port}",
-            *WORDS,
-        ]
+        words = [self.trial.host, str(self.trial.settings), self.name, *[str(self.log)] * self.trial.keeps]
+        words += ["--nats", f"127.0.0.1:{self.wire.port}", *WORDS]
         if stop:
             self.state.unlink(missing_ok=True)
-            words = [self.trial.killer, "-l", str(stop), str(self.state), str(self.log), *words]
+            choosy = ["-l"] * self.trial.keeps
+            words = [self.trial.killer, *choosy, str(stop), str(self.state), str(self.log), *words]
         self.process = subprocess.Popen(
             words, stdin=subprocess.DEVNULL, stdout=subprocess.PIPE, stderr=subprocess.DEVNULL
         )

@@ -49,8 +49,7 @@ class Books:
             all(count == 1 for count in fills.values()), f"fills have two payments that stand: {fills.most_common(2)}"
         )
         self.judge_ledger()
-        self.judge_advices()
-        self.judge_deductibles(standing, members)
+        self.judge_engine(members)
         told = collections.Counter(it["ruling"] for it in self.rows)
         cents = sum(int(it["paid_cents"]) for it in standing)
         return {"rows": len(self.rows), **told, "standing": len(standing), "cents": cents}
@@ -84,6 +83,12 @@ class Books:
         stands = sum(int(it["paid_cents"]) for it in self.payments if it["state"] == "standing")
         expect(total == stands, f"the ledger comes to {total} cents, and the book to {stands}")
 
+    def judge_engine(self, members: dict[str, int]) -> dict[str, int]:
+        """What the engine has done, whether or not each entry has its answer; what there is then."""
+        self.judge_advices()
+        self.judge_deductibles(members)
+        return {"rows": len(self.rows), "open": sum(it["state"] != "answered" for it in self.entries)}
+
     def judge_advices(self) -> None:
         """What was priced is ruled as the engine has answered to that very transaction; the book itself says duplicate and 83."""
         said = {(it["pharmacy"], it["number"], it["place"]): bytes(it["said"]) for it in self.answers if it["said"]}
@@ -99,11 +104,18 @@ class Books:
             found = (it["ruling"], *it["reject_codes"].split(), *paid)
             expect(told == found, f"{place} was ruled {found}, and the engine said {told}")
 
-    def judge_deductibles(self, standing: list[dict[str, str]], members: dict[str, int]) -> None:
-        """What members have paid of their deductibles by payments that stand is no more than these."""
+    def judge_deductibles(self, members: dict[str, int]) -> None:
+        """What members have paid of their deductibles by payments that stand is after no row of the book more than these."""
         part = {(it["pharmacy"], it["number"], it["place"]): it["deductible"] for it in self.answers}
+        payments = {it["authorization"]: it for it in self.payments}
         used: collections.Counter[str] = collections.Counter()
-        for it in standing:
-            used[it["cardholder"]] += part[int(it["pharmacy"]), int(it["number"]), int(it["transaction"])]
-        for member, cents in used.items():
-            expect(cents <= members[member], f"{member} has had {cents} of a deductible of {members[member]}")
+        for row in self.rows:
+            if row["ruling"] not in ("paid", "reversed"):
+                continue
+            paid = payments[row["authorization"]]
+            cents = part[int(paid["pharmacy"]), int(paid["number"]), int(paid["transaction"])]
+            member = paid["cardholder"]
+            used[member] += cents if row["ruling"] == "paid" else -cents
+            most = members[member]
+            place = (row["pharmacy"], row["number"], row["transaction"])
+            expect(used[member] <= most, f"after {place} {member} has had {used[member]} of a deductible of {most}")

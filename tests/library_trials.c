@@ -597,6 +597,58 @@ static void try_nothing(struct one *one, uint16_t pharmacy, uint64_t number, vog
     check(size == 77 && strcmp(bytes, "xxxxxxx") == 0, "no request changes nothing");
 }
 
+/* An answer that is told before it is on disk, with this code; where there is one it is the one that is told once it is. */
+static void try_heard(struct one *one, uint64_t number, vogrilas_code code) {
+    static char heard[MOST], answer[MOST];
+    size_t size = 77, again = 77;
+    memset(heard, 'x', MOST);
+    check(vogrilas_answer(&one->node, 1, number, answer, MOST, &again) == VOGRILAS_UNSYNCED && again == 77, "no answer before it is on disk");
+    check(vogrilas_heard(&one->node, 2, number, heard, MOST, &size) == (code == VOGRILAS_OK ? VOGRILAS_NOT_FOUND : code) && size == 77,
+          "what another pharmacy has heard");
+    check(vogrilas_heard(&one->node, 1, number + 7, heard, MOST, &size) == VOGRILAS_NOT_FOUND && size == 77, "nothing heard of no entry");
+    check(vogrilas_heard(&one->node, 1, number, heard, MOST, &size) == code && (code == VOGRILAS_OK || (size == 77 && heard[0] == 'x')), "what was heard");
+    if (code == VOGRILAS_OK) {
+        check(heard[size] == 'x' && vogrilas_heard(&one->node, 1, number, heard, size - 1, &again) == VOGRILAS_SHORT_BUFFER && again == size, "no room");
+        check(vogrilas_records(&one->node, answer, 0, &again) == VOGRILAS_SHORT_BUFFER, "what was heard is to be kept still");
+    }
+    kept(one);
+    check(vogrilas_answer(&one->node, 1, number, answer, MOST, &again) == VOGRILAS_OK && (code != VOGRILAS_OK || (again == size && memcmp(answer, heard, size) == 0)),
+          "the answer that was heard");
+}
+
+/* Answers that come, before they are on disk: of a payer, and of a switch. */
+static void try_hearing(void) {
+    static char text[MOST], sent[MOST];
+    struct one *pharmacy = &network[0];
+    size_t size = 0, kept_size = 0;
+    for (size_t one = 0; one < NODES; one++) {
+        network[one].size = 0;
+        check(open_as(&network[one].node, network[one].name, "", 0, &kept_size) == VOGRILAS_OK, "a network");
+        kept(&network[one]);
+    }
+    for (uint64_t number = 1; number <= 2; number++) {
+        snprintf(text, MOST, "%.*s", (int)line_size, line);
+        /* The second one is of a payer that has no route. */
+        if (number == 2) memcpy(text + 7, "999999", 6);
+        snprintf(sent, MOST, "%s", asked(pharmacy, text));
+        char *node = "ph1";
+        for (size_t hop = 0; hop < (number == 1 ? 3 : 1); hop++) {
+            struct one *to = strncmp(sent + 5, "sw1", 3) == 0 ? &network[1] : &network[2];
+            snprintf(text, MOST, "take %s %.*s", node, (int)(strchr(sent, '\n') - sent - 9), sent + 9);
+            node = (char *)to->name;
+            snprintf(sent, MOST, "%s", asked(to, text));
+        }
+        snprintf(text, MOST, "take sw1 %.*s", (int)(strchr(sent, '\n') - sent - 9), sent + 9);
+        check(vogrilas_heard(&pharmacy->node, 1, number, text, 0, &size) == (number == 1 ? VOGRILAS_UNANSWERED : VOGRILAS_UNSYNCED), "nothing heard yet");
+        check(vogrilas_serve(&pharmacy->node, text, strlen(text)) == VOGRILAS_OK, "an answer comes");
+        try_heard(pharmacy, number, number == 1 ? VOGRILAS_OK : VOGRILAS_UNSYNCED);
+    }
+    for (size_t one = 1; one < NODES; one++)
+        check(vogrilas_heard(&network[one].node, 1, 1, text, MOST, &size) == VOGRILAS_NOT_FOUND, "a node that is no pharmacy has heard nothing");
+    for (size_t one = 0; one < NODES; one++) vogrilas_close(&network[one].node);
+    check(vogrilas_heard(&pharmacy->node, 1, 1, text, MOST, &size) == VOGRILAS_CLOSED, "a closed handle has heard nothing");
+}
+
 /* The payments of a node, of which there are so many. */
 static void try_payments(struct one *one, size_t wanted, vogrilas_payment *payments) {
     size_t count = 77;
@@ -694,7 +746,7 @@ static void try_reading_memory(void) {
     static char bytes[MOST];
     static vogrilas_payment payments[2];
     for (size_t one = 0; one < NODES; one++) {
-        for (int call = 0; call < 4; call++) {
+        for (int call = 0; call < 5; call++) {
             long before = lent;
             for (long turn = 0;; turn += each) {
                 size_t size = 77;
@@ -703,6 +755,7 @@ static void try_reading_memory(void) {
                 vogrilas_code code = call == 0   ? vogrilas_count(&network[one].node, &count)
                                      : call == 1 ? vogrilas_request(&network[one].node, 1, bytes, MOST, &size)
                                      : call == 2 ? vogrilas_answer(&network[one].node, 1, 1, bytes, MOST, &size)
+                                     : call == 3 ? vogrilas_heard(&network[one].node, 1, 1, bytes, MOST, &size)
                                                  : vogrilas_payments(&network[one].node, payments, 2, &size);
                 left = -1;
                 check(code != VOGRILAS_NO_MEMORY || (size == 77 && count == 77), "memory refused while a node is read");
@@ -813,6 +866,8 @@ int main(int count, char **words) {
     try_audits();
     for (size_t one = 0; one < NODES; one++) vogrilas_close(&network[one].node);
     check(lent == 0, "all memory is given back");
+    try_hearing();
+    check(lent == 0, "all memory is given back once more");
     try_descriptions();
     try_messages();
     try_memory();

@@ -507,6 +507,7 @@ class Trials(unittest.TestCase):
         record = node.records()
         node.synced(len(record))
         self.assertEqual((node.calls, node.count, node.request(1), node.answer(1, 1)), (1, 1, REQUEST, None))
+        self.assertIsNone(node.heard(1, 1))
         self.assertTrue(node.written().endswith(b"number 1\n"))
         node.clear()
         node.close()

@@ -24,6 +24,8 @@ from suite import networks  # noqa: E402
 
 SETTINGS = TOP / "examples" / "six-nodes.toml"
 NODES = ["ph1", "ph2", "sw1", "sw2", "pr1", "pr2"]
+# Those that keep a log: a switch keeps nothing.
+KEEPERS = [node for node in NODES if not node.startswith("sw")]
 BILLING = networks.BILLING
 
 
@@ -105,6 +107,12 @@ def host(*flags):
     return made.stdout.strip()
 
 
+def logs_in(folder, nodes=NODES):
+    """The logs of nodes in a folder; of switches those that are there."""
+    paths = [pathlib.Path(folder) / f"{node}.log" for node in nodes]
+    return [str(path) for path in paths if not path.name.startswith("sw") or path.exists()]
+
+
 class Network:
     """A cluster of six nodes in a folder of its own."""
 
@@ -128,7 +136,8 @@ class Network:
         self.settings = self.folder / "settings.toml"
         shutil.copyfile(settings, self.settings)
         self.ca = str(self.folder / "ca.pem") if tls else None
-        self._words, self._jetstream = list(words), jetstream
+        # More words of the cluster.
+        self.more, self._jetstream = list(words), jetstream
         self.said = self.folder / "said"
         self.process = None
         if tls:
@@ -161,7 +170,7 @@ class Network:
         words += ["--server"] * self._has_server
         words += ["--ca", self.ca] if self.ca else []
         words += ["--jetstream"] if self._jetstream else []
-        return list(map(str, [*words, "--host", self.host, *self._words]))
+        return list(map(str, [*words, "--host", self.host, *self.more]))
 
     def start(self):
         """Starts all, once more too, and waits until each node is ready."""
@@ -229,9 +238,11 @@ class Network:
 
     def audit(self):
         """All logs, at rest, have to be those of one legal run; what the audit tells."""
-        logs = [str(self.logs / f"{node}.log") for node in NODES]
         done = subprocess.run(
-            [programs.program("claimaudit"), self.settings, *logs], capture_output=True, text=True, check=False
+            [programs.program("claimaudit"), self.settings, *logs_in(self.logs)],
+            capture_output=True,
+            text=True,
+            check=False,
         )
         expect(
             done.returncode == 0 and "one legal run" in done.stdout,

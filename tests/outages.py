@@ -128,6 +128,6 @@ def audited(net: Any, program: str, table: str) -> list[dict[str, str]]:
     import csv
     import io
 
-    logs = [str(net.logs / f"{node}.log") for node in network.NODES]
+    logs = network.logs_in(net.logs)
     told = subprocess.run([program, "--csv", table, net.settings, *logs], capture_output=True, text=True, check=True)
     return list(csv.DictReader(io.StringIO(told.stdout)))

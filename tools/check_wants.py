@@ -24,6 +24,8 @@ UNTRACED = """import ctypes, os, sys
 child = os.fork()
 if child == 0: os._exit(0 if ctypes.CDLL(None).ptrace(0, 0, None, None) == 0 else 1)
 sys.exit(os.waitpid(child, 0)[1] != 0)"""
+# Whether clang is there with what a fuzzer is linked with.
+FUZZES = """test -e "$(clang -print-file-name=libclang_rt.fuzzer-$(uname -m).a)\""""
 # Installs packages. Those that would start a server of theirs do not, unless this machine says otherwise; what it makes for that goes.
 INSTALL = """policy=/usr/sbin/policy-rc.d
 [ -e "$policy" ] || { printf '#!/bin/sh\\nexit 101\\n' >"$policy" && chmod +x "$policy" && trap 'rm -f "$policy"' EXIT; }
@@ -84,6 +86,7 @@ WANTS = {
     for want in (
         Want("cc", ("gcc", "libc6-dev", "make"), commands("cc", "ar", "make")),
         Want("c++", ("g++",), commands("c++")),
+        Want("strace", ("strace",), commands("strace")),
         Want("valgrind", ("valgrind",), commands("valgrind")),
         Want("nats-server", ("nats-server",), commands("nats-server")),
         Want("libnats", ("libnats-dev",), files("/usr/include/nats/nats.h")),
@@ -98,6 +101,11 @@ WANTS = {
         Want("aiohttp", ("python3-aiohttp", "python3-uvloop"), modules("aiohttp", "uvloop")),
         Want("curl", ("curl",), commands("curl")),
         Want("wrk", ("wrk",), commands("wrk")),
+        Want(
+            "nginx",
+            ("nginx", "libnginx-mod-stream"),
+            lambda: commands("nginx")() and files("/usr/lib/nginx/modules/ngx_stream_module.so")(),
+        ),
         Want("sqlite", ("libsqlite3-dev",), files("/usr/include/sqlite3.h")),
         Want("time", ("time",), files("/usr/bin/time")),
         Want("yaml", ("python3-yaml",), modules("yaml")),
@@ -110,6 +118,7 @@ WANTS = {
         Want("mypy", ("mypy",), commands("mypy")),
         Want("earlier-commit", (), lambda: runs("git", "-C", str(TOP), "rev-parse", "--verify", "--quiet", "HEAD~1")),
         Want("shells", ("bash", "zsh", "fish"), commands("bash", "zsh", "fish"), is_large=True),
+        Want("clang", ("clang", "libclang-rt-dev"), lambda: runs("sh", "-c", FUZZES), is_large=True),
         Want("lintian", ("lintian",), commands("lintian"), is_large=True),
         Want(
             "browser",

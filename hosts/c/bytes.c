@@ -31,8 +31,11 @@ void add_form(struct bytes *bytes, const char *form, ...) {
     add_text(bytes, text);
 }
 
-bool begins(const char *text, size_t size, const char *word) {
-    return size >= strlen(word) && memcmp(text, word, strlen(word)) == 0;
+void add_number(struct bytes *bytes, uint64_t number) {
+    char digits[20], *at = digits + sizeof digits;
+    do *--at = (char)('0' + number % 10);
+    while ((number /= 10) > 0);
+    add(bytes, at, (size_t)(digits + sizeof digits - at));
 }
 
 struct bytes whole(int file, const char *path, size_t most) {

@@ -1,13 +1,22 @@
 /* NATS: what comes waits in a list until the node's thread takes it; what is sent may be lost, as a packet may be. */
-#include <ctype.h>
 #include <math.h>
 
 #include "signed.h"
 
-/* What may wait for the node at most; what comes beyond it is refused, or lost, as a packet may be. */
-#define MOST_WAITING 4096
-#define MOST_WAITING_BYTES (16u << 20)
 #define STOP_MS 5000
+/* So many messages are kept to be used again. */
+#define MOST_SPARE 4096
+/* What libnats holds at most of each kind, until it is looked at here, which takes no turn of the node. */
+#define MOST_COMING 65536
+#define MOST_COMING_BYTES (64u << 20)
+
+/* What may wait for the node at most, of each kind of sender for itself, so that no line has a packet lost. What comes beyond it is told to
+   come again (`refused Busy`), or is lost, as a packet may be. */
+static const struct most most_of[SENDERS] = {
+    [FROM_NODE] = { 65536, 64u << 20 },
+    [FROM_CALLER] = { 4096, 16u << 20 },
+    [FROM_OPERATOR] = { 256, 4u << 20 },
+};
 
 static void check(const char *what, natsStatus status) {
     if (status != NATS_OK) fail("nothing can be heard or said", FACTS(TEXT("reason", natsStatus_GetText(status)), TEXT("by", what)));
@@ -18,23 +27,55 @@ static void join(struct carrier *carrier, struct message *one) {
     one->next = NULL;
     *carrier->last = one;
     carrier->last = &one->next;
-    carrier->waiting++;
-    carrier->waiting_bytes += (size_t)natsMsg_GetDataLength(one->text);
     pthread_cond_signal(&carrier->came);
 }
 
-/* Whether there is room for a message in the list, which it joins then. Called by threads of libnats. */
-static bool put(struct carrier *carrier, natsMsg *text, enum sender from) {
-    size_t size = (size_t)natsMsg_GetDataLength(text);
-    struct message *one = malloc(sizeof *one);
-    if (one == NULL) return false;
-    *one = (struct message){ .text = text, .from = from, .came = now() };
+/* A message that nobody has, or NULL for want of memory; the lock is held. */
+static struct message *fresh(struct carrier *carrier) {
+    struct message *one = carrier->spare;
+    if (one == NULL) return malloc(sizeof *one);
+    carrier->spare = one->next;
+    carrier->spare_count--;
+    return one;
+}
+
+static void let_free(struct message *batch) {
+    for (struct message *next; batch != NULL; batch = next) {
+        next = batch->next;
+        free(batch);
+    }
+}
+
+void carrier_spare(struct carrier *carrier, struct message *batch) {
     pthread_mutex_lock(&carrier->lock);
-    bool has_room = carrier->waiting < MOST_WAITING && carrier->waiting_bytes + size <= MOST_WAITING_BYTES;
-    if (has_room) join(carrier, one);
+    for (struct message *next; batch != NULL && carrier->spare_count < MOST_SPARE; batch = next) {
+        next = batch->next;
+        batch->next = carrier->spare;
+        carrier->spare = batch;
+        carrier->spare_count++;
+    }
     pthread_mutex_unlock(&carrier->lock);
-    if (!has_room) free(one);
-    return has_room;
+    let_free(batch);
+}
+
+/* Whether there is room for a message in the list, which it joins then and counts in; `sender` is that of a packet. Called by threads of
+   libnats. */
+static bool put(struct carrier *carrier, natsMsg *text, enum sender from, const char sender[9]) {
+    size_t size = (size_t)natsMsg_GetDataLength(text);
+    struct message made = { .text = text, .from = from, .came = now() }, *one = NULL;
+    if (sender != NULL) memcpy(made.sender, sender, sizeof made.sender);
+    if (sender != NULL && !head_of(natsMsg_GetData(text), size, &made.head)) made.head.kind = 0;
+    pthread_mutex_lock(&carrier->lock);
+    struct most *waiting = &carrier->waiting[from];
+    bool has_room = waiting->count < most_of[from].count && waiting->bytes + size <= most_of[from].bytes;
+    if (has_room && (one = fresh(carrier)) != NULL) {
+        *one = made;
+        waiting->count++;
+        waiting->bytes += size;
+        join(carrier, one);
+    }
+    pthread_mutex_unlock(&carrier->lock);
+    return one != NULL;
 }
 
 void carrier_back(struct carrier *carrier, struct message *one) {
@@ -50,7 +91,7 @@ static void taken(natsConnection *connection, natsSubscription *subscription, na
     bool is_packet = natsMsg_GetDataLength(text) <= MOST_BYTES && sender_of(carrier->name, natsMsg_GetSubject(text), sender);
     if (!is_packet) counts_dropped(NOT_A_PACKET);
     if (!is_packet) acknowledge(carrier, text);
-    if (is_packet && put(carrier, text, FROM_NODE)) return;
+    if (is_packet && put(carrier, text, FROM_NODE, sender)) return;
     if (is_packet) counts_dropped(FULL);
     const struct message lost = { .text = text, .from = FROM_NODE };
     if (is_packet) say_refused(&lost, carrier->name, "warning", "a packet was lost", "full");
@@ -61,16 +102,24 @@ static void taken(natsConnection *connection, natsSubscription *subscription, na
 /* Takes a line of a caller or an operator, or refuses it. */
 static void asked(struct carrier *carrier, natsMsg *text, enum sender from) {
     bool is_line = natsMsg_GetDataLength(text) <= MOST_BYTES;
-    if (is_line && put(carrier, text, from)) return;
+    if (is_line && put(carrier, text, from, NULL)) return;
     const struct message lost = { .text = text, .from = from };
-    if (is_line) counts_dropped(FULL);
-    if (!carrier->is_silent) say_refused(&lost, carrier->name, "warning", "a call was refused", is_line ? "Busy" : "Line");
-    if (!carrier->is_silent) reply(carrier, text, is_line ? "refused Busy" : "refused Line", 12);
+    /* What two hosts hear one of them tells. */
+    if (!carrier->is_silent) {
+        counts_refusal(is_line ? "Busy" : "Line", 4);
+        say_refused(&lost, carrier->name, "warning", "a call was refused", is_line ? "Busy" : "Line");
+        reply(carrier, text, is_line ? "refused Busy" : "refused Line", 12);
+    }
     natsMsg_Destroy(text);
 }
 
 void carrier_again(struct carrier *carrier, natsMsg *text) {
-    asked(carrier, text, FROM_CALLER);
+    pthread_mutex_lock(&carrier->lock);
+    struct message *one = fresh(carrier);
+    if (one == NULL) fail_memory();
+    *one = (struct message){ .text = text, .from = FROM_CALLER, .came = now() };
+    join(carrier, one);
+    pthread_mutex_unlock(&carrier->lock);
 }
 
 static void called(natsConnection *connection, natsSubscription *subscription, natsMsg *text, void *carrier) {
@@ -84,15 +133,15 @@ static void operated(natsConnection *connection, natsSubscription *subscription,
 }
 
 bool sender_of(const char *node, const char *subject, char sender[9]) {
-    char head[64];
-    snprintf(head, sizeof head, "claims.%s.from.", node);
-    size_t size = strlen(subject);
-    if (!begins(subject, size, head) || size - strlen(head) > 7) return false;
-    strcpy(sender, subject + strlen(head));
+    size_t size = strlen(subject), node_size = strlen(node), before = strlen("claims.") + node_size + strlen(".from.");
+    if (size < before || size - before > 7 || !begins(subject, size, "claims.")) return false;
+    if (memcmp(subject + strlen("claims."), node, node_size) != 0) return false;
+    if (memcmp(subject + strlen("claims.") + node_size, ".from.", strlen(".from.")) != 0) return false;
+    memcpy(sender, subject + before, size - before + 1);
     if (strncmp(sender, "ph", 2) != 0 && strncmp(sender, "sw", 2) != 0 && strncmp(sender, "pr", 2) != 0) return false;
     if (sender[2] < '1' || sender[2] > '9') return false;
     for (const char *digit = sender + 2; *digit != '\0'; digit++)
-        if (!isdigit((unsigned char)*digit)) return false;
+        if (*digit < '0' || *digit > '9') return false;
     return true;
 }
 
@@ -164,11 +213,11 @@ static natsOptions *options_of(struct carrier *carrier, const struct access *acc
     return options;
 }
 
-static void subscribe(struct carrier *carrier, int place, const char *form, natsMsgHandler handler) {
+static void subscribe(struct carrier *carrier, enum sender from, const char *form, natsMsgHandler handler) {
     char subject[64];
     snprintf(subject, sizeof subject, form, carrier->name);
-    check(subject, natsConnection_Subscribe(&carrier->subscriptions[place], carrier->connection, subject, handler, carrier));
-    check(subject, natsSubscription_SetPendingLimits(carrier->subscriptions[place], MOST_WAITING, MOST_WAITING_BYTES));
+    check(subject, natsConnection_Subscribe(&carrier->subscriptions[from], carrier->connection, subject, handler, carrier));
+    check(subject, natsSubscription_SetPendingLimits(carrier->subscriptions[from], MOST_COMING, MOST_COMING_BYTES));
 }
 
 struct carrier *carrier_open(const char *name, const struct access *access, volatile sig_atomic_t *is_stopping) {
@@ -187,9 +236,9 @@ struct carrier *carrier_open(const char *name, const struct access *access, vola
     natsOptions_Destroy(options);
     if (carrier->connection == NULL) return carrier;
     counts_connected(true);
-    subscribe(carrier, 0, access->is_kept ? "deliver.%s" : "claims.%s.from.*", taken);
-    subscribe(carrier, 1, "claims.%s.operate", operated);
-    if (!begins(name, strlen(name), "sw")) subscribe(carrier, 2, "claims.%s.call", called);
+    subscribe(carrier, FROM_NODE, access->is_kept ? "deliver.%s" : "claims.%s.from.*", taken);
+    subscribe(carrier, FROM_OPERATOR, "claims.%s.operate", operated);
+    if (!begins(name, strlen(name), "sw")) subscribe(carrier, FROM_CALLER, "claims.%s.call", called);
     /* Whoever reads that the node is ready may ask it at once. */
     natsConnection_FlushTimeout(carrier->connection, STOP_MS);
     return carrier;
@@ -207,7 +256,7 @@ struct message *take_all(struct carrier *carrier, double seconds) {
     struct message *batch = carrier->first;
     carrier->first = NULL;
     carrier->last = &carrier->first;
-    carrier->waiting = carrier->waiting_bytes = 0;
+    memset(carrier->waiting, 0, sizeof carrier->waiting);
     pthread_mutex_unlock(&carrier->lock);
     return batch;
 }
@@ -225,9 +274,13 @@ void publish_packet(natsConnection *connection, const char *subject, const char 
 }
 
 void send_packet(struct carrier *carrier, const char *to, size_t to_size, const char *text, size_t size, const char *handed) {
-    char subject[64], own[SIGNED_TEXT];
+    char subject[64] = "claims.", own[SIGNED_TEXT], *at = subject + strlen("claims.");
+    size_t own_size = strlen(carrier->name);
+    if (to_size + own_size > sizeof subject - sizeof "claims..from.") fail("the node has a packet for no node", NULL);
     if (carrier->keys != NULL && handed == NULL && keys_sign(carrier->keys, text, size, own)) handed = own;
-    snprintf(subject, sizeof subject, "claims.%.*s.from.%s", (int)to_size, to, carrier->name);
+    memcpy(at, to, to_size);
+    memcpy(at + to_size, ".from.", strlen(".from."));
+    memcpy(at + to_size + strlen(".from."), carrier->name, own_size + 1);
     if (!torment_packet(carrier->connection, subject, text, size, handed)) publish_packet(carrier->connection, subject, text, size, handed);
     counts_sent(to, to_size);
 }
@@ -235,8 +288,9 @@ void send_packet(struct carrier *carrier, const char *to, size_t to_size, const 
 /* Whether a reply is the word to the server that keeps a packet. */
 static bool is_acknowledgement(const struct carrier *carrier, const char *subject) {
     char head[64];
+    if (!carrier->is_kept) return false;
     snprintf(head, sizeof head, "$JS.ACK.claims-%s.%s.", carrier->name, carrier->name);
-    return carrier->is_kept && begins(subject, strlen(subject), head);
+    return begins(subject, strlen(subject), head);
 }
 
 void acknowledge(struct carrier *carrier, natsMsg *packet) {
@@ -261,15 +315,20 @@ void reply(struct carrier *carrier, natsMsg *to, const char *line, size_t size) 
 }
 
 void carrier_stop(struct carrier *carrier) {
-    for (int place = 0; place < 3; place++)
+    for (int place = 0; place < SENDERS; place++)
         if (carrier->subscriptions[place] != NULL) natsSubscription_DrainTimeout(carrier->subscriptions[place], STOP_MS);
-    for (int place = 0; place < 3; place++)
+    for (int place = 0; place < SENDERS; place++)
         if (carrier->subscriptions[place] != NULL) natsSubscription_WaitForDrainCompletion(carrier->subscriptions[place], STOP_MS);
 }
 
 void carrier_close(struct carrier *carrier) {
     carrier->is_closing = true;
-    for (int place = 0; place < 3; place++) natsSubscription_Destroy(carrier->subscriptions[place]);
+    for (int place = 0; place < SENDERS; place++) natsSubscription_Destroy(carrier->subscriptions[place]);
     natsConnection_FlushTimeout(carrier->connection, 1000);
     natsConnection_Destroy(carrier->connection);
+    pthread_mutex_lock(&carrier->lock);
+    let_free(carrier->spare);
+    carrier->spare = NULL;
+    carrier->spare_count = 0;
+    pthread_mutex_unlock(&carrier->lock);
 }

@@ -1,40 +1,23 @@
 /* What the host has seen since it started, and the metrics that tell it. Behind one lock, since threads of others ask and tell. */
 #include <sys/stat.h>
 
-#include "node.h"
+#include "metrics.h"
 
-#define MOST_NAMES 512
-#define CLASSES 16
 /* The node's thread is thought to live where it was heard of so lately. */
 #define LIVES_SECONDS 10
 
-/* A name with its count, and when it was last counted. */
-struct named {
-    char name[24];
-    uint64_t count;
-    double last;
-};
-
-static const double class_end[CLASSES] = { 0.0001, 0.00025, 0.0005, 0.001, 0.0025, 0.005, 0.01, 0.025,
-                                           0.05,   0.1,     0.25,   0.5,   1,      2.5,   5,    10 };
 static const char *const call_name[CALLS] = { "submit", "answer", "take", "adjudicate", "tick", "plan", "stop", "start", "other" };
 static const char *const why_name[WHYS] = { "not_a_packet", "held_back", "full", "reply", "would_be_full", "under_way", "rules_full",
-                                             "unsigned", "forged", "wrong_payer" };
-
-/* Times in classes. */
-struct times {
-    uint64_t classes[CLASSES + 1], count;
-    double seconds;
-};
+                                             "unsigned", "forged", "wrong_payer", "rerouted" };
 
 static pthread_mutex_t lock = PTHREAD_MUTEX_INITIALIZER;
 static struct {
     uint64_t calls[CALLS], dropped[WHYS], again, connections;
-    struct named refusals[MOST_NAMES], sent[MOST_NAMES], taken[MOST_NAMES];
+    struct names refusals, sent, taken;
     struct times syncs, appends, rules, answers;
     double heard;
     uint64_t log_calls, at_start, rows, most, reserve;
-    size_t waiting;
+    size_t waiting, waits;
     bool is_connected, is_ready;
     /* Of a log in a stream. A host comes to have it once in its life. */
     bool is_stream, owns, has_owned, differs;
@@ -44,23 +27,12 @@ static struct {
     /* Of a payer's own system, where it is asked. */
     uint64_t asked, ruled;
     size_t under_way;
-    struct named unruled[MOST_NAMES];
+    struct names unruled;
     uint64_t keys, asked_anew;
     /* When each open entry was first known to be open, by its number; 0 of one that is settled. */
     double *open;
     uint64_t open_room, open_count;
 } seen;
-
-/* Counts a name of a list; beyond its end names are not told apart. */
-static void count_named(struct named *list, const char *name, size_t size) {
-    int at = 0;
-    size = size < sizeof list->name - 1 ? size : sizeof list->name - 1;
-    while (at < MOST_NAMES - 1 && list[at].count > 0 && (strncmp(list[at].name, name, size) != 0 || list[at].name[size] != '\0')) at++;
-    memcpy(list[at].name, name, size);
-    list[at].name[size] = '\0';
-    list[at].count++;
-    list[at].last = wall();
-}
 
 static void locked(void) {
     pthread_mutex_lock(&lock);
@@ -80,13 +52,13 @@ void counts_call(const char *line, size_t size) {
 
 void counts_refusal(const char *name, size_t size) {
     locked();
-    count_named(seen.refusals, name, size);
+    names_add(&seen.refusals, name, size);
     unlocked();
 }
 
 void counts_sent(const char *to, size_t size) {
     locked();
-    count_named(seen.sent, to, size);
+    names_add(&seen.sent, to, size);
     unlocked();
 }
 
@@ -98,7 +70,7 @@ void counts_again(uint64_t more) {
 
 void counts_taken(const char *from) {
     locked();
-    count_named(seen.taken, from, strlen(from));
+    names_add(&seen.taken, from, strlen(from));
     unlocked();
 }
 
@@ -122,12 +94,8 @@ void counts_asked_anew(void) {
 
 /* Counts a time. */
 static void count_time(struct times *times, double seconds) {
-    int class = 0;
-    while (class < CLASSES && seconds > class_end[class]) class++;
     locked();
-    times->classes[class]++;
-    times->count++;
-    times->seconds += seconds;
+    times_add(times, seconds);
     unlocked();
 }
 
@@ -225,7 +193,7 @@ void counts_ruled(void) {
 
 void counts_unruled(const char *name) {
     locked();
-    count_named(seen.unruled, name, strlen(name));
+    names_add(&seen.unruled, name, strlen(name));
     unlocked();
 }
 
@@ -243,6 +211,12 @@ void counts_most(uint64_t most, uint64_t reserve) {
     locked();
     seen.most = most;
     seen.reserve = reserve;
+    unlocked();
+}
+
+void counts_waits(size_t waiting) {
+    locked();
+    seen.waits = waiting;
     unlocked();
 }
 
@@ -279,72 +253,34 @@ const char *counts_unready(void) {
     return why;
 }
 
-static void add_head(struct bytes *text, const char *name, const char *kind, const char *says) {
-    add_form(text, "# HELP vogrilas_%s %s\n# TYPE vogrilas_%s %s\n", name, says, name, kind);
-}
-
-static void add_one(struct bytes *text, const char *node, const char *name, const char *kind, const char *says, double value) {
-    add_head(text, name, kind, says);
-    add_form(text, "vogrilas_%s{node=\"%s\"} %.15g\n", name, node, value);
-}
-
-static void add_list(struct bytes *text, const char *node, const char *name, const char *label, const char *says,
-                     const struct named *list) {
-    add_head(text, name, "counter", says);
-    for (int at = 0; at < MOST_NAMES && list[at].count > 0; at++)
-        add_form(text, "vogrilas_%s{%s=\"%s\",node=\"%s\"} %llu\n", name, label, list[at].name, node, (unsigned long long)list[at].count);
-}
-
-static void add_fixed(struct bytes *text, const char *node, const char *name, const char *label, const char *says, const char *const *key,
-                      const uint64_t *value, int count) {
-    add_head(text, name, "counter", says);
-    for (int at = 0; at < count; at++) {
-        if (value[at] == 0) continue;
-        add_form(text, "vogrilas_%s{%s=\"%s\",node=\"%s\"} %llu\n", name, label, key[at], node, (unsigned long long)value[at]);
-    }
-}
-
-static void add_times(struct bytes *text, const char *node, const char *name, const char *says, const struct times *times) {
-    uint64_t total = 0;
-    add_head(text, name, "histogram", says);
-    for (int class = 0; class <= CLASSES; class++) {
-        char end[24] = "+Inf";
-        total += times->classes[class];
-        if (class < CLASSES) snprintf(end, sizeof end, "%g", class_end[class]);
-        add_form(text, "vogrilas_%s_bucket{le=\"%s\",node=\"%s\"} %llu\n", name, end, node, (unsigned long long)total);
-    }
-    add_form(text, "vogrilas_%s_count{node=\"%s\"} %llu\n", name, node, (unsigned long long)times->count);
-    add_form(text, "vogrilas_%s_sum{node=\"%s\"} %.9g\n", name, node, times->seconds);
-}
-
 /* What is told of a log in a stream. */
 static void add_stream(struct bytes *text, const char *node) {
-    add_one(text, node, "log_owner", "gauge", "Whether this host has the log; another one stands by.", seen.owns);
-    add_one(text, node, "takeovers_total", "counter", "Whether this host came to have the log since it started.", seen.has_owned);
-    add_one(text, node, "log_differs", "gauge", "Whether the servers show another log than this machine has.", seen.differs);
-    add_one(text, node, "log_sequence", "gauge", "The last message of the log that this host knows.", (double)seen.sequence);
-    add_one(text, node, "log_lag", "gauge", "Messages that the host which has the log told of and this one lacks.", (double)seen.lag);
-    add_one(text, node, "stand_bys", "gauge", "Other hosts that follow the log, as the one that has it hears.", seen.followers_count);
-    add_head(text, "stand_by_lag", "gauge", "Messages that a stand-by is behind, as the host that has the log hears.");
+    metric_one(text, node, "log_owner", "gauge", "Whether this host has the log; another one stands by.", seen.owns);
+    metric_one(text, node, "takeovers_total", "counter", "Whether this host came to have the log since it started.", seen.has_owned);
+    metric_one(text, node, "log_differs", "gauge", "Whether the servers show another log than this machine has.", seen.differs);
+    metric_one(text, node, "log_sequence", "gauge", "The last message of the log that this host knows.", (double)seen.sequence);
+    metric_one(text, node, "log_lag", "gauge", "Messages that the host which has the log told of and this one lacks.", (double)seen.lag);
+    metric_one(text, node, "stand_bys", "gauge", "Other hosts that follow the log, as the one that has it hears.", seen.followers_count);
+    metric_head(text, "stand_by_lag", "gauge", "Messages that a stand-by is behind, as the host that has the log hears.");
     for (const struct follower *one = seen.followers; one < seen.followers + seen.followers_count; one++)
         add_form(text, "vogrilas_stand_by_lag{machine=\"%s\",node=\"%s\"} %llu\n", one->machine, node, (unsigned long long)one->lag);
-    add_one(text, node, "appends_again_total", "counter", "Messages sent again, since no word came on them.", (double)seen.appends_again);
-    add_times(text, node, "append_seconds", "How long the servers' word on what was appended took.", &seen.appends);
+    metric_one(text, node, "appends_again_total", "counter", "Messages sent again, since no word came on them.", (double)seen.appends_again);
+    metric_times(text, node, "append_seconds", "How long the servers' word on what was appended took.", &seen.appends);
 }
 
 /* What is told of a payer's own system. */
 static void add_rules(struct bytes *text, const char *node) {
-    add_one(text, node, "rules_asked_total", "counter", "Requests that the payer's own system was asked for.", (double)seen.asked);
-    add_one(text, node, "rules_taken_total", "counter", "Packets that were taken with what it answered.", (double)seen.ruled);
-    add_one(text, node, "rules_under_way", "gauge", "Requests that are under way to it.", (double)seen.under_way);
-    add_list(text, node, "rules_failed_total", "why", "Requests that came to no ruling, by cause.", seen.unruled);
-    add_times(text, node, "rules_seconds", "How long a request took, whatever came of it.", &seen.rules);
+    metric_one(text, node, "rules_asked_total", "counter", "Requests that the payer's own system was asked for.", (double)seen.asked);
+    metric_one(text, node, "rules_taken_total", "counter", "Packets that were taken with what it answered.", (double)seen.ruled);
+    metric_one(text, node, "rules_under_way", "gauge", "Requests that are under way to it.", (double)seen.under_way);
+    metric_names(text, node, "rules_failed_total", "why", "Requests that came to no ruling, by cause.", &seen.unruled);
+    metric_times(text, node, "rules_seconds", "How long a request took, whatever came of it.", &seen.rules);
 }
 
 /* What is told of packets that are signed. */
 static void add_keys(struct bytes *text, const char *node) {
-    add_one(text, node, "keys", "gauge", "Keys of nodes under which signatures hold.", (double)seen.keys);
-    add_one(text, node, "answers_asked_anew_total", "counter", "Answers that a payer was asked for anew, since their signatures were lost.",
+    metric_one(text, node, "keys", "gauge", "Keys of nodes under which signatures hold.", (double)seen.keys);
+    metric_one(text, node, "answers_asked_anew_total", "counter", "Answers that a payer was asked for anew, since their signatures were lost.",
             (double)seen.asked_anew);
 }
 
@@ -352,13 +288,15 @@ static void add_entries(struct bytes *text, const char *node) {
     double oldest = 0;
     for (uint64_t number = 0; number < seen.open_room; number++)
         if (seen.open[number] != 0 && (oldest == 0 || seen.open[number] < oldest)) oldest = seen.open[number];
-    add_one(text, node, "open_entries", "gauge", "Entries without an answer.", (double)seen.open_count);
-    add_one(text, node, "oldest_open_entry_seconds", "gauge", "How long the oldest has been open.", oldest == 0 ? 0 : wall() - oldest);
+    metric_one(text, node, "open_entries", "gauge", "Entries without an answer.", (double)seen.open_count);
+    metric_one(text, node, "oldest_open_entry_seconds", "gauge", "How long the oldest has been open.", oldest == 0 ? 0 : wall() - oldest);
+    metric_one(text, node, "waits", "gauge", "Callers who wait for an answer.", (double)seen.waits);
+    metric_one(text, node, "waits_most", "gauge", "The most of them.", MOST_WAITS);
 }
 
 static void add_peers(struct bytes *text, const char *node) {
-    add_head(text, "peer_last_packet_timestamp_seconds", "gauge", "When the last packet of a peer came.");
-    for (const struct named *peer = seen.taken; peer < seen.taken + MOST_NAMES && peer->count > 0; peer++)
+    metric_head(text, "peer_last_packet_timestamp_seconds", "gauge", "When the last packet of a peer came.");
+    for (const struct named *peer = seen.taken.list; peer < seen.taken.list + seen.taken.count; peer++)
         add_form(text, "vogrilas_peer_last_packet_timestamp_seconds{node=\"%s\",peer=\"%s\"} %.3f\n", node, peer->name, peer->last);
 }
 
@@ -367,30 +305,30 @@ struct bytes counts_text(const char *node, const char *log) {
     struct stat at;
     uint32_t version = vogrilas_version();
     locked();
-    add_head(&text, "host_info", "gauge", "The host and the version of its node.");
+    metric_head(&text, "host_info", "gauge", "The host and the version of its node.");
     add_form(&text, "vogrilas_host_info{host=\"c\",node=\"%s\",version=\"%u.%u.%u\"} 1\n", node, version / 1000000,
              version / 1000 % 1000, version % 1000);
-    add_fixed(&text, node, "calls_total", "call", "Calls on the node, by what was asked.", call_name, seen.calls, CALLS);
-    add_list(&text, node, "refusals_total", "name", "Calls that the node or its host refused, by name.", seen.refusals);
-    add_list(&text, node, "packets_sent_total", "to", "Packets sent, by addressee.", seen.sent);
-    add_list(&text, node, "packets_taken_total", "from", "Packets that came for the node, by sender.", seen.taken);
-    add_fixed(&text, node, "packets_dropped_total", "why", "Messages that were not handed to the node, by cause.", why_name,
+    metric_fixed(&text, node, "calls_total", "call", "Calls on the node, by what was asked.", call_name, seen.calls, CALLS);
+    metric_names(&text, node, "refusals_total", "name", "Calls that the node or its host refused, by name.", &seen.refusals);
+    metric_names(&text, node, "packets_sent_total", "to", "Packets sent, by addressee.", &seen.sent);
+    metric_names(&text, node, "packets_taken_total", "from", "Packets that came for the node, by sender.", &seen.taken);
+    metric_fixed(&text, node, "packets_dropped_total", "why", "Messages that were not handed to the node, by cause.", why_name,
               seen.dropped, WHYS);
-    add_one(&text, node, "packets_sent_again_total", "counter", "Packets that a tick sent once more.", (double)seen.again);
+    metric_one(&text, node, "packets_sent_again_total", "counter", "Packets that a tick sent once more.", (double)seen.again);
     add_peers(&text, node);
     if (begins(node, strlen(node), "ph")) add_entries(&text, node);
-    add_one(&text, node, "ready", "gauge", "Whether the node serves.", seen.is_ready && seen.is_connected);
-    add_one(&text, node, "connected", "gauge", "Whether there is a connection.", seen.is_connected);
-    add_one(&text, node, "connections_total", "counter", "Connections that were opened.", (double)seen.connections);
-    add_one(&text, node, "waiting_calls", "gauge", "Calls of the last turn.", (double)seen.waiting);
-    add_one(&text, node, "rows", "gauge", "Entries, slots or rows that the node has.", (double)seen.rows);
-    add_one(&text, node, "rows_most", "gauge", "The most of them.", (double)seen.most);
-    add_one(&text, node, "rows_reserved", "gauge", "How many of these are kept for reversals.", (double)seen.reserve);
-    add_one(&text, node, "log_calls", "gauge", "Calls in the log.", (double)seen.log_calls);
-    add_one(&text, node, "log_calls_at_start", "gauge", "Calls that the log had at the start.", (double)seen.at_start);
-    add_one(&text, node, "log_bytes", "gauge", "Bytes of the log.", stat(log, &at) == 0 ? (double)at.st_size : 0);
-    add_times(&text, node, "sync_seconds", "How long a sync of the log took.", &seen.syncs);
-    add_times(&text, node, "call_seconds", "From a message that came to the last word on it, its sync included.", &seen.answers);
+    metric_one(&text, node, "ready", "gauge", "Whether the node serves.", seen.is_ready && seen.is_connected);
+    metric_one(&text, node, "connected", "gauge", "Whether there is a connection.", seen.is_connected);
+    metric_one(&text, node, "connections_total", "counter", "Connections that were opened.", (double)seen.connections);
+    metric_one(&text, node, "waiting_calls", "gauge", "Calls of the last turn.", (double)seen.waiting);
+    metric_one(&text, node, "rows", "gauge", "Entries, slots or rows that the node has.", (double)seen.rows);
+    metric_one(&text, node, "rows_most", "gauge", "The most of them.", (double)seen.most);
+    metric_one(&text, node, "rows_reserved", "gauge", "How many of these are kept for reversals.", (double)seen.reserve);
+    metric_one(&text, node, "log_calls", "gauge", "Calls in the log.", (double)seen.log_calls);
+    metric_one(&text, node, "log_calls_at_start", "gauge", "Calls that the log had at the start.", (double)seen.at_start);
+    metric_one(&text, node, "log_bytes", "gauge", "Bytes of the log.", log != NULL && stat(log, &at) == 0 ? (double)at.st_size : 0);
+    metric_times(&text, node, "sync_seconds", "How long a sync of the log took.", &seen.syncs);
+    metric_times(&text, node, "call_seconds", "From a message that came to the last word on it, its sync included.", &seen.answers);
     if (begins(node, strlen(node), "pr")) add_rules(&text, node);
     if (seen.is_stream) add_stream(&text, node);
     if (seen.keys > 0) add_keys(&text, node);

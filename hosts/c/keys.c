@@ -122,11 +122,13 @@ static bool read_keys(const struct keys *keys, struct ring *ring, struct fault *
     if (text.at == NULL) return false;
     fault->reason = "the line is none";
     bool is_one = true;
-    for (char *line = text.at, *end; is_one && *line != '\0'; line = end + 1) {
+    /* A 0 ends no line, and ends what a line is read as. */
+    for (char *line = text.at, *end = text.at, *last = text.at + text.size; is_one && line < last; line = end + 1) {
         fault->line++;
-        end = strchr(line, '\n');
-        is_one = end != NULL;
-        if (is_one) *end = '\0';
+        end = memchr(line, '\n', (size_t)(last - line));
+        if (end == NULL) end = last;
+        is_one = end < last && memchr(line, '\0', (size_t)(end - line)) == NULL;
+        *end = '\0';
         is_one = is_one && take_line(ring, line);
     }
     free(text.at);
@@ -141,10 +143,12 @@ static bool read_own(const struct keys *keys, struct ring *ring, struct fault *f
     unsigned char seed[crypto_sign_SEEDBYTES], open[crypto_sign_PUBLICKEYBYTES];
     struct bytes text = text_of(keys->own_path, fault);
     if (text.at == NULL) return false;
-    char *end = strpbrk(text.at, "\r\n"), *digits = strchr(text.at, ' ');
-    if (end != NULL) *end = '\0';
+    char *end = text.at + strcspn(text.at, "\r\n"), *digits = NULL;
+    bool is_one = end + strspn(end, "\r\n") == text.at + text.size;
+    *end = '\0';
+    if (is_one) digits = strchr(text.at, ' ');
     if (digits != NULL) *digits++ = '\0';
-    bool is_one = digits != NULL && read_digits(digits, seed, sizeof seed);
+    is_one = digits != NULL && read_digits(digits, seed, sizeof seed);
     bool is_own = is_one && strcmp(text.at, keys->node) == 0, is_known = false;
     if (is_own) crypto_sign_seed_keypair(open, ring->secret, seed);
     for (const struct known *known = first_of(ring, keys->node); is_own && is_of(ring, known, keys->node); known++)

@@ -1,4 +1,5 @@
-/* The node with its log: what it records is on disk before anybody hears of it, and in the stream before that, where there is one. */
+/* The node with its log: what it records is on disk before anybody hears of it, and in the stream before that, where there is one. A switch
+   may be without a log: what it records is let go. */
 #include <errno.h>
 #include <fcntl.h>
 #include <unistd.h>
@@ -59,13 +60,17 @@ size_t node_open(struct served *node, const struct bytes *settings, const struct
 
 struct served node_of_file(const char *settings, const char *name, const char *path) {
     struct served node = { .name = name, .node = VOGRILAS_NODE_INIT };
-    struct bytes text = settings_of(settings);
-    node.log = log_open(path);
-    struct bytes log = log_bytes(&node.log);
+    struct bytes text = settings_of(settings), log = { NULL, 0, 0 };
+    add(&log, "", 0);
+    if (path != NULL) {
+        node.log = log_open(path);
+        free(log.at);
+        log = log_bytes(&node.log);
+    }
     size_t kept = node_open(&node, &text, &log);
     if (kept < log.size) log_cut(&node.log, &log, kept);
     /* An earlier life may have ended between a write and its sync, or before its folder was synced. */
-    log_sync_all(&node.log);
+    if (path != NULL) log_sync_all(&node.log);
     node_keep(&node, false);
     node.at_start = node_calls(&node);
     free(text.at);
@@ -104,7 +109,7 @@ void node_kept(struct served *node, size_t size) {
 void node_append(struct served *node, const struct bytes *records, bool speaks) {
     if (node->copy != NULL) {
         if (records->size > 0 || speaks) copy_append(node->copy, records->at, records->size);
-    } else if (records->size > 0) {
+    } else if (records->size > 0 && node->log.path != NULL) {
         log_write(&node->log, records->at, records->size);
         log_sync(&node->log);
     }
@@ -150,6 +155,22 @@ bool node_has_answer(struct served *node, uint16_t pharmacy, uint64_t number) {
     return code == VOGRILAS_OK || code == VOGRILAS_SHORT_BUFFER;
 }
 
+bool node_heard(struct served *node, uint16_t pharmacy, uint64_t number, struct bytes *text) {
+    static char answer[MOST_ANSWER], printed[MOST_BYTES];
+    size_t size = 0, printed_size = 0;
+    if (vogrilas_heard(&node->node, pharmacy, number, answer, sizeof answer, &size) != VOGRILAS_OK) return false;
+    vogrilas_code code = vogrilas_print(answer, size, printed, sizeof printed, &printed_size);
+    if (code != VOGRILAS_OK) fail("the node fails", FACTS(TEXT("reason", vogrilas_code_text(code))));
+    add(text, printed, printed_size);
+    return true;
+}
+
+bool node_awaits_payer(struct served *node, uint16_t pharmacy, uint64_t number) {
+    char nothing = 0;
+    size_t size = 0;
+    return vogrilas_heard(&node->node, pharmacy, number, &nothing, 0, &size) == VOGRILAS_UNANSWERED;
+}
+
 /* What the node says of a line that makes no call. */
 static struct bytes told(struct served *node, const char *line) {
     node_serve(node, line, strlen(line));
@@ -177,5 +198,5 @@ void node_open_entries(struct served *node, void (*entry)(uint64_t number)) {
 
 void node_close(struct served *node) {
     vogrilas_close(&node->node);
-    close(node->log.file);
+    if (node->log.path != NULL) close(node->log.file);
 }

@@ -1,7 +1,7 @@
 /*
 ** One node of the network as one process over NATS: the library keeps the node, this host its log and its carrier.
 **
-**     node SETTINGS NODE LOG [--nats URL[,URL..]] [--ca FILE] [--creds FILE] [--login FILE] [--tick SECONDS] [--jetstream]
+**     node SETTINGS NODE [LOG] [--nats URL[,URL..]] [--ca FILE] [--creds FILE] [--login FILE] [--tick SECONDS] [--jetstream]
 **          [--keys FOLDER] [--watch ADDRESS:PORT] [--hold-back MS] [--reserve ROWS] [--ping SECONDS] [-v] [--log file|stream] [--copies 1|2]
 **          [--machine NAME] [--patience SECONDS] [--part BYTES] [--at-least CALLS]
 **          [--rules URL | --rules-tcp [tls://]HOST:PORT [--rules-framing stx|length2|length4]] [--rules-ca FILE]
@@ -15,10 +15,14 @@
 ** caller's `wait NUMBER` is replied to as `answer NUMBER` is, but not before the entry has its answer. Each call has the
 ** time of day in its record.
 **
-** A turn serves all that waits, appends the records to the log, syncs it once, and only then sends and replies. A host that
+** A turn serves all that waits, appends the records to the log, syncs it once, and only then sends and replies; but who waits for an answer that
+** came from a payer is replied to before, since the payer gives it again (vogrilas_heard). A host that
 ** dies before the sync has told nobody; one that dies behind it is started again and sends again what is due. SIGTERM drains. URL is as
 ** nats://host:4222 or tls://host:4222, and without --nats that of NATS_URL, which may have user and password; --login is a file with
 ** USER:PASSWORD (or NATS_LOGIN names it), --ca has the certificates to trust, --creds a file of credentials.
+**
+** A switch may be without LOG: it opens and writes no file, begins anew at each start, and keeps nothing of what it records. Any number of
+** such processes may be one switch at once, anywhere: each takes each packet (docs/PROMISES.md). A pharmacy and a payer want LOG.
 **
 ** With `--log stream` the log is in a stream that several servers keep, and LOG is this machine's copy: records are appended to the stream,
 ** behind the last message that this host knows and nowhere else; once the servers have said that they are there they are written and

@@ -1,7 +1,8 @@
 /*
 ** The rooms of the host: bytes (bytes.c), what it says (said.c), the file of a log (file.c), the node with its log (log.c), the way to
 ** servers (access.c), the carrier (carrier.c), packets that are held back or go out later (packets.c), callers who wait (waits.c), turns
-** (turn.c), room for reversals (reserve.c), what it has seen (counts.c), who asks for that (watch.c), and what a command line asks for (words.c).
+** (turn.c), room for reversals (reserve.c), what it has seen (counts.c, metrics.c), who asks for that (watch.c), and what a command line
+** asks for (words.c).
 ** stream.h has those of a log in a stream, rules.h those of a payer that asks its own system, signed.h those of packets that are signed.
 */
 #ifndef NODE_H
@@ -16,6 +17,7 @@
 #include <string.h>
 #include <time.h>
 
+#include "counts.h"
 #include "vogrilas.h"
 
 /* The status of a host whose node is refused: its settings, its name or its log. It stays so until people have looked. */
@@ -25,6 +27,8 @@
 #define OVERTAKEN 75
 /* A packet has at most 131,144 printed bytes, a request 131,072, its reference 256; what is longer is none. */
 #define MOST_BYTES 131400
+/* An answer has at most 32,768 bytes, as what an envelope carries. */
+#define MOST_ANSWER 32768
 /* A settings file has at most 16 MiB. */
 #define MOST_SETTINGS (16u << 20)
 
@@ -38,7 +42,11 @@ void add(struct bytes *bytes, const void *more, size_t size);
 void add_text(struct bytes *bytes, const char *text);
 /* Adds what printf would print, which has at most 1,000 bytes. */
 void add_form(struct bytes *bytes, const char *form, ...) __attribute__((format(printf, 2, 3)));
-bool begins(const char *text, size_t size, const char *word);
+void add_number(struct bytes *bytes, uint64_t number);
+/* Here, so that the length of a word that is known is known too. */
+static inline bool begins(const char *text, size_t size, const char *word) {
+    return size >= strlen(word) && memcmp(text, word, strlen(word)) == 0;
+}
 /* All bytes of an open file; one that has more than so many is refused. */
 struct bytes whole(int file, const char *path, size_t most);
 /* Seconds of a clock that nobody sets, and of the clock of the day. */
@@ -69,7 +77,7 @@ _Noreturn void fail_memory(void);
 /* The same of a file that cannot be opened, as errno has it: what may pass is status 1, and what stays so is refused. */
 _Noreturn void fail_open(const char *what, const char *path);
 
-/* The file of a log, and how often it was synced; whether it is a copy of a log in a stream. */
+/* The file of a log, and how often it was synced; whether it is a copy of a log in a stream. `path` is NULL where nothing is kept. */
 struct log {
     const char *path;
     int file;
@@ -105,7 +113,7 @@ struct served {
 struct bytes settings_of(const char *settings);
 /* Opens the node over the bytes of its log; how many of them stand whole. Ends the process where they are refused. */
 size_t node_open(struct served *node, const struct bytes *settings, const struct bytes *log);
-/* A node whose log is a file alone. */
+/* A node whose log is a file alone; where that is NULL a switch, which keeps nothing and begins anew. */
 struct served node_of_file(const char *settings, const char *name, const char *log);
 void node_serve(struct served *node, const char *line, size_t size);
 /* The same as it comes; where the line is a call the time of day stands before it, in milliseconds, so its record has it. */
@@ -130,6 +138,11 @@ uint64_t node_count(struct served *node);
 uint64_t node_most(struct served *node);
 /* Whether the node holds an answer for an entry of a pharmacy. */
 bool node_has_answer(struct served *node, uint16_t pharmacy, uint64_t number);
+/* The answer to an entry of a pharmacy that a payer gave, in printed bytes, whether or not its record is on disk: what a payer gave it gives
+   again. False where the entry is open, or its answer is a switch's. */
+bool node_heard(struct served *node, uint16_t pharmacy, uint64_t number, struct bytes *text);
+/* Whether an entry of a pharmacy is open, and its request has a route: so a payer is to answer it. */
+bool node_awaits_payer(struct served *node, uint16_t pharmacy, uint64_t number);
 /* Tells each entry of a pharmacy that is open, by one question. */
 void node_open_entries(struct served *node, void (*entry)(uint64_t number));
 /* Whether the node is up: one byte is no packet, as it says then, and one that is stopped takes none. For when nothing is to be kept or said. */
@@ -156,9 +169,7 @@ void add_printed(struct bytes *line, const void *at, size_t size);
 
 /* Who a message is from. */
 enum sender { FROM_NODE, FROM_CALLER, FROM_OPERATOR };
-
-/* Why a message is not handed to the node. */
-enum why { NOT_A_PACKET, HELD_BACK, FULL, NO_INBOX, WOULD_BE_FULL, UNDER_WAY, RULES_FULL, UNSIGNED, FORGED, WRONG_PAYER, WHYS };
+#define SENDERS 3
 
 /* A message that waits, or is being served. */
 struct message {
@@ -166,6 +177,9 @@ struct message {
     natsMsg *text;
     double came;
     enum sender from;
+    /* Of a packet: which node has sent it, and its head, whose kind is 0 where it has none. */
+    char sender[9];
+    struct head head;
     bool is_served;
     /* It would have the node enter a billing while only the reserve is left. */
     bool is_over;
@@ -189,11 +203,15 @@ struct carrier {
     /* The keys by which packets of the node are signed; NULL where they are not. */
     struct keys *keys;
     natsConnection *connection;
-    natsSubscription *subscriptions[3];
+    natsSubscription *subscriptions[SENDERS];
     pthread_mutex_t lock;
     pthread_cond_t came;
-    struct message *first, **last;
-    size_t waiting, waiting_bytes;
+    struct message *first, **last, *spare;
+    size_t spare_count;
+    /* How many of these have a place of those that each kind of sender has, and their bytes. */
+    struct most {
+        size_t count, bytes;
+    } waiting[SENDERS];
     bool is_kept;
     volatile bool is_closing, is_closed;
     /* Two hosts hear the callers: what has no room here is the other's. */
@@ -216,8 +234,10 @@ void publish_packet(natsConnection *connection, const char *subject, const char 
 void reply(struct carrier *carrier, natsMsg *to, const char *line, size_t size);
 /* Tells a server that keeps a packet that the node has it on disk, or has refused it, which is as good. */
 void acknowledge(struct carrier *carrier, natsMsg *packet);
-/* Takes a caller's line once more, as if it came now. */
+/* Takes a caller's line once more, as if it came now. It had its place before, and takes none from those that come. */
 void carrier_again(struct carrier *carrier, natsMsg *text);
+/* Keeps messages that are done with, without their texts, for those that come. */
+void carrier_spare(struct carrier *carrier, struct message *batch);
 /* Takes a message back that was elsewhere meanwhile. */
 void carrier_back(struct carrier *carrier, struct message *one);
 /* The sender that a packet's subject names, in `sender`; false where the subject is no packet's. */
@@ -226,10 +246,17 @@ bool sender_of(const char *node, const char *subject, char sender[9]);
 void carrier_stop(struct carrier *carrier);
 void carrier_close(struct carrier *carrier);
 
+/* How many callers may wait for answers, whatever else waits. */
+#define MOST_WAITS 65536
+
 /* Whether a caller's line is `wait NUMBER`; it asks for the answer to an entry, and is replied to once there is one. */
 bool is_wait(const struct message *one);
 /* Notes that who sent such a line waits, and keeps its text; false where too many do. */
 bool waits_add(struct message *one);
+/* Whether anybody waits for an entry. */
+bool waits_has(uint64_t number);
+/* An entry has its answer, in this line: it is replied to who waited for it, and they wait no more. */
+void waits_told(struct carrier *carrier, uint64_t number, const char *line, size_t size);
 /* An entry has its answer: the lines of who waited for it are served in the next turn. */
 void waits_settled(struct carrier *carrier, uint64_t number);
 
@@ -250,9 +277,9 @@ void later_begin(struct later *later, double seconds);
 double later_send(struct later *later, struct carrier *carrier, bool all);
 
 /* Requests that go out or went out a moment ago: the same once more may be lost, as a packet may be. One that did not go is forgotten. */
-bool held_is(double seconds, const char *sender, const char *text, size_t size);
-void held_went(double seconds, const char *sender, const char *text, size_t size);
-void held_forget(const char *text, size_t size);
+bool held_is(double seconds, const struct message *one);
+void held_went(double seconds, const struct message *one);
+void held_forget(const struct message *one);
 
 /* A payer's own system: where it is, how TCP frames messages, who is trusted, a file with a token; how long it may take, and how many
    requests may be under way. */
@@ -261,9 +288,10 @@ struct rules_given {
     double wait, most;
 };
 
-/* What a command line asks for. `kept` says where the log is kept: in a file alone, or in a stream as well. */
+/* What a command line asks for. `log` is NULL of a switch that has none; `kept` says where a log is kept: in a file alone, or in a stream as
+   well; `of_log` is a word that was given and is about a log. */
 struct given {
-    const char *settings, *name, *log, *watch, *kept, *machine, *keys;
+    const char *settings, *name, *log, *watch, *kept, *machine, *keys, *of_log;
     struct access access;
     struct rules_given rules;
     double tick, hold_back, patience, part, copies, reserve, at_least;
@@ -302,58 +330,6 @@ void reserve_mark(struct host *host, struct message *batch);
 
 /* One turn: all that waits, one sync, and then what came of it. Ticks come last, since they have no message. */
 void turn(struct host *host, struct message *batch, bool is_tick);
-
-/* What the host has seen since it started. Each call may come from any thread. */
-enum call { CALL_SUBMIT, CALL_ANSWER, CALL_TAKE, CALL_ADJUDICATE, CALL_TICK, CALL_PLAN, CALL_STOP, CALL_START, CALL_OTHER, CALLS };
-
-void counts_call(const char *line, size_t size);
-void counts_refusal(const char *name, size_t size);
-void counts_sent(const char *to, size_t size);
-void counts_again(uint64_t more);
-void counts_taken(const char *from);
-void counts_dropped(enum why why);
-/* Of a network with keys: how many a host has; a payer was asked for an answer whose signature was lost. */
-void counts_keys(size_t count);
-void counts_asked_anew(void);
-void counts_sync(double seconds);
-void counts_answered(double seconds);
-/* Of a log in a stream: how long the servers' word on what was appended took, and how often the same was sent again. */
-void counts_appended(double seconds);
-void counts_appended_again(void);
-void counts_connected(bool is_connected);
-void counts_entered(uint64_t number);
-void counts_settled(uint64_t number);
-/* Whether an entry of the pharmacy is open. Where none is, a tick changes nothing and sends nothing, so it is not made. */
-bool counts_has_open(void);
-/* Of a payer's own system: a request that it was asked, and one that came back, each with how many are under way then; how long one took; an
-   advice with which a packet was taken; and what went wrong, by name. */
-void counts_asked(size_t under_way);
-void counts_came(size_t under_way);
-void counts_rules_took(double seconds);
-void counts_ruled(void);
-void counts_unruled(const char *name);
-/* How many seconds the oldest open entry has been open, its number, and how many are open; 0 where none is. */
-uint64_t counts_oldest(uint64_t *number, uint64_t *open);
-/* The most rows that the node may have, and how many of them are kept for reversals. */
-void counts_most(uint64_t most, uint64_t reserve);
-/* What the node's own thread knows, told in each turn: it lives. */
-void counts_node(uint64_t calls, uint64_t at_start, uint64_t rows, size_t waiting, bool is_ready);
-/* The node's thread lives, and waits for others' word. */
-void counts_heard(void);
-/* Another host that follows a log in a stream: its machine, and how many messages it is behind. */
-#define MOST_FOLLOWERS 8
-struct follower {
-    char machine[40];
-    uint64_t lag;
-};
-/* Of a log in a stream: whether this host has it, whether the servers show another one, the last message that it knows, how many it is
-   behind, and who follows it. */
-void counts_stream(bool owns, bool differs, uint64_t sequence, uint64_t lag, const struct follower *follower, int count);
-/* The metrics of a node as Prometheus reads them. */
-struct bytes counts_text(const char *node, const char *log);
-/* Why the node does not serve, or NULL; and whether its thread was heard of lately. */
-const char *counts_unready(void);
-bool counts_lives(void);
 
 /* What hosts/torture builds in: a death, behind what was said on a connection or NULL; packets that are taken from the way, or late. */
 #ifdef TORMENTED

@@ -1,16 +1,19 @@
 /* Packets: their heads, those that go out later, and those that went out a moment ago. */
-#include <ctype.h>
-
 #include "node.h"
 
 #define HEAD_BYTES 14
+/* What a packet carries. */
+#define REQUEST 1
 /* Into how many groups the packets of a tick are parted at most. */
 #define GROUPS 32
 /* How many requests are remembered; where two have one place, the older is forgotten. */
 #define REMEMBERED 8192
 
+/* The value of a hexadecimal digit, or -1. */
 static int digit_of(char digit) {
-    return isdigit((unsigned char)digit) ? digit - '0' : tolower((unsigned char)digit) - 'a' + 10;
+    if (digit >= '0' && digit <= '9') return digit - '0';
+    digit |= 0x20;
+    return digit >= 'a' && digit <= 'f' ? digit - 'a' + 10 : -1;
 }
 
 /* The byte that stands at the start of printed bytes, and in *used how many letters it has; -1 where none does. */
@@ -25,14 +28,17 @@ static int byte_of(const char *text, size_t size, size_t *used) {
     if (text[1] == 'S') return 0x1e;
     if (text[1] == '\\') return '\\';
     *used = 4;
-    if (size < 4 || text[1] != 'x' || !isxdigit((unsigned char)text[2]) || !isxdigit((unsigned char)text[3])) return -1;
-    return 16 * digit_of(text[2]) + digit_of(text[3]);
+    if (size < 4 || text[1] != 'x') return -1;
+    int high = digit_of(text[2]), low = digit_of(text[3]);
+    return high < 0 || low < 0 ? -1 : 16 * high + low;
 }
 
 bool unprinted(const char *text, size_t size, unsigned char *bytes, size_t count) {
     for (size_t at = 0; at < count; at++) {
-        size_t used;
-        int one = byte_of(text, size, &used);
+        size_t used = 4;
+        /* Most bytes of a head are spelled so. */
+        bool is_hex = size >= 4 && text[0] == '\\' && text[1] == 'x';
+        int one = is_hex ? digit_of(text[2]) * 16 | digit_of(text[3]) : byte_of(text, size, &used);
         if (one < 0) return false;
         bytes[at] = (unsigned char)one;
         text += used;
@@ -88,7 +94,8 @@ double later_send(struct later *later, struct carrier *carrier, bool all) {
     while (later->gone < later->count) {
         double due = later->start + later->seconds * (double)(later->gone - later->gone % group) / (double)later->count;
         if (!all && due > now()) return due - now();
-        char *line = later->packets.at + later->sent, *end = strchr(line, '\n'), *text = strchr(line, ' ');
+        char *line = later->packets.at + later->sent, *end = memchr(line, '\n', later->packets.size - later->sent);
+        char *text = memchr(line, ' ', (size_t)(end - line));
         send_packet(carrier, line, (size_t)(text - line), text + 1, (size_t)(end - text - 1), NULL);
         later->sent += (size_t)(end - line) + 1;
         later->gone++;
@@ -104,32 +111,26 @@ static struct {
     double at;
 } remembered[REMEMBERED];
 
-/* Where a request is remembered; false of what is no request. */
-static bool place_of(const char *text, size_t size, struct head *head, size_t *place) {
-    if (!head_of(text, size, head) || head->kind != 1) return false;
-    *place = (size_t)((head->number * 31 + head->pharmacy) % REMEMBERED);
-    return true;
+/* Where a request is remembered. */
+static size_t place_of(const struct head *head) {
+    return (size_t)((head->number * 31 + head->pharmacy) % REMEMBERED);
 }
 
-bool held_is(double seconds, const char *sender, const char *text, size_t size) {
-    struct head head;
-    size_t place;
-    if (!(seconds > 0) || !place_of(text, size, &head, &place)) return false;
-    return remembered[place].head.number == head.number && remembered[place].head.pharmacy == head.pharmacy &&
-           strcmp(remembered[place].sender, sender) == 0 && now() - remembered[place].at < seconds;
+bool held_is(double seconds, const struct message *one) {
+    size_t place = place_of(&one->head);
+    if (!(seconds > 0) || one->head.kind != REQUEST) return false;
+    return remembered[place].head.number == one->head.number && remembered[place].head.pharmacy == one->head.pharmacy &&
+           strcmp(remembered[place].sender, one->sender) == 0 && now() - remembered[place].at < seconds;
 }
 
-void held_went(double seconds, const char *sender, const char *text, size_t size) {
-    struct head head;
-    size_t place;
-    if (!(seconds > 0) || !place_of(text, size, &head, &place)) return;
-    remembered[place].head = head;
+void held_went(double seconds, const struct message *one) {
+    size_t place = place_of(&one->head);
+    if (!(seconds > 0) || one->head.kind != REQUEST) return;
+    remembered[place].head = one->head;
     remembered[place].at = now();
-    snprintf(remembered[place].sender, sizeof remembered[place].sender, "%s", sender);
+    memcpy(remembered[place].sender, one->sender, sizeof one->sender);
 }
 
-void held_forget(const char *text, size_t size) {
-    struct head head;
-    size_t place;
-    if (place_of(text, size, &head, &place)) remembered[place].head.number = 0;
+void held_forget(const struct message *one) {
+    if (one->head.kind == REQUEST) remembered[place_of(&one->head)].head.number = 0;
 }

@@ -20,11 +20,16 @@ static bool is_none(const char *word) {
     return strcmp(word, "-") == 0;
 }
 
+/* Reads the number of a payer: digits alone, and no more than it may have. */
+static bool read_payer(const char *word, unsigned *payer) {
+    size_t size = strspn(word, "0123456789");
+    *payer = size <= 5 ? (unsigned)strtoul(word, NULL, 10) : 0;
+    return size > 0 && word[size] == '\0' && *payer >= 1 && *payer <= 65535;
+}
+
 bool route_of_words(char *const word[6], struct route *route) {
-    char *end;
     *route = (struct route){ .has_pcn = !is_none(word[1]), .has_providers = !is_none(word[2]) };
-    route->payer = (unsigned)strtoul(word[5], &end, 10);
-    if (*end != '\0' || route->payer < 1 || route->payer > 65535 || !read_text(word[0], route->bin, sizeof route->bin)) return false;
+    if (!read_payer(word[5], &route->payer) || !read_text(word[0], route->bin, sizeof route->bin)) return false;
     if (route->has_pcn && !read_text(word[1], route->pcn, sizeof route->pcn)) return false;
     if (!route->has_providers) return is_none(word[3]) && is_none(word[4]);
     return read_text(word[2], route->qualifier, sizeof route->qualifier) && read_text(word[3], route->first, sizeof route->first) &&

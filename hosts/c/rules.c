@@ -64,7 +64,8 @@ void rules_ask(struct rules *rules, struct message *one, uint64_t rows) {
     struct asked *asked = calloc(1, sizeof *asked);
     struct message *back = calloc(1, sizeof *back);
     if (asked == NULL || back == NULL) fail_memory();
-    *back = (struct message){ .text = one->text, .from = FROM_NODE, .asked = asked, .came = one->came };
+    *back = (struct message){ .text = one->text, .from = FROM_NODE, .asked = asked, .came = one->came, .head = one->head };
+    memcpy(back->sender, one->sender, sizeof back->sender);
     *asked = (struct asked){ .rules = rules, .message = back, .pharmacy = head.pharmacy, .number = head.number, .rows = rows };
     asked->request = request_of(text, size);
     asked->began = now();

@@ -21,9 +21,12 @@ bool token_read(const char *path, char token[MOST_TOKEN]) {
     if (file >= 0) close(file);
     if (size <= 0) return false;
     text[size] = '\0';
-    text[strcspn(text, "\r\n")] = '\0';
-    if (token_is_one(text)) strcpy(token, text);
-    return token_is_one(text);
+    size_t end = strcspn(text, "\r\n");
+    /* A line that a 0 ends, or the room for it, would be taken in part. */
+    bool is_whole = end < (size_t)size ? text[end] != '\0' : end < sizeof text - 1;
+    text[end] = '\0';
+    if (is_whole && token_is_one(text)) strcpy(token, text);
+    return is_whole && token_is_one(text);
 }
 
 char *rules_url(const struct rules_given *given) {

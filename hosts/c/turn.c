@@ -7,18 +7,30 @@
 
 /* The part of a tick's time over which its packets go out. */
 #define SPREAD 0.8
+/* What a packet carries, and where an answer has its status. */
+#define ANSWER 2
+#define STATUS_AT 5
 /* So many messages at most are few. */
 #define FEW_MESSAGES 8
 
+/* Begins a line that makes a call: with the time of day, which its record has then; how many bytes that is. */
+static size_t begin_call(struct bytes *line) {
+    add(line, "at ", 3);
+    add_number(line, (uint64_t)(wall() * 1000));
+    add(line, " ", 1);
+    return line->size;
+}
+
 /* Begins the line by which a packet is taken: with the advice that came for it, where its payer's own system was asked. */
-static bool begin_taking(const struct host *host, const struct message *one, struct bytes *line) {
-    char sender[9];
-    if (!sender_of(host->given.name, natsMsg_GetSubject(one->text), sender)) return false;
-    add_form(line, rules_has_advice(one) ? "adjudicate %s " : "take %s ", sender);
-    if (!rules_has_advice(one)) return true;
+static void begin_taking(const struct message *one, struct bytes *line) {
+    bool has_advice = rules_has_advice(one);
+    if (has_advice) add(line, "adjudicate ", 11);
+    else add(line, "take ", 5);
+    add(line, one->sender, strlen(one->sender));
+    add(line, " ", 1);
+    if (!has_advice) return;
     add_printed(line, one->asked->answer.at, one->asked->answer.size);
-    add_text(line, " ");
-    return true;
+    add(line, " ", 1);
 }
 
 /* Whether a caller may ask so: of a pharmacy to enter something and for answers, of a payer what its book has. */
@@ -30,23 +42,26 @@ static bool may_call(const struct host *host, const char *text, size_t size) {
     return *word != NULL;
 }
 
-/* The line that a message asks for; false where who sends it may not ask so. A line end in it would make it two lines. */
-static bool line_of(const struct host *host, const struct message *one, struct bytes *line) {
+/* The line that a message asks for; false where who sends it may not ask so. A line end in it would make it two lines. `*timed` is the size of
+   what stands before it as the time of a call: 0 where the line makes none, and where that is not known here. */
+static bool line_of(const struct host *host, const struct message *one, struct bytes *line, size_t *timed) {
     const char *text = natsMsg_GetData(one->text);
     size_t size = (size_t)natsMsg_GetDataLength(one->text);
     if (size > 0 && memchr(text, '\n', size) != NULL) return false;
-    line->size = 0;
+    line->size = *timed = 0;
     switch (one->from) {
     case FROM_NODE:
-        if (!begin_taking(host, one, line)) return false;
+        *timed = begin_call(line);
+        begin_taking(one, line);
         break;
     case FROM_CALLER:
         if (is_wait(one) && begins(host->given.name, 2, "ph")) {
-            add_text(line, "answer ");
+            add(line, "answer ", 7);
             text += 5, size -= 5;
             break;
         }
         if (!may_call(host, text, size)) return false;
+        if (begins(text, size, "submit")) *timed = begin_call(line);
         break;
     case FROM_OPERATOR:
         /* An operator operates one node: packets come from nodes alone, and the time of a call is the host's. */
@@ -59,10 +74,7 @@ static bool line_of(const struct host *host, const struct message *one, struct b
 
 /* Whether a packet is one that its switch lost on purpose, since the same went out a moment ago. */
 static bool is_held_back(const struct host *host, const struct message *one) {
-    char sender[9];
-    if (one->from != FROM_NODE || !begins(host->given.name, 2, "sw")) return false;
-    return sender_of(host->given.name, natsMsg_GetSubject(one->text), sender) &&
-           held_is(host->given.hold_back / 1000, sender, natsMsg_GetData(one->text), (size_t)natsMsg_GetDataLength(one->text));
+    return one->from == FROM_NODE && begins(host->given.name, 2, "sw") && held_is(host->given.hold_back / 1000, one);
 }
 
 static bool is_word(const struct message *one, const char *word) {
@@ -92,6 +104,17 @@ static bool is_deed(struct host *host, struct message *one) {
     return true;
 }
 
+/*
+** Whether a packet is the rejection of a switch, by its status (501-F1), of an open request that has a route by this host's settings: it was rejected
+** before routes grew, or by a switch of other settings. Taken, it could differ from what the payer answers the same request.
+*/
+static bool is_rerouted(struct host *host, const struct message *one) {
+    unsigned char bytes[ENVELOPE_BYTES + STATUS_AT + 1];
+    if (one->from != FROM_NODE || one->head.kind != ANSWER || !begins(host->given.name, 2, "ph")) return false;
+    if (!unprinted(natsMsg_GetData(one->text), (size_t)natsMsg_GetDataLength(one->text), bytes, sizeof bytes)) return false;
+    return bytes[ENVELOPE_BYTES + STATUS_AT] == 'R' && node_awaits_payer(&host->node, one->head.pharmacy, one->head.number);
+}
+
 /* Turns away what only the reserve has room for: who calls hears it, and a packet may be lost at any time. */
 static void turn_away(struct host *host, struct message *one) {
     say_refused(one, host->given.name, "warning", "a billing was turned away", "WouldBeFull");
@@ -110,8 +133,7 @@ static const char *refused(const struct message *one) {
 
 /* Serves a message, or refuses it; where it was served, the next last line is for it. */
 static void serve(struct host *host, struct message *one) {
-    const char *text = natsMsg_GetData(one->text);
-    char sender[9];
+    size_t timed;
     /* What the payer's own system has not answered is not taken: its pharmacy asks again. */
     if (one->asked != NULL && !rules_has_advice(one)) return;
     if (is_others(host, one) || is_deed(host, one)) return;
@@ -122,14 +144,17 @@ static void serve(struct host *host, struct message *one) {
         turn_away(host, one);
     } else if (is_held_back(host, one)) {
         counts_dropped(HELD_BACK);
-    } else if (line_of(host, one, &host->line)) {
-        counts_call(host->line.at, host->line.size);
-        if (one->from == FROM_NODE && sender_of(host->given.name, natsMsg_GetSubject(one->text), sender)) {
-            if (one->asked == NULL) counts_taken(sender);
-            if (begins(host->given.name, 2, "sw"))
-                held_went(host->given.hold_back / 1000, sender, text, (size_t)natsMsg_GetDataLength(one->text));
+    } else if (is_rerouted(host, one)) {
+        counts_dropped(REROUTED);
+        say_refused(one, host->given.name, "warning", "a packet was not taken", "rerouted");
+    } else if (line_of(host, one, &host->line, &timed)) {
+        counts_call(host->line.at + timed, host->line.size - timed);
+        if (one->from == FROM_NODE) {
+            if (one->asked == NULL) counts_taken(one->sender);
+            if (begins(host->given.name, 2, "sw")) held_went(host->given.hold_back / 1000, one);
         }
-        node_serve_now(&host->node, host->line.at, host->line.size);
+        if (one->from == FROM_OPERATOR) node_serve_now(&host->node, host->line.at, host->line.size);
+        else node_serve(&host->node, host->line.at, host->line.size);
         one->is_served = true;
     } else {
         counts_refusal("Line", 4);
@@ -140,17 +165,13 @@ static void serve(struct host *host, struct message *one) {
 
 /* Notes what the last line of a message says of entries, and of what went out. */
 static void note(const struct host *host, const struct message *one, const char *line, size_t size, bool has_sent) {
-    const char *text = natsMsg_GetData(one->text);
-    size_t text_size = (size_t)natsMsg_GetDataLength(one->text);
-    bool is_pharmacy = begins(host->given.name, 2, "ph");
-    struct head head;
     if (begins(line, size, "number ")) counts_entered(strtoull(line + 7, NULL, 10));
     if (one->from != FROM_NODE) return;
-    if (is_pharmacy && begins(line, size, "ok") && head_of(text, text_size, &head)) {
-        counts_settled(head.number);
-        waits_settled(host->carrier, head.number);
+    if (begins(host->given.name, 2, "ph") && begins(line, size, "ok") && one->head.kind != 0) {
+        counts_settled(one->head.number);
+        waits_settled(host->carrier, one->head.number);
     }
-    if (!has_sent) held_forget(text, text_size);
+    if (!has_sent) held_forget(one);
 }
 
 /* Sends a packet that a line of the node has, behind the message that had it sent; where a tick did, later. */
@@ -225,6 +246,23 @@ static void tell(struct host *host, struct message *batch) {
     free(written.at);
 }
 
+/*
+** Replies to who waits for answers that came in this turn, before they are on disk, where a payer gave them: where this host dies now the payer
+** gives the same bytes again, and the entry never has another answer. So a claim waits for two syncs, that of its submission and that of its
+** ruling. What a switch answered by itself is told once it is on disk.
+*/
+static void tell_heard(struct host *host, const struct message *batch) {
+    if (!begins(host->given.name, 2, "ph")) return;
+    for (const struct message *one = batch; one != NULL; one = one->next) {
+        if (!one->is_served || one->from != FROM_NODE) continue;
+        if (one->head.kind == 0 || !waits_has(one->head.number)) continue;
+        host->line.size = 0;
+        add(&host->line, "answer ", 7);
+        if (node_heard(&host->node, one->head.pharmacy, one->head.number, &host->line))
+            waits_told(host->carrier, one->head.number, host->line.at, host->line.size);
+    }
+}
+
 /* Has what a turn of few messages said leave at once: the client gathers what is sent for up to a millisecond, which many want, and one that
    waits for its word does not. */
 static void send_few(const struct host *host, size_t waiting) {
@@ -233,15 +271,14 @@ static void send_few(const struct host *host, size_t waiting) {
 
 /* Lets the messages of a turn go, once all is said that is to be said of them. */
 static void let_go(struct host *host, struct message *batch) {
-    while (batch != NULL) {
-        struct message *next = batch->next;
-        rules_forget(batch);
-        if (batch->from == FROM_NODE) acknowledge(host->carrier, batch->text);
-        if (batch->is_served) counts_answered(now() - batch->came);
-        natsMsg_Destroy(batch->text);
-        free(batch);
-        batch = next;
+    double said = batch == NULL ? 0 : now();
+    for (struct message *one = batch; one != NULL; one = one->next) {
+        rules_forget(one);
+        if (one->from == FROM_NODE) acknowledge(host->carrier, one->text);
+        if (one->is_served) counts_answered(said - one->came);
+        natsMsg_Destroy(one->text);
     }
+    if (batch != NULL) carrier_spare(host->carrier, batch);
 }
 
 void turn(struct host *host, struct message *batch, bool is_tick) {
@@ -258,6 +295,7 @@ void turn(struct host *host, struct message *batch, bool is_tick) {
         counts_call("tick", 4);
         node_serve_now(&host->node, "tick", 4);
     }
+    tell_heard(host, batch);
 #ifdef WRONG_SAID_EARLY
     struct bytes early = node_records(&host->node);
     node_kept(&host->node, early.size);

@@ -9,7 +9,7 @@
 #define MOST_REQUESTS 2048
 
 static _Noreturn void usage(int status) {
-    fputs("usage: node SETTINGS NODE LOG [--nats URL[,URL..]] [--ca FILE] [--creds FILE] [--login FILE] [--tick SECONDS]\n"
+    fputs("usage: node SETTINGS NODE [LOG] [--nats URL[,URL..]] [--ca FILE] [--creds FILE] [--login FILE] [--tick SECONDS]\n"
           "            [--keys FOLDER] [--jetstream] [--watch ADDRESS:PORT] [--hold-back MS] [--reserve ROWS] [--ping SECONDS] [-v]\n"
           "            [--log file|stream] [--copies 1|2] [--machine NAME] [--patience SECONDS] [--part BYTES] [--at-least CALLS]\n"
           "            [--rules URL | --rules-tcp [tls://]HOST:PORT [--rules-framing stx|length2|length4]] [--rules-ca FILE]\n"
@@ -34,6 +34,20 @@ static const char **text_of(struct given *given, const char *word) {
     if (strcmp(word, "--rules-ca") == 0) return &given->rules.authorities;
     if (strcmp(word, "--rules-token") == 0) return &given->rules.token;
     return NULL;
+}
+
+/* Notes a word that is about a log. */
+static void note_of_log(struct given *given, const char *word) {
+    static const char *const of_log[] = { "--log", "--copies", "--machine", "--patience", "--part", "--at-least" };
+    for (size_t at = 0; at < sizeof of_log / sizeof *of_log; at++)
+        if (strcmp(word, of_log[at]) == 0) given->of_log = word;
+}
+
+/* Refuses a word about a log of a switch that has none. */
+static void check_of_log(const struct given *given) {
+    said_for(given->name, given->says);
+    if (given->of_log == NULL) return;
+    fail_with(REFUSED, "a switch without a log takes no word about one", FACTS(TEXT("word", given->of_log)));
 }
 
 /* The number that a word is. */
@@ -91,6 +105,7 @@ struct given words(int count, char **word) {
     for (int at = 1; at < count; at++) {
         const char **text = text_of(&given, word[at]);
         double *number = number_of(&given, word[at]);
+        note_of_log(&given, word[at]);
         if (strcmp(word[at], "-h") == 0 || strcmp(word[at], "--help") == 0) usage(0);
         if (strcmp(word[at], "-v") == 0) given.says = true;
         else if (strcmp(word[at], "--jetstream") == 0) given.access.is_kept = true;
@@ -99,7 +114,8 @@ struct given words(int count, char **word) {
         else if (word[at][0] != '-' && found < 3) *plain[found++] = word[at];
         else usage(2);
     }
-    if (found < 3) usage(2);
+    if (found < 2 || (found < 3 && !begins(given.name, strlen(given.name), "sw"))) usage(2);
+    if (found < 3) check_of_log(&given);
     complete(&given);
     return given;
 }

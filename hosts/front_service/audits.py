@@ -28,13 +28,15 @@ OTHER_SETTINGS = "is of other settings"
 
 
 class Audit(NamedTuple):
-    """What an audit told; the tables are the schedule of the run, its packets and its calls, where they were asked for."""
+    """What an audit told; the tables are the schedule of the run, its packets and its calls, where they were asked for; `made` are the switches
+    that have no log, and whose calls the audit has made."""
 
     is_legal: bool
     text: str
     left_out: dict[str, int]
     seconds: float
     tables: tuple[str, str, str] | None
+    made: tuple[str, ...] = ()
 
 
 class Audits:
@@ -64,11 +66,11 @@ class Audits:
             return audit
 
     async def _audit(self, work: pathlib.Path, folder: pathlib.Path, settings: bytes, has_tables: bool) -> Audit:
-        started, nodes = time.monotonic(), self._settled.settings.nodes()
+        started, network = time.monotonic(), self._settled.settings
         (work / "settings.toml").write_bytes(settings)
-        before = await asyncio.to_thread(copy, folder, work, nodes)
+        before = await asyncio.to_thread(copy, folder, work, network.nodes())
         words = [str(work / "settings.toml"), *(str(work / f"{node}.log") for node in before)]
-        lacking = [node for node in nodes if node not in before]
+        lacking = [node for node in network.keepers() if node not in before]
         if lacking:
             # Where those that are there are of other settings, that one is to come.
             _, _, said = await run("claimaudit", *words)
@@ -90,7 +92,8 @@ class Audits:
             asked = (["--schedule"], ["--csv", "packets"], ["--calls"])
             found = [it[1].decode() for it in await asyncio.gather(*(run("claimaudit", *it, *words) for it in asked))]
             tables = (found[0], found[1], found[2])
-        return Audit(status == 0, text, left_out, time.monotonic() - started, tables)
+        made = tuple(node for node in network.nodes() if node not in before)
+        return Audit(status == 0, text, left_out, time.monotonic() - started, tables, made)
 
     async def steps(self, pharmacy: str, number: int) -> list[Step]:
         """The steps of one claim, and of no other."""
@@ -100,7 +103,7 @@ class Audits:
                 raise Problem(
                     "NoAudit", "the logs are not those of one legal run, so that nothing can be told of a claim"
                 )
-            steps = await asyncio.to_thread(steps_of, *audit.tables, pharmacy, number)
+            steps = await asyncio.to_thread(steps_of, *audit.tables, pharmacy, number, audit.made)
             if steps:
                 return steps
         raise Problem("NoSuchClaim", "the logs have no packet of it")

@@ -1,4 +1,5 @@
-"""The one process that writes the receipts of a front: what is asked of it together is on disk together before it says so.
+"""The one process that writes the receipts of a front: what is asked of it together is on disk together before it says so. What an answer says can
+be learnt again of the node, and waits for no sync: it is on disk with what comes after it.
 
     keeping.py FILE, started by helpers.py
 """
@@ -46,7 +47,7 @@ def opened(name: str) -> sqlite3.Connection:
     os.close(os.open(name, os.O_RDWR | os.O_CREAT, 0o600))
     file = sqlite3.connect(name, isolation_level=None)
     file.execute("PRAGMA journal_mode = WAL")
-    # Each commit is on disk before it returns.
+    # Each commit is on disk before it returns, but for those of LATER alone.
     file.execute("PRAGMA synchronous = FULL")
     _bring_up(file)
     return file
@@ -221,10 +222,10 @@ def due(
     return made, others
 
 
-def write_rulings(file: sqlite3.Connection, ruled: list[int], rows: list[tuple[Any, ...]]) -> None:
-    """Notes what answers say, and which rows of claims that were."""
+def write_rulings(file: sqlite3.Connection, ruled: list[tuple[Any, ...]], rows: list[tuple[Any, ...]]) -> None:
+    """Notes what answers say, and which rows of claims that were, each by id, pharmacy and number: an id may be another claim's meanwhile."""
     file.executemany(f"INSERT OR IGNORE INTO rulings VALUES ({', '.join('?' * 14)})", rows)
-    file.executemany("UPDATE claims SET is_ruled = 1 WHERE id = ?", [(it,) for it in ruled])
+    file.executemany("UPDATE claims SET is_ruled = 1 WHERE id = ? AND pharmacy = ? AND number = ?", ruled)
 
 
 _DEEDS: tuple[Any, ...] = (
@@ -233,25 +234,50 @@ _DEEDS: tuple[Any, ...] = (
 DEEDS: dict[str, Callable[..., Any]] = {it.__name__: it for it in _DEEDS}
 
 
+# What the node, or who reads answers, tells again where a machine loses it: nobody waits for its sync. A commit behind it syncs it too.
+LATER = frozenset(("seen", "write_rulings"))
+
+
 class Keeper:
     """The file, and what is made of it."""
 
+    # How commits are synced that somebody waits for, and the others.
+    synced, later = "FULL", "NORMAL"
+
     def __init__(self, name: str) -> None:
         self._file = opened(name)
+        self._way = self.synced
+        # Whether the disk has failed: what was not synced before may be gone from the log of the file, and what comes behind it there would
+        # go with it.
+        self._is_torn = False
 
     def make(self, asked: list[tuple[int, str, tuple[Any, ...]]]) -> list[tuple[int, bool, Any]]:
-        """What comes of each question, once all are on disk. Where one fails they are made one by one, and it alone is told so."""
+        """What comes of each question, once all are on disk, or may be later. Where one fails they are made one by one, and it alone is told
+        so."""
         try:
+            self._sync_by(self.later if LATER.issuperset(name for _, name, _ in asked) else self.synced)
             self._file.execute("BEGIN IMMEDIATE")
             told = [(which, True, DEEDS[name](self._file, *values)) for which, name, values in asked]
             self._file.execute("COMMIT")
         except sqlite3.Error as fault:
+            self._is_torn |= isinstance(fault, sqlite3.OperationalError)
             if self._file.in_transaction:
                 self._file.execute("ROLLBACK")
             if len(asked) == 1:
                 return [(asked[0][0], False, str(fault))]
             return [it for one in asked for it in self.make([one])]
         return told
+
+    def _sync_by(self, way: str) -> None:
+        """Has the next commit synced in this way. Where the disk has failed all that was committed goes from the file's log into the file first."""
+        if self._is_torn:
+            is_busy, _, _ = self._file.execute("PRAGMA wal_checkpoint(TRUNCATE)").fetchone()
+            if is_busy:
+                raise sqlite3.OperationalError("the receipts are read, and are not whole on disk before")
+            self._is_torn = False
+        if way != self._way:
+            self._file.execute(f"PRAGMA synchronous = {way}")
+            self._way = way
 
 
 if __name__ == "__main__":

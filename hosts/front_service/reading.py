@@ -33,7 +33,7 @@ class Reader:
         self._program = program
 
     def make(self, asked: list[tuple[int, str, tuple[Any, ...]]]) -> list[tuple[int, bool, Any]]:
-        """Of each question the ids of answers that nobody has read yet, and the rows of their rulings."""
+        """Of each question the answers that nobody has read yet, each by id, pharmacy and number, and the rows of their rulings."""
         told: list[tuple[int, bool, Any]] = []
         for which, _, _ in asked:
             try:
@@ -42,8 +42,9 @@ class Reader:
                 told.append((which, False, str(fault)))
         return told
 
-    def _unread(self) -> tuple[list[int], list[tuple[Any, ...]]]:
-        text = "SELECT id, pharmacy, number, answer FROM claims WHERE answer IS NOT NULL AND is_ruled = 0 ORDER BY id LIMIT ?"
+    def _unread(self) -> tuple[list[tuple[Any, ...]], list[tuple[Any, ...]]]:
+        text = """SELECT id, pharmacy, number, answer FROM claims WHERE answer IS NOT NULL AND is_ruled = 0 AND number IS NOT NULL
+            ORDER BY id LIMIT ?"""
         rows = self._file.execute(text, (AT_ONCE,)).fetchall()
         if not rows:
             return [], []
@@ -53,7 +54,7 @@ class Reader:
         )
         told = iter(ran.stdout.splitlines())
         found = [it for row in rows if row["answer"] for it in rulings_of(row, json.loads(next(told)))]
-        return [row["id"] for row in rows], found
+        return [(row["id"], row["pharmacy"], row["number"]) for row in rows], found
 
 
 def rulings_of(row: sqlite3.Row, told: dict[str, Any]) -> list[tuple[Any, ...]]:

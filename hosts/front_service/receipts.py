@@ -210,6 +210,6 @@ class Receipts:
             self._asking, lambda: self._side.execute(text, values).fetchall()
         )
 
-    async def write_rulings(self, ruled: list[int], rows: list[tuple[Any, ...]]) -> None:
+    async def write_rulings(self, ruled: list[tuple[Any, ...]], rows: list[tuple[Any, ...]]) -> None:
         """Notes what answers say, and which rows of claims that were."""
         await self._keeper.ask("write_rulings", ruled, rows)

@@ -1,10 +1,11 @@
-"""The steps of one claim on its way through all nodes, as the audited logs tell them: who took what of whom, when, and what was sent on."""
+"""The steps of one claim on its way through all nodes, as the audited logs tell them: who took what of whom, when, and what was sent on. Of a
+switch without a log they are those that the audit has made: one of each packet is told, and no time."""
 
 from __future__ import annotations
 
 import csv
 import io
-from collections.abc import Iterator
+from collections.abc import Collection, Iterator
 from typing import Any, NamedTuple
 
 
@@ -31,8 +32,10 @@ class Step(NamedTuple):
     sent: tuple[Sent, ...]
 
 
-def steps_of(schedule: str, packets: str, calls: str, pharmacy: str, number: int) -> list[Step]:
-    """The steps of a claim, in the order of the run: from its schedule, its packets, and the calls of its logs."""
+def steps_of(
+    schedule: str, packets: str, calls: str, pharmacy: str, number: int, made: Collection[str] = ()
+) -> list[Step]:
+    """The steps of a claim, in the order of the run: from its schedule, its packets, and the calls of its logs, which were made of some nodes."""
     own = {
         row["packet"]: row
         for row in csv.DictReader(io.StringIO(packets))
@@ -49,6 +52,8 @@ def steps_of(schedule: str, packets: str, calls: str, pharmacy: str, number: int
         packet = rest.split()[0] if word == "deliver" else ""
         node = to_of[packet] if packet else rest.split()[0]
         counts[node] = counts.get(node, 0) + 1
+        if node in made and any(it[1] == node and it[3] == packet for it in found):
+            continue
         if event in sends or packet in own:
             found.append((event, node, counts[node], packet if packet in own else ""))
     came: dict[str, list[int]] = {}

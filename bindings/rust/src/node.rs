@@ -10,7 +10,7 @@ use std::hash::{BuildHasher, Hasher};
 
 /// A node without its file. Behind `serve` come `records`, which are appended to the log's file and synced; `synced`, which says
 /// so; `written`, and `clear`. A node that was just opened also wants to hear, by `synced`, that its log is on disk. Until then
-/// each call that tells of the node is `Unsynced`.
+/// each call that tells of the node but `heard` is `Unsynced`.
 pub struct Node {
     // A call that reads takes the node out of its handle and puts it back.
     handle: UnsafeCell<sys::Handle>,
@@ -191,14 +191,22 @@ impl Node {
     /// `NotFound` where there is nothing; `Unsynced` until all is on disk; `Closed`, `NoMemory`. The node is as it was.
     pub fn answer(&self, pharmacy: u16, number: u64) -> Result<Option<Vec<u8>>, Error> {
         // SAFETY: `copied` lends as many bytes as it says.
-        let answer = copied(1 << 10, |at, room, size| unsafe {
+        unless_open(copied(1 << 10, |at, room, size| unsafe {
             sys::vogrilas_answer(self.handle.get(), pharmacy, number, at, room, size)
-        });
-        match answer {
-            Ok(bytes) => Ok(Some(bytes)),
-            Err(Error { code: Code::Unanswered, .. }) => Ok(None),
-            Err(error) => Err(error),
-        }
+        }))
+    }
+
+    /// The answer of a pharmacy's own entry that a payer gave, also before it is on disk: where it is lost the payer gives the same
+    /// again. None where the entry is open.
+    ///
+    /// # Errors
+    /// `Unsynced` where the request has no route: `answer` tells it once all is on disk; `NotFound` where there is no such entry;
+    /// `Closed`, `NoMemory`. The node is as it was.
+    pub fn heard(&self, pharmacy: u16, number: u64) -> Result<Option<Vec<u8>>, Error> {
+        // SAFETY: `copied` lends as many bytes as it says.
+        unless_open(copied(1 << 10, |at, room, size| unsafe {
+            sys::vogrilas_heard(self.handle.get(), pharmacy, number, at, room, size)
+        }))
     }
 
     /// The payments that a pharmacy counts, or those of a payer's book with what reversed them, in the order in which they were
@@ -248,4 +256,13 @@ fn seed() -> [u8; 16] {
     seed[..8].copy_from_slice(&half());
     seed[8..].copy_from_slice(&half());
     seed
+}
+
+/// An answer; none where the entry is open.
+fn unless_open(answer: Result<Vec<u8>, Error>) -> Result<Option<Vec<u8>>, Error> {
+    match answer {
+        Ok(bytes) => Ok(Some(bytes)),
+        Err(Error { code: Code::Unanswered, .. }) => Ok(None),
+        Err(error) => Err(error),
+    }
 }

@@ -120,6 +120,14 @@ extern "C" {
         room: usize,
         size: &mut usize,
     ) -> u32;
+    pub(crate) fn vogrilas_heard(
+        node: *mut Handle,
+        pharmacy: u16,
+        number: u64,
+        buffer: *mut u8,
+        room: usize,
+        size: &mut usize,
+    ) -> u32;
     pub(crate) fn vogrilas_payments(node: *mut Handle, payments: *mut Payment, room: usize, count: &mut usize) -> u32;
     pub(crate) fn vogrilas_clear(node: *mut Handle) -> u32;
     pub(crate) fn vogrilas_close(node: *mut Handle);

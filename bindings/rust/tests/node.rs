@@ -143,7 +143,7 @@ fn nothing_is_told_before_it_is_synced() {
     silent(&mut node);
     let record = node.records().unwrap();
     node.synced(record.len()).unwrap();
-    assert_eq!((node.calls(), node.answer(1, 1)), (Ok(1), Ok(None)));
+    assert_eq!((node.calls(), node.answer(1, 1), node.heard(1, 1)), (Ok(1), Ok(None), Ok(None)));
     assert!(node.written().unwrap().ends_with(b"number 1\n"));
     let mut again = Node::open(SETTINGS, "ph1", &[head, record].concat()).unwrap().node;
     assert_eq!(again.count(), Err(unsynced));

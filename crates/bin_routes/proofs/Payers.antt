@@ -124,7 +124,7 @@ unfolding payer_of payer_at
 ranged_without maps key e =
     ap (λ (rows : List Row). option_or (ranged_payer rows (Some key.pcn) key) (option_or (get maps.exact (key.bin, key.pcn)) (option_or (ranged_payer rows None key) (get maps.others key.bin)))) e
 
--- rows for other providers, behind the others
+-- rows for other providers, after the others
 
 not_fit : (pcn : Option (List ℕ)) (key : RouteKey) (row : Row) → has_provider row.providers key.qualifier key.provider ≡ false → fits pcn key row ≡ false
 unfolding fits

@@ -133,7 +133,7 @@ free_if (Some f) same place e = absurd cc
 pub free : (payers place : ℕ) (row : Row) (same : Bool) → row_fault payers place row same ≡ None → same ≡ false
 free payers place row same e = free_if (text_fault payers place row) same place e
 
--- the first fault behind the rows before a place is that of the row there, else that behind it
+-- the first fault after the rows before a place is that of the row there, else that after it
 pub fault_step : (payers : ℕ) (rows : List Row) (i : ℕ) (d : Row) → i < length rows
     → fault_behind payers (take i rows) (drop i rows) ≡ option_or (row_fault payers i (get_or rows i d) (has_key (routes_of (take i rows)) (filled_row (get_or rows i d)))) (fault_behind payers (take (i + 1) rows) (drop (i + 1) rows))
 fault_step payers rows i d h =

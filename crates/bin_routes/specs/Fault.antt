@@ -30,7 +30,7 @@ fault_beside maps payers place row = row_fault payers place row (has_key maps (f
 abbrev pub is_taken : List Row → Row → Bool
 is_taken earlier row = list_any (same_key (filled_row row)) (map filled_row earlier)
 
--- the first fault of rows that stand behind earlier ones
+-- the first fault of rows that stand after earlier ones
 abbrev pub fault_behind : ℕ → List Row → List Row → Option RoutesFault
 fault_behind payers earlier [] = None
 fault_behind payers earlier (row ∷ rows) =

@@ -14,7 +14,7 @@ pub fn route_laws()
 {}
 
 /// Where rows have no fault, each payer that they route a header to is one of the payers. Where no row is for some providers
-/// alone it is the payer of the BIN number and the processor control number. And such rows behind the others change the payer of
+/// alone it is the payer of the BIN number and the processor control number. And such rows after the others change the payer of
 /// no provider but their own.
 pub fn range_laws()
     ensures within { (payers : ℕ) (rows : List Row) (key : RouteKey) → first_fault payers rows ≡ None

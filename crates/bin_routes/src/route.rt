@@ -160,7 +160,7 @@ fn fill(text: &[u8]) -> Pcn
     pcn
 }
 
-/// The payer of this number, where there are so many.
+/// The payer of this number, where there are this many.
 fn payer_of(number: u16, payers: u16) -> Option<PayerNo>
     ensures { result ≡ (if is_payer payers number then Some number else None) }
 {

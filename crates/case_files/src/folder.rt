@@ -25,7 +25,7 @@ impl CaseFile {
         }
     }
 
-    /// The name behind its first dot.
+    /// The name after its first dot.
     pub fn ending(&self) -> &str {
         match self.name.as_str().split_once('.') {
             Some((_, ending)) => ending,

@@ -111,7 +111,7 @@ fn repeat(out: &mut Vec<u8>, text: &[u8], count: &[u8]) -> Result<Option<()>, Al
     }
 }
 
-/// What stands before and behind the first place of a mark.
+/// What stands before and after the first place of a mark.
 pub fn cut<'a>(text: &'a [u8], mark: &[u8]) -> Option<(&'a [u8], &'a [u8])> {
     for at in 0..text.len() {
         let (front, rest) = text.split_at(at);

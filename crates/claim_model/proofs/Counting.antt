@@ -234,7 +234,7 @@ pub record Paid_to (ctx : Context) (w : World) (n : ℕ) (j : JournalAtRest) (c 
   pub qualifier : c.fill.qualifier ≡ j.settings.qualifier
   pub provider : c.fill.provider ≡ j.settings.provider
 
--- the payment behind a Paid or a Duplicate ruling
+-- the payment after a Paid or a Duplicate ruling
 named_payment : (rs : List Ruled) (order : Result Order (List Code)) (given : Ruling) (c : Counted) → Names rs order given → named_by order given ≡ Some c
     → (claim : Claim) × (order ≡ Ok (Bills claim)) × (claim.fill ≡ c.fill) × PaidFor rs c.auth c.fill c.amounts
 named_payment rs (Ok (Bills c)) (Paid a m q) d h e =

@@ -1,4 +1,4 @@
--- Runs and logs, one behind the other.
+-- Runs and logs, one after the other.
 use Rattle.std.proofs.Common.{◌≡◌, List, [], ◌∷◌, ◌++◌, Option, Some, refl, sym, ap, ◌∙◌, append_assoc}
 use Rattle.claim_model.specs.Context.{Context}
 use Rattle.claim_model.specs.Node.{Node, Done}

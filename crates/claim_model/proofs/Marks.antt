@@ -10,7 +10,7 @@ use Rattle.claim_model.specs.Ruled.{Ruled}
 use Rattle.claim_model.specs.Payments.{Payment, same_auth, reverses, reversed_by, payment_by, payment_at, payments, is_standing, payment_of}
 use Rattle.claim_model.proofs.Lists.{find_cases, all_append}
 
--- with one more ruling behind
+-- with one more ruling after
 abbrev pub marked_by : Ruled → Auth → Option TxnId → Option TxnId
 marked_by x auth (Some id) = Some id
 marked_by x auth None = cond (reverses auth x) (Some x.id) None

@@ -144,7 +144,7 @@ pub record JournalStays (v : World) (n : ℕ) (j : JournalAtRest) : Type 0 where
   pub settings : journal.settings ≡ j.settings
   pub entries : (k : ℕ) (e : Kept) → numbered j.entries k ≡ Some e → EntryStays journal k e
 
--- a later book is of the same payer, and has every row that there was, in the same order, and new ones behind
+-- a later book is of the same payer, and has every row that there was, in the same order, and new ones after
 pub record BookStays (v : World) (n : ℕ) (b : Book) : Type 0 where
   pub book : Book
   pub there : book_at v n ≡ Some book

@@ -11,6 +11,6 @@ pub record Replays (ctx : Context) (w : World) (events : List Event) (node : Nod
   pub makes : Makes ctx before (log_in ctx w events node)
   pub leads : node_at (run ctx w events) node ≡ Some (replay ctx before (log_in ctx w events node))
 
--- a node's packets at the run's end are those that stood there, and behind them what its log sent, in order
+-- a node's packets at the run's end are those that stood there, and after them what its log sent, in order
 abbrev pub ArePosted : Context → World → List Event → Node → Type 0
 ArePosted ctx w events node = filter (is_from node) (run ctx w events).packets ≡ filter (is_from node) w.packets ++ posted_by node (log_in ctx w events node)

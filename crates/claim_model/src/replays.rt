@@ -23,7 +23,7 @@ pub fn logs_are_posted()
     ensures { (ctx : Context) (w : World) (events : List Event) (node : Node) → ArePosted ctx w events node }
 {}
 
-/// Runs and logs go on: what is true of a list of events and of the list behind it is true of both as one.
+/// Runs and logs go on: what is true of a list of events and of the list after it is true of both as one.
 pub fn logs_go_on()
     ensures runs { (ctx : Context) (w : World) (events more : List Event)
         → run ctx w (events ++ more) ≡ run ctx (run ctx w events) more }

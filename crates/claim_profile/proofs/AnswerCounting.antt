@@ -128,7 +128,7 @@ answer_pricing_more t u f e_status e_authorization e_reject_count e_prescription
   total = e_total i;
 }
 
--- the next field counted, and then those behind it
+-- the next field counted, and then those after it
 pub answer_status_next : (t u : AnswerTally) (f : FieldParts) (fs : List FieldParts) → u ≡ answer_fields_counted t (f ∷ []) [] [] → answer_fields_counted u fs [] [] ≡ answer_fields_counted t (f ∷ fs) [] []
 answer_status_next t u f fs e = ap (λ (v : AnswerTally). answer_fields_counted v fs [] []) e ∙ sym (answer_fields_counted-append t (f ∷ []) fs [] [] [] [])
 
@@ -138,7 +138,7 @@ answer_claim_next t u f fs e = ap (λ (v : AnswerTally). answer_fields_counted v
 pub answer_pricing_next : (t u : AnswerTally) (f : FieldParts) (fs : List FieldParts) → u ≡ answer_fields_counted t [] [] (f ∷ []) → answer_fields_counted u [] [] fs ≡ answer_fields_counted t [] [] (f ∷ fs)
 answer_pricing_next t u f fs e = ap (λ (v : AnswerTally). answer_fields_counted v [] [] fs) e ∙ sym (answer_fields_counted-append t [] [] [] [] (f ∷ []) fs)
 
--- the next segment counted, and then those behind it
+-- the next segment counted, and then those after it
 pub answer_next : (t u : AnswerTally) (s : SegmentParts) (ss : List SegmentParts) → u ≡ answer_counted t (s ∷ []) → answer_counted u ss ≡ answer_counted t (s ∷ ss)
 answer_next t u s ss e = ap (λ (v : AnswerTally). answer_counted v ss) e ∙ sym (answer_counted-append t (s ∷ []) ss)
 

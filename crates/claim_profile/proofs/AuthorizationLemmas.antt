@@ -25,7 +25,7 @@ digit_written place rest digits whole some within so_far =
     ∙ ap (λ (n : ℕ). padded_number n rest ++ drop place digits) (sym is_next)
     ∙ so_far
 
--- twelve digits behind four
+-- twelve digits after four
 pub digits_joined : (payer serial zeros : List ℕ) → length payer ≡ 4 → length zeros ≡ 12 → put_mid 4 12 (payer ++ zeros) serial ≡ payer ++ serial
 digits_joined payer serial zeros four twelve =
     let rest : drop 12 (drop 4 (payer ++ zeros)) ≡ [] = ap (drop 12) (drop_at payer zeros 4 four) ∙ drop_all 12 zeros (omega arith) in
@@ -62,7 +62,7 @@ zeros_before place byte digits zeros =
     ∙ ap (take (place - 1)) zeros
     ∙ take-replicate (place - 1) place 48 fewer
 
--- twelve zeros behind four bytes
+-- twelve zeros after four bytes
 pub zeros_behind : (front : List ℕ) → length front ≡ 4
     → take 12 (drop 4 (front ++ replicate 12 48)) ≡ replicate (length (take 12 (drop 4 (front ++ replicate 12 48)))) 48
 zeros_behind front four =

@@ -17,7 +17,7 @@ unfolding codes_counted
 codes_counted-append s [] ws = refl
 codes_counted-append s (v ∷ vs) ws = codes_counted-append (code_more s (code_of v)) vs ws
 
--- counting the codes of no field, and of fields behind others
+-- counting the codes of no field, and of fields after others
 pub codes_nothing : (s : Option (List Code)) → codes_counted s (values untrimmed (codes "FB") []) ≡ s
 codes_nothing s = ap (codes_counted s) (values-none untrimmed (codes "FB")) ∙ codes_counted-none s
 
@@ -25,7 +25,7 @@ pub codes_further : (s : Option (List Code)) (fs gs : List FieldParts)
     → codes_counted s (values untrimmed (codes "FB") (fs ++ gs)) ≡ codes_counted (codes_counted s (values untrimmed (codes "FB") fs)) (values untrimmed (codes "FB") gs)
 codes_further s fs gs = ap (codes_counted s) (values-append untrimmed (codes "FB") fs gs) ∙ codes_counted-append s (values untrimmed (codes "FB") fs) (values untrimmed (codes "FB") gs)
 
--- the codes of no segment, and of segments behind others
+-- the codes of no segment, and of segments after others
 pub codes_in_none : (s : Option (List Code)) → codes_counted s (values untrimmed (codes "FB") (fields_of (codes "21") [])) ≡ s
 codes_in_none s = ap (λ fs. codes_counted s (values untrimmed (codes "FB") fs)) (fields_of-none (codes "21")) ∙ codes_nothing s
 
@@ -35,7 +35,7 @@ pub codes_in_further : (s : Option (List Code)) (ss us : List SegmentParts)
 codes_in_further s ss us =
     ap (λ fs. codes_counted s (values untrimmed (codes "FB") fs)) (fields_of-append (codes "21") ss us) ∙ codes_further s (fields_of (codes "21") ss) (fields_of (codes "21") us)
 
--- the next field or segment counted, and then those behind it
+-- the next field or segment counted, and then those after it
 pub codes_next : (s u : Option (List Code)) (f : FieldParts) (fs : List FieldParts) → u ≡ codes_counted s (values untrimmed (codes "FB") (f ∷ []))
     → codes_counted u (values untrimmed (codes "FB") fs) ≡ codes_counted s (values untrimmed (codes "FB") (f ∷ fs))
 codes_next s u f fs e = ap (λ v. codes_counted v (values untrimmed (codes "FB") fs)) e ∙ sym (codes_further s (f ∷ []) fs)

@@ -39,7 +39,7 @@ fields_of-append id ss us =
     ap (flat_map (λ s. s.fields)) (filter-append (λ s. bytes_eq s.id id) ss us)
     ∙ flat_map-append (λ s. s.fields) (filter (λ s. bytes_eq s.id id) ss) (filter (λ s. bytes_eq s.id id) us)
 
--- counting the values of fields that come behind others
+-- counting the values of fields that come after others
 pub counted_further : (t : Tally) (reading : List ℕ → List ℕ) (name : List ℕ) (fs gs : List FieldParts)
     → tallied t (values reading name (fs ++ gs)) ≡ tallied (tallied t (values reading name fs)) (values reading name gs)
 counted_further t reading name fs gs = ap (tallied t) (values-append reading name fs gs) ∙ tallied-append t (values reading name fs) (values reading name gs)

@@ -113,7 +113,7 @@ pricing_more t u f cardholder em prescription fill e1 product quantity cost fee 
   fee = fee i;
 }
 
--- the next field counted, and then those behind it
+-- the next field counted, and then those after it
 pub insurance_next : (t u : OrderTally) (f : FieldParts) (fs : List FieldParts) → u ≡ fields_counted t (f ∷ []) [] [] → fields_counted u fs [] [] ≡ fields_counted t (f ∷ fs) [] []
 insurance_next t u f fs e = ap (λ (v : OrderTally). fields_counted v fs [] []) e ∙ sym (fields_counted-append t (f ∷ []) fs [] [] [] [])
 
@@ -123,7 +123,7 @@ claim_next t u f fs e = ap (λ (v : OrderTally). fields_counted v [] fs []) e �
 pub pricing_next : (t u : OrderTally) (f : FieldParts) (fs : List FieldParts) → u ≡ fields_counted t [] [] (f ∷ []) → fields_counted u [] [] fs ≡ fields_counted t [] [] (f ∷ fs)
 pricing_next t u f fs e = ap (λ (v : OrderTally). fields_counted v [] [] fs) e ∙ sym (fields_counted-append t [] [] [] [] (f ∷ []) fs)
 
--- the next segment counted, and then those behind it
+-- the next segment counted, and then those after it
 pub segment_next : (level : Level) (t u : OrderTally) (s : SegmentParts) (ss : List SegmentParts) → u ≡ segments_counted level t (s ∷ []) → segments_counted level u ss ≡ segments_counted level t (s ∷ ss)
 segment_next level t u s ss e = ap (λ (v : OrderTally). segments_counted level v ss) e ∙ sym (segments_counted-append level t (s ∷ []) ss)
 

@@ -135,7 +135,7 @@ codes_read : (rejects : List Code) → codes_of (map code_text rejects) ≡ Some
 codes_read [] = refl
 codes_read (code ∷ rejects) = rw (code_read code, codes_read rejects) refl
 
--- the fields of the codes, and what stands behind the segment
+-- the fields of the codes, and what stands after the segment
 code_values : (rejects : List Code) → map (λ (f : FieldParts). untrimmed f.value) (filter (λ (f : FieldParts). bytes_eq f.id (codes "FB")) (map code_field rejects ++ [])) ≡ map code_text rejects
 code_values [] = refl
 code_values (code ∷ rejects) = ap (λ (vs : List (List ℕ)). code_text code ∷ vs) (code_values rejects)

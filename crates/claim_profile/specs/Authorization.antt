@@ -23,7 +23,7 @@ IsAuthorization payer serial = (1 ≤ payer) × (payer ≤ largest_payer) × (1 
 abbrev pub is_authorization : ℕ → ℕ → Bool
 is_authorization payer serial = nat_le 1 payer && nat_le payer largest_payer && nat_le 1 serial && nat_le serial largest_serial
 
--- a number in so many decimal digits, with zeros in front
+-- a number in this many decimal digits, with zeros in front
 unfoldable pub padded_number : ℕ → ℕ → List ℕ
 padded_number zero number = []
 padded_number (suc digits) number = padded_number digits (number / 10) ++ (48 + number % 10) ∷ []

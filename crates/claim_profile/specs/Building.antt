@@ -77,7 +77,7 @@ dispensing_fields prescription None product =
     ∷ field (codes "D7") product
     ∷ []
 
--- the claim segment of a billing: the quantity behind those
+-- the claim segment of a billing: the quantity after those
 unfoldable pub billed_segment : ℕ → ℕ → List ℕ → ℕ → SegmentParts
 billed_segment prescription fill product quantity = segment (codes "07") (dispensing_fields prescription (Some fill) product ++ field (codes "E7") (number_text quantity) ∷ [])
 
@@ -115,7 +115,7 @@ reversal_text r = transmission_text request_kind (reversal_parts r)
 
 -- ---- the faults
 
--- whether a number has more than so many digits
+-- whether a number has more than this many digits
 abbrev pub has_more_digits : ℕ → ℕ → Bool
 has_more_digits digits number = nat_le (10 ^ digits) number
 

@@ -9,7 +9,7 @@ abbrev pub is_filled : List ℕ → Bool
 is_filled [] = false
 is_filled (b ∷ bs) = true
 
--- a byte and the text behind it, but nothing where both are spaces at the end
+-- a byte and the text after it, but nothing where both are spaces at the end
 abbrev pub before_spaces : ℕ → List ℕ → List ℕ
 before_spaces b [] = if b == 32 then [] else b ∷ []
 before_spaces b (c ∷ cs) = b ∷ c ∷ cs

@@ -30,11 +30,11 @@ o >>= f = option_and_then f o
 
 -- ---- tests of a value
 
--- a text of at most so many bytes
+-- a text of at most this many bytes
 abbrev pub text_up_to : ℕ → List ℕ → Option (List ℕ)
 text_up_to limit value = if nat_le (length value) limit then Some value else None
 
--- a number of at most so many digits
+-- a number of at most this many digits
 abbrev pub number_up_to : ℕ → List ℕ → Option ℕ
 number_up_to digits value = result_ok (number_of digits value)
 

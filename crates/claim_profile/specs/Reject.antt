@@ -3,7 +3,7 @@ use Rattle.std.specs.Prelude.{ℕ, ◌-◌, Bool, List, length, take, map, filte
 use Rattle.claim_profile.specs.declared.reject.Code.{Code}
 use Rattle.claim_profile.specs.declared.reject.Code.TheVariants.{Bin, Cardholder, DateOfService, Prescription, FillNumber, Product, IngredientCost, Quantity, DispensingFee, NotCovered, DuplicateClaim, ReversalNotProcessed}
 
--- what stands behind the codes in a room for five
+-- what stands after the codes in a room for five
 abbrev pub padding : List Code → List Code
 padding codes = replicate (5 - length codes) Bin
 

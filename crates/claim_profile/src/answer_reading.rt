@@ -149,7 +149,7 @@ pub fn check_answer(bytes: &[u8]) -> Result<ResponseHeader, AnswerFault>
     Ok(header)
 }
 
-/// Tests the rulings of the groups behind a place, so many, in order.
+/// Tests the rulings of the groups after a place, this many, in order.
 fn check_rulings(header: &ResponseHeader, from: Cursor<'_>, count: usize) -> Result<(), AnswerFault>
     requires { count ≡ length (groups_of from.bytes.now) }
     ensures read { OnOk result ((rulings : List Ruling)
@@ -166,7 +166,7 @@ fn check_rulings(header: &ResponseHeader, from: Cursor<'_>, count: usize) -> Res
     Ok(())
 }
 
-/// The rulings of the groups behind a place, so many, in order, in a list whose memory is used again.
+/// The rulings of the groups after a place, this many, in order, in a list whose memory is used again.
 fn rulings_of(
     list: Vec<Ruling>,
     header: &ResponseHeader,
@@ -190,7 +190,7 @@ fn rulings_of(
     Ok(rulings)
 }
 
-/// The place where the next group begins, of so many that are left: behind the last one none is looked for.
+/// The place where the next group begins, of this many that are left: after the last one none is looked for.
 #[inline(always)]
 fn next_group(rest: Cursor<'_>, left: usize) -> Option<Cursor<'_>>
     requires { left ≡ length (groups_of rest.bytes.now) }

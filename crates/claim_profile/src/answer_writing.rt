@@ -151,7 +151,7 @@ fn put_amount(text: &mut Vec<u8>, name: u8, cents: u32) -> Result<(), AllocError
     put_front(text, &digits, len)
 }
 
-/// Appends the first of these bytes, so many. All of them are copied and those behind are cut off again: a copy of a length
+/// Appends the first of these bytes, this many. All of them are copied and those after are cut off again: a copy of a length
 /// that is known is one move.
 #[inline(always)]
 fn put_front(text: &mut Vec<u8>, bytes: &[u8], count: usize) -> Result<(), AllocError>
@@ -178,7 +178,7 @@ fn put_rejects(text: &mut Vec<u8>, rejects: &Rejects) -> Result<(), AllocError>
     Ok(())
 }
 
-/// The amount of so many cents.
+/// The amount of this many cents.
 fn amount_of_cents(cents: u32) -> Amount
     requires { cents ≤ largest }
     ensures { result ≡ pos cents }

@@ -38,7 +38,7 @@ impl Fill {
     }
 }
 
-/// Writes a field at `place`, and answers the place behind it.
+/// Writes a field at `place`, and answers the place after it.
 #[inline(always)]
 fn put(bytes: &mut [u8], place: usize, field: &[u8]) -> usize
     requires { place + length field.now ≤ length bytes.old }

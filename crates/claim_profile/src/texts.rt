@@ -11,7 +11,7 @@ pub struct Text<const N: usize> {
     len: usize,
 }
 
-// Clauses see the bytes of the text. The room behind them is filled with zeros.
+// Clauses see the bytes of the text. The room after them is filled with zeros.
 impl<const N: usize> Model for Text<N> {
     ghost use Rattle.std.specs.Prelude.{◌≡◌, ℕ, ◌≤◌, List, ◌++◌, length, take, drop};
     ghost use Rattle.claim_profile.specs.Text.{filler};

@@ -194,7 +194,7 @@ pub record Ended (ctx : Context) (may : Event → Type 0) (w : World) (id : TxnI
   pub answer : List ℕ
   pub closed : Closed between world id request answer
 
--- with at most so many of each
+-- with at most this many of each
 pub record EndedSoon (ctx : Context) (may : Event → Type 0) (w : World) (id : TxnId) (request : List ℕ) (ticks starts : ℕ) : Type 0 where
   pub tick_count : ℕ
   pub delivery_count : ℕ

@@ -91,7 +91,7 @@ woken ctx may w id request m o =
 
 -- ---- ticks
 
--- after so many ticks
+-- after this many ticks
 pub record Ticked (ctx : Context) (may : Event → Type 0) (w : World) (id : TxnId) (request : List ℕ) (settings : PharmacySettings) (phase ticks : ℕ) : Type 0 where
   pub world : World
   pub path : Path ctx may w world ticks 0 0

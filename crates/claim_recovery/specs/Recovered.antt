@@ -39,7 +39,7 @@ pub record WouldAnswer (ctx : Context) (w : World) (payer : ℕ) (id : TxnId) (r
 abbrev pub Answerable : Context → World → TxnId → List ℕ → Type 0
 Answerable ctx w id request = (header : RequestHeader) (payer : ℕ) → readable ctx request ≡ Some header → payer_for ctx header ≡ Some payer → WouldAnswer ctx w payer id request
 
--- a list of accepted events that help, with at most so many ticks and starts and at most four deliveries, with an advice or without, after which the entry has an answer
+-- a list of accepted events that help, with at most this many ticks and starts and at most four deliveries, with an advice or without, after which the entry has an answer
 pub record RecoveredBy (ctx : Context) (w : World) (id : TxnId) (may : Event → Type 0) (ticks starts : ℕ) : Type 0 where
   pub events : List Event
   pub done : AllDone ctx w events

@@ -14,7 +14,7 @@ use Rattle.claim_model.specs.World.{World, Event, Submission, Ticking, Delivery,
 use Rattle.claim_model.specs.Held.{book_at, asked, held}
 use Rattle.claim_recovery.specs.Recovered.{Recovered}
 
--- room for one row more, and a serial for each of so many transactions
+-- room for one row more, and a serial for each of this many transactions
 pub record HasRoom (ctx : Context) (b : Book) (transactions : ℕ) : Type 0 where
   pub rows : length b.rows < b.settings.cap
   pub serials : next_serial b (ruled_rows ctx b.rows) + transactions ≤ last_serial + 1

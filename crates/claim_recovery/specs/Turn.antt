@@ -19,7 +19,7 @@ IsTickOf n (Starting node) = ⊥
 IsTickOf n (PlanChange m product price) = ⊥
 IsTickOf n (Adjudication k advice) = ⊥
 
--- after at most so many accepted ticks of its pharmacy, the request of an id was sent to this switch, later than this moment
+-- after at most this many accepted ticks of its pharmacy, the request of an id was sent to this switch, later than this moment
 pub record SentTo (ctx : Context) (w : World) (id : TxnId) (request : List ℕ) (switch ticks : ℕ) : Type 0 where
   pub events : List Event
   pub done : AllDone ctx w events

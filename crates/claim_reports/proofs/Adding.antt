@@ -42,7 +42,7 @@ or_none (q ∷ more) = refl
 pub total_more : (paid : List Paid) (p : Paid) → total_of (paid ++ p ∷ []) ≡ Some (with_payment (sums_or_none (total_of paid)) p)
 total_more paid p = total_is paid p ∙ ap (λ (s : Sums). Some s) (sums_more paid p ∙ ap (λ (s : Sums). with_payment s p) (sym (or_none paid)))
 
--- the sums of a number behind one payment more
+-- the sums of a number after one payment more
 pub total_at_more : (by : By) (key : Option ℕ) (paid : List Paid) (p : Paid)
     → total_at by key (paid ++ p ∷ []) ≡ cond (is_at_key by key p) (Some (with_payment (sums_or_none (total_at by key paid)) p)) (total_at by key paid)
 total_at_more by key paid p = elim (cases_Bool (is_at_key by key p)) [
@@ -50,7 +50,7 @@ total_at_more by key paid p = elim (cases_Bool (is_at_key by key p)) [
   | inr other ↦ rw (filter-append (is_at_key by key) paid (p ∷ []), other) (ap total_of (append-nil (filter (is_at_key by key) paid)))
 ]
 
--- what a map has at a number behind a change at another
+-- what a map has at a number after a change at another
 pub apart_at : (k q : ℕ) → (k ≡ q → ⊥) → is_at (nat_cmp k) q ≡ false
 apart_at k q apart = elim (cases_lt k q) [
   | inl below ↦ ap is_eq (sym (nat_cmp_is k q Less below))
@@ -95,7 +95,7 @@ were_is : (f : Sums → ℕ) → f (sums_of []) ≡ 0 → (o : Option Sums) → 
 were_is f none None = sym none
 were_is f none (Some s) = refl
 
--- a figure of all numbers behind one payment more
+-- a figure of all numbers after one payment more
 figure_at : (f : Sums → ℕ) (g : Paid → ℕ) (old new : BTreeMap (Option ℕ) Sums) (key : Option ℕ) (paid : List Paid) (p : Paid)
     → ((s : Sums) → f (with_payment s p) ≡ f s + g p) → f (sums_of []) ≡ 0 → AddsPayment old new key p
     → sum_by f (values_of old.entries) ≡ sum_by g paid → sum_by f (values_of new.entries) ≡ sum_by g (paid ++ p ∷ [])

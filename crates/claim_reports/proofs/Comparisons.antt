@@ -14,7 +14,7 @@ use Rattle.claim_reports.specs.declared.beside.Finding.{Finding}
 use Rattle.claim_reports.specs.Comparing.{last_with, made_under, entry_under, counted_under, told, counted_finding, made_finding, findings, Findings}
 use Rattle.claim_reports.proofs.Adding.{apart_at}
 
--- the last with a number behind one element more
+-- the last with a number after one element more
 last_behind : {A : Type 0} (number : A → ℕ) (n : ℕ) (xs : List A) (x : A) → last_with number n (xs ++ x ∷ []) ≡ cond (number x == n) (Some x) (last_with number n xs)
 last_behind number n [] x = refl
 last_behind {A} number n (y ∷ more) x =

@@ -1,4 +1,4 @@
--- The first packet of each request, behind one packet more.
+-- The first packet of each request, after one packet more.
 use Rattle.std.proofs.Common.{◌≡◌, ◌<◌, ℕ, ◌+◌, Bool, true, false, cond, List, [], ◌∷◌, ◌++◌, length, get_or, map, take, refl, sym, ap, ◌∙◌}
 use Rattle.std.specs.Prelude.{Option, Some, None, find, option_map}
 use Rattle.std.specs.Option.{option_or, option_flatten, option_and_then}

@@ -1,4 +1,4 @@
--- A ledger behind one ruling more, and behind some.
+-- A ledger after one ruling more, and after some.
 use Rattle.std.proofs.Common.{◌≡◌, ◌<◌, ◌≤◌, ℕ, ◌+◌, Bool, true, false, cond, List, [], ◌∷◌, ◌++◌, length, get_or, take, drop, refl, sym, ap, subst, ◌∙◌, append_assoc, append-nil, inl, inr, arith}
 use Rattle.std.specs.Prelude.{Option, Some, None, option_map, unwrap_or}
 use Rattle.std.specs.Ordering.{nat_cmp}
@@ -96,7 +96,7 @@ taken xs (Reversed a) all old new moved among takes is =
     let found : unwrap_or (paid_for a all) 0 ≡ takes.cents = ap (λ (o : Option ℕ). unwrap_or o 0) (among a takes.cents stood.0) in
     record { is = reversed_more xs a old new moved takes is; paid = paid; reversed = back ∙ sym found; balance = omega (arith, takes.standing, paid, back) }
 
--- a ledger behind the first of some rulings, and what they moved
+-- a ledger after the first of some rulings, and what they moved
 pub record TakesSome (before moves : List Move) (count : ℕ) (old new : Ledger) (paid reversed : ℕ) : Type 0 where
   pub is : IsLedgerOf (before ++ take count moves) new
   pub told : paid ≡ paid_total (take count moves)

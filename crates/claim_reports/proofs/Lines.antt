@@ -1,4 +1,4 @@
--- The fields of a record, and lines of records with two fields more, one behind another.
+-- The fields of a record, and lines of records with two fields more, one after another.
 use Rattle.std.proofs.Common.{◌≡◌, ◌<◌, ◌≤◌, ℕ, ◌+◌, List, [], ◌∷◌, ◌++◌, length, get_or, map, drop, refl, sym, ap, subst, ◌∙◌, append_assoc, append-nil, arith}
 use Rattle.std.specs.Prelude.{Option, zero, suc, Some, None}
 use Rattle.std.proofs.lemmas.List.{drop_more, drop-drop, get_or-drop}

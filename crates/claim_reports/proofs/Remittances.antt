@@ -28,7 +28,7 @@ reads_on c asked fields_of records i d r next all lt e so_far =
 
 -- ---- what is read row by row is what lists say
 
--- what is read of rows behind others
+-- what is read of rows after others
 record IsRead (c : RulingColumns) (asked : Remittance) (old : Read) (rows : List (List (List ℕ))) (new : Read) : Type 0 where
   made : List (List (List ℕ))
   own : given_by (own_row c asked.payer) rows ≡ Some made
@@ -63,7 +63,7 @@ of_another c asked p row rest old new is other read = record {
   count = read.count;
 }
 
--- a row of the payer behind the end of the period
+-- a row of the payer after the end of the period
 behind_end : (c : RulingColumns) (asked : Remittance) (p : ℕ) (row : List (List ℕ)) (rest : List (List (List ℕ))) (old new : Read) → number_in c.payer.place row ≡ Some p → (p == asked.payer) ≡ true
     → asked.up_to - old.up_to ≡ 0 → IsRead c asked old rest new → IsRead c asked old (row ∷ rest) new
 behind_end c asked p row rest old new is own past read =
@@ -105,7 +105,7 @@ of_payer c asked p row rest old new one is own lt moves read =
 no_more : (u U : ℕ) → nat_lt u U ≡ false → U - u ≡ 0
 no_more u U lt = let le = ltb-false u U lt in omega (arith, le)
 
--- the rows behind a row are read with it
+-- the rows after a row are read with it
 abbrev Goes : RulingColumns → Remittance → List (List (List ℕ)) → Read → Type 0
 Goes c asked rest new = (r : Read) → read_rows c asked r rest ≡ Some new → IsRead c asked r rest new
 
@@ -176,7 +176,7 @@ lines_on c asked before r more text line all back gives told so_far =
     joined None = refl
     joined (Some others) = ap (λ (t : List ℕ). let o : Option (List ℕ) = Some t in o) (sym (append_assoc text line others))
 
--- lines of some rulings so far, and a ledger behind them
+-- lines of some rulings so far, and a ledger after them
 pub record LinesSoFar (c : RulingColumns) (asked : Remittance) (before passed : List Move) (rulings left : List Ruling) (first out : List ℕ) (ledger : Ledger) : Type 0 where
   pub is : IsLedgerOf (before ++ passed) ledger
   pub text : List ℕ

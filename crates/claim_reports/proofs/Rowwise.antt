@@ -4,7 +4,7 @@ use Rattle.std.specs.Prelude.{Option, Some, None, option_map, option_and_then}
 use Rattle.std.proofs.lemmas.List.{drop_more}
 use Rattle.claim_reports.specs.Tables.{given, given_by}
 
--- what is left, behind what there is
+-- what is left, after what there is
 abbrev pub behind : {A : Type 0} → List A → Option (List A) → Option (List A)
 behind xs o = option_map (λ ys. xs ++ ys) o
 

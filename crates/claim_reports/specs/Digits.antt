@@ -6,11 +6,11 @@ use Rattle.jiff_core.specs.declared.civil.datetime.DateTime.{DateTime}
 use Rattle.jiff.specs.Words.{IsTimestampNanos}
 use Rattle.claim_reports.specs.declared.clock.Part.{Part}
 
--- a number, filled with zeros to so many digits
+-- a number, filled with zeros to this many digits
 abbrev pub filled : ℕ → ℕ → List ℕ
 filled width number = replicate (width - length (decimal number)) 48 ++ decimal number
 
--- a number of a date or a time, and the letter behind it
+-- a number of a date or a time, and the letter after it
 abbrev pub part_text : Part → List ℕ
 part_text p = filled p.width p.number ++ p.mark ∷ []
 
@@ -32,7 +32,7 @@ time_text shown = flat_map part_text (time_parts shown)
 unfoldable pub day_text : DateTime → List ℕ
 day_text shown = filled 4 (unsigned_abs shown.date.year) ++ (filled 2 shown.date.month ++ filled 2 shown.date.day)
 
--- what two fields say so many milliseconds after 1970 began: the date and the time that a clock shows, and the day of it; nothing where that is behind the last year
+-- what two fields say this many milliseconds after 1970 began: the date and the time that a clock shows, and the day of it; nothing where that is after the last year
 -- of four digits
 abbrev pub ShowsMoment : ℕ → List ℕ → List ℕ → Type 0
 ShowsMoment milliseconds at on =

@@ -51,7 +51,7 @@ back_cents all (Reversed a) = unwrap_or (paid_for a all) 0
 abbrev pub taken_back : List Move → List Move → ℕ
 taken_back all moves = sum_by (back_cents all) moves
 
--- the figures of a period of rulings behind those before it
+-- the figures of a period of rulings after those before it
 pub record IsPeriod (before moves : List Move) (p : Period) : Type 0 where
   pub begin : p.begin ≡ standing_total before
   pub paid : p.moved.paid ≡ paid_total moves
@@ -70,7 +70,7 @@ PaidOnce (Reversed a ∷ more) = PaidOnce more
 abbrev pub held_at : ℕ → List Move → Option Held
 held_at auth moves = option_map (λ (cents : ℕ). record { cents = cents; reversed = is_reversed auth moves }) (paid_for auth moves)
 
--- a ledger has the payments of these rulings, each as it stands behind them; none is reversed that was not paid
+-- a ledger has the payments of these rulings, each as it stands after them; none is reversed that was not paid
 pub record IsLedgerOf (moves : List Move) (l : Ledger) : Type 0 where
   pub at : (auth : ℕ) → get nat_cmp l.payments auth ≡ held_at auth moves
   pub behind : (auth : ℕ) → paid_for auth moves ≡ None → is_reversed auth moves ≡ false
@@ -105,7 +105,7 @@ abbrev pub Takes : Ledger → Ledger → Move → Moved → Type 0
 Takes old new (Paid a cents) moved = Pays old new a cents moved
 Takes old new (Reversed a) moved = Reverses old new a moved
 
--- rulings are taken behind others
+-- rulings are taken after others
 pub record TakesAll (before moves : List Move) (old new : Ledger) (moved : Moved) : Type 0 where
   pub is : IsLedgerOf (before ++ moves) new
   pub paid : moved.paid ≡ paid_total moves

@@ -36,7 +36,7 @@ spelled_in place row = result_ok (unprinted (cell place row))
 abbrev pub node_name : ℕ → List ℕ
 node_name pharmacy = codes "ph" ++ decimal pharmacy
 
--- the answer of a packet stands behind the 18 bytes of its head
+-- the answer of a packet stands after the 18 bytes of its head
 abbrev pub answer_of : PacketColumns → List (List ℕ) → Option Reply
 answer_of c row = do
   number ← number_in c.number.place row

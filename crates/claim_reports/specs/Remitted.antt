@@ -64,14 +64,14 @@ line_row asked ruling n kind auth day cents =
     ∷ record { name = codes "cents"; value = cents }
     ∷ []
 
--- the line of a ruling that takes back so many cents
+-- the line of a ruling that takes back this many cents
 abbrev pub line_with : RulingColumns → Remittance → ℕ → Ruling → Numbers → List ℕ
 line_with c asked back r n = csv_row (line_row asked r.number n (kind_of r.moves) (filled 16 (auth_of r.moves)) (cell c.day.place r.row) (cents_of (below_zero back) r.moves))
 
 abbrev pub line_text : RulingColumns → Remittance → ℕ → Ruling → Option (List ℕ)
 line_text c asked back r = option_map (line_with c asked back r) (numbers_of c r.row)
 
--- the lines of rulings behind others: a reversal takes back what was paid under its authorization by the rulings up to there
+-- the lines of rulings after others: a reversal takes back what was paid under its authorization by the rulings up to there
 abbrev pub lines_text : RulingColumns → Remittance → List Move → List Ruling → Option (List ℕ)
 lines_text c asked before [] = Some []
 lines_text c asked before (r ∷ more) = do
@@ -121,7 +121,7 @@ sums_row asked up_to period settled =
     ∷ record { name = codes "owed_after_cents"; value = Number settled.owed }
     ∷ []
 
--- a text is the sums of a period: what stood before it, what was paid and taken back in it, what stands behind it, and what is sent for it and owed
+-- a text is the sums of a period: what stood before it, what was paid and taken back in it, what stands after it, and what is sent for it and owed
 pub record IsSummed (table : List ℕ) (asked : Remittance) (text : List ℕ) : Type 0 where
   pub records : List (List (List ℕ))
   pub are : AreRecordsOf table records

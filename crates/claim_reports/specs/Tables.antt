@@ -9,7 +9,7 @@ use Rattle.input_text.specs.Decimals.{decimal_number}
 abbrev pub AreRecordsOf : List ℕ → List (List (List ℕ)) → Type 0
 AreRecordsOf text records = AreRecords default_config state.StartRecord (strip_bom text) records
 
--- the names of the columns, and the rows behind them
+-- the names of the columns, and the rows after them
 abbrev pub names_of : List (List (List ℕ)) → List (List ℕ)
 names_of [] = []
 names_of (names ∷ rows) = names

@@ -1,4 +1,4 @@
--- A table of rows or payments of payers, with when each was ruled behind it.
+-- A table of rows or payments of payers, with when each was ruled after it.
 use Rattle.std.specs.Prelude.{◌≡◌, ℕ, List, [], ◌∷◌, ◌++◌, Option, Some, None, bytes_eq, codes, drop, get_or, if◌then◌else◌, map, option_map, take}
 use Rattle.input_text.specs.Decimals.{decimal_number}
 use Rattle.claim_reports.specs.declared.ruled.Request.{Request}
@@ -65,7 +65,7 @@ AreTaken table taken = (records : List (List (List ℕ))) × (c : CallColumns) �
 
 -- ---- what is told of them
 
--- a text has the lines of rows, each with two fields behind its own that say its time
+-- a text has the lines of rows, each with two fields after its own that say its time
 abbrev pub AreTimed : List (List (List ℕ)) → List (Option ℕ) → List ℕ → Type 0
 AreTimed [] times text = text ≡ []
 AreTimed (row ∷ more) times text =
@@ -79,7 +79,7 @@ AddsRuled old new row time = (at : List ℕ) × (on : List ℕ) × ShowsTime tim
 abbrev pub AddsTimed : List ℕ → List ℕ → List (List (List ℕ)) → List (Option ℕ) → Type 0
 AddsTimed old new rows times = (text : List ℕ) × (new ≡ old ++ text) × AreTimed rows times text
 
--- before them the names of the columns, and of the two behind
+-- before them the names of the columns, and of the two after
 abbrev pub IsTimed : List (List (List ℕ)) → List (Option ℕ) → List ℕ → Type 0
 IsTimed [] times text = text ≡ []
 IsTimed (names ∷ rows) times text =

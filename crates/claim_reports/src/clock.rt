@@ -12,7 +12,7 @@ use jiff::civil::DateTime;
 use jiff::tz::Offset;
 use std::alloc::{AllocError, Global};
 
-/// A number of a date or a time, how many digits it has, and the letter behind it.
+/// A number of a date or a time, how many digits it has, and the letter after it.
 #[derive(Clone, Copy)]
 struct Part {
     number: u64,
@@ -20,7 +20,7 @@ struct Part {
     mark: u8,
 }
 
-/// What a clock in UTC shows so many milliseconds after 1970 began; nothing where that is behind the last year of four digits.
+/// What a clock in UTC shows this many milliseconds after 1970 began; nothing where that is after the last year of four digits.
 pub(crate) fn shown_at(milliseconds: u64) -> Option<DateTime>
     ensures known { IsSome result ↔ IsTimestampNanos (pos (milliseconds * 1_000_000)) }
     ensures shown { IfSome result (λ shown. civil_nanos shown ≡ pos (milliseconds * 1_000_000)) }
@@ -51,7 +51,7 @@ pub(crate) fn time_text(alloc: Global, shown: DateTime) -> Result<Vec<u8>, Alloc
     parts_text(alloc, &parts)
 }
 
-/// The text of numbers, each with the letter behind it.
+/// The text of numbers, each with the letter after it.
 fn parts_text(alloc: Global, parts: &[Part]) -> Result<Vec<u8>, AllocError>
     ensures { IfOk result (λ text. text.items ≡ flat_map part_text parts.now) }
 {
@@ -79,7 +79,7 @@ pub(crate) fn day_text(alloc: Global, shown: DateTime) -> Result<Vec<u8>, AllocE
 }
 
 impl Part {
-    /// A number of so many digits, and the letter behind it.
+    /// A number of this many digits, and the letter after it.
     fn of(number: u64, width: usize, mark: u8) -> Part
         ensures { result ≡ record { number = number; width = width; mark = mark } }
     {

@@ -13,7 +13,7 @@ use std::collections::BTreeMap;
 /// A ruling that moves money.
 #[derive(Clone, Copy, PartialEq, Eq)]
 pub enum Move {
-    /// A payment under an authorization, by its number, of so many cents.
+    /// A payment under an authorization, by its number, of this many cents.
     Paid(u64, u64),
     /// A reversal of the payment under an authorization.
     Reversed(u64),
@@ -55,7 +55,7 @@ pub struct Period {
     pub end: u64,
 }
 
-/// The period of these rulings behind those before them.
+/// The period of these rulings after those before them.
 ///
 /// # Errors
 /// `PaidAgain` and `NotStanding` with the number of a ruling, from the first of all; `TooLarge`; want of memory.
@@ -92,7 +92,7 @@ impl Ledger {
         self.standing
     }
 
-    /// Takes rulings behind so many others, and gives what they moved.
+    /// Takes rulings after this many others, and gives what they moved.
     ///
     /// # Errors
     /// `PaidAgain` and `NotStanding` with the number of a ruling; `TooLarge`; want of memory.

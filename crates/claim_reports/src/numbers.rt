@@ -18,7 +18,7 @@ pub(crate) fn auth_text(alloc: Global, number: u64) -> Result<Vec<u8>, AllocErro
     filled_text(alloc, number, DIGITS)
 }
 
-/// A number, filled with zeros to so many digits.
+/// A number, filled with zeros to this many digits.
 pub(crate) fn filled_text(alloc: Global, number: u64, width: usize) -> Result<Vec<u8>, AllocError>
     ensures { IfOk result (λ text. text.items ≡ filled width number) }
 {

@@ -78,7 +78,7 @@ pub fn remittance_sums(
     Ok(out)
 }
 
-/// Appends a row for each ruling of the period, behind those before it.
+/// Appends a row for each ruling of the period, after those before it.
 fn put_lines(
     out: &mut Vec<u8>,
     columns: &RulingColumns,
@@ -100,7 +100,7 @@ fn put_lines(
     Ok(())
 }
 
-/// Appends the row of a ruling that takes back so many cents.
+/// Appends the row of a ruling that takes back this many cents.
 fn put_line(
     out: &mut Vec<u8>,
     columns: &RulingColumns,

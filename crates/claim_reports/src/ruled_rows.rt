@@ -45,14 +45,14 @@ struct CallColumns {
     named: Named,
 }
 
-/// A table of `rows` or `payments` as it stands, with two columns behind it: the date and the time at which each row was ruled,
+/// A table of `rows` or `payments` as it stands, with two columns after it: the date and the time at which each row was ruled,
 /// and the day of it, by a table of `calls` of the payers' logs. Both are empty where that is not known.
 ///
 /// # Errors
 /// A table that is none, or has a value of another kind; a table that has one of the two columns; want of memory.
 pub fn ruled_table(alloc: Global, rows: &[u8], calls: &[u8]) -> Result<Vec<u8>, ReportFault>
     // What is written is, line by line, the records that a reader of CSV gives of the table, each row with the time of its own
-    // ruling behind it.
+    // ruling after it.
     ensures { IfOk result (λ text. IsRuledTable rows.now calls.now text.items) }
 {
     let table = Table::read(alloc, 1, rows)?;
@@ -181,7 +181,7 @@ impl CallColumns {
     }
 }
 
-/// The lines of the records of a table: the first has the names of the two columns behind it, and each other the time of its
+/// The lines of the records of a table: the first has the names of the two columns after it, and each other the time of its
 /// row.
 fn with_times(
     alloc: Global,
@@ -235,7 +235,7 @@ fn put_ruled(out: &mut Vec<u8>, row: &ByteRecord, time: Option<u64>) -> Result<(
     }
 }
 
-/// Appends the line of a row that was ruled so many milliseconds after 1970 began.
+/// Appends the line of a row that was ruled this many milliseconds after 1970 began.
 fn put_moment(out: &mut Vec<u8>, row: &ByteRecord, milliseconds: u64) -> Result<(), ReportFault>
     ensures { OnOk result (AddsRuled out.old.items out.new.items (fields_of row.now) (Some milliseconds)) }
 {

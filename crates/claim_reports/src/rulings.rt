@@ -92,7 +92,7 @@ pub(crate) fn moves_before(
     Ok(moves)
 }
 
-/// The rulings behind a number.
+/// The rulings after a number.
 pub(crate) fn lines_behind<'a>(
     alloc: Global,
     lines: &[Line<'a>],

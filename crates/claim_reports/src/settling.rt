@@ -14,7 +14,7 @@ pub struct Settled {
     pub owed: u64,
 }
 
-/// What is sent for what was moved, where so many cents were owed before.
+/// What is sent for what was moved, where this many cents were owed before.
 ///
 /// # Errors
 /// `TooLarge` where a sum has more than 64 bits.

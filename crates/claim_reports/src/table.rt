@@ -18,7 +18,7 @@ const DIGITS: usize = 18;
 #[derive(Drop)]
 pub(crate) struct Table {
     number: u64,
-    /// The names of the columns, and the rows behind them.
+    /// The names of the columns, and the rows after them.
     records: Vec<ByteRecord>,
 }
 
@@ -33,7 +33,7 @@ pub(crate) struct Column {
 #[derive(Clone, Copy)]
 pub(crate) struct TableRow<'a> {
     table: u64,
-    /// Its place behind the names, counted from 1.
+    /// Its place after the names, counted from 1.
     pub(crate) number: u64,
     record: &'a ByteRecord,
 }
@@ -112,7 +112,7 @@ impl Table {
         self.records.as_slice()
     }
 
-    /// Its rows, behind the names.
+    /// Its rows, after the names.
     pub(crate) fn rows(&self) -> &[ByteRecord]
         ensures { map fields_of result.now ≡ rows_of (map fields_of self.now.records.items) }
     {
@@ -122,7 +122,7 @@ impl Table {
         }
     }
 
-    /// The row at a place behind the names, from 0.
+    /// The row at a place after the names, from 0.
     pub(crate) fn row<'a>(&self, place: usize, held: &'a ByteRecord) -> TableRow<'a>
         ensures { result.record.now ≡ held.now }
     {

@@ -9,7 +9,7 @@ use crate::fault::ReportFault;
 use csv::{ByteRecord, WriterBuilder};
 use std::alloc::{AllocError, Global};
 
-/// Appends the line of a record, with two fields behind its own.
+/// Appends the line of a record, with two fields after its own.
 pub(crate) fn put_wider(
     out: &mut Vec<u8>,
     row: &ByteRecord,
@@ -25,7 +25,7 @@ pub(crate) fn put_wider(
     Ok(())
 }
 
-/// The fields of a record, and two behind them.
+/// The fields of a record, and two after them.
 fn wider_fields<'a>(
     alloc: Global,
     row: &'a ByteRecord,

@@ -18,7 +18,7 @@ pub(crate) enum Finding {
     /// The log of this name does not go on where the one before it ends, or is none.
     #[error("{0}: {1}")]
     Joining(String, JoinFault),
-    /// The log of this name begins with another rest than its node left behind the one before it.
+    /// The log of this name begins with another rest than its node left after the one before it.
     #[error("{0}: {1}")]
     Rest(String, RestFault),
     /// The settings are refused: what is wrong in them.

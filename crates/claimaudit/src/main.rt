@@ -15,14 +15,16 @@ use claim_reports::{
 };
 use command_line::{End, given_words, read_file, read_settings_file};
 use log_audit::{
-    AuditFault, Form, GivenLog, LoneForm, Outgoing, WriterSink, calls_table, put_alone,
+    AuditFault, Audited, Form, GivenLog, LoneForm, Outgoing, WriterSink, calls_table, put_alone,
     put_lone_prices, put_report, read_alone, read_audited,
 };
 use log_turning::{JoinFault, LogBehind, WholeFault, log_behind, whole_log};
 use std::alloc::Global;
 use std::io::{Stdout, Write};
 use std::process::ExitCode;
+use switch_logs::made_logs;
 use world_settings::living_settings_fault;
+use world_setup::Node;
 
 /// Why the program ends without a verdict.
 type Unjudged = End<Finding>;
@@ -144,7 +146,7 @@ fn audit(rt: &HostRuntime, words: &Words<'_>) -> Result<bool, Unjudged> {
     let text = read_settings_file(rt, words.settings)?;
     let logs = read_logs(rt, words, text.as_slice())?;
     let mut out = Outgoing::new(alloc, WriterSink::new(rt.stdout()));
-    match judged(alloc, text, logs, words.asked, &mut out) {
+    match judged(rt, text, logs, words.asked, &mut out) {
         Ok(good) => {
             out.finish()?.end()?;
             Ok(good)
@@ -231,18 +233,33 @@ fn why_refused(rt: &HostRuntime, words: &Words<'_>) -> Result<Finding, Unjudged>
 
 /// Judges logs under settings, and puts what is told of them.
 fn judged(
-    alloc: Global,
+    rt: &HostRuntime,
     text: Vec<u8>,
     logs: Vec<Vec<u8>>,
     asked: Asked,
     out: &mut Outgoing<WriterSink<Stdout>>,
 ) -> Result<bool, AuditFault> {
+    let alloc = rt.alloc();
     let audited = read_audited(alloc, text, logs)?;
     match asked {
-        Asked::Together(form) => put_report(alloc, audited, form, out),
+        Asked::Together(form) => put_report(alloc, completed(rt, audited)?, form, out),
         Asked::AlonePrices => put_lone_prices(alloc, &audited, out),
         Asked::Alone(_) | Asked::Calls | Asked::Report(_) => Err(AuditFault::Settings),
     }
+}
+
+/// The logs that were given, and those that are made of switches which kept none; standard error says of which.
+fn completed(rt: &HostRuntime, audited: Audited) -> Result<Audited, AuditFault> {
+    let mut all = audited;
+    for log in made_logs(rt.alloc(), all.settings(), all.logs())? {
+        if let Node::Switch(number) = log.node() {
+            let _ = eprintln!(rt;
+                "claimaudit: sw{number} has no log: its calls are made of what the others have"
+            );
+        }
+        all = all.with_log(log)?;
+    }
+    Ok(all)
 }
 
 /// Judges logs one by one under settings, and puts what is told of them.

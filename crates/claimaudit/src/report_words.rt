@@ -33,7 +33,7 @@ pub(crate) enum Lines {
 }
 
 impl Report {
-    /// How many tables it has behind the first.
+    /// How many tables it has after the first.
     pub(crate) fn other_tables(&self) -> usize {
         match self {
             Report::Compare(_) | Report::Receipts(_) => 2,

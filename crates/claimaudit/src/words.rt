@@ -107,7 +107,7 @@ fn with_ways<'a>(alloc: Global, command: Command<'a>) -> Result<Command<'a>, Unj
     )
 }
 
-/// What is asked of so many files behind the first one: a report asks for nothing else, and has its own count of tables.
+/// What is asked of this many files after the first one: a report asks for nothing else, and has its own count of tables.
 fn asked_of(form: Asked, report: Option<Report>, others: usize) -> Result<Asked, Unjudged> {
     let Some(report) = report else {
         if others == 0 {

@@ -25,7 +25,7 @@ enum Fault {
 #[derive(Drop)]
 struct Made {
     bytes: Vec<u8>,
-    /// Whether a byte 0x02 stood before it and a byte 0x03 behind it.
+    /// Whether a byte 0x02 stood before it and a byte 0x03 after it.
     around: (bool, bool),
 }
 

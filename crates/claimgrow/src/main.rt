@@ -14,10 +14,10 @@ mod words;
 use crate::copies::put_in_place;
 use crate::finding::Finding;
 use crate::locked::{Locked, lock_all};
-use crate::telling::{hint_for, put_line};
+use crate::telling::{Stays, hint_for, put_line};
 use crate::words::{Words, words_of};
 use command_line::{End, given_words, read_settings_file};
-use log_growth::{Gone, Grown, GrowthFault, OverFault, go_over, grows};
+use log_growth::{Gone, Grown, GrowthFault, OverFault, go_over, grows, rerouted};
 use log_turning::{WholeFault, whole_log};
 use node_service::ServiceFault;
 use settings_digest::Digests;
@@ -93,12 +93,12 @@ fn judge(
     let mut lines = Vec::new(alloc);
     for name in &words.logs {
         let bytes = read_log(rt, old, new, name)?;
-        let becomes = go_over(alloc, &grown.old, &grown.new, new, bytes.as_slice());
+        let becomes = becomes_of(alloc, grown, new, bytes.as_slice());
         let hint = hint_of(alloc, grown, old, bytes.as_slice(), &becomes);
         put_line(alloc, &mut lines, name, &becomes, hint)?;
         match becomes {
             Ok(one) => gone.push(one)?,
-            Err(OverFault::OutOfMemory) => return Err(End::OutOfMemory),
+            Err(Stays::Fault(OverFault::OutOfMemory)) => return Err(End::OutOfMemory),
             Err(_) => {}
         }
     }
@@ -110,7 +110,22 @@ fn judge(
     }
 }
 
-/// The log of a node under one of these settings; where it goes on behind closed ones, which stand beside it, all of them as one.
+/// What becomes of a log, or why it stays: also for what its pharmacy has heard of a switch that keeps no log.
+fn becomes_of(alloc: Global, grown: &Grown, new: &[u8], bytes: &[u8]) -> Result<Gone, Stays>
+    requires { AreOf new.now grown.now.new }
+{
+    match go_over(alloc, &grown.old, &grown.new, new, bytes) {
+        Ok(Gone::Over(node, written)) => match rerouted(alloc, new, node, written.as_slice()) {
+            Ok(None) => Ok(Gone::Over(node, written)),
+            Ok(Some(entry)) => Err(Stays::Rerouted(node, entry)),
+            Err(fault) => Err(Stays::Fault(fault)),
+        },
+        Ok(gone) => Ok(gone),
+        Err(fault) => Err(Stays::Fault(fault)),
+    }
+}
+
+/// The log of a node under one of these settings; where it goes on after closed ones, which stand beside it, all of them as one.
 fn read_log(rt: &HostRuntime, old: &[u8], new: &[u8], name: &str) -> Result<Vec<u8>, Ungone> {
     let read = match whole_log(rt, old, name) {
         Err(WholeFault::Logs(_, _) | WholeFault::Rest(_, _)) => whole_log(rt, new, name),
@@ -133,12 +148,14 @@ fn hint_of(
     grown: &Grown,
     old: &[u8],
     bytes: &[u8],
-    becomes: &Result<Gone, OverFault>,
+    becomes: &Result<Gone, Stays>,
 ) -> &'static str
     requires { AreOf old.now grown.now.old }
 {
     let hint = match becomes {
-        Err(OverFault::Refused(node, ServiceFault::NotMade(_))) => hint_for(*node, grown.moves),
+        Err(Stays::Fault(OverFault::Refused(node, ServiceFault::NotMade(_)))) => {
+            hint_for(*node, grown.moves)
+        }
         _ => "",
     };
     if hint.is_empty() || !makes_log(alloc, &grown.old, old, bytes) {

@@ -5,6 +5,15 @@ use node_service::ServiceFault;
 use std::alloc::{AllocError, Global};
 use world_setup::Node;
 
+/// Why a log stays.
+#[derive(Drop)]
+pub(crate) enum Stays {
+    /// It is a log of neither settings, or its node does not open from it under the new ones.
+    Fault(OverFault),
+    /// An entry of this node has a rejection for want of a route, which its request has under the new settings.
+    Rerouted(Node, u64),
+}
+
 /// For what in the routes a node does not make its log under the new settings, where these may lead new providers to other
 /// payers; nothing, where it can be for none of them.
 pub(crate) fn hint_for(node: Node, moves: bool) -> &'static str {
@@ -24,14 +33,17 @@ pub(crate) fn put_line(
     alloc: Global,
     lines: &mut Vec<u8>,
     name: &str,
-    becomes: &Result<Gone, OverFault>,
+    becomes: &Result<Gone, Stays>,
     hint: &str,
 ) -> Result<(), AllocError> {
     let line = match becomes {
         Ok(Gone::Over(node, _)) => over(alloc, name, *node, "goes over")?,
         Ok(Gone::Already(node)) => over(alloc, name, *node, "is under the new settings already")?,
-        Err(OverFault::Refused(node, fault)) => refused(alloc, name, *node, fault, hint)?,
-        Err(fault) => stays(alloc, name, fault)?,
+        Err(Stays::Fault(OverFault::Refused(node, fault))) => {
+            refused(alloc, name, *node, fault, hint)?
+        }
+        Err(Stays::Fault(fault)) => unread(alloc, name, fault)?,
+        Err(Stays::Rerouted(node, entry)) => rerouted(alloc, name, *node, *entry)?,
     };
     lines.extend_from_slice(line.as_bytes())
 }
@@ -54,8 +66,16 @@ fn refused(
     format!(in alloc; "{name}: {kind} {number} does not go over: {fault}{hint}\n")
 }
 
+/// The line of a log with a rejection that does not stay.
+fn rerouted(alloc: Global, name: &str, node: Node, entry: u64) -> Result<String, AllocError> {
+    let (kind, number) = named(node);
+    format!(in alloc;
+        "{name}: {kind} {number} does not go over: entry {entry} was rejected for want of a route, and its request has one now\n"
+    )
+}
+
 /// The line of a log that is not read.
-fn stays(alloc: Global, name: &str, fault: &OverFault) -> Result<String, AllocError> {
+fn unread(alloc: Global, name: &str, fault: &OverFault) -> Result<String, AllocError> {
     format!(in alloc; "{name}: does not go over: {fault}\n")
 }
 

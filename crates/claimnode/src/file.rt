@@ -18,7 +18,7 @@ const FRONT: usize = 96;
 #[derive(Drop)]
 pub(crate) struct Opened {
     pub(crate) file: File,
-    /// What the log begins with, where it goes on behind closed ones.
+    /// What the log begins with, where it goes on after closed ones.
     pub(crate) rest: Option<Vec<u8>>,
     /// How many bytes stand before the log.
     pub(crate) front: u64,
@@ -127,7 +127,7 @@ fn front_of(alloc: Global, file: File) -> Result<Opened, End<Finding>> {
     }
 }
 
-/// The first bytes of a file, so many at most.
+/// The first bytes of a file, this many at most.
 fn first_bytes(alloc: Global, file: &mut File, count: usize) -> io::Result<Vec<u8>> {
     let mut bytes = Vec::new(alloc);
     file.seek(SeekFrom::Start(0))?;

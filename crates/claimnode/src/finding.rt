@@ -25,7 +25,7 @@ pub(crate) enum Finding {
     /// The log is damaged at this place, and nothing was cut.
     #[error("the log is damaged at byte {0}, and stays as it is")]
     Damaged(usize),
-    /// The place behind `--cut-at` is not that of the damage, which is this one.
+    /// The place after `--cut-at` is not that of the damage, which is this one.
     #[error("the damage is at byte {0}, and nothing is cut elsewhere")]
     OtherPlace(usize),
     /// There is no damage to be cut off.
@@ -34,13 +34,13 @@ pub(crate) enum Finding {
     /// The settings are refused: what is wrong in them.
     #[error("settings refused: {0}")]
     Settings(String),
-    /// The log, and the closed ones before it, have fewer calls than they were known to have: so many.
+    /// The log, and the closed ones before it, have fewer calls than they were known to have: this many.
     #[error("the log has {0} calls, fewer than it is known to have")]
     FewCalls(u64),
     /// The node left no record.
     #[error("the node leaves no record")]
     NoRecord,
-    /// The logs of a node do not go on one behind another: what is wrong with which file.
+    /// The logs of a node do not go on one after another: what is wrong with which file.
     #[error("{0}: {1}")]
     Joining(String, JoinFault),
     /// A log of a node begins with another rest than the node left: which file.

@@ -13,15 +13,16 @@ use std::os::unix::fs::OpenOptionsExt;
 /// Writes all calls of a node to a new file as one log: those of its log, and of each that was closed before it.
 ///
 /// # Errors
-/// A log that was closed is not there, or the logs do not go on one behind another.
+/// A log that was closed is not there, or the logs do not go on one after another.
 pub(crate) fn join(
     rt: &HostRuntime,
     words: &Words<'_>,
+    log: &str,
     text: &[u8],
     out: &str,
 ) -> Result<(), End<Finding>> {
     let alloc = rt.alloc();
-    let files = had(alloc, log_files(rt, words.log))?;
+    let files = had(alloc, log_files(rt, log))?;
     let joined = had(alloc, join_files(alloc, text, words.node, files.as_slice()))?;
     let mut file = match OpenOptions::new()
         .write(true)

@@ -2,6 +2,8 @@
 //! what it says goes to standard output, and each call is on disk before what it sent is said.
 #![tactic(auto)]
 
+ghost use Rattle.std.specs.Prelude.{◌≡◌, []};
+
 mod checking;
 mod file;
 mod finding;
@@ -21,7 +23,7 @@ use crate::standard::take_standard;
 use crate::turning::turn;
 use crate::words::{Words, words_of};
 use command_line::{End, given_words, read_settings_file};
-use node_process::{Host, Owner, Unserved, serve_all};
+use node_process::{Diskless, Host, Machine, Owner, Unserved, serve_all};
 use payer_book::HashKeys;
 use std::process::ExitCode;
 
@@ -45,19 +47,45 @@ fn run(rt: &HostRuntime) -> Result<(), End<Finding>> {
 /// Serves a node under settings from its log.
 fn run_node(rt: &HostRuntime, words: &Words<'_>, text: &[u8]) -> Result<(), End<Finding>> {
     check_settings(rt, words, text)?;
+    match words.log {
+        Some(log) => run_logged(rt, words, log, text),
+        None => {
+            let mut host = Diskless::new(rt.stdin(), rt.stdout());
+            serve(rt, &owner_of(words, text, None), &mut host)
+        }
+    }
+}
+
+/// Serves a node from its log, or mends, closes or joins that.
+fn run_logged(
+    rt: &HostRuntime,
+    words: &Words<'_>,
+    log: &str,
+    text: &[u8],
+) -> Result<(), End<Finding>> {
     if words.repair {
-        return repair(rt, words, text);
+        return repair(rt, words, log, text);
     }
     if words.turn {
-        return turn(rt, words, text);
+        return turn(rt, words, log, text);
     }
     if let Some(out) = words.join {
-        return join(rt, words, text, out);
+        return join(rt, words, log, text, out);
     }
-    let Opened { file, rest, front } = open_log(rt, words.log)?;
-    let mut host = Host::new(rt, words.log, file, front, rt.stdin(), rt.stdout());
-    let owner = owner_of(words, text, rest.as_deref());
-    match serve_all(rt.alloc(), &hash_keys(rt), &owner, &mut host) {
+    let Opened { file, rest, front } = open_log(rt, log)?;
+    let mut host = Host::new(rt, log, file, front, rt.stdin(), rt.stdout());
+    serve(rt, &owner_of(words, text, rest.as_deref()), &mut host)
+}
+
+/// Serves a node over a system, of which nothing was asked yet, until its input ends.
+fn serve<M: Machine>(
+    rt: &HostRuntime,
+    owner: &Owner<'_>,
+    machine: &mut M,
+) -> Result<(), End<Finding>>
+    requires { M.acts machine.old ≡ [] }
+{
+    match serve_all(rt.alloc(), &hash_keys(rt), owner, machine) {
         Ok(()) => Ok(()),
         Err(Unserved::OutOfMemory) => Err(End::OutOfMemory),
         Err(Unserved::Refused(fault)) => Err(End::Own(Finding::Service(fault))),

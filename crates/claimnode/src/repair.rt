@@ -1,4 +1,4 @@
-//! The repair of a damaged log: what stands behind the damage is told, and is cut off where its place is typed back.
+//! The repair of a damaged log: what stands after the damage is told, and is cut off where its place is typed back.
 
 use crate::file::{Opened, open_found};
 use crate::finding::Finding;
@@ -14,12 +14,17 @@ use std::io::Read;
 /// How many bytes the head of a log has.
 const HEAD: usize = 46;
 
-/// Tells what stands behind the damage of a log, or cuts it off where its place was typed back.
+/// Tells what stands after the damage of a log, or cuts it off where its place was typed back.
 ///
 /// # Errors
 /// The log is no log of the node under these settings, is damaged and stays so, or is not damaged and was to be cut.
-pub(crate) fn repair(rt: &HostRuntime, words: &Words<'_>, text: &[u8]) -> Result<(), End<Finding>> {
-    let mut opened = open_found(rt, words.log)?;
+pub(crate) fn repair(
+    rt: &HostRuntime,
+    words: &Words<'_>,
+    log: &str,
+    text: &[u8],
+) -> Result<(), End<Finding>> {
+    let mut opened = open_found(rt, log)?;
     let mut bytes = Vec::new(rt.alloc());
     opened.file.read_to_end(&mut bytes)?;
     match Service::open(
@@ -32,7 +37,7 @@ pub(crate) fn repair(rt: &HostRuntime, words: &Words<'_>, text: &[u8]) -> Result
     ) {
         Ok((service, whole)) => sound(rt, words, service.calls(), whole, bytes.len()),
         Err(fault) => match place_of(fault) {
-            Some(place) => damaged(rt, words, &opened, bytes.as_slice(), fault, place),
+            Some(place) => damaged(rt, words, log, &opened, bytes.as_slice(), fault, place),
             None => Err(End::Own(Finding::Service(fault))),
         },
     }
@@ -71,6 +76,7 @@ fn sound(
 fn damaged(
     rt: &HostRuntime,
     words: &Words<'_>,
+    log: &str,
     opened: &Opened,
     bytes: &[u8],
     fault: ServiceFault,
@@ -85,7 +91,7 @@ fn damaged(
             if typed != place as u64 {
                 return Err(End::Own(Finding::OtherPlace(place)));
             }
-            cut(rt, words.log, opened, place)?;
+            cut(rt, log, opened, place)?;
             println!(rt; "cut at byte {place}: {calls} calls are left")?;
             Ok(())
         }
@@ -130,7 +136,7 @@ fn tell(
     Ok(())
 }
 
-/// Cuts a log off behind so many bytes, once what stands there is kept beside it, and has all that on disk.
+/// Cuts a log off after this many bytes, once what stands there is kept beside it, and has all that on disk.
 fn cut(rt: &HostRuntime, path: &str, opened: &Opened, size: usize) -> Result<(), End<Finding>> {
     let behind = opened.front.saturating_add(size as u64);
     keep_end(rt, path, behind)?;

@@ -18,9 +18,14 @@ use std::{fs, io};
 ///
 /// # Errors
 /// The node is not served from its log, or runs.
-pub(crate) fn turn(rt: &HostRuntime, words: &Words<'_>, text: &[u8]) -> Result<(), End<Finding>> {
-    check_mark(rt, words.log)?;
-    let mut opened = open_found(rt, words.log)?;
+pub(crate) fn turn(
+    rt: &HostRuntime,
+    words: &Words<'_>,
+    log: &str,
+    text: &[u8],
+) -> Result<(), End<Finding>> {
+    check_mark(rt, log)?;
+    let mut opened = open_found(rt, log)?;
     let mut bytes = Vec::new(rt.alloc());
     opened.file.read_to_end(&mut bytes)?;
     let size = opened.front.saturating_add(bytes.len() as u64);
@@ -29,9 +34,9 @@ pub(crate) fn turn(rt: &HostRuntime, words: &Words<'_>, text: &[u8]) -> Result<(
         return Ok(());
     }
     let turned = turned(rt.alloc(), words, text, &opened, bytes.as_slice())?;
-    write_next(rt, words.log, &turned)?;
-    close(rt, words.log, &mut opened, &turned, bytes.len())?;
-    let closed = replace(rt, words.log, turned.calls)?;
+    write_next(rt, log, &turned)?;
+    close(rt, log, &mut opened, &turned, bytes.len())?;
+    let closed = replace(rt, log, turned.calls)?;
     let calls = turned.calls;
     println!(rt; "closed {closed}, with {calls} calls so far")?;
     Ok(())
@@ -63,7 +68,7 @@ fn write_next(rt: &HostRuntime, path: &str, turned: &Turned) -> Result<(), End<F
     Ok(())
 }
 
-/// Appends how the log ends, behind its whole records.
+/// Appends how the log ends, after its whole records.
 fn close(
     rt: &HostRuntime,
     path: &str,

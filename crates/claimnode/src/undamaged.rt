@@ -1,4 +1,4 @@
-//! Records that stand undamaged somewhere in bytes: what is still there behind the damage of a log.
+//! Records that stand undamaged somewhere in bytes: what is still there after the damage of a log.
 
 use kept_logs::{LogVersion, behind_record};
 use std::alloc::{AllocError, Global};
@@ -9,7 +9,7 @@ const LEAST_RECORD: usize = 25;
 /// How many records more than there is room for may be lacking between two that stand.
 const LACKING: u64 = 16;
 
-/// Records of consecutive numbers that stand undamaged one behind another.
+/// Records of consecutive numbers that stand undamaged one after another.
 #[derive(Clone, Copy)]
 pub(crate) struct Run {
     /// The number of the first one.
@@ -45,7 +45,7 @@ pub(crate) fn runs_from(
     Ok(runs)
 }
 
-/// The run that begins at a place, where so many bytes before it are no undamaged records.
+/// The run that begins at a place, where this many bytes before it are no undamaged records.
 fn run_at(version: LogVersion, bytes: &[u8], at: usize, wanted: u64, passed: usize) -> Option<Run> {
     let rest = bytes.get(at..)?;
     if !has_length(rest) {

@@ -15,11 +15,11 @@ pub(crate) struct Words<'a> {
     pub(crate) settings: &'a str,
     /// The node.
     pub(crate) node: Node,
-    /// The file of the node's log.
-    pub(crate) log: &'a str,
+    /// The file of the node's log; none of a switch that keeps nothing.
+    pub(crate) log: Option<&'a str>,
     /// How many calls the logs are known to have, the closed ones too.
     pub(crate) least: u64,
-    /// Whether the log is not served: what stands behind its damage is told.
+    /// Whether the log is not served: what stands after its damage is told.
     pub(crate) repair: bool,
     /// Where the log is cut: the place of its damage, typed back.
     pub(crate) cut_at: Option<u64>,
@@ -27,7 +27,7 @@ pub(crate) struct Words<'a> {
     pub(crate) turn: bool,
     /// How many bytes its file has at least where it is closed.
     pub(crate) at_size: u64,
-    /// The file of all logs joined: the log is not served, but written there behind those that were closed before it.
+    /// The file of all logs joined: the log is not served, but written there after those that were closed before it.
     pub(crate) join: Option<&'a str>,
 }
 
@@ -36,11 +36,30 @@ pub(crate) fn words_of<'a>(alloc: Global, given: &'a [String]) -> Result<Words<'
     let mut command = command(alloc)?;
     let matches = command.try_get_matches_from_mut(given)?;
     match words_in(&matches) {
-        Some(words) => Ok(words),
+        Some(words) if words.has_its_log() => Ok(words),
+        Some(_) => Err(End::Words(command.error(
+            ErrorKind::MissingRequiredArgument,
+            "LOG may be left out for a switch alone, and then no option is about it",
+        )?)),
         None => Err(End::Words(command.error(
             ErrorKind::ValueValidation,
             "NODE is ph, sw or pr and a number, as ph1",
         )?)),
+    }
+}
+
+impl<'a> Words<'a> {
+    /// Whether a log is named, or none is wanted: a switch may keep nothing, and then it has none that is counted, mended, closed
+    /// or joined.
+    fn has_its_log(&self) -> bool {
+        if self.log.is_some() {
+            return true;
+        }
+        let is_switch = match self.node {
+            Node::Switch(_) => true,
+            Node::Pharmacy(_) | Node::Payer(_) => false,
+        };
+        is_switch && self.least == 0 && !self.repair && !self.turn && self.join.is_none()
     }
 }
 
@@ -49,7 +68,7 @@ fn words_in<'a>(matches: &ArgMatches<'a>) -> Option<Words<'a>> {
     Some(Words {
         settings: matches.get_str("SETTINGS")?,
         node: node_in(matches.get_str("NODE")?.as_bytes())?,
-        log: matches.get_str("LOG")?,
+        log: matches.get_str("LOG"),
         least: matches.get_one::<u64>("at-least").unwrap_or(0),
         repair: matches.get_flag("repair"),
         cut_at: matches.get_one::<u64>("cut-at"),
@@ -68,17 +87,20 @@ fn command<'a>(alloc: Global) -> Result<Command<'a>, AllocError> {
         )
         .arg(word(alloc, "SETTINGS", "the settings of a replay, a TOML file"))?
         .arg(word(alloc, "NODE", "ph1, sw1, pr1 .."))?
-        .arg(word(
-            alloc,
-            "LOG",
-            "the node's log, which is made where it is not there",
-        ))?
+        .arg(log(alloc))?
         .arg(least(alloc))?
         .arg(repair(alloc)?)?
         .arg(cut_at(alloc)?)?
         .arg(turn(alloc)?)?
         .arg(at_size(alloc)?)?
         .arg(join(alloc)?)
+}
+
+/// The file of the log.
+fn log<'a>(alloc: Global) -> Arg<'a> {
+    Arg::new(alloc, "LOG").action(ArgAction::Set).help(
+        "the node's log, which is made where it is not there; a switch keeps nothing without it",
+    )
 }
 
 /// How many calls the logs are known to have, the closed ones too.
@@ -91,7 +113,7 @@ fn least<'a>(alloc: Global) -> Arg<'a> {
         .help("refuse a log of fewer calls, such as an older copy")
 }
 
-/// That the log is not served, and what stands behind its damage is told.
+/// That the log is not served, and what stands after its damage is told.
 fn repair<'a>(alloc: Global) -> Result<Arg<'a>, AllocError> {
     Arg::new(alloc, "repair")
         .long("repair")

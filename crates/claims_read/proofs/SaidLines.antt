@@ -40,7 +40,7 @@ book_is_left maps before id request (Ok placed) after is why same known = let ro
 book_is_left maps before id request (Err OutOfMemory) after is why same known = absurd (known refl)
 book_is_left maps before id request (Err (Refused refusal)) after is why same known = same ∙ sym (ap (book_after before) why)
 
--- number, text and newline behind what was there
+-- number, text and newline after what was there
 pub line_joined : (front first second third said : List ℕ) (number : ℕ) (answer : Result Answered Refusal)
     → first ≡ front ++ decimal number → second ≡ first ++ said → third ≡ second ++ codes "\n" → said ≡ told answer → third ≡ front ++ line_of number answer
 unfolding line_of

@@ -11,7 +11,7 @@ use Rattle.program_io.specs.declared.fault.InputFault.{InputFault}
 use Rattle.claims_read.specs.Entries.{Entry, entries_of}
 use Rattle.claims_read.specs.Sample.{sample_routes, opening_book}
 
--- what stands behind the number: the answer in printed bytes, or the name of the refusal
+-- what stands after the number: the answer in printed bytes, or the name of the refusal
 abbrev pub told : Result Answered Refusal → List ℕ
 told (Ok answer) = codes " " ++ printed answer.bytes
 told (Err refusal) = codes " refused " ++ refusal_name refusal
@@ -38,7 +38,7 @@ abbrev pub answer_lines : RouteMaps → Book → List Entry → List ℕ
 answer_lines maps book [] = []
 answer_lines maps book (e ∷ more) = entry_line maps book e ++ answer_lines maps (book_after book (said_to maps book e)) more
 
--- what stands in an output with the lines of these entries behind what it had, or the line that spells none
+-- what stands in an output with the lines of these entries after what it had, or the line that spells none
 abbrev pub lines_behind : RouteMaps → Book → List ℕ → Result (List Entry) ℕ → Result (List ℕ) ℕ
 lines_behind maps book front (Ok entries) = Ok (front ++ answer_lines maps book entries)
 lines_behind maps book front (Err number) = Err number

@@ -16,7 +16,7 @@ answer_of (Some row) = kept_answer row
 abbrev pub answer_in : List Row → ℕ → List ℕ
 answer_in rows place = answer_of (slice_get rows place)
 
--- what stands behind the number, where these are the rows
+-- what stands after the number, where these are the rows
 abbrev pub said_text : List Row → Result Placed Fault → List ℕ
 said_text rows (Ok placed) = codes " " ++ printed (answer_in rows placed.place)
 said_text rows (Err fault) = codes " refused " ++ name_by (refusal_of fault)

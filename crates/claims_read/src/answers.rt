@@ -80,7 +80,7 @@ fn put_line(
     Ok(())
 }
 
-/// Appends what stands behind the number: the answer, which the book has at the place that is said, or the name of the
+/// Appends what stands after the number: the answer, which the book has at the place that is said, or the name of the
 /// refusal.
 fn put_said(
     output: &mut Vec<u8>,

@@ -30,7 +30,7 @@ const MOST_PAID: usize = 4;
 const SHORTEST: usize = 60;
 
 /// An empty book of payer 1, of at most 1,000 rows, whose plan has the one product and whose maps hash with these keys. It
-/// has room for what an input of so many bytes can make of it.
+/// has room for what an input of this many bytes can make of it.
 pub(crate) fn book(alloc: Global, keys: &HashKeys, bytes: usize) -> Result<Book, AllocError>
     ensures { IfOk result (λ book. book ≡ opening_book) }
 {

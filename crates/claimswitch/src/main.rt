@@ -142,7 +142,7 @@ fn why(
     }
 }
 
-/// Answers standard input on standard output. The process ends behind it, so the world that a replay leaves stays where it is:
+/// Answers standard input on standard output. The process ends after it, so the world that a replay leaves stays where it is:
 /// giving it back piece by piece is a fifteenth of the time of a long one.
 fn serve<T, R: Read>(rt: &HostRuntime, threads: &T, word: Word, reader: &mut R) -> Result<(), End>
 where

@@ -41,7 +41,7 @@ impl<F: Display + Drop> End<F> {
         }
     }
 
-    /// Says on standard error, behind the name of the program, why it ends, and gives the status: this one. Where the words
+    /// Says on standard error, after the name of the program, why it ends, and gives the status: this one. Where the words
     /// ask for help or for the version, that is printed, and the status is 0, or 1 where it cannot be written; where they are
     /// wrong, it is 2.
     pub fn told<R: Print + Eprint>(&self, rt: &R, program: &str, status: u8) -> ExitCode {

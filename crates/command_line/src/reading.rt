@@ -54,7 +54,7 @@ pub fn read_settings_file<R: Files + AllocGlobal, F: Display + Drop>(
     }
 }
 
-/// The bytes of a file, or so many of them that they are too many for settings.
+/// The bytes of a file, or this many of them that they are too many for settings.
 fn read_start<R: Files + AllocGlobal>(rt: &R, name: &str) -> io::Result<Vec<u8>> {
     let mut file = File::open(rt, name)?;
     let mut piece = Vec::from_elem(rt.alloc(), 0u8, PIECE)?;

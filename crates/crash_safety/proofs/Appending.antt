@@ -30,7 +30,7 @@ pub record Appended (n m : Network) (node : Node) (l : Logged) : Type 0 where
 abbrev pub appends_by : Node → Event → List Move
 appends_by node event = Restarting node ∷ Calling event ∷ Syncing node ∷ []
 
--- the process behind the call
+-- the process after the call
 made : Process → AnyNode → Logged → Process
 made p next l = record { memory = Some next; synced = p.synced; unsynced = p.unsynced ++ l ∷ [] }
 

@@ -38,7 +38,7 @@ pub record IsFit (ctx : Context) (s : WorldSettings) (wire : List Packet) (reque
   pub comes : CanCome wire node c.pending
   pub waits : (k : ℕ) → c.waits_for ≡ Some k → Waits requests node c k
 
--- what a request asks for fits behind the entries that it expects
+-- what a request asks for fits after the entries that it expects
 pub record IsFair (ctx : Context) (s : WorldSettings) (wire : List Packet) (log : List Logged) (r : Request) : Type 0 where
   pub within : r.expected ≤ length log
   pub before : AnyNode

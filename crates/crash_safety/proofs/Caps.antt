@@ -1,4 +1,4 @@
--- A switch's cap stays, whatever calls it makes; so what it is behind a stop and a start is what it was at first.
+-- A switch's cap stays, whatever calls it makes; so what it is after a stop and a start is what it was at first.
 use Rattle.std.proofs.Common.{◌≡◌, ℕ, zero, suc, Bool, true, false, cond, List, [], ◌∷◌, Option, Some, None, Result, Ok, Err, refl, subst}
 use Rattle.std.specs.Prelude.{⊤, bytes_eq, option_map}
 use Rattle.claim_model.specs.Words.{TxnId, RequestHeader, Envelope, EnvelopeFault, Answer}

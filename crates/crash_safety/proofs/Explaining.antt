@@ -553,7 +553,7 @@ makes_still ctx w u t turns next at others makes made node now apart is =
           subst (Makes ctx now) (other_same t turns node other.0) (makes node now apart (sym (others node apart (λ e. other.1 (sym e))) ∙ is))
     ]
 
--- the world behind a turn
+-- the world after a turn
 behind : (ctx : Context) (s : WorldSettings) (w : World) (packets : List Packet) (t : Turn) (turns : List Turn) (now next : AnyNode) → Ready ctx s w packets (t ∷ turns) → IsExplained ctx packets t.node t.logged.call → node_at w t.node ≡ Some now
     → node_step ctx now t.logged.call ≡ Done next t.logged.sent → Makes ctx next (log_among turns t.node) → (e : Enabled ctx s w t.node t.logged.call) → (o : OneStep ctx e.v t.node t.logged.call t.logged.sent next e.event)
     → Ready ctx s o.v (packets ++ sent_in t) turns

@@ -32,7 +32,7 @@ pub record Further (ctx : Context) (s : WorldSettings) (n : Network) (events : L
 pub as_it_was : (ctx : Context) (s : WorldSettings) (n : Network) (events : List Event) → IsSound ctx s n events → Further ctx s n events
 as_it_was ctx s n events i = record { more = []; sound = subst (IsSound ctx s n) (sym (append-nil events)) i }
 
--- a process that changes in memory and behind its synced calls alone
+-- a process that changes in memory and after its synced calls alone
 module _ (ctx : Context) (s : WorldSettings) (n : Network) (events : List Event) (i : IsSound ctx s n events) where
   pub beside : (node : Node) (p : Process) → p.synced ≡ (n.at node).synced → IsWell ctx s (run ctx (opening s) events).packets node p → Further ctx s (put n node p) events
   beside node p same well =

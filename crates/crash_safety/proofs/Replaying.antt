@@ -5,12 +5,12 @@ use Rattle.claim_model.specs.Node.{Done}
 use Rattle.claim_model.specs.Nodes.{AnyNode, node_step}
 use Rattle.claim_model.specs.Logs.{Logged, node_after, replay, Makes}
 
--- the node behind one call more
+-- the node after one call more
 pub replay_more : (ctx : Context) (before : AnyNode) (log : List Logged) (l : Logged) → replay ctx before (log ++ l ∷ []) ≡ node_after (replay ctx before log) (node_step ctx (replay ctx before log) l.call)
 replay_more ctx before [] l = refl
 replay_more ctx before (k ∷ log) l = replay_more ctx (node_after before (node_step ctx before k.call)) log l
 
--- a node that makes a call, and sends this, is behind it what the call gives
+-- a node that makes a call, and sends this, is after it what the call gives
 pub steps_on : (ctx : Context) (m after : AnyNode) (l : Logged) → node_step ctx m l.call ≡ Done after l.sent → node_step ctx m l.call ≡ Done (node_after m (node_step ctx m l.call)) l.sent
 steps_on ctx m after l e = e ∙ ap (λ (x : AnyNode). Done x l.sent) (sym (ap (node_after m) e))
 

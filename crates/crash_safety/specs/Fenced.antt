@@ -10,7 +10,7 @@ use Rattle.claim_model.specs.Logs.{Logged, posted_by}
 use Rattle.crash_safety.specs.Network.{Move, replayed, network}
 use Rattle.crash_safety.specs.Runs.{on_disks}
 
--- a request to append a call to the stream of a node, which is expected to have so many entries. Requests are numbered from 1, and may be
+-- a request to append a call to the stream of a node, which is expected to have this many entries. Requests are numbered from 1, and may be
 -- lost, late, or come any number of times
 pub record Request : Type 0 where
   pub node : Node
@@ -28,7 +28,7 @@ pub record Candidate : Type 0 where
   pub memory : Option AnyNode
   -- of how many entries of the stream it knows that they are there
   pub known : ℕ
-  -- the calls that it made behind them
+  -- the calls that it made after them
   pub pending : List Logged
   -- the request for the first of these, where it has made one
   pub waits_for : Option ℕ
@@ -44,11 +44,11 @@ pub data Deed : Type 0 where
   Joining : Node → (candidate : ℕ) → Deed
   -- it makes a call in memory, where it lives
   Asking : (candidate : ℕ) → Event → Deed
-  -- it requests that its first pending call be appended behind the entries that it knows
+  -- it requests that its first pending call be appended after the entries that it knows
   Requesting : Node → (candidate : ℕ) → Deed
   -- a request comes to the stream, which takes it only if it ends where the request expects it to end
   Taking : (request : ℕ) → Deed
-  -- a candidate hears that its request was taken, or finds its entry behind those that it knows
+  -- a candidate hears that its request was taken, or finds its entry after those that it knows
   Learning : Node → (candidate : ℕ) → Deed
   -- it says a packet of the calls that it knows to be in the stream, now or again
   Telling : Node → (candidate : ℕ) → (packet : ℕ) → Deed
@@ -153,7 +153,7 @@ pub record Fences (ctx : Context) (s : WorldSettings) (now later : Fenced) : Typ
   pub first : AreDisks ctx s now moves
   pub last : AreDisks ctx s later (moves ++ more)
 
--- a candidate that lives has in memory the replay of what it knows to be there and of what it made behind it
+-- a candidate that lives has in memory the replay of what it knows to be there and of what it made after it
 abbrev pub IsReplayOfKnown : Context → WorldSettings → Fenced → Node → ℕ → Type 0
 IsReplayOfKnown ctx s f node number =
     (m : AnyNode) → (f.candidates node number).memory ≡ Some m → replayed ctx s node (known_log f node number ++ (f.candidates node number).pending) ≡ Some m

@@ -14,7 +14,7 @@ pub record Process : Type 0 where
   pub memory : Option AnyNode
   -- the calls whose records a sync has put on the disk
   pub synced : List Logged
-  -- the calls that were made behind them, whose records a crash may take
+  -- the calls that were made after them, whose records a crash may take
   pub unsynced : List Logged
 
 -- the process of each node, and all packets that were said, in order
@@ -30,7 +30,7 @@ pub data Move : Type 0 where
   Syncing : Node → Move
   -- a packet of the synced calls is said, now or again, by its number among these
   Saying : Node → (packet : ℕ) → Move
-  -- the process dies, or its machine: of the records that are not synced the first so many are still there, and still not synced
+  -- the process dies, or its machine: of the records that are not synced the first this many are still there, and still not synced
   Crashing : Node → (left : ℕ) → Move
   -- a process reads the log as it lies, and replays it
   Restarting : Node → Move

@@ -14,7 +14,7 @@ pub data Step : Type 0 where
   Makes : Call → Step
   -- the first record that is not synced is synced
   Syncs : Step
-  -- it dies; of the records that are not synced the first so many are still there
+  -- it dies; of the records that are not synced the first this many are still there
   Crashes : (left : ℕ) → Step
   -- a process reads the log, and replays it
   Restarts : Step

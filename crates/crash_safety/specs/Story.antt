@@ -95,7 +95,7 @@ count_syncs (Saying node packet ∷ moves) = count_syncs moves
 count_syncs (Crashing node left ∷ moves) = count_syncs moves
 count_syncs (Restarting node ∷ moves) = count_syncs moves
 
--- behind them the pharmacy has the payer's answer, and may tell it
+-- after them the pharmacy has the payer's answer, and may tell it
 pub record ToldAfterTwo (plan : Plan) : Type 0 where
   pub told : IsTold (light (small (Some 1)) (small_world plan) two_syncs) first_id (65 ∷ [])
   pub syncs : count_syncs two_syncs ≡ 2

@@ -1,5 +1,5 @@
 //! Crashes: processes that are killed at any moment, disks that forget what was not synced, and words that are said
-//! behind a sync alone. What the disks hold is a run of the model at every moment, and so is what all memories hold
+//! after a sync alone. What the disks hold is a run of the model at every moment, and so is what all memories hold
 //! together; so each promise of the model holds of them. Logs may be closed: a process goes on in a new one, which
 //! begins with the node that the closed ones make. It has definitions and theorems over the model, and no code.
 //! The premises: what a sync put on a disk stays there, each name has one process, and a process says what its

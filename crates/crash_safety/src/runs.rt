@@ -18,7 +18,7 @@ pub fn disks_are_a_run()
         → Course ctx s (network ctx s moves) (network ctx s (moves ++ more)) }
 {}
 
-/// A process that lives is its log's replay, also behind any restart; and its node makes every call of the log.
+/// A process that lives is its log's replay, also after any restart; and its node makes every call of the log.
 pub fn memories_are_replays()
     ensures { (ctx : Context) (s : WorldSettings) (moves : List Move) (node : Node)
         → IsReplay ctx s node ((network ctx s moves).at node) }

@@ -54,7 +54,7 @@ pub fn a_lost_rejection_gets_another_answer()
     ensures { (plan : Plan) → TwoAnswers plan }
 {}
 
-/// A computed story of a claim: where switches have no disk, its answer may be told behind two syncs, the pharmacy's of the
+/// A computed story of a claim: where switches have no disk, its answer may be told after two syncs, the pharmacy's of the
 /// submission and the payer's of the ruling.
 pub fn told_after_two_syncs()
     ensures { (plan : Plan) → ToldAfterTwo plan }

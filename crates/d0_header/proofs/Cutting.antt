@@ -45,7 +45,7 @@ front_fits bytes text n e long =
     let both : length (take n bytes) ≡ length text = ap length e in
     omega (arith, length-take n bytes)
 
--- a field that is put behind a text makes the longer text
+-- a field that is put after a text makes the longer text
 pub put_behind : (old new field before : List ℕ) (place end : ℕ) → end ≡ place + length field → take (place + length field) new ≡ take place old ++ field → take place old ≡ before → take end new ≡ before ++ field
 put_behind old new field before place end e f g =
     ap (λ (n : ℕ). take n new) e ∙ (f ∙ ap (λ (xs : List ℕ). xs ++ field) g)

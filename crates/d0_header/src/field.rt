@@ -14,7 +14,7 @@ pub fn field_at<const N: usize>(bytes: &[u8], place: usize) -> [u8; N]
     field
 }
 
-/// Writes a field at `place`, and answers the place behind it.
+/// Writes a field at `place`, and answers the place after it.
 pub fn put(text: &mut [u8], place: usize, field: &[u8]) -> usize
     requires { place + length field.now ≤ length text.old }
     ensures end { result ≡ place + length field.now }

@@ -50,7 +50,7 @@ id_plain (a ∷ []) e = absurd cc
 id_plain (a ∷ b ∷ []) e = let parts = both (not (is_separator a)) (not (is_separator b)) e in rw (parts.0, parts.1) refl
 id_plain (a ∷ b ∷ c ∷ id) e = absurd cc
 
--- what a field has behind its separator
+-- what a field has after its separator
 abbrev pub inner : FieldParts → List ℕ
 inner f = f.id ++ f.value
 
@@ -73,7 +73,7 @@ fields_lack_group (f ∷ fs) e =
     let parts = both (is_field f) (are_fields fs) e in
     lacks-append 29 (field_text f) (fields_text fs) (lacks-cons 29 28 (inner f) refl (inner_lacks f parts.0).group) (fields_lack_group fs parts.1)
 
--- what a segment has behind its separator
+-- what a segment has after its separator
 abbrev inside : SegmentParts → List ℕ
 inside s = 28 ∷ (65 ∷ 77 ∷ s.id) ++ fields_text s.fields
 

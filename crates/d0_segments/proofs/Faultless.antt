@@ -8,7 +8,7 @@ use Rattle.d0_segments.specs.Faults.{starts_nothing, is_empty_group, has_segment
 use Rattle.d0_segments.specs.Inside.{is_inside}
 use Rattle.d0_segments.proofs.Walking.{both, not_true, anywhere, ends_here_of, walk_field_of, segment_start}
 
--- no fault is told at a byte, nor behind it
+-- no fault is told at a byte, nor after it
 pub neither : (o later : Option FramingFault) → or_else o later ≡ None → (o ≡ None) × (later ≡ None)
 neither None later e = (refl, e)
 neither (Some f) later e = absurd cc
@@ -37,7 +37,7 @@ no_fault_if : (b : Bool) (f : FramingFault) → cond (not b) (Some f) None ≡ N
 no_fault_if true f e = refl
 no_fault_if false f e = absurd cc
 
--- what each separator has behind it
+-- what each separator has after it
 pub named_field : (p : ℕ) (bs : List ℕ) → first_fault 0 p (28 ∷ bs) ≡ None → has_field_id bs ≡ true
 named_field p bs e = no_fault_if (has_field_id bs) (BadFieldId p) (neither (fault_at 0 p 28 bs) (first_fault 28 (p + 1) bs) e).0
 
@@ -59,7 +59,7 @@ started_if : (b : Bool) (p : ℕ) (c d e : Bool) → tests p (not b && true) c d
 started_if true p c d e h = refl
 started_if false p c d e h = absurd cc
 
--- behind the header and behind a group separator a segment or a group begins
+-- after the header and after a group separator a segment or a group begins
 pub started : (p : ℕ) (bs : List ℕ) → first_fault 29 p bs ≡ None → ends_segment bs ≡ true
 started p [] e = refl
 started p (b ∷ bs) e =
@@ -102,7 +102,7 @@ pub field_start : (bs : List ℕ) → is_inside bs ≡ true → begins_with 28 b
 field_start [] inside begins = absurd cc
 field_start (b ∷ bs) inside begins = field_start_at b bs (eqb-true b 28 begins) (inside_facts (b ∷ bs) inside).1
 
--- behind a field
+-- after a field
 pub behind_field : (bs value rest : List ℕ) → is_inside bs ≡ true → begins_with 28 bs ≡ true → is_plain value ≡ true → ends_here rest ≡ true → drop 3 bs ≡ value ++ rest
     → is_inside rest ≡ true
 behind_field bs value rest inside begins plain ends parts =
@@ -151,7 +151,7 @@ pub segment_here : (bs : List ℕ) → is_inside bs ≡ true → begins_with 30 
 segment_here [] inside begins = absurd cc
 segment_here (b ∷ bs) inside begins = segment_start_at b bs (eqb-true b 30 begins) (inside_facts (b ∷ bs) inside).1
 
--- behind the identification
+-- after the identification
 pub behind_name : (bs : List ℕ) → is_inside bs ≡ true → begins_with 30 bs ≡ true → is_inside (drop 6 bs) ≡ true
 behind_name bs inside begins =
     let s = segment_here bs inside begins in
@@ -160,7 +160,7 @@ behind_name bs inside begins =
     let none : first_fault 0 0 (30 ∷ 28 ∷ 65 ∷ 77 ∷ x ∷ y ∷ drop 6 bs) ≡ None = ap (first_fault 0 0) (sym s.are) ∙ (inside_facts bs inside).1 in
     inside_of (0 + 6) (drop 6 bs) s.ends (sym (segment_start 0 x y 0 (drop 6 bs) s.first s.second s.ends) ∙ none)
 
--- behind a group separator
+-- after a group separator
 behind_group_at : (x p b : ℕ) (bs : List ℕ) → b ≡ 29 → first_fault x p (b ∷ bs) ≡ None → is_inside bs ≡ true
 behind_group_at x p b bs is none =
     let f = (filled_group x p bs (subst (λ c. first_fault x p (c ∷ bs) ≡ None) is none)).1 in

@@ -115,7 +115,7 @@ none_stands front offset (x ∷ text) e (suc k) f h =
     let p = neither (fault_at front offset x text) (first_fault x (offset + 1) text) e in
     none_stands x (offset + 1) text p.1 k f (back front offset x text k f h)
 
--- a search that answers something answers it at a byte or behind it
+-- a search that answers something answers it at a byte or after it
 answered : (o later : Option FramingFault) (f : FramingFault) → or_else o later ≡ Some f → (o ≡ Some f) ⊎ ((o ≡ None) × (later ≡ Some f))
 answered (Some g) later f e = inl e
 answered None later f e = inr (refl, e)

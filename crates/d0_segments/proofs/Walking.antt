@@ -32,7 +32,7 @@ is_none b e =
     let two = neither (eqb b 28) (eqb b 29) three.0 in
     record { field = two.0; group = two.1; segment = three.1 }
 
--- behind a byte that starts neither a group nor a segment, no matter which
+-- after a byte that starts neither a group nor a segment, no matter which
 pub inside : (x : ℕ) → eqb x 29 ≡ false → eqb x 30 ≡ false → (p : ℕ) (bs : List ℕ) → first_fault x p bs ≡ first_fault 0 p bs
 inside x g s p [] = refl
 inside x g s p (b ∷ bs) = simp (g, s)
@@ -71,7 +71,7 @@ pair_of (a ∷ b ∷ []) e =
     }
 pair_of (a ∷ b ∷ c ∷ id) e = absurd cc
 
--- over a field separator with two plain bytes behind it
+-- over a field separator with two plain bytes after it
 pub walk_id : (a b : ℕ) (rest : List ℕ) (p : ℕ) → is_separator a ≡ false → is_separator b ≡ false → first_fault 0 p (28 ∷ a ∷ b ∷ rest) ≡ first_fault 0 (p + 3) rest
 walk_id a b rest p first second =
     let here : first_fault 0 p (28 ∷ a ∷ b ∷ rest) ≡ first_fault 28 (p + 1) (a ∷ b ∷ rest) = simp (first, second) in

@@ -1,6 +1,6 @@
 -- Places in memory.
 use Rattle.std.specs.Prelude.{ℕ, ◌+◌}
 
--- so many bytes behind an address, which is a block of memory and a place in it
+-- this many bytes after an address, which is a block of memory and a place in it
 abbrev pub beyond : ℕ × ℕ → ℕ → ℕ × ℕ
 beyond address bytes = (address.0, address.1 + bytes)

@@ -8,7 +8,7 @@ use Rattle.d0_segments.specs.Views.{field_parts}
 use Rattle.d0_segments.specs.Pieces.{shared_of, groups_of}
 use Rattle.d0_segments.specs.Inside.{fields_left}
 
--- the next field of the segment and the place behind it; nothing where no field is left
+-- the next field of the segment and the place after it; nothing where no field is left
 abbrev pub FindsField : List ℕ → Option (Field × Cursor) → Type 0
 FindsField bytes found = MatchOption found (fields_left bytes ≡ []) (λ x. fields_left bytes ≡ field_parts x.0 ∷ fields_left x.1.bytes.now)
 

@@ -4,11 +4,11 @@ use Rattle.d0_segments.specs.declared.fault.FramingFault.{FramingFault}
 use Rattle.d0_segments.specs.declared.fault.FramingFault.TheVariants.{OutOfMemory, NoSegmentStart, NoSegmentId, BadFieldId, EmptyGroup}
 use Rattle.d0_segments.specs.Separators.{field_separator, group_separator, segment_separator, is_separator, ends_here, ends_group}
 
--- whether a byte other than the segment separator and the group separator stands behind the header or a group separator
+-- whether a byte other than the segment separator and the group separator stands after the header or a group separator
 abbrev pub starts_nothing : (before byte : ℕ) → Bool
 starts_nothing before byte = not (byte == segment_separator || byte == group_separator) && before == group_separator
 
--- whether the group separator has another group separator or the end behind it
+-- whether the group separator has another group separator or the end after it
 abbrev pub is_empty_group : (byte : ℕ) (behind : List ℕ) → Bool
 is_empty_group byte behind = byte == group_separator && ends_group behind
 
@@ -22,11 +22,11 @@ abbrev pub has_field_id : List ℕ → Bool
 has_field_id (x ∷ y ∷ rest) = not (is_separator x) && not (is_separator y)
 has_field_id _ = false
 
--- whether the field separator stands behind a byte of a segment, and not behind the separator that starts the segment
+-- whether the field separator stands after a byte of a segment, and not after the separator that starts the segment
 abbrev pub is_later_field : (before byte : ℕ) → Bool
 is_later_field before byte = byte == field_separator && not (before == segment_separator) && not (before == group_separator)
 
--- the row of the table that stands at a place, knowing the byte before, the byte there and those behind
+-- the row of the table that stands at a place, knowing the byte before, the byte there and those after
 abbrev pub fault_at : (before place byte : ℕ) (behind : List ℕ) → Option FramingFault
 fault_at before place byte behind =
     if starts_nothing before byte then Some (NoSegmentStart place)

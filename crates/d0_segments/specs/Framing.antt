@@ -55,16 +55,16 @@ SpellsResponse bytes t = IsResponseFramed t × (bytes ≡ transmission_text resp
 abbrev pub count_fault : (said found : ℕ) → Option FramingFault
 count_fault said found = if said == found then None else Some (CountMismatch said found)
 
--- the first fault of what stands behind a header: a row of the fault table, or the count
+-- the first fault of what stands after a header: a row of the fault table, or the count
 abbrev pub body_fault : (said place : ℕ) (body : List ℕ) → Option FramingFault
 body_fault said place body = or_else (first_fault group_separator place body) (count_fault said (count_groups body))
 
--- a fault of the header, or what comes behind
+-- a fault of the header, or what comes after
 abbrev pub after_header : Option HeaderFault → Option FramingFault → Option FramingFault
 after_header (Some fault) later = Some (Header fault)
 after_header None later = later
 
--- the fault of bytes as a transmission: of the header, else of what stands behind it
+-- the fault of bytes as a transmission: of the header, else of what stands after it
 unfoldable pub framing_fault : {H : Type 0} → HeaderKind H → List ℕ → Option FramingFault
 framing_fault kind bytes = after_header (kind.fault bytes) (body_fault (kind.said (kind.header_of bytes)) kind.size (drop kind.size bytes))
 

@@ -5,7 +5,7 @@ use Rattle.d0_segments.specs.declared.fault.FramingFault.TheVariants.{NoSegmentS
 use Rattle.d0_segments.specs.Separators.{segment_separator}
 use Rattle.d0_segments.specs.Faults.{starts_nothing, is_empty_group, has_segment_id, has_field_id, is_later_field}
 
--- a row of the table stands at a place, knowing the byte before, the byte there and those behind
+-- a row of the table stands at a place, knowing the byte before, the byte there and those after
 abbrev pub Stands : (before place byte : ℕ) (behind : List ℕ) → FramingFault → Type 0
 Stands before place byte behind (NoSegmentStart at) = (at ≡ place) × (starts_nothing before byte ≡ true)
 Stands before place byte behind (EmptyGroup at) = (at ≡ place) × (is_empty_group byte behind ≡ true)

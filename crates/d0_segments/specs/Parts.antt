@@ -7,7 +7,7 @@ pub record FieldParts : Type 0 where
   pub id : List ℕ
   pub value : List ℕ
 
--- a segment: the two bytes that identify it, and the fields behind its identification
+-- a segment: the two bytes that identify it, and the fields after its identification
 pub record SegmentParts : Type 0 where
   pub id : List ℕ
   pub fields : List FieldParts

@@ -5,7 +5,7 @@ use Rattle.d0_segments.specs.Separators.{ends_here}
 use Rattle.d0_segments.specs.Faults.{count_groups}
 use Rattle.d0_segments.specs.Taking.{fault_in}
 
--- from the first place to the second no fault stands, and so many groups begin
+-- from the first place to the second no fault stands, and this many groups begin
 pub record Passes (before : Rest) (groups : ℕ) (after : Rest) : Type 0 where
   pub fault : fault_in before ≡ fault_in after
   pub count : count_groups before.bytes.now ≡ groups + count_groups after.bytes.now

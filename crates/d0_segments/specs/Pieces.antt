@@ -17,7 +17,7 @@ pieces separator (b ∷ bs) = if b == separator then [] ∷ pieces separator bs 
 abbrev pub field_of : List ℕ → FieldParts
 field_of piece = record { id = take 2 piece; value = drop 2 piece }
 
--- the bytes behind AM, and the further fields
+-- the bytes after AM, and the further fields
 abbrev pub segment_from : List (List ℕ) → SegmentParts
 segment_from [] = record { id = []; fields = [] }
 segment_from (name ∷ fields) = record { id = drop 2 name; fields = map field_of fields }

@@ -12,15 +12,15 @@ pub record Takes (before : Rest) (text : List ℕ) (after : Rest) : Type 0 where
   pub address : after.bytes.ref_ptr ≡ beyond before.bytes.ref_ptr (length text)
   pub end : after.end ≡ before.end
 
--- the first fault of the bytes that are left, behind a byte of a segment
+-- the first fault of the bytes that are left, after a byte of a segment
 abbrev pub fault_in : Rest → Option FramingFault
 fault_in rest = first_fault 0 (rest.end - length rest.bytes.now) rest.bytes.now
 
--- the first fault of the bytes that are left behind a header or a group separator
+-- the first fault of the bytes that are left after a header or a group separator
 abbrev pub fault_behind_header : Rest → Option FramingFault
 fault_behind_header rest = first_fault 29 (rest.end - length rest.bytes.now) rest.bytes.now
 
--- the field AM with exactly two bytes stands behind the first byte
+-- the field AM with exactly two bytes stands after the first byte
 pub record IsIdentified (bytes : List ℕ) : Type 0 where
   pub long : 6 ≤ length bytes
   pub field : slice_index bytes 1 ≡ 28

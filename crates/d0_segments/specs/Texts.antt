@@ -30,6 +30,6 @@ abbrev pub groups_text : List (List SegmentParts) → List ℕ
 groups_text [] = []
 groups_text (g ∷ gs) = group_text g ++ groups_text gs
 
--- what stands behind the header: the shared segments and the groups
+-- what stands after the header: the shared segments and the groups
 abbrev pub body_text : List SegmentParts → List (List SegmentParts) → List ℕ
 body_text shared groups = segments_text shared ++ groups_text groups

@@ -13,7 +13,7 @@ use crate::rest::{behind, byte_at};
 use crate::separator::{FIELD_SEPARATOR, GROUP_SEPARATOR, SEGMENT_SEPARATOR, begins_with, split};
 use memchr::memchr;
 
-/// A place behind the header of framed bytes: where a field, a segment or a group begins, or the end.
+/// A place after the header of framed bytes: where a field, a segment or a group begins, or the end.
 /// It lends the fields from there on and takes no memory.
 #[derive(Clone, Copy)]
 pub struct Cursor<'a> {
@@ -21,7 +21,7 @@ pub struct Cursor<'a> {
     pub ghost framed: { is_inside bytes.now ≡ true },
 }
 
-/// A segment in place: its identification, and where its fields begin. The segments behind it follow
+/// A segment in place: its identification, and where its fields begin. The segments after it follow
 /// from there too.
 #[derive(Clone, Copy)]
 pub struct SegmentAt<'a> {
@@ -39,7 +39,7 @@ impl<'a> SegmentAt<'a> {
         [self.first, self.second]
     }
 
-    /// The place behind the identification, where its fields begin.
+    /// The place after the identification, where its fields begin.
     #[inline(always)]
     pub fn fields(&self) -> Cursor<'a>
         ensures { result ≡ self.now.fields }
@@ -60,11 +60,11 @@ impl<'a> Cursor<'a> {
         Cursor { bytes }
     }
 
-    /// The next field of the segment and the place behind it; None behind the last one.
+    /// The next field of the segment and the place after it; None after the last one.
     #[inline(always)]
     pub fn field(self) -> Option<(Field<'a>, Cursor<'a>)>
         ensures fields { FindsField self.entry.bytes.now result }
-        // The segments behind are the same from both places.
+        // The segments after are the same from both places.
         ensures segments { IfSome result (λ x. shared_of self.entry.bytes.now ≡ shared_of x.1.bytes.now) }
         ensures shorter { IfSome result (λ x. length x.1.bytes.now < length self.entry.bytes.now) }
         ensures ends { IfNone result (ends_segment self.entry.bytes.now ≡ true) }
@@ -75,7 +75,7 @@ impl<'a> Cursor<'a> {
         None
     }
 
-    /// The field that begins here, and the place behind it.
+    /// The field that begins here, and the place after it.
     #[inline(always)]
     fn take_field(self) -> (Field<'a>, Cursor<'a>)
         requires { begins_with 28 self.bytes.now ≡ true }
@@ -88,7 +88,7 @@ impl<'a> Cursor<'a> {
         (field, Cursor::at(rest))
     }
 
-    /// The next segment of the group; None behind the last one.
+    /// The next segment of the group; None after the last one.
     #[inline(always)]
     pub fn segment(self) -> Option<SegmentAt<'a>>
         ensures segments { FindsSegment self.entry.bytes.now result }
@@ -101,7 +101,7 @@ impl<'a> Cursor<'a> {
         None
     }
 
-    /// The place behind the fields that are left of a segment.
+    /// The place after the fields that are left of a segment.
     #[inline(always)]
     fn behind_fields(self) -> Cursor<'a>
         ensures ends { ends_segment result.bytes.now ≡ true }
@@ -132,7 +132,7 @@ impl<'a> Cursor<'a> {
         }
     }
 
-    /// The place where the segments of the next group begin; None behind the last one.
+    /// The place where the segments of the next group begin; None after the last one.
     pub fn group(self) -> Option<Cursor<'a>>
         ensures groups { FindsGroup self.entry.bytes.now result }
         ensures shorter { IfSome result (λ x. length x.bytes.now < length self.entry.bytes.now) }

@@ -18,7 +18,7 @@ pub enum FramingFault {
     /// The bytes do not begin with a header.
     #[error("{0}")]
     Header(HeaderFault),
-    /// Neither a segment nor a group starts behind the header, or no segment behind a group
+    /// Neither a segment nor a group starts after the header, or no segment after a group
     /// separator: the place of the byte that stands there.
     #[error("no segment starts at byte {0}")]
     NoSegmentStart(usize),

@@ -6,7 +6,7 @@ ghost use Rattle.d0_segments.specs.Pieces.{shared_of, groups_of};
 use crate::cursor::Cursor;
 use crate::header::Header;
 
-/// Bytes that are framed: their header, and where the body begins behind it. No group is empty, and
+/// Bytes that are framed: their header, and where the body begins after it. No group is empty, and
 /// the header announces as many groups as there are.
 #[derive(Drop)]
 pub struct Framed<'a, H: Header> {
@@ -16,7 +16,7 @@ pub struct Framed<'a, H: Header> {
 }
 
 impl<'a, H: Header> Framed<'a, H> {
-    /// A header and the body behind it, with as many groups as the header announces.
+    /// A header and the body after it, with as many groups as the header announces.
     #[inline(always)]
     pub(crate) fn new(header: H, body: Cursor<'a>) -> Framed<'a, H>
         requires { H.kind.said header ≡ length (groups_of body.bytes.now) }
@@ -40,7 +40,7 @@ impl<'a, H: Header> Framed<'a, H> {
         self.header.announced() as usize
     }
 
-    /// The place behind the header, where the segments that belong to the whole transmission begin.
+    /// The place after the header, where the segments that belong to the whole transmission begin.
     pub fn body(&self) -> Cursor<'a>
         ensures { result ≡ self.now.body }
     {
@@ -56,7 +56,7 @@ impl<'a, H: Header> Framed<'a, H> {
     }
 }
 
-/// The place where the segments of the group behind so many others begin.
+/// The place where the segments of the group after this many others begin.
 fn group_behind(body: Cursor<'_>, others: usize) -> Cursor<'_>
     requires { others < length (groups_of body.bytes.now) }
     ensures { shared_of result.bytes.now ≡ slice_index_or (groups_of body.entry.bytes.now) others [] }

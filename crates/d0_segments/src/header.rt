@@ -21,7 +21,7 @@ pub trait Header: Drop {
     /// What every header of this kind is.
     ghost sound: { Self → Type 0 };
 
-    /// Reads the header that the bytes begin with, and answers it with the bytes behind it.
+    /// Reads the header that the bytes begin with, and answers it with the bytes after it.
     fn split_front(bytes: &[u8]) -> Result<(Self, &[u8]), HeaderFault>
         ensures sound { IfOk result (λ front. sound front.0) }
         ensures header { IfOk result (λ front. front.0 ≡ kind.header_of bytes.now) }
@@ -35,7 +35,7 @@ pub trait Header: Drop {
     fn announced(&self) -> u8
         ensures { result ≡ kind.said self.now };
 
-    /// Writes the header behind the bytes that are there.
+    /// Writes the header after the bytes that are there.
     fn append_to(&self, text: &mut Vec<u8>) -> Result<(), AllocError>
         ensures text { OnOk result (text.new.items ≡ text.old.items ++ kind.text self.now) }
         ensures sound { sound self.now };

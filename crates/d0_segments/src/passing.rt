@@ -1,4 +1,4 @@
-//! Passing over what stands behind a header, from left to right.
+//! Passing over what stands after a header, from left to right.
 
 ghost use Rattle.std.specs.Prelude.{◌≡◌, ◌≤◌, ◌<◌, true, length, IfOk, IfErr, Some, None};
 ghost use Rattle.d0_segments.specs.Separators.{begins_with, ends_here, ends_segment};
@@ -55,7 +55,7 @@ fn pass_field(from: Rest<'_>) -> Result<(usize, Rest<'_>), FramingFault>
     Ok((0, behind))
 }
 
-/// Passes a segment separator and the identification behind it.
+/// Passes a segment separator and the identification after it.
 #[inline(always)]
 fn pass_segment_start(from: Rest<'_>) -> Result<(usize, Rest<'_>), FramingFault>
     requires { begins_with 30 from.bytes.now ≡ true }

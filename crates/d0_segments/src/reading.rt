@@ -69,7 +69,7 @@ pub fn read_response(
     read(alloc, bytes)
 }
 
-/// What stands behind a header: the shared segments and the groups.
+/// What stands after a header: the shared segments and the groups.
 type Body<'a> = (Vec<Segment<'a>>, Vec<Vec<Segment<'a>>>);
 
 /// Reads the transmission that all of the bytes spell.
@@ -94,7 +94,7 @@ fn read<H: Header>(alloc: Global, bytes: &[u8]) -> Result<Transmission<'_, H>, F
     Ok(Transmission::new(header, shared, groups))
 }
 
-/// Reads what stands behind the header: the shared segments and the groups.
+/// Reads what stands after the header: the shared segments and the groups.
 fn read_body<'a>(alloc: Global, from: Rest<'a>) -> Result<Body<'a>, FramingFault>
     ensures parts { IfOk result
         (λ x. from.entry.bytes.now ≡ body_text (segments_parts x.0.items) (groups_parts x.1.items)) }
@@ -156,7 +156,7 @@ fn read_group<'a>(
     read_segments(alloc, inside)
 }
 
-/// Passes a group separator with a segment behind it.
+/// Passes a group separator with a segment after it.
 #[inline(always)]
 pub(crate) fn enter_group<'a>(from: Rest<'a>) -> Result<Rest<'a>, FramingFault>
     requires { begins_with 29 from.bytes.now ≡ true }
@@ -205,7 +205,7 @@ fn read_segment<'a>(alloc: Global, from: Rest<'a>) -> Result<(Segment<'a>, Rest<
     Ok((Segment::new([first, second], fields), rest))
 }
 
-/// Passes a segment separator and the field `AM` behind it, whose two bytes it answers.
+/// Passes a segment separator and the field `AM` after it, whose two bytes it answers.
 #[inline(always)]
 pub(crate) fn enter_segment<'a>(from: Rest<'a>) -> Result<(u8, u8, Rest<'a>), FramingFault>
     requires { begins_with 30 from.bytes.now ≡ true }
@@ -220,7 +220,7 @@ pub(crate) fn enter_segment<'a>(from: Rest<'a>) -> Result<(u8, u8, Rest<'a>), Fr
     Ok((from.bytes[4], from.bytes[5], from.behind(6)))
 }
 
-/// Whether the field `AM` with exactly two bytes stands behind the first byte.
+/// Whether the field `AM` with exactly two bytes stands after the first byte.
 #[inline(always)]
 fn is_identified(bytes: &[u8]) -> bool
     ensures { IsTrue result ↔ IsIdentified bytes.now }

@@ -19,7 +19,7 @@ impl<'a> Rest<'a> {
         self.end - self.bytes.len()
     }
 
-    /// What is left behind so many bytes.
+    /// What is left after this many bytes.
     pub fn behind(self, count: usize) -> Rest<'a>
         requires { count ≤ length self.bytes.now }
         ensures bytes { result.bytes.now ≡ drop count self.entry.bytes.now }
@@ -42,7 +42,7 @@ pub fn byte_at(bytes: &[u8], place: usize) -> u8
     bytes[place]
 }
 
-/// The bytes behind so many.
+/// The bytes after this many.
 #[inline(always)]
 pub fn behind(bytes: &[u8], count: usize) -> &[u8]
     requires { count ≤ length bytes.now }

@@ -1,4 +1,4 @@
-//! A segment: an identification of two bytes and the fields behind it.
+//! A segment: an identification of two bytes and the fields after it.
 
 ghost use Rattle.std.specs.Prelude.{◌≡◌, true};
 ghost use Rattle.d0_segments.specs.Separators.{is_id};
@@ -31,7 +31,7 @@ impl<'a> Segment<'a> {
         self.id
     }
 
-    /// The fields behind the segment identification, in order.
+    /// The fields after the segment identification, in order.
     pub fn fields(&self) -> &[Field<'a>]
         ensures { result.now ≡ self.now.fields.items }
     {

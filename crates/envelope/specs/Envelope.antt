@@ -25,7 +25,7 @@ abbrev pub kind_byte : Kind → ℕ
 kind_byte Request = 1
 kind_byte Answer = 2
 
--- the head of an envelope with so many bytes of payload
+-- the head of an envelope with this many bytes of payload
 unfoldable pub envelope_head : Kind → Txn → ℕ → List ℕ
 envelope_head kind id len =
     codes "PS" ++ (1 ∷ kind_byte kind ∷ []) ++ to_be_bytes w16 id.pharmacy ++ to_be_bytes w64 id.number ++ to_be_bytes w32 len
@@ -34,7 +34,7 @@ envelope_head kind id len =
 unfoldable pub envelope_text : Kind → Txn → List ℕ → List ℕ
 envelope_text kind id payload = envelope_head kind id (length payload) ++ payload
 
--- bytes at a place in memory are the text of this envelope, whose payload stands behind the head
+-- bytes at a place in memory are the text of this envelope, whose payload stands after the head
 pub record IsTextOf (place : ℕ × ℕ) (bytes : List ℕ) (e : Opened) : Type 0 where
   pub text : bytes ≡ envelope_text e.kind e.id e.payload
   pub id : IsTxn e.id

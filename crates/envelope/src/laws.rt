@@ -18,7 +18,7 @@ pub fn envelope_is_its_text()
         → envelope_of place bytes ≡ Ok e → IsTextOf place bytes e }
 {}
 
-/// The payload stands behind the [`HEAD`](crate::HEAD) bytes of an envelope's head.
+/// The payload stands after the [`HEAD`](crate::HEAD) bytes of an envelope's head.
 pub fn payload_is_behind_its_head()
     ensures { (kind : Kind) (id : Txn) (payload : List ℕ) → (drop 18 (envelope_text kind id payload) ≡ payload)
         × (18 ≤ length (envelope_text kind id payload)) }

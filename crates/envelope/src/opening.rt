@@ -12,7 +12,7 @@ use thiserror::Error;
 /// The largest payload, in bytes.
 pub const LARGEST_PAYLOAD: usize = 32_768;
 
-/// The length of a head, in bytes: the payload stands behind it.
+/// The length of a head, in bytes: the payload stands after it.
 pub const HEAD: usize = 18;
 
 /// The bytes that begin an envelope.
@@ -53,7 +53,7 @@ pub enum EnvelopeFault {
     Length {
         /// The length in the head.
         said: u32,
-        /// The bytes behind the head.
+        /// The bytes after the head.
         found: usize,
     },
     /// The payload has more than 32,768 bytes.
@@ -86,7 +86,7 @@ impl<'a> Envelope<'a> {
     ghost use Rattle.envelope.specs.Txn.{Txn, IsTxn};
     ghost use Rattle.envelope.specs.Envelope.{IsTextOf, envelope_text, opened_at};
 
-    /// Reads an envelope that is all of the bytes. Its payload is the bytes behind the head,
+    /// Reads an envelope that is all of the bytes. Its payload is the bytes after the head,
     /// where they stand.
     ///
     /// The first cause that stands decides: fewer than 18 bytes is `Short`; then come
@@ -95,7 +95,7 @@ impl<'a> Envelope<'a> {
         ensures exact { result ≡ envelope_of bytes.entry.ref_ptr bytes.now }
 
         // What is read is the text of this kind, transaction and payload, and the payload
-        // stands where the bytes behind the head stand.
+        // stands where the bytes after the head stand.
         ensures found { IfOk result (λ e. IsTextOf bytes.entry.ref_ptr bytes.now e) }
 
         // Each such text is read.

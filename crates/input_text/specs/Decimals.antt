@@ -11,7 +11,7 @@ abbrev pub decimal_value : List ℕ → ℕ
 decimal_value [] = 0
 decimal_value (digit ∷ rest) = (digit - 48) * 10 ^ length rest + decimal_value rest
 
--- the word is one digit or more, at most so many, and nothing else
+-- the word is one digit or more, at most this many, and nothing else
 abbrev pub is_decimal : ℕ → List ℕ → Bool
 is_decimal max_digits word = nat_le 1 (length word) && nat_le (length word) max_digits && list_all is_digit word
 

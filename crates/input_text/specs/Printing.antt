@@ -45,13 +45,13 @@ hex_spelling (Some high) (Some low) = Some (16 * high + low, 4)
 hex_spelling (Some high) None = None
 hex_spelling None low = None
 
--- the spelling behind `\x`
+-- the spelling after `\x`
 abbrev pub spelling_behind_x : List ℕ → Option Spelling
 spelling_behind_x (high ∷ low ∷ rest) = hex_spelling (hex_value high) (hex_value low)
 spelling_behind_x (high ∷ []) = None
 spelling_behind_x [] = None
 
--- the spelling behind a backslash
+-- the spelling after a backslash
 unfoldable pub escaped : List ℕ → Option Spelling
 escaped [] = None
 escaped (letter ∷ rest) =
@@ -78,7 +78,7 @@ abbrev pub spelled_on : ℕ → Option Spelling → (ℕ → Result (List ℕ) �
 spelled_on place None after = Err place
 spelled_on place (Some spelling) after = onto spelling.0 (after (spelling.1 - 1))
 
--- what a text spells from a place on whose first bytes, so many, belong to the spelling before them
+-- what a text spells from a place on whose first bytes, this many, belong to the spelling before them
 unfoldable pub unprinted_from : ℕ → ℕ → List ℕ → Result (List ℕ) ℕ
 unprinted_from place skipped [] = Ok []
 unprinted_from place (suc skipped) (byte ∷ rest) = unprinted_from (place + 1) skipped rest

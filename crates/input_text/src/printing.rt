@@ -24,7 +24,7 @@ pub fn put_printed(out: &mut Vec<u8>, bytes: &[u8]) -> Result<(), AllocError>
     Ok(())
 }
 
-/// Appends zeros that so many bytes can be printed over.
+/// Appends zeros that this many bytes can be printed over.
 fn make_room(out: &mut Vec<u8>, count: usize) -> Result<(), AllocError>
     ensures kept { OnOk result (take (length out.old.items) out.new.items ≡ out.old.items) }
     ensures room { OnOk result (length out.old.items + 4 * count ≤ length out.new.items) }
@@ -39,7 +39,7 @@ fn make_room(out: &mut Vec<u8>, count: usize) -> Result<(), AllocError>
     out.resize(len, 0)
 }
 
-/// Writes bytes as they are printed from a place of `out` on, and gives the place behind them.
+/// Writes bytes as they are printed from a place of `out` on, and gives the place after them.
 fn print(out: &mut [u8], from: usize, bytes: &[u8]) -> usize
     requires { from + 4 * length bytes.now ≤ length out.old }
     ensures { take result out.new ≡ take from out.old ++ printed bytes.now }
@@ -64,7 +64,7 @@ fn print(out: &mut [u8], from: usize, bytes: &[u8]) -> usize
     print_rest(out, end, &bytes[place..])
 }
 
-/// Whether a separator stands at a place behind a byte. None is looked for behind that of fields, which stands most often
+/// Whether a separator stands at a place after a byte. None is looked for after that of fields, which stands most often
 /// and before a name.
 #[inline(always)]
 fn is_followed(byte: u8, bytes: &[u8], place: usize) -> bool
@@ -131,7 +131,7 @@ fn is_separator(byte: u8) -> bool
     matches!(byte, 0x1C..=0x1E)
 }
 
-/// The letter that a separator is printed as, behind a backslash.
+/// The letter that a separator is printed as, after a backslash.
 #[tactic(auto, unfolding(crate::specs::Printing::printed_byte))]
 fn separator_letter(byte: u8) -> u8
     requires { IsTrue (nat_le 28 byte && nat_le byte 30) }

@@ -153,7 +153,7 @@ fn first_spelling(text: &[u8]) -> Option<(u8, usize)>
     }
 }
 
-/// The same for a text behind a backslash.
+/// The same for a text after a backslash.
 #[inline(always)]
 #[tactic(auto, unfolding(crate::specs::Printing::escaped))]
 fn escaped(text: &[u8]) -> Option<(u8, usize)>
@@ -170,7 +170,7 @@ fn escaped(text: &[u8]) -> Option<(u8, usize)>
     }
 }
 
-/// The same for a text behind `\x`.
+/// The same for a text after `\x`.
 #[inline(never)]
 fn spelling_behind_x(text: &[u8]) -> Option<(u8, usize)>
     ensures value { result ≡ spelling_behind_x text.now }

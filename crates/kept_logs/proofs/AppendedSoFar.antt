@@ -69,7 +69,7 @@ pub no_record_appended : (version before total : ℕ) (bytes old now : List ℕ)
     → record_in version (place + 1) (total - length rest) rest ≡ Err why → records_in version total bytes ≡ Err why
 no_record_appended version before total bytes old now place rest why so_far within read = so_far.same ∙ calls_stop version total (length bytes) place so_far.calls rest why within read
 
--- behind a head, bytes whose records were appended are the log of that node
+-- after a head, bytes whose records were appended are the log of that node
 pub appended_as_read : (version : ℕ) (digest bytes records : List ℕ) (before : ℕ) (old now : List ℕ) (own : Node) (calls torn whole : ℕ) → version ≡ version_of digest → head_in digest bytes ≡ Ok (node_seen own, records)
     → AreAppended version before (length bytes) records old now calls torn → whole ≡ length bytes - torn → IsAppended digest bytes before old now (record { node = own; calls = calls; whole = whole })
 unfolding kept_in

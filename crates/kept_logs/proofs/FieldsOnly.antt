@@ -14,7 +14,7 @@ use Rattle.kept_logs.specs.Fields.{bytes_at, text_of, text_at, node_text, node_o
 use Rattle.kept_logs.specs.Calls.{call_text, call_of, call_at, submit_at, take_at, adjudicate_at, unplan_at, plan_at}
 use Rattle.kept_logs.specs.Records.{sent_text, sent_at, sents_text, sents_in, logged_text, logged_in}
 
--- two pieces, one behind the other
+-- two pieces, one after the other
 pub both_taken : (bytes a mid b rest : List ℕ) → IsTaken bytes a mid → IsTaken mid b rest → IsTaken bytes (a ++ b) rest
 both_taken bytes a mid b rest first second = record {
   all = first.all ∙ ap (λ t. a ++ t) second.all ∙ sym (append_assoc a b rest);
@@ -78,7 +78,7 @@ pub mapped : {A B : Type 0} (f : A → B) (o : Option A) (y : B) → option_map 
 mapped f None y h = cc
 mapped f (Some x) y h = (x, refl, same_Some (f x) y h)
 
--- bytes behind a kind are read as this call, and are its text behind the kind
+-- bytes after a kind are read as this call, and are its text after the kind
 abbrev Spells : ℕ → List ℕ → Call → List ℕ → Type 0
 Spells kind bytes call rest = (whole : List ℕ) → IsTaken whole (kind ∷ []) bytes → IsTaken whole (call_text call) rest
 

@@ -87,7 +87,7 @@ frame_at-put version number body after fits =
     ∙ ap (behind_length version number (length body)) (met-append mark rest)
     ∙ body_at-put version number body after
 
--- a cut within the body or behind it
+-- a cut within the body or after it
 body_at-cut : (version number : ℕ) (body : List ℕ) (n : ℕ) → n < length body + 8 → body_at version number (length body) (take n (body ++ check_of version number body)) ≡ CutOff
 unfolding body_at
 body_at-cut version number body n h = elim (cases_lt n (length body)) [
@@ -105,7 +105,7 @@ body_at-cut version number body n h = elim (cases_lt n (length body)) [
         ap (body_at version number (length body)) (take_over body sum n behind)
         ∙ rw (not_less (length (body ++ rest)) (length body) (omega (arith, length-append body rest)), take_at body rest (length body) refl, drop_at body rest (length body) refl, met-short sum (n - length body) (omega (arith, check_length version number body))) refl
 
--- a cut within the second length or behind it
+-- a cut within the second length or after it
 behind_length-cut : (version number : ℕ) (body : List ℕ) (n : ℕ) → n < 8 + (length body + 8)
     → behind_length version number (length body) (met (to_be_bytes w64 (largest - length body)) (take n (to_be_bytes w64 (largest - length body) ++ (body ++ check_of version number body)))) ≡ CutOff
 behind_length-cut version number body n h = elim (cases_lt n 8) [

@@ -29,7 +29,7 @@ owner_length : (digest : List ℕ) (node : Node) → length digest ≡ 32 → le
 unfolding owner_text
 owner_length digest node h = omega (arith, length-append (node_text node) digest, node_length node, h)
 
--- a version, and the digest behind it
+-- a version, and the digest after it
 one_version : (digest : List ℕ) → length digest ≡ 33 → length (take 1 digest) ≡ 1
 one_version [] h = absurd (omega (arith, h))
 one_version (version ∷ digest) h = refl
@@ -96,7 +96,7 @@ pub log_length : (digest : List ℕ) (log : KeptLog) → length digest ≡ 33 �
 unfolding kept_text
 log_length digest log h = omega (arith, length-append (head_text digest log.node) (calls_text (version_of digest) 1 log.calls), head_length digest log.node h)
 
--- a cut behind the head
+-- a cut after the head
 cut_text : (digest : List ℕ) (log : KeptLog) (n : ℕ) → length digest ≡ 33 → 46 ≤ n → take n (kept_text digest log) ≡ head_text digest log.node ++ take (n - 46) (calls_text (version_of digest) 1 log.calls)
 unfolding kept_text
 cut_text digest log n h long =

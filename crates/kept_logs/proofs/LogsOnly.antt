@@ -1,4 +1,4 @@
--- What is read as a log is its text, and what stands behind it is how a record begins.
+-- What is read as a log is its text, and what stands after it is how a record begins.
 use Rattle.std.proofs.Common.{◌≡◌, ℕ, zero, suc, ◌+◌, ◌-◌, ◌<◌, ◌≤◌, ◌==◌, ◌&&◌, Bool, true, false, cond, List, [], ◌∷◌, ◌++◌, length, take, drop, nat_lt, Option, Some, None, Result, Ok, Err, refl, ap, ◌∙◌, sym, subst, arith, append_assoc, append-nil, length-append, codes}
 use Rattle.std.proofs.lemmas.Bool.Decides.{nat_tests}
 use Rattle.std.proofs.lemmas.List.{take_at, take-append-drop, length-take-le}
@@ -251,7 +251,7 @@ nothing : (xs : List ℕ) → length xs ≤ 0 → xs ≡ []
 nothing [] h = refl
 nothing (x ∷ xs) h = absurd (omega arith)
 
--- an owner of so many bytes has the digest and nothing behind it
+-- an owner of this many bytes has the digest and nothing after it
 owner_is : (digest owner : List ℕ) (node : Node) (left own : List ℕ) → length digest ≡ 32 → length owner ≡ 35 → owner ≡ node_text node ++ left → left ≡ digest ++ own → owner ≡ owner_text digest node
 unfolding owner_text
 owner_is digest owner node left own d o first second =

@@ -24,7 +24,7 @@ pub record MadeSoFar (ctx : Context) (before : AnyNode) (version total : ℕ) (b
   pub leads : node ≡ replay ctx before (bare_calls calls)
   pub named : references ≡ references_in ctx before calls
 
--- one call more, which a node makes behind others, and is then this one
+-- one call more, which a node makes after others, and is then this one
 abbrev StepsTo : Context → AnyNode → List Stamped → Stamped → AnyNode → Type 0
 StepsTo ctx before calls one after = node_step ctx (replay ctx before (bare_calls calls)) one.logged.call ≡ Done after one.logged.sent
 
@@ -102,7 +102,7 @@ all_made ctx before version total bytes node references place rest so_far over =
   referred = so_far.named;
 }
 
--- a call that a node does not make behind those that it made: it does not make them all
+-- a call that a node does not make after those that it made: it does not make them all
 stops : (ctx : Context) (before : AnyNode) (calls : List Stamped) (one : Stamped) (more : List Stamped) → ((after : AnyNode) → StepsTo ctx before calls one after → ⊥) → Makes ctx before (bare_calls ((calls ++ one ∷ []) ++ more)) → ⊥
 stops ctx before [] one more none m = none (node_after before (node_step ctx before one.logged.call)) m.0
 stops ctx before (k ∷ calls) one more none m = stops ctx (node_after before (node_step ctx before k.logged.call)) calls one more none m.1
@@ -130,7 +130,7 @@ pub no_record_here : (ctx : Context) (before : AnyNode) (version total : ℕ) (b
 no_record_here ctx before version total bytes node references place rest why so_far within read =
     subst (AreNotMade ctx before) (sym (so_far.same ∙ calls_stop version total (length bytes) place so_far.calls rest why within read)) tt
 
--- behind a head of this node, and calls that it makes, bytes are its log
+-- after a head of this node, and calls that it makes, bytes are its log
 pub made_as_read : (ctx : Context) (state : AnyNode) (version : ℕ) (digest : List ℕ) (own node : Node) (bytes records : List ℕ) (made : MadeCalls) (whole : ℕ) → version ≡ version_of digest
     → head_in digest bytes ≡ Ok (own, records) → same_node own node ≡ true → AreMade ctx state version (length bytes) records made.node made.calls made.torn made.references.items → whole ≡ length bytes - made.torn
     → IsMadeAsRead ctx state digest node bytes (record { node = made.node; calls = made.calls; references = made.references; whole = whole })

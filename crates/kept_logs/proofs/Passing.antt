@@ -1,4 +1,4 @@
--- Records that are passed one by one, for the place behind the first so many.
+-- Records that are passed one by one, for the place after the first this many.
 use Rattle.std.proofs.Common.{◌≡◌, ℕ, zero, suc, ◌+◌, ◌-◌, ◌<◌, ◌≤◌, List, [], ◌∷◌, ◌++◌, length, take, drop, Result, Ok, Err, refl, sym, ap, ◌∙◌, arith, append_assoc, length-append}
 use Rattle.std.specs.List.{AllByRecursion}
 use Rattle.claim_model.specs.Node.{Node}
@@ -13,7 +13,7 @@ use Rattle.kept_logs.proofs.FramesBack.{frame_at-put}
 use Rattle.kept_logs.proofs.CallsBack.{calls_text-split}
 use Rattle.kept_logs.proofs.LogsBack.{head_length, head_in-put, log_length}
 
--- what is left behind the first records, wherever these bytes are the text of calls
+-- what is left after the first records, wherever these bytes are the text of calls
 abbrev pub Stands : ℕ → List ℕ → ℕ → ℕ → List ℕ → Type 0
 Stands version records count place rest =
     (calls : List Stamped) (torn : List ℕ) → records ≡ calls_text version 1 calls ++ torn → count ≤ length calls → AllByRecursion FitsStamped calls → rest ≡ calls_text version (place + 1) (drop place calls) ++ torn
@@ -94,11 +94,11 @@ all_passed version total records count place rest stands over calls torn is room
     let all : records ≡ (first ++ others) ++ torn = is ∙ ap (λ t. t ++ torn) (calls_text-split version 1 count calls) in
     omega (arith, within, ap length left, length-append others torn, ap length all, length-append (first ++ others) torn, length-append first others)
 
--- behind the head
+-- after the head
 same_head : (a x : Node) (b y : List ℕ) → ◌≡◌ {A = Result (Node × List ℕ) LogFault} (Ok (a, b)) (Ok (x, y)) → b ≡ y
 same_head a x b y h = let e : ◌≡◌ {A = Node × List ℕ} (a, b) (x, y) = cc in ap (λ p. p.1) e
 
--- no log is behind bytes that have no head of one
+-- no log is after bytes that have no head of one
 pub no_head : (digest bytes : List ℕ) (read : KeptReading) (why : LogFault) → head_in digest bytes ≡ Err why → kept_in digest bytes ≡ Ok read → ⊥
 unfolding kept_in
 no_head digest bytes read why e h = by_kept (rw e at h)

@@ -24,7 +24,7 @@ nothing_read version total bytes own log new = record {
   node = ap (λ (l : NodeLog). l.node) new;
 }
 
--- one call more was read, and stands behind the others
+-- one call more was read, and stands after the others
 pub one_more_read : (version total : ℕ) (bytes : List ℕ) (own : Node) (log kept next : NodeLog) (place : ℕ) (rest after : List ℕ) (entry : Stamped)
     → ReadSoFar version total bytes own log place rest → place < length bytes → record_in version (place + 1) (total - length rest) rest ≡ Ok (Some (entry, after))
     → kept ≡ log → next ≡ record { node = kept.node; calls = kept.calls ++ entry.logged ∷ [] } → ReadSoFar version total bytes own next (place + 1) after

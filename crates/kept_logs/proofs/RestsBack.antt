@@ -1,4 +1,4 @@
--- What a log begins with that goes on behind closed ones, written and read again.
+-- What a log begins with that goes on after closed ones, written and read again.
 use Rattle.std.proofs.Common.{◌≡◌, ℕ, suc, ◌<◌, ◌^◌, ◌==◌, Bool, true, false, List, [], ◌∷◌, ◌++◌, length, Some, None, refl, ap, ◌∙◌, arith, append_assoc}
 use Rattle.std.proofs.lemmas.Bool.Decides.{nat_tests}
 use Rattle.std.specs.Prelude.{cond, bytes_eq}

@@ -59,7 +59,7 @@ plain_body bytes r are h =
     let body : IsBody bytes made = record { text = text; logged = logged_fits bytes m.0 are m.1; time = few; reference = few } in
     subst (IsBody bytes) m.2 body
 
--- a call behind what was noted of it
+-- a call after what was noted of it
 noted_body : (bytes : List ℕ) (r : Stamped) → AreBytes bytes → noted_in (stamp_at bytes) ≡ Some r → IsBody (7 ∷ bytes) r
 unfolding stamped_text
 noted_body bytes r are h = by_stamp (stamp_at bytes) refl h

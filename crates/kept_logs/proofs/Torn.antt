@@ -11,7 +11,7 @@ use Rattle.kept_logs.specs.Frames.{largest, is_size, is_zeros, no_record, check_
 use Rattle.kept_logs.specs.Cuts.{Begins}
 use Rattle.kept_logs.proofs.Meeting.{IsTorn, met-torn, met-whole}
 
--- zeros behind bytes are bytes
+-- zeros after bytes are bytes
 with_zeros : (xs : List ℕ) (n : ℕ) → AreBytes xs → AreBytes (xs ++ replicate n 0)
 with_zeros xs n are = record { below = λ i. below xs are.below i }
   where
@@ -62,7 +62,7 @@ second_short version number size bytes rest first torn =
     joined : (bytes a b c m d : List ℕ) → bytes ≡ a ++ b → b ++ c ≡ m → bytes ++ (c ++ d) ≡ a ++ (m ++ d)
     joined bytes a b c m d e f = ap (λ t. t ++ (c ++ d)) e ∙ append_assoc a b (c ++ d) ∙ ap (λ t. a ++ t) (sym (append_assoc b c d) ∙ ap (λ t. t ++ d) f)
 
--- bytes behind two lengths, of a record with this body
+-- bytes after two lengths, of a record with this body
 behind_lengths : (version number size : ℕ) (bytes tail body missing : List ℕ) → bytes ≡ to_be_bytes w64 size ++ (to_be_bytes w64 (largest - size) ++ tail) → length body ≡ size → 0 < length missing → tail ++ missing ≡ body ++ check_of version number body → Begins version number bytes
 unfolding frame_text
 behind_lengths version number size bytes tail body missing first same some is = record {
@@ -121,7 +121,7 @@ no_u64 bytes h = by_test (nat_lt (length bytes) 8) refl h
     by_test true t h = less (length bytes) t
     by_test false t h = cc
 
--- zeros behind a length of zero
+-- zeros after a length of zero
 blank : (size : ℕ) (bytes rest : List ℕ) → bytes ≡ to_be_bytes w64 size ++ rest → no_record size rest ≡ CutOff → is_zeros bytes ≡ true
 blank size bytes rest first h = by_test ((size == 0) && is_zeros rest) refl h
   where

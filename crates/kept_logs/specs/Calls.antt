@@ -6,7 +6,7 @@ use Rattle.kept_records.specs.Fields.{u8_at, u32_at}
 use Rattle.kept_records.specs.Options.{◌>>=◌}
 use Rattle.kept_logs.specs.Fields.{text_of, text_at, node_text, node_at}
 
--- a call behind its kind; 7 is the kind of a stamp, and no call's
+-- a call after its kind; 7 is the kind of a stamp, and no call's
 unfoldable pub call_text : Call → List ℕ
 call_text (Submit text) = 0 ∷ text_of text
 call_text Tick = 1 ∷ []

@@ -7,13 +7,13 @@ use Rattle.kept_logs.specs.Frames.{frame_text, CutOff, frame_at}
 use Rattle.kept_logs.specs.Logs.{kept_text, KeptReading, kept_in, Reading, alone}
 use Rattle.kept_logs.specs.Fits.{FitsKept}
 
--- how many of these calls of a log of this version, numbered from here on, have records that stand whole in the first so many bytes of their text
+-- how many of these calls of a log of this version, numbered from here on, have records that stand whole in the first this many bytes of their text
 abbrev pub whole_within : ℕ → ℕ → ℕ → List Stamped → ℕ
 whole_within version number n [] = 0
 whole_within version number n (r ∷ calls) =
     cond (nat_lt n (length (frame_text version number (stamped_text r)))) 0 (suc (whole_within version (number + 1) (n - length (frame_text version number (stamped_text r))) calls))
 
--- the first so many calls of a log
+-- the first this many calls of a log
 abbrev pub first_calls : ℕ → KeptLog → KeptLog
 first_calls count log = record { node = log.node; calls = take count log.calls }
 
@@ -45,14 +45,14 @@ pub record Begins (version number : ℕ) (bytes : List ℕ) : Type 0 where
 abbrev pub EachIsByte : List ℕ → Type 0
 EachIsByte bytes = (i : ℕ) → slice_index bytes i < 256
 
--- the bytes that a log was read from: its text, with what was noted of its calls, and behind it nothing, or the beginning of a record that is cut off,
+-- the bytes that a log was read from: its text, with what was noted of its calls, and after it nothing, or the beginning of a record that is cut off,
 -- or zeros
 pub record IsLogOf (digest : List ℕ) (bytes : List ℕ) (read : KeptReading) : Type 0 where
   pub torn : List ℕ
   pub is : bytes ≡ kept_text digest read.log ++ torn
   pub whole : read.whole ≡ length (kept_text digest read.log)
   pub cut : frame_at (version_of digest) (suc (length read.log.calls)) torn ≡ CutOff
-  -- its numbers are numbers of a machine, so its text, and that with more records behind, reads back
+  -- its numbers are numbers of a machine, so its text, and that with more records after, reads back
   pub fits : FitsKept read.log
 
 -- a text of a log with these calls, whatever is noted of them

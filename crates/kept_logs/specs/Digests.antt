@@ -1,4 +1,4 @@
--- What the head of a log has of its settings: the version of the log, and a digest behind it; 33 bytes.
+-- What the head of a log has of its settings: the version of the log, and a digest after it; 33 bytes.
 use Rattle.std.specs.Prelude.{◌≡◌, ℕ, Bool, ◌==◌, cond, List, ◌∷◌, slice_index, refl}
 use Rattle.sha2.specs.Sha256.{sha256}
 use Rattle.kept_logs.specs.declared.version.LogVersion.{LogVersion}

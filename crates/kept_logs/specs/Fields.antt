@@ -5,15 +5,15 @@ use Rattle.claim_model.specs.Node.{Node, Pharmacy, Switch, Payer}
 use Rattle.kept_records.specs.Fields.{u8_at, u16_at, u64_at}
 use Rattle.kept_records.specs.Options.{◌>>=◌}
 
--- the first so many bytes, and what follows them; None where there are fewer
+-- the first this many bytes, and what follows them; None where there are fewer
 unfoldable pub bytes_at : ℕ → List ℕ → Option (List ℕ × List ℕ)
 bytes_at count bytes = if nat_lt (length bytes) count then None else Some (take count bytes, drop count bytes)
 
--- a text behind its length of eight bytes
+-- a text after its length of eight bytes
 unfoldable pub text_of : List ℕ → List ℕ
 text_of text = to_be_bytes w64 (length text) ++ text
 
--- a text at the front, behind its length, and what follows it; None where it is cut off
+-- a text at the front, after its length, and what follows it; None where it is cut off
 unfoldable pub text_at : List ℕ → Option (List ℕ × List ℕ)
 text_at bytes = do
   count ← u64_at bytes

@@ -14,7 +14,7 @@ largest = 18446744073709551615
 abbrev pub most_body : ℕ
 most_body = 4294967295
 
--- whether a body may have so many bytes: at least one
+-- whether a body may have this many bytes: at least one
 abbrev pub is_size : ℕ → Bool
 is_size size = nat_lt 0 size && nat_le size most_body
 
@@ -65,13 +65,13 @@ checked body Differs = Damaged
 unfoldable pub body_at : ℕ → ℕ → ℕ → List ℕ → Frame
 body_at version number size bytes = if nat_lt (length bytes) size then CutOff else checked (take size bytes) (met (check_of version number (take size bytes)) (drop size bytes))
 
--- a record behind its length
+-- a record after its length
 abbrev pub behind_length : ℕ → ℕ → ℕ → Met → Frame
 behind_length version number size (Whole rest) = body_at version number size rest
 behind_length version number size Torn = CutOff
 behind_length version number size Differs = Damaged
 
--- behind a length that no body has: zeros to the end are lost bytes, all else is no record
+-- after a length that no body has: zeros to the end are lost bytes, all else is no record
 abbrev pub no_record : ℕ → List ℕ → Frame
 no_record size rest = if (size == 0) && is_zeros rest then CutOff else Damaged
 

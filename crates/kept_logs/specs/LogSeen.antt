@@ -27,7 +27,7 @@ entry_seen e = record { logged = call_alone e; stamp = stamp_seen e.stamp }
 abbrev pub reading_seen : ReadLog → Reading
 reading_seen read = record { log = log_seen read.log; whole = read.whole }
 
--- a reading gives the calls of this log, which is of this node, and leaves so many bytes
+-- a reading gives the calls of this log, which is of this node, and leaves this many bytes
 pub record CallsAre (reading : Result (List Stamped × List ℕ) LogFault) (log : NodeLog) (node : Node) (left : ℕ) : Type 0 where
   pub calls : List Stamped
   pub rest : List ℕ
@@ -40,7 +40,7 @@ pub record CallsAre (reading : Result (List Stamped × List ℕ) LogFault) (log 
 abbrev pub kept_seen : Kept → KeptReading
 kept_seen read = record { log = record { node = node_seen read.node; calls = read.calls.items }; whole = read.whole }
 
--- a reading gives these records, and leaves so many bytes
+-- a reading gives these records, and leaves this many bytes
 pub record AreRead (reading : Result (List Stamped × List ℕ) LogFault) (calls : List Stamped) (left : ℕ) : Type 0 where
   pub rest : List ℕ
   pub read : reading ≡ Ok (calls, rest)

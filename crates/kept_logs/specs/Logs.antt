@@ -15,7 +15,7 @@ unfoldable pub owner_text : List ℕ → Node → List ℕ
 owner_text digest node = node_text node ++ digest
 
 -- the head of a log: its name, its version, its owner, and what vouches for that, under the number 0; 46 bytes. The version is the first byte of what
--- the head has of the settings, and the digest is behind it
+-- the head has of the settings, and the digest is after it
 unfoldable pub head_text : List ℕ → Node → List ℕ
 head_text digest node = codes "PL" ++ (take 1 digest ++ (owner_text (drop 1 digest) node ++ check_of (version_of digest) 0 (owner_text (drop 1 digest) node)))
 
@@ -67,14 +67,14 @@ abbrev pub behind : List Stamped → Result (List Stamped × List ℕ) LogFault 
 behind calls (Ok read) = Ok (calls ++ read.0, read.1)
 behind calls (Err why) = Err why
 
--- a record, and the records behind it
+-- a record, and the records after it
 abbrev pub and_more : List ℕ → (List ℕ → Result (List Stamped × List ℕ) LogFault) → Result (Option (Stamped × List ℕ)) LogFault → Result (List Stamped × List ℕ) LogFault
 and_more bytes more (Ok None) = Ok ([], bytes)
 and_more bytes more (Ok (Some (r, after))) = behind (r ∷ []) (more after)
 and_more bytes more (Err why) = Err why
 
 -- the calls of records of a log of this version, numbered from here on, up to one that is cut off, and the bytes of that; or the fault of the first record that is damaged or
--- is no call, with its place in so many bytes. So many records are read at most
+-- is no call, with its place in this many bytes. This many records are read at most
 unfoldable pub calls_in : ℕ → ℕ → ℕ → ℕ → List ℕ → Result (List Stamped × List ℕ) LogFault
 calls_in version total number zero bytes = Ok ([], bytes)
 calls_in version total number (suc most) bytes = and_more bytes (λ after. calls_in version total (number + 1) most after) (record_in version number (total - length bytes) bytes)
@@ -83,7 +83,7 @@ calls_in version total number (suc most) bytes = and_more bytes (λ after. calls
 abbrev pub records_in : ℕ → ℕ → List ℕ → Result (List Stamped × List ℕ) LogFault
 records_in version total bytes = calls_in version total 1 (length bytes) bytes
 
--- a log that was read, and how many bytes its text has; what stands behind these is the beginning of a record that is cut off
+-- a log that was read, and how many bytes its text has; what stands after these is the beginning of a record that is cut off
 pub record KeptReading : Type 0 where
   pub log : KeptLog
   pub whole : ℕ

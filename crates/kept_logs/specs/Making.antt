@@ -11,7 +11,7 @@ use Rattle.kept_logs.specs.declared.making.MadeCalls.{MadeCalls}
 use Rattle.kept_logs.specs.declared.making.MadeLog.{MadeLog}
 use Rattle.kept_logs.specs.Logs.{Reading, kept_in, log_in, records_in}
 
--- the calls of the records of a log of this version that bytes are: a node makes each of them, so many, and is then this one; so many bytes are left;
+-- the calls of the records of a log of this version that bytes are: a node makes each of them, this many, and is then this one; this many bytes are left;
 -- and the references of these calls
 pub record AreMade (ctx : Context) (before : AnyNode) (version total : ℕ) (bytes : List ℕ) (node : AnyNode) (count left : ℕ) (references : List Reference) : Type 0 where
   pub calls : List Stamped
@@ -24,7 +24,7 @@ pub record AreMade (ctx : Context) (before : AnyNode) (version total : ℕ) (byt
   pub referred : references ≡ references_in ctx before calls
 
 -- bytes are the log of a node under settings of this digest; from this state it makes each call and sends each byte, and is then the one that stands
--- there, with so many calls, of which so many bytes are the text, and with their references
+-- there, with this many calls, of which this many bytes are the text, and with their references
 pub record IsMadeAsRead (ctx : Context) (before : AnyNode) (digest : List ℕ) (node : Node) (bytes : List ℕ) (made : MadeLog) : Type 0 where
   pub log : KeptLog
   pub own : log.node ≡ node

@@ -8,7 +8,7 @@ use Rattle.kept_records.specs.Options.{◌>>=◌}
 use Rattle.kept_logs.specs.Fields.{text_of, text_at, node_text, node_at}
 use Rattle.kept_logs.specs.Calls.{call_text, call_at}
 
--- a packet that was sent, behind its addressee
+-- a packet that was sent, after its addressee
 unfoldable pub sent_text : Sent → List ℕ
 sent_text sent = node_text sent.to ++ text_of sent.bytes
 
@@ -19,12 +19,12 @@ sent_at bytes = do
   packet ← text_at to.1
   Some (record { to = to.0; bytes = packet.0 }, packet.1)
 
--- packets, one behind the other
+-- packets, one after the other
 unfoldable pub sents_text : List Sent → List ℕ
 sents_text [] = []
 sents_text (sent ∷ more) = sent_text sent ++ sents_text more
 
--- so many packets, which are all of these bytes; None where bytes are too few or too many
+-- this many packets, which are all of these bytes; None where bytes are too few or too many
 unfoldable pub sents_in : ℕ → List ℕ → Option (List Sent)
 sents_in zero [] = Some []
 sents_in zero (byte ∷ bytes) = None

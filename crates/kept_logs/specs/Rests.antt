@@ -1,4 +1,4 @@
--- Logs that go on behind closed ones: what such a log begins with, which stands in a file of its own.
+-- Logs that go on after closed ones: what such a log begins with, which stands in a file of its own.
 use Rattle.std.specs.Prelude.{◌≡◌, ℕ, zero, suc, ◌<◌, ◌^◌, ◌==◌, ◌||◌, cond, bytes_eq, List, [], ◌∷◌, ◌++◌, length, take, drop, codes, Option, Some, None}
 use Rattle.std.specs.List.{AllByRecursion}
 use Rattle.std.specs.Int.{w64, to_be_bytes}
@@ -18,7 +18,7 @@ use Rattle.kept_logs.specs.References.{Reference}
 use Rattle.kept_logs.specs.Fits.{FitsNode}
 use Rattle.kept_logs.specs.Frames.{check_of, Met, Whole, Torn, Differs, met}
 
--- what a log begins with that goes on behind closed ones: whose it is, how many calls these have, the SHA-256 digest of the last of them, the references
+-- what a log begins with that goes on after closed ones: whose it is, how many calls these have, the SHA-256 digest of the last of them, the references
 -- of their submissions, and the record that the node left at rest
 pub record Rest : Type 0 where
   pub node : Node
@@ -31,7 +31,7 @@ pub record Rest : Type 0 where
 unfoldable pub reference_text : Reference → List ℕ
 reference_text r = text_of r.name ++ to_be_bytes w64 r.number
 
--- references, one behind the other
+-- references, one after the other
 unfoldable pub each_text : List Reference → List ℕ
 each_text [] = []
 each_text (r ∷ more) = reference_text r ++ each_text more
@@ -68,7 +68,7 @@ reference_at bytes = do
   number ← u64_at name.1
   Some (record { name = name.0; number = number.0 }, number.1)
 
--- so many references at the front, and what follows them; None where they are cut off
+-- this many references at the front, and what follows them; None where they are cut off
 unfoldable pub each_at : ℕ → List ℕ → Option (List Reference × List ℕ)
 each_at zero bytes = Some ([], bytes)
 each_at (suc count) bytes = do
@@ -85,7 +85,7 @@ references_at bytes = do
 abbrev pub body_in : ℕ → List ℕ → Option (List Reference × List ℕ)
 body_in version body = cond (version == 2) (references_at body) (Some ([], body))
 
--- behind the version: the node, the calls, the digest, and what is vouched for
+-- after the version: the node, the calls, the digest, and what is vouched for
 unfoldable pub rest_behind : ℕ → List ℕ → Option Rest
 rest_behind version named = do
   node ← field.node_at named
@@ -123,7 +123,7 @@ abbrev pub begun_from : model.WorldSettings → Node → Option Rest → Option 
 begun_from s node None = None
 begun_from s node (Some r) = cond (same_node r.node node) (resumed s node r.kept) None
 
--- the node that a log begins with: as the settings open it, or where the log goes on behind closed ones, as it was left at rest, and started; none where
+-- the node that a log begins with: as the settings open it, or where the log goes on after closed ones, as it was left at rest, and started; none where
 -- these bytes are no beginning of a log of this node under these settings
 abbrev pub begins : WorldSettings → Node → Option (List ℕ) → Option AnyNode
 begins s node None = node_at (opening (settings_seen s)) node
@@ -147,7 +147,7 @@ abbrev pub references_before : Option (List ℕ) → List Reference
 references_before None = []
 references_before (Some rest) = references_of (rest_in rest)
 
--- what the head of a log has of its settings that goes on behind closed ones: a digest of what it would have, and of what stands in front of the references
+-- what the head of a log has of its settings that goes on after closed ones: a digest of what it would have, and of what stands in front of the references
 -- and the record that it begins with
 unfoldable pub behind : List ℕ → List ℕ → List ℕ
 behind digest rest = of_said (drop 1 digest ++ take 54 rest)

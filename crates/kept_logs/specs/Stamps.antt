@@ -67,7 +67,7 @@ stamped_text r = cond (is_plain r.stamp) (logged_text r.logged) (7 ∷ (stamp_te
 abbrev pub with_stamp : Stamp → Option Logged → Option Stamped
 with_stamp stamp o = option_map (λ r. record { logged = r; stamp = stamp }) o
 
--- behind the kind 7: something was noted
+-- after the kind 7: something was noted
 abbrev pub noted_in : Option (Stamp × List ℕ) → Option Stamped
 noted_in None = None
 noted_in (Some (stamp, rest)) = cond (is_plain stamp) None (with_stamp stamp (logged_in rest))

@@ -1,4 +1,4 @@
-//! The records of a log behind those of another one.
+//! The records of a log after those of another one.
 
 ghost use Rattle.std.specs.Prelude.{◌≡◌, ◌≢◌, ◌+◌, ◌++◌, Err, IfOk, IfErr, OnOk};
 ghost use Rattle.kept_logs.specs.declared.fault.LogFault.TheVariants.{OutOfMemory};
@@ -30,7 +30,7 @@ pub struct Appended {
     pub whole: usize,
 }
 
-/// Appends the records of a log under settings of this digest to the text of a log of version 2, numbered behind so many, with all
+/// Appends the records of a log under settings of this digest to the text of a log of version 2, numbered after this many, with all
 /// that was noted of their calls.
 ///
 /// # Errors
@@ -78,7 +78,7 @@ fn append_calls(
     Ok((bytes.len() as u64, rest.len()))
 }
 
-/// Appends a record, numbered behind so many and so many more.
+/// Appends a record, numbered after this many and this many more.
 fn append_entry(
     alloc: Global,
     before: u64,

@@ -12,7 +12,7 @@ use std::marker::Model;
 /// How many bytes of a rest stand before the record.
 const REST_HEAD: usize = 54;
 
-/// What the head of a log has of the settings that its node was opened with: the version of the log, and behind it a SHA-256
+/// What the head of a log has of the settings that its node was opened with: the version of the log, and after it a SHA-256
 /// digest. In version 1 that is the digest of the bytes of the settings' file, in version 2 of a text of what they say.
 #[derive(Clone, Copy, PartialEq, Eq)]
 pub struct SettingsDigest {
@@ -56,7 +56,7 @@ impl SettingsDigest {
         }
     }
 
-    /// That of a log which goes on behind closed ones, under the same settings, and begins with this rest: of this digest, and of
+    /// That of a log which goes on after closed ones, under the same settings, and begins with this rest: of this digest, and of
     /// what stands before the record in the rest.
     #[tactic(auto, unfolding(crate::specs::Rests::behind))]
     pub fn behind(&self, rest: &[u8]) -> SettingsDigest
@@ -92,7 +92,7 @@ impl SettingsDigest {
     }
 }
 
-/// The SHA-256 digest of bytes and those behind them.
+/// The SHA-256 digest of bytes and those after them.
 fn digest_of(bytes: &[u8], more: &[u8]) -> [u8; 32]
     ensures { result ≡ sha256 (bytes.now ++ more.now) }
 {

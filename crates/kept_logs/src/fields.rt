@@ -8,7 +8,7 @@ ghost use Rattle.kept_logs.specs.Fields.{bytes_at, text_at, node_of, node_at};
 use kept_records::{take_u8, take_u16, take_u64};
 use world_setup::Node;
 
-/// The first so many bytes and what follows them; none where there are fewer.
+/// The first this many bytes and what follows them; none where there are fewer.
 #[tactic(auto, unfolding(crate::specs::Fields::bytes_at))]
 pub(crate) fn take_bytes(count: u64, bytes: &[u8]) -> Option<(&[u8], &[u8])>
     ensures { option_map (λ taken. (taken.0.now, taken.1.now)) result ≡ bytes_at count bytes.now }
@@ -20,7 +20,7 @@ pub(crate) fn take_bytes(count: u64, bytes: &[u8]) -> Option<(&[u8], &[u8])>
     Some((&bytes[..count], &bytes[count..]))
 }
 
-/// A text behind its length of eight bytes, and what follows it; none where it is cut off.
+/// A text after its length of eight bytes, and what follows it; none where it is cut off.
 #[tactic(auto, unfolding(crate::specs::Fields::text_at))]
 pub(crate) fn take_text(bytes: &[u8]) -> Option<(&[u8], &[u8])>
     ensures { option_map (λ taken. (taken.0.now, taken.1.now)) result ≡ text_at bytes.now }

@@ -29,7 +29,7 @@ pub(crate) enum Frame<'a> {
     Damaged,
 }
 
-/// Whether a body may have so many bytes: at least one.
+/// Whether a body may have this many bytes: at least one.
 fn is_size(size: u64) -> bool
     ensures { result ≡ is_size size }
 {
@@ -107,7 +107,7 @@ pub fn behind_record(version: LogVersion, number: u64, bytes: &[u8]) -> Option<&
     }
 }
 
-/// What stands behind a length that no body has: where all is zero up to the end, bytes that a crash has lost.
+/// What stands after a length that no body has: where all is zero up to the end, bytes that a crash has lost.
 fn no_record(size: u64, rest: &[u8]) -> Frame<'_>
     ensures { frame_seen result ≡ no_record size rest.now }
 {
@@ -118,7 +118,7 @@ fn no_record(size: u64, rest: &[u8]) -> Frame<'_>
     }
 }
 
-/// The record of this number with a body of so many bytes, which begins here.
+/// The record of this number with a body of this many bytes, which begins here.
 #[tactic(auto, unfolding(crate::specs::Frames::body_at))]
 fn take_body(version: LogVersion, number: u64, size: u64, bytes: &[u8]) -> Frame<'_>
     ensures { frame_seen result ≡ body_at (version_seen version) number size bytes.now }

@@ -25,14 +25,14 @@ pub fn log_reads_back()
         → length digest ≡ 33 → FitsKept log → KeptAs digest (kept_text digest log) log }
 {}
 
-/// The text of a log with one record more is its text, and behind it that record under the next number.
+/// The text of a log with one record more is its text, and after it that record under the next number.
 pub fn log_takes_one_more()
     ensures { (digest : List ℕ) (log : KeptLog) (r : Stamped)
         → kept_text digest (with_record log r)
         ≡ kept_text digest log ++ frame_text (version_of digest) (length log.calls + 1) (stamped_text r) }
 {}
 
-/// Bytes that are read as a log are its text, and behind it nothing, or the beginning of a record that is cut off, or zeros,
+/// Bytes that are read as a log are its text, and after it nothing, or the beginning of a record that is cut off, or zeros,
 /// as some file systems leave them in the place of bytes that a crash has lost.
 pub fn log_is_its_text()
     ensures text { (digest bytes : List ℕ) (read : KeptReading)
@@ -43,7 +43,7 @@ pub fn log_is_its_text()
         → frame_at version number bytes ≡ CutOff → Begins version number bytes ⊎ (is_zeros bytes ≡ true) }
 {}
 
-/// The text of what a log begins with is read as that; so a log which goes on behind closed ones begins with the node that its
+/// The text of what a log begins with is read as that; so a log which goes on after closed ones begins with the node that its
 /// record starts, and with their calls and references before it.
 pub fn rests_read_back()
     ensures reads { (r : Rest) → FitsRest r → rest_in (rest_text r) ≡ Some r }

@@ -31,7 +31,7 @@ use world_setup::Node;
 pub struct ReadLog {
     /// The log: the calls whose records stand whole in the bytes.
     pub log: NodeLog,
-    /// How many bytes these take, with the head. What stands behind them is the beginning of a record that is cut
+    /// How many bytes these take, with the head. What stands after them is the beginning of a record that is cut
     /// off; a host that goes on cuts its file there first.
     pub whole: usize,
 }
@@ -81,7 +81,7 @@ fn put_records(
     Ok(())
 }
 
-/// The place in a log's bytes, from 0, of the record behind the first so many calls.
+/// The place in a log's bytes, from 0, of the record after the first this many calls.
 pub fn place_of(settings: &SettingsDigest, bytes: &[u8], count: usize) -> usize
     ensures { (read : KeptReading) → kept_in settings.now bytes.now ≡ Ok read → count ≤ length read.log.calls
         → result ≡ length (kept_text settings.now (first_calls count read.log)) }
@@ -94,7 +94,7 @@ pub fn place_of(settings: &SettingsDigest, bytes: &[u8], count: usize) -> usize
     }
 }
 
-/// The place behind the first so many records of a log of this version, where its records begin so many bytes before the end of
+/// The place after the first this many records of a log of this version, where its records begin this many bytes before the end of
 /// all.
 fn behind_calls(version: LogVersion, total: usize, records: &[u8], count: usize) -> usize
     ensures { (calls : List Stamped) (torn : List ℕ)
@@ -138,7 +138,7 @@ pub fn record_bytes(
 pub fn read_log(alloc: Global, settings: &SettingsDigest, bytes: &[u8]) -> Result<ReadLog, LogFault>
     ensures ok { IfOk result (λ read. log_in settings.now bytes.now ≡ Ok (reading_seen read)) }
     ensures fault { IfErr result (λ e. e ≢ OutOfMemory → log_in settings.now bytes.now ≡ Err e) }
-    // What is read is the text of what it is read as, and behind it how a record begins.
+    // What is read is the text of what it is read as, and after it how a record begins.
     ensures found { IfOk result (λ read. IsOfLog settings.now bytes.now (reading_seen read)) }
 {
     log_is_its_text();

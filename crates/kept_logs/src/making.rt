@@ -31,19 +31,19 @@ pub struct MadeLog {
     pub calls: u64,
     /// The references of those that are submissions and have one, in order.
     pub references: Vec<Reference>,
-    /// How many bytes their records take, with the head. What stands behind them is the beginning of a record that is cut
+    /// How many bytes their records take, with the head. What stands after them is the beginning of a record that is cut
     /// off; a host that goes on cuts its file there first.
     pub whole: usize,
 }
 
-/// A node behind the calls of records.
+/// A node after the calls of records.
 #[derive(Drop)]
 struct MadeCalls {
     node: NodeState,
     /// How many calls these are.
     calls: u64,
     references: Vec<Reference>,
-    /// How many bytes are left behind them.
+    /// How many bytes are left after them.
     torn: usize,
 }
 
@@ -64,7 +64,7 @@ pub fn make_as_read(
     // There is a node exactly where the bytes are its log, and it makes each call of it.
     ensures made { IfOk result (λ made.
         IsMadeIf (bytes_with routes.now) begins digest.now (node_seen node) bytes.now made) }
-    // What is read is the text of what it is read as, and behind it how a record begins.
+    // What is read is the text of what it is read as, and after it how a record begins.
     ensures found { (read : KeptReading) → kept_in digest.now bytes.now ≡ Ok read → IsLogOf digest.now bytes.now read }
 {
     log_is_its_text();
@@ -72,7 +72,7 @@ pub fn make_as_read(
     make_parts(alloc, digest, routes, begins, node, bytes)
 }
 
-/// Reads the head, and makes the calls behind it.
+/// Reads the head, and makes the calls after it.
 #[tactic(auto, unfolding(crate::specs::Logs::log_in, crate::specs::Logs::kept_in))]
 fn make_parts(
     alloc: Global,

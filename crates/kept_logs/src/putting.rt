@@ -1,4 +1,4 @@
-//! The fields of logs, put behind what is written already.
+//! The fields of logs, put after what is written already.
 
 ghost use Rattle.std.specs.Prelude.{◌≡◌, ◌<◌, ◌^◌, ◌++◌, ◌∷◌, length, OnOk};
 ghost use Rattle.std.specs.Int.{w16, to_be_bytes};
@@ -10,7 +10,7 @@ use kept_records::put_u64;
 use std::alloc::AllocError;
 use world_setup::Node;
 
-/// Puts a text behind its length.
+/// Puts a text after its length.
 #[tactic(auto, unfolding(crate::specs::Fields::text_of))]
 pub(crate) fn put_text(out: &mut Vec<u8>, text: &[u8]) -> Result<(), AllocError>
     ensures text { OnOk result (out.new.items ≡ out.old.items ++ text_of text.now) }

@@ -54,7 +54,7 @@ fn put_logged(out: &mut Vec<u8>, one: &Record) -> Result<(), AllocError>
     put_sents(out, one.sent())
 }
 
-/// Puts packets, one behind the other.
+/// Puts packets, one after the other.
 fn put_sents(out: &mut Vec<u8>, sent: &[Sent]) -> Result<(), AllocError>
     ensures text { OnOk result (out.new.items ≡ out.old.items ++ sents_text (map sent_seen sent.now)) }
     ensures fits { OnOk result (AllByRecursion FitsSent (map sent_seen sent.now)) }
@@ -65,7 +65,7 @@ fn put_sents(out: &mut Vec<u8>, sent: &[Sent]) -> Result<(), AllocError>
     Ok(())
 }
 
-/// Puts a packet behind its addressee.
+/// Puts a packet after its addressee.
 #[tactic(auto, unfolding(crate::specs::Records::sent_text))]
 fn put_sent(out: &mut Vec<u8>, one: &Sent) -> Result<(), AllocError>
     ensures text { OnOk result (out.new.items ≡ out.old.items ++ sent_text (sent_seen one.now)) }
@@ -95,7 +95,7 @@ pub(crate) fn entry_of(alloc: Global, body: &[u8]) -> Result<Option<Entry<'_>>, 
     }
 }
 
-/// The call behind what was noted of it, which has to be something.
+/// The call after what was noted of it, which has to be something.
 fn noted_of(alloc: Global, bytes: &[u8]) -> Result<Option<Entry<'_>>, AllocError>
     ensures { IfOk result (λ o. option_map entry_seen o ≡ noted_in (stamp_at bytes.now)) }
 {
@@ -126,7 +126,7 @@ fn call_of<'a>(
     Ok(Some(Entry { call, sent, stamp }))
 }
 
-/// So many packets, which are all of these bytes; none where bytes are too few or too many.
+/// This many packets, which are all of these bytes; none where bytes are too few or too many.
 fn take_sents(alloc: Global, count: u64, bytes: &[u8]) -> Result<Option<Vec<Sent>>, AllocError>
     ensures { IfOk result (λ o. option_map (λ sent. map sent_seen sent.items) o ≡ sents_in count bytes.now) }
 {

@@ -22,7 +22,7 @@ pub(crate) fn put_references(out: &mut Vec<u8>, references: &[Reference]) -> Res
     put_each(out, references)
 }
 
-/// Puts references, one behind the other.
+/// Puts references, one after the other.
 fn put_each(out: &mut Vec<u8>, references: &[Reference]) -> Result<(), AllocError>
     ensures text { OnOk result (out.new.items ≡ out.old.items ++ each_text references.now) }
     ensures fits { OnOk result (AllByRecursion FitsReference references.now) }
@@ -57,7 +57,7 @@ pub(crate) fn take_references(
     take_each(alloc, count, rest)
 }
 
-/// So many references at the front, and what follows them; none where they are cut off.
+/// This many references at the front, and what follows them; none where they are cut off.
 fn take_each(
     alloc: Global,
     count: u64,

@@ -1,4 +1,4 @@
-//! What a log begins with that goes on behind closed ones.
+//! What a log begins with that goes on after closed ones.
 
 ghost use Rattle.std.specs.Prelude.{◌≡◌, ◌<◌, ◌^◌, length, codes, IfOk, IfSome, IsSome};
 ghost use Rattle.std.specs.List.{AllByRecursion};
@@ -38,7 +38,7 @@ const DIGEST: u64 = 32;
 /// How many bytes vouch for a record.
 const SUM: u64 = 8;
 
-/// What a log begins with that goes on behind closed ones (own).
+/// What a log begins with that goes on after closed ones (own).
 #[derive(Drop)]
 pub struct Rest<'a> {
     /// Whose log it is.
@@ -130,7 +130,7 @@ fn named(bytes: &[u8]) -> Option<&[u8]>
     }
 }
 
-/// What stands behind the version.
+/// What stands after the version.
 #[tactic(auto, unfolding(crate::specs::Rests::rest_behind))]
 fn rest_behind(alloc: Global, version: u8, bytes: &[u8]) -> Result<Option<Rest<'_>>, AllocError>
     ensures { IfOk result (λ rest. option_map rest_seen rest ≡ rest_behind version bytes.now) }
@@ -202,7 +202,7 @@ pub fn calls_before(alloc: Global, rest: Option<&[u8]>) -> Result<u64, AllocErro
     }
 }
 
-/// The node that a log of this name begins with: as the settings open it, or where the log goes on behind closed ones, as it was
+/// The node that a log of this name begins with: as the settings open it, or where the log goes on after closed ones, as it was
 /// left at rest, and started. `None` exactly where these bytes are no beginning of a log of this node under these settings.
 ///
 /// The node is one of the settings.

@@ -36,7 +36,7 @@ some_at_place entries place h e = past entries place (rw add-one at e) h
     past (first ∷ entries) zero e h = cc
     past (first ∷ entries) (suc place) e h = past entries place e (omega arith)
 
--- the entry at a place is put behind those before it
+-- the entry at a place is put after those before it
 pub put_one : (old text longer : List ℕ) (place : ℕ) (entries : List Kept) (kept : Kept) → numbered entries (place + 1) ≡ Some kept → text ≡ old ++ entries_text 1 (take place entries) → longer ≡ text ++ entry_text (place + 1) kept
     → longer ≡ old ++ entries_text 1 (take (place + 1) entries)
 put_one old text longer place entries kept at before step =

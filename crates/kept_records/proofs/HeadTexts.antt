@@ -11,7 +11,7 @@ use Rattle.kept_records.proofs.FieldsBack.{u8_at-put, u16_at-put, u32_at-put, u6
 use Rattle.kept_records.proofs.Chains.{option_then}
 use Rattle.kept_records.proofs.ProductTexts.{taken_then}
 
--- the fields of a head, one behind the other
+-- the fields of a head, one after the other
 abbrev pub fields_text : BookHead → List ℕ
 fields_text h =
     to_be_bytes w16 h.name ++ (h.version ∷ [] ++ (to_be_bytes w16 h.payer ++ (to_be_bytes w64 h.serial ++ (to_be_bytes w32 h.fee ++ (to_be_bytes w32 h.copay ++ (to_be_bytes w32 h.products ++ to_be_bytes w32 h.rows))))))

@@ -35,7 +35,7 @@ short_answer request (Some answer) h = λ (x : List ℕ) e. subst (λ (a : List 
     at_most : (n : ℕ) → nat_le n 32768 ≡ true → n ≤ 32768
     at_most n t = grind (arith, nat_tests)
 
--- what is added is short, and stands behind the entries before it
+-- what is added is short, and stands after the entries before it
 pub record IsLonger (j longer : JournalAtRest) (kept : Kept) : Type 0 where
   pub short : IsShort kept
   pub is : longer ≡ record { number = j.number; settings = j.settings; entries = j.entries ++ kept ∷ [] }
@@ -71,7 +71,7 @@ added_all_short j all (first ∷ entries) h (suc place) kept e =
     let next = first_added (added j first.request first.answer) all entries h in
     added_all_short next.0 all entries next.2 place kept e
 
--- what is added all together stands behind the entries before it
+-- what is added all together stands after the entries before it
 pub added_all_is : (j all : JournalAtRest) (entries : List Kept) → added_all (Some j) entries ≡ Some all → all ≡ record { number = j.number; settings = j.settings; entries = j.entries ++ entries }
 added_all_is j all [] h = sym (same_Some j all h) ∙ ap (λ (entries : List Kept). record { number = j.number; settings = j.settings; entries = entries }) (sym (append-nil j.entries))
 added_all_is j all (kept ∷ entries) h =

@@ -148,7 +148,7 @@ products_are total (suc left) plan new bytes rest are in_order h =
 fits_word : (n : ℕ) → n ≤ largest → n < 2 ^ 32
 fits_word n h = omega arith
 
--- a product behind lesser ones is listed
+-- a product after lesser ones is listed
 listed_again : (place : ℕ) (plan : Terms) (entry : List ℕ × ℕ) (rest : List ℕ) → IsPriced entry → AreBelow by_bytes entry.0 plan.prices → length plan.prices < most_products
     → listed place plan (product_text entry ++ rest) ≡ Ok (priced_as plan (plan.prices ++ entry ∷ []), rest)
 unfolding listed

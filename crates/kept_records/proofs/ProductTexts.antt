@@ -12,7 +12,7 @@ use Rattle.kept_records.proofs.FieldsOnly.{AreBytes, IsTaken, drop_bytes, u8_at_
 use Rattle.kept_records.proofs.FieldsBack.{u8_at-put, u32_at-put}
 use Rattle.kept_records.proofs.Chains.{option_then}
 
--- one text behind the other
+-- one text after the other
 pub taken_then : (a x b y c : List ℕ) → IsTaken a x b → IsTaken b y c → IsTaken a (x ++ y) c
 taken_then a x b y c p q = record { all = p.all ∙ ap (λ (t : List ℕ). x ++ t) q.all ∙ sym (append_assoc x y c); rest_bytes = q.rest_bytes }
 

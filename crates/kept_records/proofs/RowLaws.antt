@@ -96,6 +96,6 @@ rows_again version total b new (k ∷ ks) kept grown =
     stepped : (r : Result (Book × List ℕ) RecordFault) (x : Book) (rest : List ℕ) → r ≡ Ok (x, rest) → (r >>= λ next. rows_in version total (length ks) next.0 next.1) ≡ rows_in version total (length ks) x rest
     stepped r x rest is = rw is refl
 
--- rows that were added are kept behind those that were there
+-- rows that were added are kept after those that were there
 abbrev pub AddedAreKept : Type 0
 AddedAreKept = (b : Book) (rows : List KeptRow) (after : Book) → added_all (Some b) rows ≡ Some after → KeepsRows b rows after

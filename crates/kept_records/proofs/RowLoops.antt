@@ -51,7 +51,7 @@ pub fault_as : (all r : Result Book RecordFault) → all ≡ r → IfErr r (λ f
 fault_as all (Ok b) is = tt
 fault_as all (Err fault) is = λ other. is
 
--- these rows were put behind what was there, and each part of them fits
+-- these rows were put after what was there, and each part of them fits
 pub record ArePut (out now : List ℕ) (rows : List Row) : Type 0 where
   pub text : now ≡ out ++ rows_text (map kept_row rows)
   pub kept : AreKeptRows (map kept_row rows)
@@ -85,7 +85,7 @@ readable_short request header h = by_test (nat_le (length request) longest_reque
     by_test true t h = short_from (length request) t
     by_test false t h = cc
 
--- the parts of a row, put one behind the other
+-- the parts of a row, put one after the other
 pub row_joined : (out one two three : List ℕ) (id : TxnId) (request answer asked told : List ℕ) → one ≡ out ++ to_be_bytes w16 id.pharmacy → two ≡ one ++ to_be_bytes w64 id.number → three ≡ two ++ sized asked → asked ≡ request → told ≡ answer
     → three ++ sized told ≡ out ++ row_text (record { id = id; request = request; answer = answer })
 row_joined out one two three id request answer asked told e1 e2 e3 same same' =

@@ -34,7 +34,7 @@ row_in version place b bytes = do
   new ← some_or (BadRecord place) (added b fitting.0.id fitting.0.request fitting.0.answer)
   Ok (new, fitting.1)
 
--- the book with so many rows more, which stand in the last bytes of so many, all of them
+-- the book with this many rows more, which stand in the last bytes of this many, all of them
 unfoldable pub rows_in : ℕ → ℕ → ℕ → Book → List ℕ → Result Book RecordFault
 rows_in version total zero b bytes = when_or (BadRecord (total - length bytes)) (length bytes == 0) b
 rows_in version total (suc left) b bytes = do
@@ -45,7 +45,7 @@ rows_in version total (suc left) b bytes = do
 abbrev pub is_head_of : ℕ → ℕ → BookHead → Bool
 is_head_of payer serial head = (head.name == book_name) && ((head.payer == payer) && (head.serial == serial))
 
--- a plan may have this fee, this copay and so many products
+-- a plan may have this fee, this copay and this many products
 abbrev pub has_terms : BookHead → Bool
 has_terms head = nat_le head.fee largest && (nat_le head.copay largest && nat_le head.products most_products)
 

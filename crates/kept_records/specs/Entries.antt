@@ -7,7 +7,7 @@ use Rattle.kept_records.specs.declared.journal_parts.JournalEntry.{JournalEntry}
 use Rattle.kept_records.specs.Options.{◌>>=◌}
 use Rattle.kept_records.specs.Fields.{sized, u8_at, u64_at, text_at}
 
--- an answer behind its flag: 0 where there is none, or 1 and the answer behind its length
+-- an answer after its flag: 0 where there is none, or 1 and the answer after its length
 abbrev pub answer_text : Option (List ℕ) → List ℕ
 answer_text None = 0 ∷ []
 answer_text (Some answer) = 1 ∷ sized answer
@@ -32,14 +32,14 @@ pub record EntryParts : Type 0 where
 abbrev pub entry_taken : JournalEntry → EntryParts
 entry_taken e = record { number = e.number; request = e.request.now; answer = option_copied e.answer; rest = e.rest.now }
 
--- the answer behind this flag: none behind a 0, the one that stands there behind a 1
+-- the answer after this flag: none after a 0, the one that stands there after a 1
 abbrev pub flagged_answer : ℕ → List ℕ → Option (Option (List ℕ) × List ℕ)
 flagged_answer flag rest =
     if flag == 0 then Some (None, rest)
     else if flag == 1 then option_map (λ answer. (Some answer.0, answer.1)) (text_at rest)
     else None
 
--- an answer at the front, behind its flag, and what follows it; None where it is cut off, too long or behind another flag
+-- an answer at the front, after its flag, and what follows it; None where it is cut off, too long or after another flag
 unfoldable pub answer_at : List ℕ → Option (Option (List ℕ) × List ℕ)
 answer_at bytes = do
   flag ← u8_at bytes

@@ -12,7 +12,7 @@ use Rattle.kept_records.specs.Entries.{entries_text, entry_at}
 use Rattle.kept_records.specs.Versions.{is_version, has_one, fits_version}
 use Rattle.kept_records.specs.Faults.{◌>>=◌, some_or, when_or}
 
--- the head of a journal with so many entries
+-- the head of a journal with this many entries
 unfoldable pub journal_head : ℕ → ℕ → ℕ → List ℕ
 journal_head version number count = codes "PJ" ++ version ∷ to_be_bytes w16 number ++ to_be_bytes w32 count
 
@@ -62,11 +62,11 @@ entry_in version place j bytes = do
   fitting ← when_or (BadRecord place) (fits_version version entry.request) longer
   when_or (NumberOrder place) (entry.number == length j.entries + 1) (fitting, entry.rest)
 
--- the journal where no byte is left behind its last entry; else what is left, of so many bytes in all, is bad
+-- the journal where no byte is left after its last entry; else what is left, of this many bytes in all, is bad
 unfoldable pub finished : ℕ → JournalAtRest → List ℕ → Result JournalAtRest RecordFault
 finished total j bytes = when_or (BadRecord (total - length bytes)) (length bytes == 0) j
 
--- the journal with as many entries as are left, which are all of these bytes, the last of so many; or the first fault
+-- the journal with as many entries as are left, which are all of these bytes, the last of this many; or the first fault
 unfoldable pub entries_in : ℕ → ℕ → ℕ → JournalAtRest → List ℕ → Result JournalAtRest RecordFault
 entries_in version total zero j bytes = finished total j bytes
 entries_in version total (suc left) j bytes = do

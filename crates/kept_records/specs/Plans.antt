@@ -26,7 +26,7 @@ listed place plan bytes = do
   new ← some_or (BadRecord place) (result_ok (repriced plan next.0.0 next.0.1))
   Ok (new, next.1)
 
--- the plan with so many products, which stand at the front of the last bytes of so many, and what follows them
+-- the plan with this many products, which stand at the front of the last bytes of this many, and what follows them
 unfoldable pub products_in : ℕ → ℕ → Terms → List ℕ → Result (Terms × List ℕ) RecordFault
 products_in total zero plan bytes = Ok (plan, bytes)
 products_in total (suc left) plan bytes = do

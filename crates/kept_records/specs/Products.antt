@@ -6,11 +6,11 @@ use Rattle.plan_rules.specs.Prices.{Prices}
 use Rattle.kept_records.specs.Fields.{u8_at, u32_at}
 use Rattle.kept_records.specs.Options.{◌>>=◌}
 
--- a product behind its length of one byte, and its price
+-- a product after its length of one byte, and its price
 abbrev pub product_text : List ℕ × ℕ → List ℕ
 product_text entry = (length entry.0 ∷ entry.0) ++ to_be_bytes w32 entry.1
 
--- products, one behind the other
+-- products, one after the other
 abbrev pub products_text : Prices → List ℕ
 products_text prices = flat_map product_text prices
 
@@ -19,7 +19,7 @@ abbrev pub text_there : Option (List ℕ × ℕ) → List ℕ
 text_there None = []
 text_there (Some entry) = product_text entry
 
--- the first so many bytes and what follows them; None where there are fewer
+-- the first this many bytes and what follows them; None where there are fewer
 unfoldable pub bytes_at : ℕ → List ℕ → Option (List ℕ × List ℕ)
 bytes_at count bytes = if nat_le count (length bytes) then Some (take count bytes, drop count bytes) else None
 

@@ -14,7 +14,7 @@ use Rattle.kept_records.specs.Options.{◌>>=◌}
 abbrev pub row_text : KeptRow → List ℕ
 row_text k = to_be_bytes w16 k.id.pharmacy ++ (to_be_bytes w64 k.id.number ++ (sized k.request ++ sized k.answer))
 
--- rows, one behind the other
+-- rows, one after the other
 abbrev pub rows_text : List KeptRow → List ℕ
 rows_text rows = flat_map row_text rows
 

@@ -13,7 +13,7 @@ use crate::fields::{take_u8, take_u16, take_u32, take_u64};
 /// The two bytes that begin a book, `PB`, as a number (own).
 pub(crate) const BOOK_NAME: u16 = 0x5042;
 
-/// Where the products of a book begin: behind the 29 bytes of its head.
+/// Where the products of a book begin: after the 29 bytes of its head.
 const PRODUCTS: usize = 29;
 
 /// The largest fee and copay, in cents.
@@ -106,7 +106,7 @@ impl BookHead {
         self.version == 1 || self.version == 2
     }
 
-    /// Whether a plan may have its fee, its copay and so many products.
+    /// Whether a plan may have its fee, its copay and this many products.
     fn has_terms(self) -> bool
         ensures { result ≡ has_terms self }
     {

@@ -21,8 +21,8 @@ use std::alloc::Global;
 /// takes it, so a Paid ruling may have any amounts. Its maps hash with keys that are the same in every program.
 ///
 /// # Errors
-/// In this order: `Short`, `NotABook`, `Version`, `BadRecord` at 29 where no plan has such a fee, such a copay or so many
-/// products, and then `BadRecord` at the first product or row that cannot stand there, or at the first byte behind the
+/// In this order: `Short`, `NotABook`, `Version`, `BadRecord` at 29 where no plan has such a fee, such a copay or this many
+/// products, and then `BadRecord` at the first product or row that cannot stand there, or at the first byte after the
 /// last row. `OutOfMemory` may stand in place of any answer.
 pub fn read_book(
     alloc: Global,
@@ -90,7 +90,7 @@ fn plan_of(alloc: Global, head: BookHead) -> Plan
     }
 }
 
-/// The amount of so many cents.
+/// The amount of this many cents.
 fn amount(cents: u32) -> Amount
     requires { cents ≤ largest }
     ensures { result ≡ pos cents }

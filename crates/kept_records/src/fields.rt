@@ -55,7 +55,7 @@ pub fn take_u64(bytes: &[u8]) -> Option<(u64, &[u8])>
     Some((number, &bytes[8..]))
 }
 
-/// A text behind its length of four bytes, and what follows it; none where it is cut off or has more than
+/// A text after its length of four bytes, and what follows it; none where it is cut off or has more than
 /// 32,768 bytes.
 #[tactic(auto, unfolding(crate::specs::Fields::text_at))]
 pub(crate) fn take_text(bytes: &[u8]) -> Option<(&[u8], &[u8])>

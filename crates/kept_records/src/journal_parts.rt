@@ -63,7 +63,7 @@ pub(crate) fn take_entry(bytes: &[u8]) -> Option<JournalEntry<'_>>
 }
 
 /// The answer at the front, if there is one, and what follows it; none where it is cut off, too long or
-/// behind another flag than 0 or 1.
+/// after another flag than 0 or 1.
 #[tactic(auto, unfolding(crate::specs::Entries::answer_at))]
 fn take_answer(bytes: &[u8]) -> Option<(Option<&[u8]>, &[u8])>
     ensures { option_map (λ taken. (option_copied taken.0, taken.1.now)) result ≡ answer_at bytes.now }

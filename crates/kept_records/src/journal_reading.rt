@@ -33,7 +33,7 @@ pub(crate) const VERSION: u8 = 2;
 /// `PJ` or another pharmacy, `Version`, and then the first faulty entry: `BadRecord` where it is cut off,
 /// a text has more than 32,768 bytes, the flag is neither 0 nor 1, or it cannot be added (it is beyond the
 /// cap, the request is not readable or of another provider, or the answer is none to it), and
-/// `NumberOrder` where it is good and has not the next number. Bytes behind the last entry are
+/// `NumberOrder` where it is good and has not the next number. Bytes after the last entry are
 /// `BadRecord` at their first. `OutOfMemory` may stand in place of any answer.
 pub fn read_journal(
     alloc: Global,

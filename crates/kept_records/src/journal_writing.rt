@@ -37,7 +37,7 @@ pub fn save_journal(alloc: Global, pharmacy: &Pharmacy) -> Result<Vec<u8>, Alloc
     Ok(text)
 }
 
-/// Puts the head of a journal with so many entries.
+/// Puts the head of a journal with this many entries.
 #[tactic(auto, unfolding(crate::specs::Journals::journal_head))]
 fn put_head(text: &mut Vec<u8>, number: u16, count: u32) -> Result<(), AllocError>
     ensures { OnOk result (text.new.items ≡ text.old.items ++ journal_head 2 number count) }
@@ -86,7 +86,7 @@ fn put_entry(text: &mut Vec<u8>, number: u64, kept: KeptEntry<'_>) -> Result<(),
     put_answer(text, kept.answer)
 }
 
-/// Puts an answer behind its flag.
+/// Puts an answer after its flag.
 fn put_answer(text: &mut Vec<u8>, answer: Option<&[u8]>) -> Result<(), AllocError>
     requires { ForSome (option_copied answer) (λ answer. length answer ≤ longest_payload) }
     ensures { OnOk result (text.new.items ≡ text.old.items ++ answer_text (option_copied answer.entry)) }

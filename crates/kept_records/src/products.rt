@@ -121,7 +121,7 @@ fn put_product_of(out: &mut Vec<u8>, plan: &Plan, place: usize) -> Result<(), Al
     }
 }
 
-/// Puts a product of at most 255 bytes behind its length, and its price.
+/// Puts a product of at most 255 bytes after its length, and its price.
 fn put_product(out: &mut Vec<u8>, product: &[u8], price: u32) -> Result<(), AllocError>
     requires { length product.now ≤ 255 }
     ensures { OnOk result (out.new.items ≡ out.old.items ++ product_text (product.now, price)) }

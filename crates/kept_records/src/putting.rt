@@ -1,4 +1,4 @@
-//! The fields of records and logs, put behind what is written already; numbers have their high byte first (own).
+//! The fields of records and logs, put after what is written already; numbers have their high byte first (own).
 
 ghost use Rattle.std.specs.Prelude.{◌≡◌, ◌≤◌, ◌++◌, ◌∷◌, [], length, OnOk};
 ghost use Rattle.std.specs.Int.{w16, w32, w64, to_be_bytes};
@@ -36,7 +36,7 @@ pub fn put_u64(out: &mut Vec<u8>, number: u64) -> Result<(), AllocError>
     out.extend_from_slice(&number.to_be_bytes())
 }
 
-/// Puts a text of at most 32,768 bytes behind its length.
+/// Puts a text of at most 32,768 bytes after its length.
 pub(crate) fn put_text(out: &mut Vec<u8>, text: &[u8]) -> Result<(), AllocError>
     requires { length text.now ≤ longest_payload }
     ensures { OnOk result (out.new.items ≡ out.old.items ++ sized text.now) }

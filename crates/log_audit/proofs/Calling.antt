@@ -106,7 +106,7 @@ pub rows_are_done : (ctx : Context) (node : Node) (n : ℕ) (a whole : List ℕ)
 rows_are_done ctx node n a whole xs i le so_far =
     block_ends Csv a whole (sym (ap (λ (left : List Stamped). a ++ rows_text Csv (call_rows ctx node (i + 1) n left)) (drop_all i xs le)) ∙ so_far)
 
--- names, and rows behind them
+-- names, and rows after them
 pub table_is : (ctx : Context) (logs : List KeptLog) (none names out : List ℕ) → none ≡ [] → names ≡ none ++ head_text call_names → out ≡ names ++ rows_text Csv (logs_rows ctx logs) → out ≡ calls_csv ctx logs
 unfolding calls_csv
 table_is ctx logs none names out empty named told =

@@ -88,7 +88,7 @@ numbered_pushed [] y (suc (suc k)) x e = absurd cc
 numbered_pushed (z ∷ xs) y (suc zero) x e = inl e
 numbered_pushed (z ∷ xs) y (suc (suc k)) x e = elim (numbered_pushed xs y (suc k) x e) [ inl f ↦ inl f | inr f ↦ inr (ap suc f.0, f.1) ]
 
--- so many are taken out under their numbers, and the others are still there
+-- this many are taken out under their numbers, and the others are still there
 pub record IsTaken {A : Type 0} (found left : ℕ → Option A) (count : ℕ) (list : List A) : Type 0 where
   pub taken : AreNumbered found count list
   pub others : (q : ℕ) → count < q → left q ≡ found q

@@ -10,11 +10,11 @@ use Rattle.log_audit.specs.declared.missing.NodeKind.{NodeKind}
 use Rattle.log_audit.specs.declared.paid.PaidOnce.{PaidOnce}
 use Rattle.log_audit.specs.declared.sentences.Manner.{Manner}
 
--- what is said of the elements from a place on, is said of the one there and those behind it
+-- what is said of the elements from a place on, is said of the one there and those after it
 pub left_at : {A B : Type 0} (left : List A → B) (xs : List A) (i : ℕ) (x : A) → i < length xs → x ≡ get_or xs i x → left (drop i xs) ≡ left (x ∷ drop (i + 1) xs)
 left_at left xs i x lt is = at_drop_more left xs i x lt ∙ sym (ap (λ y. left (y ∷ drop (i + 1) xs)) is)
 
--- the text of one element comes behind the text so far, and those of the others are left
+-- the text of one element comes after the text so far, and those of the others are left
 pub goes_on : {A B : Type 0} (left : List A → List B) (one rest a b whole : List B) (xs : List A) (i : ℕ) (x : A) → i < length xs → x ≡ get_or xs i x
     → left (x ∷ drop (i + 1) xs) ≡ one ++ rest → b ≡ a ++ one → a ++ left (drop i xs) ≡ whole → b ++ rest ≡ whole
 goes_on {A} {B} left one rest a b whole xs i x lt is split added so_far =
@@ -27,7 +27,7 @@ pub is_done : {A B : Type 0} (left : List A → List B) (a whole : List B) (xs :
 is_done {A} {B} left a whole xs i le none so_far =
     sym (append-nil a) ∙ (ap (λ (t : List B). a ++ t) (sym none) ∙ (sym (ap (λ (rest : List A). a ++ left rest) (drop_all i xs le)) ∙ so_far))
 
--- lines behind lines
+-- lines after lines
 pub lines_join : (manner : Manner) (a b c : List ℕ) (xs ys : List (List ℕ)) → b ≡ a ++ told_lines manner xs → c ≡ b ++ told_lines manner ys → c ≡ a ++ told_lines manner (xs ++ ys)
 lines_join manner a b c xs ys one two =
     two ∙ (ap (λ (t : List ℕ). t ++ told_lines manner ys) one

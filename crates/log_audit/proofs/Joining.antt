@@ -25,14 +25,14 @@ pub rows_text-one : (style : Style) (row : Row) → rows_text style (row ∷ [])
 unfolding rows_text
 rows_text-one style row = append-nil (row_text style row)
 
--- no rows, and one row, behind what was there
+-- no rows, and one row, after what was there
 pub no_rows : (style : Style) (a : List ℕ) → a ≡ a ++ rows_text style []
 no_rows style a = sym (append-nil a) ∙ ap (λ (t : List ℕ). a ++ t) (sym (rows_text-nil style))
 
 pub one_row : (style : Style) (a b : List ℕ) (row : Row) → b ≡ a ++ row_text style row → b ≡ a ++ rows_text style (row ∷ [])
 one_row style a b row one = one ∙ ap (λ (t : List ℕ). a ++ t) (sym (rows_text-one style row))
 
--- rows behind rows
+-- rows after rows
 pub rows_join : (style : Style) (a b c : List ℕ) (xs ys : List Row) → b ≡ a ++ rows_text style xs → c ≡ b ++ rows_text style ys → c ≡ a ++ rows_text style (xs ++ ys)
 rows_join style a b c xs ys one two =
     two ∙ (ap (λ (t : List ℕ). t ++ rows_text style ys) one ∙ (append_assoc a (rows_text style xs) (rows_text style ys) ∙ ap (λ (t : List ℕ). a ++ t) (sym (rows_text-append style xs ys))))

@@ -36,13 +36,13 @@ rows_end row (next ∷ more) =
     let rest = rows_end next more in
     (json_row row ++ rest.0, ap (λ (t : List ℕ). json_row row ++ t) rest.1 ∙ sym (append_assoc (json_row row) rest.0 (codes ",")))
 
--- a text without the comma behind it
+-- a text without the comma after it
 comma_off : (t : List ℕ) → take (length (t ++ codes ",") - 1) (t ++ codes ",") ≡ t
 comma_off t =
     let count : length (t ++ codes ",") - 1 ≡ length t = rw (length-append t (codes ",")) (omega arith) in
     ap (λ (n : ℕ). take n (t ++ codes ",")) count ∙ (take-append-le (length t) t (codes ",") (omega arith) ∙ take_all (length t) t (omega arith))
 
--- what stands behind a bracket, and then the end of the list
+-- what stands after a bracket, and then the end of the list
 bracket_ends : (a : List ℕ) (rows : List Row) → without_comma ((a ++ codes "[") ++ rows_text Json rows) ++ codes "\n]" ≡ a ++ list_text (rows_text Json rows)
 unfolding rows_text list_text
 bracket_ends a [] =

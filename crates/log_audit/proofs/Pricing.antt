@@ -1,4 +1,4 @@
--- The price of a product among those of a plan, and the rows of price changes behind others.
+-- The price of a product among those of a plan, and the rows of price changes after others.
 use Rattle.std.proofs.Common.{◌≡◌, ℕ, zero, suc, ◌+◌, ◌<◌, ◌≤◌, Bool, true, false, cond, List, [], ◌∷◌, ◌++◌, length, take, drop, get_or, map, refl, sym, ap, ◌∙◌, add-one}
 use Rattle.std.specs.Prelude.{slice_get, bytes_eq, Option, Some, None}
 use Rattle.std.proofs.lemmas.List.{at_drop_more, drop_all, take_more, map-append}
@@ -30,13 +30,13 @@ next_by [] (suc i) product none = refl
 next_by (entry ∷ more) zero product none = not_first (bytes_eq entry.0 product) entry.1 (listed_price more product) none
 next_by (entry ∷ more) (suc i) product none = next_by more i product none
 
--- or it stands behind
+-- or it stands after
 pub listed_behind : (prices : Prices) (i : ℕ) (product : List ℕ) (whole : Option ℕ) → price_if (slice_get prices i) product ≡ None → listed_price (drop i prices) product ≡ whole
     → listed_price (drop (i + 1) prices) product ≡ whole
 listed_behind prices i product whole none so_far =
     ap (λ (n : ℕ). listed_price (drop n prices) product) (add-one i) ∙ (sym (next_by prices i product none) ∙ so_far)
 
--- a row more, behind the changes so far
+-- a row more, after the changes so far
 pub rows_go_on : (s : WorldSettings) (name a b whole : List ℕ) (xs : List Kept) (i : ℕ) (d : Kept) → i < length xs
     → b ≡ a ++ row_text Csv (changed_row s name (map change_seen (take i xs)) (change_seen (get_or xs i d)))
     → a ++ rows_text Csv (rows_behind s name (map change_seen (take i xs)) (map change_seen (drop i xs))) ≡ whole

@@ -10,7 +10,7 @@ use Rattle.log_audit.specs.Sentences.{told_line, told_lines}
 use Rattle.log_audit.specs.declared.sentences.Manner.{Manner}
 use Rattle.table_text.specs.declared.layout.Style.{Style}
 
--- a row, and rows, that are told in a context come behind what was there: they are told so under all routes
+-- a row, and rows, that are told in a context come after what was there: they are told so under all routes
 abbrev pub TellsRow : {A : Type 0} → {B : Type 0} → Style → Vec ℕ → Vec ℕ → (Context → Row) → Result A B → Type 0
 TellsRow style old new told result = (routes : RouteMaps) → OnOk result (AddsRow style old new (told (bytes_with routes)))
 
@@ -28,6 +28,6 @@ AddsLines manner old new lines = Adds old new (told_lines manner lines)
 abbrev pub Tells : {A : Type 0} → {B : Type 0} → Vec ℕ → Vec ℕ → (Context → List ℕ) → Result A B → Type 0
 Tells old new told result = (routes : RouteMaps) → OnOk result (Adds old new (told (bytes_with routes)))
 
--- elements come behind those that were there
+-- elements come after those that were there
 abbrev pub Joined : {A : Type 0} → Vec A → Vec A → List A → Type 0
 Joined old new more = new.items ≡ old.items ++ more

@@ -54,7 +54,7 @@ submitted ticks Start = []
 submitted ticks (Reprice product price) = []
 submitted ticks (Adjudicate from bytes advice) = []
 
--- how many ticks came in all, from so many on
+-- how many ticks came in all, from this many on
 abbrev pub ticks_after : ℕ → List Logged → ℕ
 ticks_after ticks [] = ticks
 ticks_after ticks (r ∷ more) = ticks_after (ticked ticks r.call) more
@@ -64,10 +64,10 @@ abbrev pub submitted_at : ℕ → List Logged → List ℕ
 submitted_at ticks [] = []
 submitted_at ticks (r ∷ more) = submitted ticks r.call ++ submitted_at (ticked ticks r.call) more
 
--- how many ticks there were at the submission of a number, where so many submissions were made before these calls; none, where it is one of those
+-- how many ticks there were at the submission of a number, where this many submissions were made before these calls; none, where it is one of those
 abbrev pub ticks_then : List ℕ → ℕ → ℕ → ℕ
 ticks_then at before number = cond (nat_le number before) 0 (slice_index at (number - before - 1))
 
--- how many ticks of a pharmacy that has so many entries came in these calls behind the submission of a number; in all of them, where it was submitted before them
+-- how many ticks of a pharmacy that has this many entries came in these calls after the submission of a number; in all of them, where it was submitted before them
 abbrev pub age : ℕ → List Logged → ℕ → ℕ
 age entries calls number = ticks_after 0 calls - ticks_then (submitted_at 0 calls) (entries - length (submitted_at 0 calls)) number

@@ -80,11 +80,11 @@ noted_row node place r load =
     optional_member (codes "pharmacy") load.pharmacy ∷
     optional_member (codes "number") load.number ∷ []
 
--- the row of a record up to which the log has so many submissions
+-- the row of a record up to which the log has this many submissions
 abbrev pub call_row : Context → Node → ℕ → ℕ → Stamped → Row
 call_row ctx node place submissions r = noted_row node place r (call_load ctx node submissions r.logged.call)
 
--- the rows of records from this place on, behind so many submissions
+-- the rows of records from this place on, after this many submissions
 abbrev pub call_rows : Context → Node → ℕ → ℕ → List Stamped → List Row
 call_rows ctx node place submissions [] = []
 call_rows ctx node place submissions (r ∷ more) =
@@ -135,13 +135,13 @@ IsNotKept digest bytes place (World why) = ⊥
 IsNotKept digest bytes place (Log at fault) = (at ≡ place) × ((fault ≢ log_fault.OutOfMemory) × (kept_in (digest bytes) bytes ≡ Err fault))
 IsNotKept digest bytes place NoLine = ⊥
 
--- bytes are a log, and its rows come behind what was there
+-- bytes are a log, and its rows come after what was there
 pub record TellsLog (digest : List ℕ → List ℕ) (bytes old new : List ℕ) : Type 0 where
   pub log : KeptLog
   pub read : IsKept digest bytes log
   pub is : (routes : RouteMaps) → new ≡ old ++ rows_text Csv (log_rows (bytes_with routes) log)
 
--- each of some bytes is one, and their rows come behind what was there
+-- each of some bytes is one, and their rows come after what was there
 pub record TellsLogs (digest : List ℕ → List ℕ) (bytes : List (List ℕ)) (old new : List ℕ) : Type 0 where
   pub logs : List KeptLog
   pub read : AreKept digest bytes logs

@@ -1,4 +1,4 @@
--- A list of JSON whose rows have a comma behind each.
+-- A list of JSON whose rows have a comma after each.
 use Rattle.std.specs.Prelude.{ℕ, ◌==◌, ◌-◌, Bool, List, length, take, slice_index, cond}
 
 -- the last byte is a comma

@@ -35,7 +35,7 @@ pub record IsRead (text : List ℕ) (bytes : List (List ℕ)) (settings : WorldS
   pub spelled : living_in text ≡ Some (document_seen settings)
   pub read : AreLogs (read_by (digest_under text)) bytes logs
 
--- how many bytes stand behind the records of a log that stand whole
+-- how many bytes stand after the records of a log that stand whole
 abbrev pub left_behind : ℕ → Result Reading LogFault → ℕ
 left_behind size (Ok read) = size - read.whole
 left_behind size (Err fault) = 0
@@ -48,9 +48,9 @@ torn_end digest bytes = left_behind (length bytes) (read_by digest bytes)
 abbrev pub torn_ends : (List ℕ → List ℕ) → List (List ℕ) → List ℕ
 torn_ends digest logs = map (torn_end digest) logs
 
--- ---- logs that may go on behind closed ones
+-- ---- logs that may go on after closed ones
 
--- a log, and what it begins with, where it goes on behind closed ones
+-- a log, and what it begins with, where it goes on after closed ones
 pub record Given : Type 0 where
   pub rest : Option (List ℕ)
   pub log : List ℕ
@@ -80,7 +80,7 @@ pub record IsReadAlone (text : List ℕ) (given : List Given) (settings : WorldS
 
 -- ---- on the way
 
--- what was read of so many bytes is one log more, and its torn end is one more
+-- what was read of this many bytes is one log more, and its torn end is one more
 pub record ReadsOne (read : Result Reading LogFault) (size : ℕ) (logs : List NodeLog) (torn : List ℕ) (after : List NodeLog) (ends : List ℕ) : Type 0 where
   pub log : NodeLog
   pub is : IsLog read log

@@ -15,7 +15,7 @@ use Rattle.log_audit.specs.declared.judging.Found.TheVariants.{Run, NoRun as Non
 use Rattle.log_audit.specs.declared.judging.Verdict.{Verdict}
 use Rattle.log_audit.specs.declared.judging.Verdict.TheVariants.{Legal, NoRun}
 
--- the world that events leave behind the opening of these settings
+-- the world that events leave after the opening of these settings
 abbrev pub left_by : WorldSettings → List Event → WorldParts
 left_by s events =
     record { routes = routes_of s.routes.items; world = run (bytes_with (routes_of s.routes.items)) (opening (settings_seen s)) events }

@@ -16,7 +16,7 @@ use Rattle.log_audit.specs.declared.missing.NodeKind.TheVariants.{Pharmacy, Swit
 abbrev pub count_of : List NodeLog → Node → ℕ
 count_of logs node = count_by (λ (log : NodeLog). same_node log.node node) logs
 
--- what is wrong with a node of which there are so many logs: nothing where there is one
+-- what is wrong with a node of which there are this many logs: nothing where there is one
 abbrev pub lack_by : ℕ → Option Lack
 lack_by count = cond (count == 0) (Some NoLog) (cond (count == 1) None (Some SeveralLogs))
 

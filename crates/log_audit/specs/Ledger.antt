@@ -133,7 +133,7 @@ rows_pieces number count = Words (codes "payer ") ∷ Number number ∷ Words (c
 unfoldable pub rows_text : ℕ → ℕ → List PaidOnce → List ℕ
 rows_text number count paid = sentence (rows_pieces number count) ++ sums_text None paid
 
--- the lines of a payer: by pharmacy, of which there are so many, and of all
+-- the lines of a payer: by pharmacy, of which there are this many, and of all
 unfoldable pub book_text : Context → ℕ → ℕ → Book → List ℕ
 book_text ctx pharmacies number b = paid_up_to number (book_paid ctx b) pharmacies ++ rows_text number (length b.rows) (book_paid ctx b)
 

@@ -48,7 +48,7 @@ lone_name Rows = codes "rows"
 lone_name Open = codes "open"
 lone_name Counted = codes "counted"
 
--- a table as a member of an object of JSON, behind a comma
+-- a table as a member of an object of JSON, after a comma
 unfoldable pub lone_member : Context → List Lone → LoneTable → List ℕ
 lone_member ctx lones table = codes ",\n\"" ++ (lone_name table ++ (codes "\":" ++ list_text (rows_text style.Json (lone_rows ctx lones table))))
 
@@ -83,7 +83,7 @@ behind_list lones = codes ",\n\"behind\":" ++ list_text (rows_text style.Json (f
 abbrev pub behind_member : List Lone → List ℕ
 behind_member lones = cond (list_any is_behind lones) (behind_list lones) []
 
--- the object of logs one by one, behind the list of logs
+-- the object of logs one by one, after the list of logs
 unfoldable pub lone_object : Context → Bool → List Lone → List ℕ
 lone_object ctx made lones = codes ",\n\"alone\":true" ++ (behind_member lones ++ (codes ",\n\"made\":" ++ (verdict_members ctx made lones ++ codes "\n}\n")))
 

@@ -72,7 +72,7 @@ open_pieces number e ticks =
 unfoldable pub open_line : ℕ → Listed → ℕ → List ℕ
 open_line number e ticks = sentence (open_pieces number e ticks)
 
--- of a journal of so many entries
+-- of a journal of this many entries
 abbrev pub open_text : ℕ → ℕ → List Logged → Listed → List ℕ
 open_text entries number calls e = cond (is_open e) (open_line number e (age entries calls e.number)) []
 
@@ -91,7 +91,7 @@ has_text ctx pharmacies log node =
 
 -- how many calls were made before the log of a node, where there are any
 abbrev pub before_line : Node → ℕ → List ℕ
-before_line node before = sentence (Named node ∷ Words (codes " begins behind ") ∷ Number before ∷ Words (codes " calls\n") ∷ [])
+before_line node before = sentence (Named node ∷ Words (codes " begins behind ") ∷ Number before ∷ Words (codes " calls, as its rest says\n") ∷ [])
 
 abbrev pub before_text : Lone → List ℕ
 before_text lone = cond (is_behind lone) (before_line lone.log.node lone.before) []

@@ -18,7 +18,7 @@ pub record Passed : Type 0 where
 abbrev pub Begins : List ℕ → List ℕ → Type 0
 Begins front whole = (rest : List ℕ) × (front ++ rest ≡ whole)
 
--- a writer took bytes, which were noted behind others, and these are left of a piece
+-- a writer took bytes, which were noted after others, and these are left of a piece
 pub record Took (old new : Option (List ℕ)) (noted then left piece : List ℕ) : Type 0 where
   pub bytes : List ℕ
   pub noted_are : then ≡ noted ++ bytes
@@ -29,13 +29,13 @@ pub record Took (old new : Option (List ℕ)) (noted then left piece : List ℕ)
 abbrev pub TookSome : Option (List ℕ) → Option (List ℕ) → List ℕ → List ℕ → List ℕ → Type 0
 TookSome old new noted then piece = (left : List ℕ) × Took old new noted then left piece
 
--- a piece is written behind what was written where no call failed before; a beginning of it where one fails now
+-- a piece is written after what was written where no call failed before; a beginning of it where one fails now
 pub record Passes (failed failing : Bool) (written then piece : List ℕ) : Type 0 where
   pub works : failing ≡ false → (failed ≡ false) × (then ≡ written ++ piece)
   pub front : failed ≡ false → Begins then (written ++ piece)
   pub still : failed ≡ true → then ≡ written
 
--- these bytes are put behind what was put
+-- these bytes are put after what was put
 abbrev pub Puts : List ℕ → List ℕ → List ℕ → Type 0
 Puts old new text = new ≡ old ++ text
 

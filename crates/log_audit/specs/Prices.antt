@@ -97,7 +97,7 @@ price_row name c before =
     optional_member (codes "price_before_ten_thousandths") before ∷
     optional_member (codes "price_after_ten_thousandths") c.price ∷ []
 
--- the row of a change behind these: what the product cost by the settings and the changes before it
+-- the row of a change after these: what the product cost by the settings and the changes before it
 abbrev pub changed_row : WorldSettings → List ℕ → List Change → Change → Row
 changed_row s name before c = price_row name c (price_after c.payer c.product (opening_price s c.payer c.product) before)
 

@@ -33,7 +33,7 @@ pub record IsReasons (s : WorldSettings) (logs : List NodeLog) (manner : Manner)
 abbrev pub SomeReason : Type 0
 SomeReason = (ctx : Context) (s : model.WorldSettings) (logs : List NodeLog) (made : List Progress) → reasons ctx s logs made ≢ []
 
--- no reason is found: there is one log of each node and no other, each node makes its log, and of the logs after so many calls none has
+-- no reason is found: there is one log of each node and no other, each node makes its log, and of the logs after this many calls none has
 -- calls left, or one has a next call that does not wait
 pub record NoneFound (ctx : Context) (s : model.WorldSettings) (logs : List NodeLog) (made : List Progress) : Type 0 where
   pub logs_are : missing_lines s logs ≡ []

@@ -28,15 +28,15 @@ piece_text (Words words) = words
 piece_text (Number number) = decimal number
 piece_text (Named node) = node_text node
 
--- the pieces, one behind another
+-- the pieces, one after another
 abbrev pub sentence : List Piece → List ℕ
 sentence pieces = flat_map piece_text pieces
 
--- a line among other lines; or as a member of a list of JSON, on a line of its own and with a comma behind it
+-- a line among other lines; or as a member of a list of JSON, on a line of its own and with a comma after it
 unfoldable pub told_line : Manner → List ℕ → List ℕ
 told_line Line text = text ++ codes "\n"
 told_line Member text = codes "\n" ++ (json_text text ++ codes ",")
 
--- lines, one behind another
+-- lines, one after another
 abbrev pub told_lines : Manner → List (List ℕ) → List ℕ
 told_lines manner lines = flat_map (told_line manner) lines

@@ -42,7 +42,7 @@ pub record AreByNumber (s : WorldSettings) (logs : List NodeLog) (nodes : ByNumb
 abbrev pub Enters : {A : Type 0} → (ℕ → Option A) → ℕ → A → (ℕ → Option A) → Type 0
 Enters {A} found number node after = (n : ℕ) (a : A) → after n ≡ Some a → (found n ≡ Some a) ⊎ ((number ≡ n) × (node ≡ a))
 
--- these are so many, each of which was found under its number, from 1
+-- these are this many, each of which was found under its number, from 1
 pub record AreNumbered {A : Type 0} (found : ℕ → Option A) (count : ℕ) (nodes : List A) : Type 0 where
   pub count_is : length nodes ≡ count
   pub each : (n : ℕ) (a : A) → numbered nodes n ≡ Some a → found n ≡ Some a

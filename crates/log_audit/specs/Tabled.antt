@@ -15,7 +15,7 @@ use Rattle.log_audit.specs.declared.tables.table.Table.TheVariants.{Payments, En
 abbrev pub csv_after : Context → World → List Event → Table → List ℕ
 csv_after ctx w events table = table_csv ctx (run ctx w events) (senders_from ctx w 1 events) table
 
--- a table of the world that events leave behind the opening of these settings
+-- a table of the world that events leave after the opening of these settings
 unfoldable pub run_csv : WorldSettings → List Event → Table → List ℕ
 run_csv s events table = csv_after (bytes_with (routes_of s.routes.items)) (opening (settings_seen s)) events table
 

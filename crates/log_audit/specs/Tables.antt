@@ -120,7 +120,7 @@ table_name Rows = codes "rows"
 table_name Packets = codes "packets"
 table_name CountedTable = codes "counted"
 
--- a table as a member of an object of JSON, behind a comma
+-- a table as a member of an object of JSON, after a comma
 unfoldable pub table_member : Context → World → List ℕ → Table → List ℕ
 table_member ctx w senders table = codes ",\n\"" ++ (table_name table ++ (codes "\":" ++ table_json ctx w senders table))
 

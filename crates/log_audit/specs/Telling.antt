@@ -42,11 +42,11 @@ log_line log torn = sentence (Named log.node ∷ Words (codes " calls ") ∷ Num
 abbrev pub log_lines : List NodeLog → List ℕ → List ℕ
 log_lines logs torn = texts_from (λ place log. log_line log (slice_index torn place)) 0 logs
 
--- the line that there is a run of so many events
+-- the line that there is a run of this many events
 abbrev pub legal_line : ℕ → List ℕ
 legal_line count = sentence (Words (codes "one legal run of ") ∷ Number count ∷ Words (codes " events\n") ∷ [])
 
--- the world that events leave behind the opening of settings
+-- the world that events leave after the opening of settings
 abbrev pub context_for : WorldSettings → Context
 context_for s = bytes_with (routes_of s.routes.items)
 
@@ -85,18 +85,18 @@ unfoldable pub run_object : Audited → List Event → List ℕ
 run_object a events =
     logs_member (logs_seen a.logs.items) a.torn.items ++ (count_member (length events) ++ (run_members a.settings events ++ codes "\n}\n"))
 
--- the line that divides, behind settings that may lack their last newline
+-- the line that divides, after settings that may lack their last newline
 abbrev pub divider : List ℕ → List ℕ
 divider settings = cond (ends_in_newline settings) (codes "---\n") (codes "\n---\n")
 
--- settings with a newline behind their last line
+-- settings with a newline after their last line
 abbrev pub whole : List ℕ → List ℕ
 whole settings = settings ++ cond (ends_in_newline settings) [] (codes "\n")
 
 abbrev pub is_return : ℕ → Bool
 is_return byte = byte == 13
 
--- settings without carriage returns are these very bytes, with a newline behind the last line; a division drops those that end lines
+-- settings without carriage returns are these very bytes, with a newline after the last line; a division drops those that end lines
 abbrev pub KeepsSettings : List ℕ → List ℕ → Type 0
 KeepsSettings divided settings = list_any is_return settings ≡ false → divided ≡ whole settings
 

@@ -9,7 +9,7 @@ use Rattle.claim_model.specs.Logs.{Logged, NodeLog}
 use Rattle.claim_model.specs.Refusal.{refusal_name}
 use Rattle.log_audit.specs.Sentences.{Piece, Words, Number, Named, sentence}
 
--- what is wrong with a call: the node refuses it by this name; it sends so many packets, and the log has so many; the packet of this
+-- what is wrong with a call: the node refuses it by this name; it sends this many packets, and the log has this many; the packet of this
 -- number, from 1, is for this node in the log, and for another one by the node; or to this node it has other bytes from this place on
 pub data Wrong : Type 0 where
   Refusal : List ℕ → Wrong

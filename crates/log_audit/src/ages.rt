@@ -54,14 +54,14 @@ impl Ages {
         }
     }
 
-    /// How many of so many entries of the pharmacy were submitted before these calls.
+    /// How many of this many entries of the pharmacy were submitted before these calls.
     pub(crate) fn entries_before(&self, entries: usize) -> u64
         ensures { result ≡ entries - length self.now.at.items }
     {
         entries.saturating_sub(self.at.len()) as u64
     }
 
-    /// How many ticks came behind the submission of the entry of a number, from 1, where so many were submitted before these
+    /// How many ticks came after the submission of the entry of a number, from 1, where this many were submitted before these
     /// calls; all of them for one of those.
     pub(crate) fn age(&self, before: u64, number: u64) -> u64
         ensures { result ≡ self.now.ticks - ticks_then self.now.at.items before number }

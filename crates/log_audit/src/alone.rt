@@ -66,7 +66,7 @@ impl<'a> Lone<'a> {
     }
 }
 
-/// What a log comes to by itself, which begins with this rest, where it goes on behind closed ones.
+/// What a log comes to by itself, which begins with this rest, where it goes on after closed ones.
 pub(crate) fn lone_node(
     alloc: Global,
     settings: &CheckedSettings,

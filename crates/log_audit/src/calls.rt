@@ -146,7 +146,7 @@ fn submissions_in(call: &Call) -> u64
     }
 }
 
-/// Appends the row of a record at a place, up to which the log has so many submissions.
+/// Appends the row of a record at a place, up to which the log has this many submissions.
 fn put_call(
     out: &mut Vec<u8>,
     node: Node,
@@ -222,7 +222,7 @@ fn sender_field<'a>(call: &Call) -> Field<'a>
     }
 }
 
-/// What a call on a node carries, where so many submissions stand up to it.
+/// What a call on a node carries, where this many submissions stand up to it.
 fn load_of(node: Node, submissions: u64, call: &Call) -> Carried
     ensures { (routes : RouteMaps) → carried_seen result
         ≡ call_load (bytes_with routes) (node_seen node) submissions (call_seen call.now) }

@@ -104,7 +104,7 @@ fn put_made_table<K: TextSink + Drop>(
     Ok(())
 }
 
-/// Appends all tables of what a run of these events left, as members of an object of JSON, each behind a comma. The events are
+/// Appends all tables of what a run of these events left, as members of an object of JSON, each after a comma. The events are
 /// made for that, since it says of each packet which of them sent it.
 pub(crate) fn put_left_tables<K: TextSink + Drop>(
     alloc: Global,

@@ -87,7 +87,7 @@ fn put_before(out: &mut Vec<u8>, lone: &Lone<'_>) -> Result<(), AllocError>
     }
 }
 
-/// Appends behind how many calls the log of a node begins.
+/// Appends after how many calls the log of a node begins.
 fn put_behind(out: &mut Vec<u8>, node: Node, before: u64) -> Result<(), AllocError>
     ensures { OnOk result (Adds out.old out.new (before_line (node_seen node) before)) }
 {
@@ -95,7 +95,7 @@ fn put_behind(out: &mut Vec<u8>, node: Node, before: u64) -> Result<(), AllocErr
         Piece::Named(node),
         Piece::Words(b" begins behind "),
         Piece::Number(before),
-        Piece::Words(b" calls\n"),
+        Piece::Words(b" calls, as its rest says\n"),
     ];
     put_pieces(out, &pieces)
 }
@@ -192,7 +192,7 @@ fn put_open_of(
     Ok(())
 }
 
-/// Appends the line of an entry that is so many ticks old, if it has no answer.
+/// Appends the line of an entry that is this many ticks old, if it has no answer.
 fn put_if_open(
     out: &mut Vec<u8>,
     number: u64,
@@ -208,7 +208,7 @@ fn put_if_open(
     }
 }
 
-/// Appends the line of an entry without an answer, which is so many ticks old.
+/// Appends the line of an entry without an answer, which is this many ticks old.
 #[tactic(auto, unfolding(crate::specs::Lones::open_line))]
 fn put_open(out: &mut Vec<u8>, number: u64, entry: &EntryView, age: u64) -> Result<(), AllocError>
     ensures { OnOk result (Adds out.old out.new (open_line number entry.now age)) }

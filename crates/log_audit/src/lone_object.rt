@@ -44,7 +44,7 @@ pub(crate) fn put_object<K: TextSink + Drop>(
     put_verdict(alloc, out, lones, made)
 }
 
-/// Appends what stands behind the list of logs.
+/// Appends what stands after the list of logs.
 #[tactic(auto, unfolding(crate::specs::LoneTelling::lone_object))]
 fn put_verdict<K: TextSink + Drop>(
     alloc: Global,
@@ -119,7 +119,7 @@ fn put_before_row(rows: &mut Vec<u8>, lone: &Lone<'_>) -> Result<(), AllocError>
     }
 }
 
-/// Appends the row of the log of a node, before which so many calls were made.
+/// Appends the row of the log of a node, before which this many calls were made.
 #[tactic(auto, unfolding(crate::specs::Lones::before_row))]
 fn put_node_row(rows: &mut Vec<u8>, node: Node, before: u64) -> Result<(), AllocError>
     ensures { OnOk result (AddsRow style.Json rows.old rows.new (before_row (node_seen node) before)) }
@@ -157,7 +157,7 @@ fn put_made<K: TextSink + Drop>(
     put_members(alloc, out, lones)
 }
 
-/// Appends all tables as members, each behind a comma.
+/// Appends all tables as members, each after a comma.
 fn put_members<K: TextSink + Drop>(
     alloc: Global,
     out: &mut Outgoing<K>,
@@ -172,7 +172,7 @@ fn put_members<K: TextSink + Drop>(
     put_member(alloc, out, lones, LoneTable::Counted)
 }
 
-/// Appends a table as a member of an object, behind a comma.
+/// Appends a table as a member of an object, after a comma.
 fn put_member<K: TextSink + Drop>(
     alloc: Global,
     out: &mut Outgoing<K>,

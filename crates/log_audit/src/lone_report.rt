@@ -134,7 +134,7 @@ fn lones_by<'a>(
     Ok(lones)
 }
 
-/// What a log comes to by itself, which begins with this rest, where it goes on behind closed ones.
+/// What a log comes to by itself, which begins with this rest, where it goes on after closed ones.
 fn lone_of<'a>(
     alloc: Global,
     settings: &CheckedSettings,

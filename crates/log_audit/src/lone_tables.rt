@@ -52,7 +52,7 @@ pub enum LoneTable {
     Entries,
     /// Each transaction of each row of each book.
     Rows,
-    /// Each entry without an answer, and how many ticks came behind its submission.
+    /// Each entry without an answer, and how many ticks came after its submission.
     Open,
     /// Each payment that a pharmacy counts.
     Counted,
@@ -331,7 +331,7 @@ fn put_open_entries<K: TextSink + Drop>(
     Ok(())
 }
 
-/// Appends the row of an entry that is so many ticks old, if it has no answer.
+/// Appends the row of an entry that is this many ticks old, if it has no answer.
 fn put_if_open(
     out: &mut Vec<u8>,
     style: Style,

@@ -72,7 +72,7 @@ impl NodeKind {
     }
 }
 
-/// Appends a line on each node of a kind, of which there are so many, that has no log or more than one.
+/// Appends a line on each node of a kind, of which there are this many, that has no log or more than one.
 fn put_lacks(
     out: &mut Vec<u8>,
     manner: Manner,

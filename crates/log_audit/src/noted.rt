@@ -26,7 +26,7 @@ impl Noted {
         }
     }
 
-    /// Notes these bytes behind the others.
+    /// Notes these bytes after the others.
     pub(crate) fn note(&mut self, _bytes: &[u8])
         ensures { self.new.bytes ≡ self.old.bytes ++ _bytes.now }
     {}

@@ -94,7 +94,7 @@ impl<K: TextSink + Drop> Outgoing<K> {
         self.put(left)
     }
 
-    /// Ends a list of JSON: the comma behind its last row goes.
+    /// Ends a list of JSON: the comma after its last row goes.
     pub(crate) fn end_list(&mut self) -> Result<(), AllocError>
         ensures { OnOk result (self.new ≡ without_comma self.old ++ codes "\n]") }
     {

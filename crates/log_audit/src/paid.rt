@@ -71,7 +71,7 @@ pub(crate) fn put_book(
     )
 }
 
-/// Appends the lines of a payer with so many rows, which made these payments.
+/// Appends the lines of a payer with this many rows, which made these payments.
 fn put_sums_of_book(
     out: &mut Vec<u8>,
     pharmacies: usize,

@@ -217,7 +217,7 @@ fn put_changes(
     Ok(())
 }
 
-/// Appends the row of a change behind these.
+/// Appends the row of a change after these.
 fn put_changed(
     out: &mut Vec<u8>,
     settings: &WorldSettings,

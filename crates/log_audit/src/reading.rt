@@ -42,7 +42,7 @@ pub fn read_audited(alloc: Global, text: Vec<u8>, logs: Vec<Vec<u8>>) -> Result<
     ensures taken { IfOk result (λ audited. world_fault audited.settings ≡ None) }
     // The cause is true, and those before it do not stand.
     ensures refused { IfErr result (λ why. IsRefused text.items (bytes_of logs.items) why) }
-    // The torn ends are what stands behind the records that stand whole.
+    // The torn ends are what stands after the records that stand whole.
     ensures torn { IfOk result (λ audited. audited.torn.items ≡ torn_ends (digest_under text.items) (bytes_of logs.items)) }
     // A schedule begins with the very text.
     ensures text { IfOk result (λ audited. audited.text.items ≡ text.items) }
@@ -58,7 +58,49 @@ pub fn read_audited(alloc: Global, text: Vec<u8>, logs: Vec<Vec<u8>>) -> Result<
     })
 }
 
-/// A log, and what it begins with, where it goes on behind closed ones.
+impl Audited {
+    /// The settings.
+    pub fn settings(&self) -> &CheckedSettings
+        ensures { result.now ≡ self.now.settings }
+    {
+        &self.settings
+    }
+
+    /// The logs, in order.
+    pub fn logs(&self) -> &[NodeLog]
+        ensures { result.now ≡ self.now.logs.items }
+    {
+        self.logs.as_slice()
+    }
+
+    /// The same with one log more, which has no torn end.
+    ///
+    /// # Errors
+    /// Memory was refused.
+    pub fn with_log(self, log: NodeLog) -> Result<Audited, AllocError>
+        ensures settings { IfOk result (λ audited. audited.settings ≡ self.settings) }
+        ensures text { IfOk result (λ audited. audited.text ≡ self.text) }
+        ensures logs { IfOk result (λ audited. audited.logs.items ≡ self.logs.items ++ log ∷ []) }
+        ensures torn { IfOk result (λ audited. audited.torn.items ≡ self.torn.items ++ 0 ∷ []) }
+    {
+        let Audited {
+            text,
+            settings,
+            mut logs,
+            mut torn,
+        } = self;
+        logs.push(log)?;
+        torn.push(0)?;
+        Ok(Audited {
+            text,
+            settings,
+            logs,
+            torn,
+        })
+    }
+}
+
+/// A log, and what it begins with, where it goes on after closed ones.
 #[derive(Drop)]
 pub struct GivenLog {
     /// What it begins with.
@@ -76,7 +118,7 @@ pub struct AuditedAlone {
     pub(crate) rests: Vec<Option<Vec<u8>>>,
 }
 
-/// Reads the settings, a TOML document, and logs of which each may go on behind closed ones that are not read.
+/// Reads the settings, a TOML document, and logs of which each may go on after closed ones that are not read.
 /// The bytes of a log are let go once it is read.
 ///
 /// # Errors

@@ -229,7 +229,7 @@ fn run_lines(alloc: Global, audited: Audited, run: LegalRun) -> Result<Vec<u8>, 
     Ok(text)
 }
 
-/// The lines of logs, and that they are those of one legal run of so many events.
+/// The lines of logs, and that they are those of one legal run of this many events.
 fn legal_lines(alloc: Global, audited: &Audited, count: u64) -> Result<Vec<u8>, AllocError>
     ensures { IfOk result (λ text. text.items
         ≡ log_lines (logs_seen audited.now.logs.items) audited.now.torn.items ++ legal_line count) }

@@ -16,7 +16,7 @@ use std::alloc::{AllocError, Global};
 use world_setup::Event;
 
 /// The input of a replay of these events: the settings, a line `---`, and a line for each event. It is divided again, and
-/// given only where the lines behind the settings are its schedule, and the settings before them are these.
+/// given only where the lines after the settings are its schedule, and the settings before them are these.
 ///
 /// # Errors
 /// `NoLine` where there is no such text; `OutOfMemory`.
@@ -60,7 +60,7 @@ fn joined(alloc: Global, settings: &[u8], written: &[u8]) -> Result<Vec<u8>, All
     Ok(text)
 }
 
-/// The line that divides, behind settings that may lack their last newline.
+/// The line that divides, after settings that may lack their last newline.
 fn divider(settings: &[u8]) -> &'static [u8]
     ensures { result.now ≡ divider settings.now }
 {
@@ -92,7 +92,7 @@ fn is_divided(
     Ok(kept && parts.schedule == written)
 }
 
-/// Whether settings are kept behind a division: they are the same bytes, with a newline behind the last line. Those with
+/// Whether settings are kept after a division: they are the same bytes, with a newline after the last line. Those with
 /// carriage returns are not compared, since a division drops the ones that end lines.
 fn is_kept(alloc: Global, divided: &[u8], settings: &[u8]) -> Result<bool, AllocError>
     ensures { IfOk result (λ yes. IsTrue yes → KeepsSettings divided.now settings.now) }
@@ -111,7 +111,7 @@ fn has_return(text: &[u8]) -> bool
     text.iter().any(|byte| *byte == b'\r')
 }
 
-/// Settings with a newline behind their last line.
+/// Settings with a newline after their last line.
 fn whole(alloc: Global, settings: &[u8]) -> Result<Vec<u8>, AllocError>
     ensures { IfOk result (λ text. text.items ≡ whole settings.now) }
 {

@@ -24,12 +24,12 @@ pub(crate) enum Piece<'a> {
     Named(Node),
 }
 
-/// How lines stand one behind another.
+/// How lines stand one after another.
 #[derive(Clone, Copy, PartialEq, Eq)]
 pub(crate) enum Manner {
-    /// With a newline behind each.
+    /// With a newline after each.
     Line,
-    /// As texts of a list of JSON, each on a line of its own and with a comma behind it. `put_list` makes a list of them.
+    /// As texts of a list of JSON, each on a line of its own and with a comma after it. `put_list` makes a list of them.
     Member,
 }
 
@@ -62,7 +62,7 @@ fn put_member(out: &mut Vec<u8>, line: &[u8]) -> Result<(), AllocError>
     out.extend_from_slice(b",")
 }
 
-/// Appends pieces, one behind another.
+/// Appends pieces, one after another.
 pub(crate) fn put_pieces(out: &mut Vec<u8>, pieces: &[Piece<'_>]) -> Result<(), AllocError>
     ensures { OnOk result (Adds out.old out.new (sentence (map piece_seen pieces.now))) }
 {

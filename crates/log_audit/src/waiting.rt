@@ -56,7 +56,7 @@ pub(crate) fn waiting_lines(
     Ok(out)
 }
 
-/// Logs, of each of which so many calls were made.
+/// Logs, of each of which this many calls were made.
 fn progress_of<'a>(
     alloc: Global,
     logs: &'a [NodeLog],
@@ -318,7 +318,7 @@ fn sent_before(line: &Progress<'_>, from: Node, to: Node, bytes: &Octets) -> boo
     line.log.is_of(from) && has_sent(first_of(line.log.records(), line.made), to, bytes)
 }
 
-/// The first of records, so many at most.
+/// The first of records, this many at most.
 fn first_of(records: &[Record], count: usize) -> &[Record]
     ensures { result.now ≡ take count records.now }
 {

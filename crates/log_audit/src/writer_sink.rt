@@ -11,7 +11,7 @@ use std::io;
 use std::io::{ErrorKind, Write};
 use std::marker::Model;
 
-/// A writer that takes the pieces of a text until one of its calls fails. What comes behind that goes nowhere, and the text
+/// A writer that takes the pieces of a text until one of its calls fails. What comes after that goes nowhere, and the text
 /// is made to its end all the same: whether all was written is asked once, at the end.
 #[derive(Drop)]
 pub struct WriterSink<W: Write + Drop> {

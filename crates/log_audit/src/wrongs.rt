@@ -24,7 +24,7 @@ use world_setup::{CheckedSettings, Fault, Node, Sent};
 pub(crate) enum Wrong {
     /// The node refuses it by this name.
     Refused(&'static [u8]),
-    /// The node sends so many packets, and the log has so many.
+    /// The node sends this many packets, and the log has this many.
     Count(u64, u64),
     /// The packet of this number, from 1, is for this node in the log, and for another one by the node.
     Addressee(u64, Node),

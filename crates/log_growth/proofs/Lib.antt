@@ -7,3 +7,4 @@ mod GrownTo
 mod Moved
 mod Staying
 mod MadeOver
+pub mod Rejecting

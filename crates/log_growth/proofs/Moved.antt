@@ -17,7 +17,7 @@ pub second : (text : List ℕ) → version_of (digest_in text) ≡ 2
 unfolding digest_in
 second text = refl
 
--- a head, and the records behind it
+-- a head, and the records after it
 under_head : (new : List ℕ) (log : KeptLog) (node : Node) (head records : List ℕ) → version_of new ≡ 2 → log.node ≡ node → head ≡ kept_text new (record { node = node; calls = [] }) → records ≡ calls_text 2 1 log.calls
     → head ++ records ≡ kept_text new log
 unfolding kept_text calls_text
@@ -27,7 +27,7 @@ under_head new log node head records version own begins are =
     ∙ (ap (λ (t : List ℕ). front ++ t) (are ∙ ap (λ (v : ℕ). calls_text v 1 log.calls) (sym version))
     ∙ ap (λ (n : Node). head_text new n ++ calls_text (version_of new) 1 log.calls) (sym own))
 
--- what was appended, behind a head, is the log that was read
+-- what was appended, after a head, is the log that was read
 pub is_moved : (old new bytes : List ℕ) (a : Appended) (head records written : List ℕ) → version_of new ≡ 2 → IsAppended old bytes 0 [] records a
     → ((read : KeptReading) → kept_in old bytes ≡ Ok read → IsLogOf old bytes read) → ((log : KeptLog) → FitsKept log → KeptAs new (kept_text new log) log)
     → head ≡ kept_text new (record { node = node_seen a.node; calls = [] }) → written ≡ head ++ records → IsMoved old new bytes (node_seen a.node) written

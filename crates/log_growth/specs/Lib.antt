@@ -3,3 +3,4 @@ pub mod Compared
 pub mod Over
 pub mod Grown
 pub mod Made
+pub mod Rejected

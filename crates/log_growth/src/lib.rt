@@ -11,6 +11,7 @@ mod over;
 mod payers;
 mod pharmacies;
 mod reason;
+mod rejected;
 mod rows;
 mod switches;
 mod ungrown;
@@ -20,4 +21,5 @@ pub use laws::{
     made_logs_go_over, made_logs_with_their_routes_go_over, nodes_are_compared_exactly,
 };
 pub use over::{Gone, OverFault, go_over};
+pub use rejected::rerouted;
 pub use ungrown::Ungrown;

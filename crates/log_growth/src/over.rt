@@ -54,7 +54,7 @@ impl From<AllocError> for OverFault {
 /// What becomes of the log that bytes are, under settings of the old digests, where the text spells the new ones, of these
 /// digests. It goes over where its node opens from it under the new settings: it makes each call, and sends every byte that the
 /// log has as sent.
-/// What stands behind the last whole record is left behind, as at any start of a node.
+/// What stands after the last whole record is left behind, as at any start of a node.
 ///
 /// # Errors
 /// `Log` where the bytes are a log of neither settings, else `Refused`.

@@ -68,7 +68,7 @@ new_records items (Err why) text node rest kept s t serves on is = tt
 
 -- ---- what it begins with
 
--- what is left by this node after so many calls, with a log of these bytes behind it
+-- what is left by this node after this many calls, with a log of these bytes after it
 abbrev pub rest_of : Node → ℕ → List ℕ → List Reference → List ℕ → Rest
 rest_of node calls closed references kept = record { node = node; calls = calls; closed = sha256 closed; references = references; kept = kept }
 

@@ -1,4 +1,4 @@
--- What a closed log leaves, and the rest behind it.
+-- What a closed log leaves, and the rest after it.
 use Rattle.std.proofs.Common.{◌≡◌, ◌⊎◌, inl, inr, ℕ, Bool, IsTrue, IfOk, List, [], ◌∷◌, ◌++◌, Option, Some, Result, Ok, Err, refl, sym, ap, ◌∙◌, subst}
 use Rattle.claim_model.specs.Node.{Node}
 use Rattle.world_setup.specs.Seen.{settings_seen}
@@ -11,7 +11,7 @@ use Rattle.log_turning.specs.Joined.{Part, last_part}
 use Rattle.log_turning.specs.Left.{AreLeft, IsLeft, IsLeftBy, rest_of}
 use Rattle.log_turning.specs.Turned.{IsClosed}
 
--- one log more behind some
+-- one log more after some
 pub left_more : (text : List ℕ) (node : Node) (last : Option Part) (ps : List Part) (p : Part) → AreLeft text node last ps → IsLeft text node (last_part last ps) p → AreLeft text node last (ps ++ p ∷ [])
 left_more text node last [] p are one = (one, tt)
 left_more text node last (q ∷ ps) p (first, more) one = (first, left_more text node (Some q) ps p more one)

@@ -20,7 +20,7 @@ use Rattle.log_turning.specs.Unjoined.{IsNoPart, IsOthers, IsUnjoined, SpellsNon
 use Rattle.log_turning.specs.declared.fault.JoinFault.{JoinFault}
 use Rattle.log_turning.specs.declared.fault.JoinFault.TheVariants.{OutOfMemory, Settings, Log, OtherNode, NotNext}
 
--- one part more behind some
+-- one part more after some
 pub parts_more : (text : List ℕ) (node : Node) (begins : Option (List ℕ)) (before : ℕ) (last : Option (List ℕ)) (ps : List Part) (calls : List Stamped) (p : Part) (own : List Stamped)
     → AreParts text node begins before last ps calls → GoesOn node begins (before + length calls) (last_log last ps) p → IsPart text node p own → AreParts text node begins before last (ps ++ p ∷ []) (calls ++ own)
 parts_more text node begins before last [] calls p own none goes part =
@@ -39,7 +39,7 @@ pub last_part_more : (last : Option Part) (ps : List Part) (p : Part) → last_p
 last_part_more last [] p = refl
 last_part_more last (q ∷ ps) p = last_part_more (Some q) ps p
 
--- the bytes behind the last part are those behind one part more
+-- the bytes after the last part are those after one part more
 pub ends_more : (text : List ℕ) (done longer : List Part) (p : Part) (left : ℕ) → longer ≡ done ++ p ∷ [] → IsEndOf text p left → IsEnd text (last_part None longer) left
 ends_more text done longer p left is end = subst (λ (last : Option Part). IsEnd text last left) (sym (ap (last_part None) is ∙ last_part_more None done p)) end
 
@@ -132,7 +132,7 @@ joins_more text node begins done longer last p count next joined further is goes
 
 -- ---- why there is no text
 
--- a list before a place, what stands there, and what is behind
+-- a list before a place, what stands there, and what is after
 pub parts_at : {A : Type 0} (see : A → Part) (xs : List A) (i : ℕ) (d : A) → i < length xs → map see (take i xs) ++ see (get_or xs i d) ∷ map see (drop (i + 1) xs) ≡ map see xs
 parts_at {A} see xs i d lt =
     ap (λ (rest : List Part). map see (take i xs) ++ rest) (sym (ap (map see) (drop_more xs i d lt)))
@@ -141,7 +141,7 @@ parts_at {A} see xs i d lt =
 pub count_at : {A : Type 0} (see : A → Part) (xs : List A) (i : ℕ) → i ≤ length xs → length (map see (take i xs)) ≡ i
 count_at {A} see xs i le = length-map (take i xs) see ∙ length-take-le i xs le
 
--- the parts so far go on one behind another, and something is so of the next
+-- the parts so far go on one after another, and something is so of the next
 pub stops_here : (text : List ℕ) (node : Node) (begins : Option (List ℕ)) (parts done : List Part) (last : Option (List ℕ)) (p : Part) (behind : List Part) (place count : ℕ) (joined : List ℕ)
     (Why : ℕ → Option (List ℕ) → Part → Type 0) → done ++ p ∷ behind ≡ parts → length done ≡ place → Joins text node begins done last count joined → Why (calls_before begins + count) last p
     → StopsAt text node begins parts place Why

@@ -1,4 +1,4 @@
--- The file of a log: the log alone, or behind what it begins with.
+-- The file of a log: the log alone, or after what it begins with.
 use Rattle.std.specs.Prelude.{ℕ, cond, bytes_eq, List, [], ◌∷◌, ◌++◌, length, codes, Option, Some, None}
 use Rattle.std.specs.Int.{w64, to_be_bytes}
 use Rattle.kept_records.specs.Fields.{u64_at}
@@ -6,7 +6,7 @@ use Rattle.kept_records.specs.Options.{◌>>=◌}
 use Rattle.kept_logs.specs.Fields.{bytes_at, text_at}
 use Rattle.log_turning.specs.Joined.{Part}
 
--- the name and the version of the file of a log that goes on behind closed ones
+-- the name and the version of the file of a log that goes on after closed ones
 abbrev pub file_name : List ℕ
 file_name = codes "PT" ++ (1 ∷ [])
 
@@ -27,7 +27,7 @@ size_in bytes = do
   size ← u64_at behind
   Some size.0
 
--- the rest, and the log behind it
+-- the rest, and the log after it
 unfoldable pub split_in : List ℕ → Option (List ℕ × List ℕ)
 split_in bytes = do
   behind ← named_in bytes

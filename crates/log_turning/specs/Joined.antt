@@ -1,4 +1,4 @@
--- Logs that go on one behind another, as one log.
+-- Logs that go on one after another, as one log.
 use Rattle.std.specs.Prelude.{◌≡◌, ℕ, ◌+◌, ◌==◌, ◌&&◌, Bool, bytes_eq, List, [], ◌∷◌, ◌++◌, ◌-◌, length, replicate, Option, Some, None, Ok}
 use Rattle.std.specs.Option.{option_copied}
 use Rattle.sha2.specs.Sha256.{sha256}
@@ -30,7 +30,7 @@ pub record Names (node : Node) (calls : ℕ) (closed rest : List ℕ) : Type 0 w
   pub count : names.calls ≡ calls
   pub digest : names.closed ≡ sha256 closed
 
--- a log goes on behind so many calls, of which the last stand in these bytes; the first log begins as all of them do
+-- a log goes on after this many calls, of which the last stand in these bytes; the first log begins as all of them do
 abbrev pub Follows : Node → Option (List ℕ) → ℕ → Option (List ℕ) → Option (List ℕ) → Type 0
 Follows node begins calls None rest = rest ≡ begins
 Follows node begins calls (Some closed) None = ⊥
@@ -44,20 +44,20 @@ pub record IsPart (text : List ℕ) (node : Node) (p : Part) (calls : List Stamp
   pub whole : ℕ
   pub reads : kept_in (turned_under text p.rest p.log) p.log ≡ Ok (record { log = record { node = node; calls = calls }; whole = whole })
 
--- the records of a part stand behind a text, numbered behind so many, and are so many in all then
+-- the records of a part stand after a text, numbered after this many, and are this many in all then
 pub record IsPartBehind (text : List ℕ) (node : Node) (p : Part) (before : ℕ) (old new : List ℕ) (all : ℕ) : Type 0 where
   pub calls : List Stamped
   pub part : IsPart text node p calls
   pub counted : all ≡ before + length calls
   pub is : new ≡ old ++ calls_text 2 (before + 1) calls
 
--- parts go on one behind another, behind so many calls, and have these records
+-- parts go on one after another, after this many calls, and have these records
 abbrev pub AreParts : List ℕ → Node → Option (List ℕ) → ℕ → Option (List ℕ) → List Part → List Stamped → Type 0
 AreParts text node begins before last [] calls = calls ≡ []
 AreParts text node begins before last (p ∷ more) calls =
     GoesOn node begins before last p × ((own : List Stamped) × (behind : List Stamped) × (IsPart text node p own × (AreParts text node begins (before + length own) (Some p.log) more behind × (calls ≡ own ++ behind))))
 
--- so many bytes stand behind the whole records of a part: of one that was cut off, or zeros
+-- this many bytes stand after the whole records of a part: of one that was cut off, or zeros
 pub record IsEndOf (text : List ℕ) (p : Part) (left : ℕ) : Type 0 where
   pub log : KeptLog
   pub whole : ℕ
@@ -73,8 +73,8 @@ abbrev pub last_part : Option Part → List Part → Option Part
 last_part last [] = last
 last_part last (p ∷ more) = last_part (Some p) more
 
--- bytes are the text of one log that begins so, with all records of the parts, and what was noted in them; and behind it as many zeros as bytes stand
--- behind the whole records of the last part, which are read as the end of a log that was cut off
+-- bytes are the text of one log that begins so, with all records of the parts, and what was noted in them; and after it as many zeros as bytes stand
+-- after the whole records of the last part, which are read as the end of a log that was cut off
 pub record IsJoined (text : List ℕ) (node : Node) (begins : Option (List ℕ)) (parts : List Part) (joined : List ℕ) : Type 0 where
   pub calls : List Stamped
   pub parted : AreParts text node begins (calls_before begins) None parts calls

@@ -1,4 +1,4 @@
--- What a closed log leaves, and the rest that the log behind it begins with.
+-- What a closed log leaves, and the rest that the log after it begins with.
 use Rattle.std.specs.Prelude.{◌≡◌, ◌≢◌, ◌⊎◌, ⊤, ℕ, List, [], ◌∷◌, ◌++◌, length, Option, Some, None}
 use Rattle.sha2.specs.Sha256.{sha256}
 use Rattle.claim_model.specs.Node.{Node}
@@ -14,7 +14,7 @@ use Rattle.log_turning.specs.declared.turning.Closed.{Closed}
 use Rattle.log_turning.specs.Joined.{Part, last_part}
 use Rattle.log_turning.specs.Turned.{IsClosed, IsStarted, Serves}
 
--- what a node leaves after so many calls, with a log of these bytes as the last one
+-- what a node leaves after this many calls, with a log of these bytes as the last one
 abbrev pub rest_of : Node → ℕ → List ℕ → List Reference → List ℕ → Rest
 rest_of node calls closed references kept = record { node = node; calls = calls; closed = sha256 closed; references = references; kept = kept }
 
@@ -42,7 +42,7 @@ pub record IsOther (text : List ℕ) (node : Node) (closed : Part) (rest : List 
   pub is : IsClosed text node closed.rest closed.log left
   pub other : rest ≢ rest_text (rest_of node (calls_before (Some rest)) closed.log left.references.items left.record.items)
 
--- behind a closed log that its node makes, a log begins with what it leaves. One that begins with no rest does not go on behind another (`IsJoined`)
+-- after a closed log that its node makes, a log begins with what it leaves. One that begins with no rest does not go on after another (`IsJoined`)
 abbrev pub GoesBehind : List ℕ → Node → Part → Option (List ℕ) → Type 0
 GoesBehind text node closed None = ⊤
 GoesBehind text node closed (Some rest) = IsUnmade text node closed ⊎ IsLeftBy text node closed rest

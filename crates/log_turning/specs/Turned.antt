@@ -67,7 +67,7 @@ pub record IsTurned (text : List ℕ) (node : Node) (rest : Option (List ℕ)) (
   pub spells : Spells text last.settings
   pub closed : KeptLog
   pub own : closed.node ≡ node
-  -- all records of the log that the bytes are, and behind them stops and starts alone
+  -- all records of the log that the bytes are, and after them stops and starts alone
   pub start : Serving
   pub opened : IsOpened text node rest bytes turned.kept start
   pub more : List Stamped

@@ -15,7 +15,7 @@ abbrev pub last_log : Option (List ℕ) → List Part → Option (List ℕ)
 last_log last [] = last
 last_log last (p ∷ more) = last_log (Some p.log) more
 
--- those of the parts before this place go on one behind another, and of the one there, behind their calls, something is so
+-- those of the parts before this place go on one after another, and of the one there, after their calls, something is so
 pub record StopsAt (text : List ℕ) (node : Node) (begins : Option (List ℕ)) (parts : List Part) (place : ℕ) (Why : ℕ → Option (List ℕ) → Part → Type 0) : Type 0 where
   pub before : List Part
   pub one : Part

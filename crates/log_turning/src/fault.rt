@@ -77,7 +77,7 @@ pub enum RestFault {
     /// Memory was refused.
     #[error("out of memory")]
     OutOfMemory,
-    /// The log begins with another rest than its node left behind the one before it.
+    /// The log begins with another rest than its node left after the one before it.
     #[error("the log does not begin with what its closed logs left")]
     Other(usize),
 }

@@ -1,4 +1,4 @@
-//! The file of a log: the log alone, or behind what it begins with.
+//! The file of a log: the log alone, or after what it begins with.
 
 ghost use Rattle.std.specs.Prelude.{◌≡◌, IfOk};
 ghost use Rattle.std.specs.Option.{option_map};
@@ -9,7 +9,7 @@ use crate::joining::Part;
 use kept_records::{put_u64, take_u64};
 use std::alloc::{AllocError, Global};
 
-/// The bytes that begin the file of a log that goes on behind closed ones: its name and its version (own).
+/// The bytes that begin the file of a log that goes on after closed ones: its name and its version (own).
 const NAME: [u8; 3] = [b'P', b'T', 1];
 
 /// How many bytes stand before the rest in such a file: name, version, and how many bytes the rest has.
@@ -54,7 +54,7 @@ pub fn part_of(bytes: &[u8]) -> Part<'_>
     }
 }
 
-/// The rest, and the log behind it.
+/// The rest, and the log after it.
 #[tactic(auto, unfolding(crate::specs::Files::split_in, kept_logs::specs::Fields::text_at, kept_logs::specs::Fields::bytes_at))]
 fn split(bytes: &[u8]) -> Option<(&[u8], &[u8])>
     ensures { option_map (λ parts. (parts.0.now, parts.1.now)) result ≡ split_in bytes.now }

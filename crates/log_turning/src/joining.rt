@@ -1,4 +1,4 @@
-//! Logs that go on one behind another, joined as if none had been closed.
+//! Logs that go on one after another, joined as if none had been closed.
 
 ghost use Rattle.std.specs.Prelude.{◌≡◌, ◌≢◌, ◌⊎◌, ◌↔◌, ◌++◌, ℕ, List, IfErr, IfOk, IsTrue, OnOk, map, replicate};
 ghost use Rattle.std.specs.Option.{option_copied};
@@ -21,7 +21,7 @@ use std::alloc::{AllocError, Global};
 use world_settings::{SettingsFault, read_living_settings};
 use world_setup::Node;
 
-/// One of the logs of a node: what it begins with, where it goes on behind closed ones, and its bytes.
+/// One of the logs of a node: what it begins with, where it goes on after closed ones, and its bytes.
 #[derive(Clone, Copy)]
 pub struct Part<'a> {
     /// The rest that it begins with.
@@ -92,7 +92,7 @@ fn digest_behind(digests: &Digests, begins: Option<&[u8]>) -> SettingsDigest
     }
 }
 
-/// Whether a log goes on behind so many calls of a node, of which the last stand in these bytes: the first begins as all of them do,
+/// Whether a log goes on after this many calls of a node, of which the last stand in these bytes: the first begins as all of them do,
 /// and each later one with a rest that names the calls, and the digest of those bytes.
 fn goes_on(
     alloc: Global,
@@ -156,7 +156,7 @@ fn are_these(node: Node, calls: u64, closed: &[u8], rest: &Rest<'_>) -> bool
         && rest.closed == Sha256::digest(closed).as_slice()
 }
 
-/// Appends so many zeros.
+/// Appends this many zeros.
 fn put_zeros(alloc: Global, text: &mut Vec<u8>, count: usize) -> Result<(), AllocError>
     ensures { OnOk result (text.new.items ≡ text.old.items ++ replicate count 0) }
 {
@@ -164,8 +164,8 @@ fn put_zeros(alloc: Global, text: &mut Vec<u8>, count: usize) -> Result<(), Allo
     text.extend_from_slice(zeros.as_slice())
 }
 
-/// Appends the records of a part, where it is a log of this node, behind so many; and says how many there are then, and how many bytes
-/// stand behind them in the part.
+/// Appends the records of a part, where it is a log of this node, after this many; and says how many there are then, and how many bytes
+/// stand after them in the part.
 fn append_part(
     alloc: Global,
     digests: &Digests,

@@ -1,4 +1,4 @@
-//! Whether logs that go on one behind another begin with what their node left.
+//! Whether logs that go on one after another begin with what their node left.
 
 ghost use Rattle.std.specs.Prelude.{◌≡◌, ◌≢◌, ◌⊎◌, ◌↔◌, ℕ, List, Option, Some, None, map, IfErr, IfOk, IfSome, IsSome, IsTrue, OnOk};
 ghost use Rattle.std.specs.Option.{option_copied, option_map};
@@ -19,7 +19,7 @@ use sha2::{Digest, Sha256};
 use std::alloc::{AllocError, Global};
 use world_setup::Node;
 
-/// Whether each of the logs of a node, which go on one behind another, begins with what the node left behind the one before it: byte
+/// Whether each of the logs of a node, which go on one after another, begins with what the node left after the one before it: byte
 /// for byte. A log that its node does not make leaves nothing that is compared.
 ///
 /// # Errors
@@ -43,7 +43,7 @@ pub fn check_rests(
     Ok(())
 }
 
-/// Whether a log begins with what the node left behind the one before it, where there is one.
+/// Whether a log begins with what the node left after the one before it, where there is one.
 fn is_left(
     alloc: Global,
     text: &[u8],
@@ -62,7 +62,7 @@ fn is_left(
     }
 }
 
-/// Whether a log that begins so goes on behind a closed one.
+/// Whether a log that begins so goes on after a closed one.
 fn goes_behind(
     alloc: Global,
     text: &[u8],
@@ -170,7 +170,7 @@ fn is_equal(one: &[u8], other: &[u8]) -> bool
     other == one
 }
 
-/// The rest that was left behind a closed log, after so many calls.
+/// The rest that was left behind a closed log, after this many calls.
 fn text_of(
     alloc: Global,
     node: Node,

@@ -23,7 +23,7 @@ use world_setup::Node;
 pub struct Turned {
     /// How many bytes of the log stay.
     pub kept: usize,
-    /// What is to be appended behind them: the records of a stop, where the node was up, and of a start.
+    /// What is to be appended after them: the records of a stop, where the node was up, and of a start.
     pub closing: Vec<u8>,
     /// What the new log begins with.
     pub rest: Vec<u8>,
@@ -86,7 +86,7 @@ pub fn turn_log(
 pub(crate) struct Closed {
     /// How many of its bytes stay.
     pub(crate) kept: usize,
-    /// What is to be appended behind them.
+    /// What is to be appended after them.
     pub(crate) closing: Vec<u8>,
     /// How many calls it has then.
     pub(crate) calls: u64,
@@ -112,7 +112,7 @@ fn close_log(
     end_log(alloc, service, kept)
 }
 
-/// Closes the log of the node that is served, of whose bytes so many stay.
+/// Closes the log of the node that is served, of whose bytes this many stay.
 pub(crate) fn end_log(alloc: Global, service: Service, kept: usize) -> Result<Closed, TurnFault>
     ensures { (text : List ℕ) (node : model.Node) (rest : Option (List ℕ)) (bytes : List ℕ)
         → Serves text node rest bytes kept service
@@ -207,7 +207,7 @@ fn records_of(alloc: Global, service: &mut Service, stays_up: bool) -> Result<Ve
     Ok(Vec::from_slice(alloc, service.records())?)
 }
 
-/// The first bytes, so many where there are as many.
+/// The first bytes, this many where there are as many.
 fn front(bytes: &[u8], count: usize) -> &[u8]
     ensures { result.now ≡ take count bytes.now }
 {
@@ -218,7 +218,7 @@ fn front(bytes: &[u8], count: usize) -> &[u8]
     }
 }
 
-/// The SHA-256 digest of bytes and those behind them.
+/// The SHA-256 digest of bytes and those after them.
 fn digest_of(bytes: &[u8], more: &[u8]) -> [u8; 32]
     ensures { result ≡ sha256 (bytes.now ++ more.now) }
 {

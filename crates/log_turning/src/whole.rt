@@ -35,7 +35,7 @@ pub enum WholeFault {
     /// The log in the file of this name does not go on where the one before it ends, or is none.
     #[error("{0}: {1}")]
     Logs(String, JoinFault),
-    /// The log in the file of this name begins with another rest than its node left behind the one before it.
+    /// The log in the file of this name begins with another rest than its node left after the one before it.
     #[error("{0}: {1}")]
     Rest(String, RestFault),
 }
@@ -46,7 +46,7 @@ impl From<AllocError> for WholeFault {
     }
 }
 
-/// The name of a log that was closed, when its node had made so many calls in all.
+/// The name of a log that was closed, when its node had made this many calls in all.
 pub fn closed_name(alloc: Global, path: &str, calls: u64) -> Result<String, AllocError> {
     format!(in alloc; "{path}.{calls}")
 }
@@ -55,7 +55,7 @@ pub fn closed_name(alloc: Global, path: &str, calls: u64) -> Result<String, Allo
 /// the text spells.
 ///
 /// # Errors
-/// A file could not be read, or the logs do not go on one behind another, or with what their node left.
+/// A file could not be read, or the logs do not go on one after another, or with what their node left.
 pub fn whole_log(rt: &HostRuntime, text: &[u8], path: &str) -> Result<Vec<u8>, WholeFault> {
     let mut files = log_files(rt, path)?;
     match node_of(rt.alloc(), files.as_slice())? {
@@ -64,7 +64,7 @@ pub fn whole_log(rt: &HostRuntime, text: &[u8], path: &str) -> Result<Vec<u8>, W
     }
 }
 
-/// A log, and what it begins with, where it goes on behind closed ones.
+/// A log, and what it begins with, where it goes on after closed ones.
 #[derive(Drop)]
 pub struct LogBehind {
     /// What it begins with.
@@ -77,7 +77,7 @@ pub struct LogBehind {
 /// that the text spells; and what the first of them begins with.
 ///
 /// # Errors
-/// A file could not be read, or the logs do not go on one behind another, or with what their node left.
+/// A file could not be read, or the logs do not go on one after another, or with what their node left.
 pub fn log_behind(rt: &HostRuntime, text: &[u8], path: &str) -> Result<LogBehind, WholeFault> {
     let alloc = rt.alloc();
     let mut files = files_back(rt, path, Reach::There)?;
@@ -94,7 +94,7 @@ pub fn log_behind(rt: &HostRuntime, text: &[u8], path: &str) -> Result<LogBehind
     Ok(LogBehind { rest, log })
 }
 
-/// The files of a node's logs, the newest first: each but the last begins with what the one behind it was closed with.
+/// The files of a node's logs, the newest first: each but the last begins with what the one after it was closed with.
 ///
 /// # Errors
 /// A file could not be read.
@@ -138,7 +138,7 @@ fn files_back(rt: &HostRuntime, path: &str, reach: Reach) -> Result<Vec<LogFile>
     Ok(files)
 }
 
-/// How many calls were made before the log in a file, where it goes on behind closed ones.
+/// How many calls were made before the log in a file, where it goes on after closed ones.
 fn calls_in(alloc: Global, bytes: &[u8]) -> Result<Option<u64>, AllocError> {
     match rest_of(alloc, bytes)? {
         Some(rest) => Ok(Some(rest.calls)),
@@ -146,7 +146,7 @@ fn calls_in(alloc: Global, bytes: &[u8]) -> Result<Option<u64>, AllocError> {
     }
 }
 
-/// The file of the log that was closed with so many calls, where it is read.
+/// The file of the log that was closed with this many calls, where it is read.
 fn file_before(
     rt: &HostRuntime,
     path: &str,
@@ -238,7 +238,7 @@ fn last_log(alloc: Global, files: &mut Vec<LogFile>) -> Result<Vec<u8>, AllocErr
     Ok(Vec::from_slice(alloc, part.log)?)
 }
 
-/// The node that the first of these files names, where the log in it goes on behind closed ones.
+/// The node that the first of these files names, where the log in it goes on after closed ones.
 fn node_of(alloc: Global, files: &[LogFile]) -> Result<Option<Node>, AllocError> {
     let Some(first) = files.first() else {
         return Ok(None);
@@ -257,7 +257,7 @@ fn last_bytes(alloc: Global, files: &mut Vec<LogFile>) -> Vec<u8> {
     }
 }
 
-/// Puts one more behind a list.
+/// Puts one more after a list.
 fn put<T: Drop>(list: &mut Vec<T>, one: T) -> Result<(), AllocError> {
     Ok(list.push(one)?)
 }
@@ -285,7 +285,7 @@ fn name_at(alloc: Global, files: &[LogFile], place: usize) -> Result<String, All
     }
 }
 
-/// What the log in a file begins with, where it goes on behind closed ones.
+/// What the log in a file begins with, where it goes on after closed ones.
 fn rest_of(alloc: Global, bytes: &[u8]) -> Result<Option<Rest<'_>>, AllocError> {
     match part_of(bytes).rest {
         Some(rest) => read_rest(alloc, rest),

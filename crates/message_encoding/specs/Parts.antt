@@ -30,13 +30,13 @@ header_numbers =
 abbrev pub is_header : List ℕ → Bool
 is_header number = is_among header_numbers number
 
--- the two bytes that name a field: they are all of its number, or stand behind three digits and a dash
+-- the two bytes that name a field: they are all of its number, or stand after three digits and a dash
 abbrev pub id_of : List ℕ → Option (List ℕ)
 id_of number =
     if length number == 2 then Some number else
     (if length number == 6 && slice_index number 3 == 45 then Some (drop 4 number) else None)
 
--- they stand behind a field separator
+-- they stand after a field separator
 abbrev pub id_front : List ℕ → Option (List ℕ)
 id_front number = option_map (λ id. 28 ∷ id) (id_of number)
 
@@ -74,7 +74,7 @@ named part name = if bytes_eq name (codes "transaction") then Some (29 ∷ []) e
 abbrev pub part_bytes : Data → Option (List ℕ)
 part_bytes part = text_at (codes "name") part >>= named part
 
--- the bytes of parts, one behind the other
+-- the bytes of parts, one after the other
 abbrev pub all_bytes : Items → Option (List ℕ)
 all_bytes no_items = Some []
 all_bytes (item part rest) = joined (part_bytes part) (all_bytes rest)

@@ -60,7 +60,7 @@ abbrev pub part_told : Told → Option (List ℕ)
 part_told (row r) = joined (row_front r) (Some r.value)
 part_told (transaction place count) = Some (29 ∷ [])
 
--- the bytes of parts, one behind the other, where each is one: the front of a number is a field separator and two bytes, or nothing in a header
+-- the bytes of parts, one after the other, where each is one: the front of a number is a field separator and two bytes, or nothing in a header
 abbrev pub told_bytes : List Told → Option (List ℕ)
 told_bytes [] = Some []
 told_bytes (part ∷ rest) = joined (part_told part) (told_bytes rest)

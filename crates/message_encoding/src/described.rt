@@ -106,7 +106,7 @@ fn part_at(parts: &[Value], place: usize) -> Option<&Value>
     Some(&parts[place])
 }
 
-/// The bytes of parts, one behind the other.
+/// The bytes of parts, one after the other.
 fn all_bytes(alloc: Global, parts: &[Value]) -> Result<Vec<u8>, Misfit>
     ensures { GivesAll result (items_view parts.now) }
 {

@@ -75,7 +75,7 @@ spaces_plain : (n : ℕ) → list_all is_plain (replicate n 32) ≡ true
 spaces_plain zero = refl
 spaces_plain (suc n) = spaces_plain n
 
--- a text with spaces behind it is a field of a header
+-- a text with spaces after it is a field of a header
 pub padded_plain : (width : ℕ) (text : List ℕ) → (length text ≤ width) × (has_separator text ≡ false) → IsPlain width (padded width text)
 padded_plain width text right =
     let spaces : List ℕ = replicate (width - length text) 32 in

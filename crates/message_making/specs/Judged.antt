@@ -15,7 +15,7 @@ use Rattle.message_making.specs.Texts.{text_in}
 
 -- ---- one field
 
--- so many digits, and nothing else
+-- this many digits, and nothing else
 abbrev pub are_digits : ℕ → List ℕ → Bool
 are_digits width text = length text == width && list_all is_digit text
 
@@ -26,7 +26,7 @@ digits_fault width text = if are_digits width text then None else Some NotDigits
 abbrev pub date_fault : List ℕ → Option FieldFault
 date_fault text = if are_digits 8 text then (if is_calendar_date text then None else Some NoDay) else Some NotDigits
 
--- a text of at most so many bytes, none of them a separator
+-- a text of at most this many bytes, none of them a separator
 abbrev pub plain_fault : ℕ → List ℕ → Option FieldFault
 plain_fault width text = if nat_lt width (length text) then Some TooLong else (if has_separator text then Some Separator else None)
 
@@ -43,7 +43,7 @@ text_fault width text =
 abbrev pub below_fault : ℕ → ℕ → Option FieldFault
 below_fault end number = if nat_le end number then Some TooLong else None
 
--- a number of at most so many digits
+-- a number of at most this many digits
 abbrev pub number_fault : ℕ → ℕ → Option FieldFault
 number_fault digits number = below_fault (10 ^ digits) number
 

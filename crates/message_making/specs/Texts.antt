@@ -2,7 +2,7 @@
 use Rattle.std.specs.Prelude.{ℕ, ◌-◌, ◌==◌, Bool, List, ◌++◌, length, take, replicate, Option, Some, None}
 use Rattle.std.specs.List.{position}
 
--- the byte behind a text
+-- the byte after a text
 abbrev pub is_end : ℕ → Bool
 is_end byte = byte == 0
 
@@ -14,6 +14,6 @@ text_up_to None field = field
 abbrev pub text_in : List ℕ → List ℕ
 text_in field = text_up_to (position is_end field) field
 
--- a text with spaces behind it, up to this width
+-- a text with spaces after it, up to this width
 abbrev pub padded : ℕ → List ℕ → List ℕ
 padded width text = text ++ replicate (width - length text) 32

@@ -21,7 +21,7 @@ pub enum FieldFault {
     Separator,
     /// A text ends in a space, which would not come back.
     TrailingSpace,
-    /// Digits are wanted, and just so many.
+    /// Digits are wanted, and just this many.
     NotDigits,
     /// The calendar has no such day.
     NoDay,
@@ -106,7 +106,7 @@ fn in_field(number: u32, fault: Option<FieldFault>) -> Option<WrongField>
     }
 }
 
-/// What is wrong with a text that has to be so many digits.
+/// What is wrong with a text that has to be this many digits.
 fn digits_fault(width: usize, text: &[u8]) -> Option<FieldFault>
     ensures { result ≡ digits_fault width text.now }
 {
@@ -117,7 +117,7 @@ fn digits_fault(width: usize, text: &[u8]) -> Option<FieldFault>
     }
 }
 
-/// Whether a text is so many digits.
+/// Whether a text is this many digits.
 fn are_digits(width: usize, text: &[u8]) -> bool
     ensures { result ≡ are_digits width text.now }
 {
@@ -146,7 +146,7 @@ fn date_fault(text: &[u8]) -> Option<FieldFault>
     }
 }
 
-/// What is wrong with a text of at most so many bytes.
+/// What is wrong with a text of at most this many bytes.
 fn plain_fault(width: usize, text: &[u8]) -> Option<FieldFault>
     ensures { result ≡ plain_fault width text.now }
 {
@@ -159,7 +159,7 @@ fn plain_fault(width: usize, text: &[u8]) -> Option<FieldFault>
     None
 }
 
-/// What is wrong with a text that has to be there, of at most so many bytes.
+/// What is wrong with a text that has to be there, of at most this many bytes.
 fn text_fault(width: usize, text: &[u8]) -> Option<FieldFault>
     ensures { result ≡ text_fault width text.now }
 {

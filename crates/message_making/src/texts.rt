@@ -21,7 +21,7 @@ fn end_of(field: &[u8]) -> Option<usize>
     field.iter().position(|byte| *byte == 0)
 }
 
-/// A text in a field of this width, with spaces behind it.
+/// A text in a field of this width, with spaces after it.
 pub(crate) fn padded<const N: usize>(text: &[u8]) -> [u8; N]
     requires { length text.now ≤ N }
     ensures { result ≡ padded N text.now }
@@ -41,7 +41,7 @@ pub(crate) fn exact<const N: usize>(text: &[u8]) -> [u8; N]
     field
 }
 
-/// Writes a field at `place`, and answers the place behind it.
+/// Writes a field at `place`, and answers the place after it.
 pub(crate) fn put(text: &mut [u8], place: usize, field: &[u8]) -> usize
     requires { place + length field.now ≤ length text.old }
     ensures end { result ≡ place + length field.now }

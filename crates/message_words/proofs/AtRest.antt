@@ -1,4 +1,4 @@
--- What the cuts of a record tell, one behind the other.
+-- What the cuts of a record tell, one after the other.
 use Rattle.std.proofs.Common.{◌≡◌, ◌≤◌, ◌<◌, ℕ, zero, suc, ◌+◌, ◌-◌, ◌==◌, Bool, true, false, List, [], ◌∷◌, ◌++◌, inl, inr, length, take, drop, min, Option, Some, None, Result, Ok, Err, refl, if◌then◌else◌, ap, subst, sym, ◌∙◌, arith}
 use Rattle.std.specs.Prelude.{IfOk, OnOk}
 use Rattle.std.specs.declared.alloc.AllocError.{AllocError}
@@ -19,14 +19,14 @@ use Rattle.message_words.specs.AtRest.{Told, Telling, told_before, body_parts, t
 use Rattle.message_words.specs.Added.{next_bytes, next_taken, some_part, left_of, told_with, Tells, TellsAll, AddsTransmission}
 use Rattle.message_words.proofs.Bytes.{either, front_length}
 
--- ---- one cut behind another
+-- ---- one cut after another
 
 pub as_whole : (f : Telling → Telling) (w v : Bool) (a b : Cut) (x y : List Carried) → w ≡ v → Tells f w a b x y → Tells f v a b x y
 as_whole f w v a b x y e p = subst (λ u. Tells f u a b x y) e p
 
 -- ---- pieces
 
--- a part behind parts
+-- a part after parts
 told_more : (old parts : List PartSeen) (carried : List Carried) (t : Told) → told_before (old ++ parts) carried t ≡ told_before old carried (told_before parts [] t)
 told_more old parts carried t = λ i. record { parts = append_assoc old parts t.parts i; carried = carried ++ t.carried }
 
@@ -43,7 +43,7 @@ drop_min xs width count e = elim (either width (length xs)) [
   | inr h ↦ drop_all count xs (omega (arith, e)) ∙ sym (drop_all width xs (omega arith))
 ]
 
--- what is left behind so many bytes
+-- what is left after this many bytes
 pub left_moves : (c d : Cut) (width count : ℕ) → count ≡ min width (length (left_of c)) → d.whole ≡ c.whole → d.place ≡ c.place + count → left_of d ≡ drop width (left_of c)
 left_moves c d width count e whole place =
     ap (λ (w : List ℕ). drop d.place w) whole ∙ ap (λ p. drop p c.whole) place ∙ sym (drop-drop count c.place c.whole) ∙ drop_min (left_of c) width count e
@@ -86,7 +86,7 @@ pub body_none : (more : ℕ) (form : Form) (within : Within) (place : ℕ) → b
 body_none zero form within place = refl
 body_none (suc more) form within place = refl
 
--- the parts of bytes behind a header are these alone
+-- the parts of bytes after a header are these alone
 body_is : (parts : List PartSeen) (more : ℕ) (form : Form) (within : Within) (place : ℕ) (bytes : List ℕ) → length bytes ≤ more → AreBody form within place bytes parts → parts ≡ body_parts more form within place bytes
 body_is [] more form within place bytes le none = sym (ap (body_parts more form within place) none ∙ body_none more form within place)
 body_is (p ∷ ps) more form within place [] le are = absurd (omega (arith, are.0))
@@ -104,7 +104,7 @@ transmission_is form place bytes parts t =
     t.are ∙ ap (λ (ps : List PartSeen). head_parts (header_rows form) place bytes ++ ps)
     (body_is t.body (length bytes) form at_first (place + width) (drop width bytes) (omega (arith, length-drop width bytes)) t.behind)
 
--- a transmission of so many bytes
+-- a transmission of this many bytes
 pub sized : (form : Form) (c d : Cut) (size : ℕ) (before after : List Carried) → c.place + size ≤ length c.whole → d.whole ≡ c.whole → d.place ≡ c.place + size
     → AddsTransmission form c.place (next_bytes c size) c.parts d.parts → after ≡ before ++ one_carried form c.place (next_bytes c size)
     → Tells (taken_told form (next_taken c size)) true c d before after
@@ -120,7 +120,7 @@ sized form c d size before after fits whole place adds carried = λ t.
     ∙ ap (λ p. told_with c before (told_before parts one (t p (left_of d)))) here
     ∙ ap (λ (bs : List ℕ). told_with c before (told_before parts one (t (c.place + length text) bs))) left
 
--- a text behind its length
+-- a text after its length
 pub text_there : (form : Form) (c d e : Cut) (bytes : List ℕ) (size : ℕ) (w : Bool) (before after : List Carried)
     → bytes ≡ left_of c → text_at bytes ≡ Some (take size (drop 4 bytes), drop size (drop 4 bytes)) → left_of d ≡ drop 4 (left_of c)
     → Tells (piece_told (Mark mark.Length) 4) true c d before before → Tells (taken_told form (next_taken d size)) w d e before after
@@ -135,7 +135,7 @@ pub no_text : (form : Form) (c d : Cut) (bytes : List ℕ) (before : List Carrie
 no_text form c d bytes before is at p = λ t.
     ap (λ (o : Option (List ℕ × List ℕ)). told_with d before (taken_told form o t d.place (left_of d))) (sym at ∙ ap text_at is) ∙ p (taken_told form (text_at (left_of c)) t)
 
--- there is room for a text behind its length
+-- there is room for a text after its length
 pub text_fits : (c d : Cut) (bytes : List ℕ) (size : ℕ) → bytes ≡ left_of c → 4 + size ≤ length bytes → c.place + length bytes ≡ length c.whole → d.whole ≡ c.whole → d.place ≡ c.place + min 4 (length (left_of c))
     → d.place + size ≤ length d.whole
 text_fits c d bytes size is room within whole place =
@@ -253,7 +253,7 @@ row v w a b c d e x y z whole p q r s = λ t.
 
 -- ---- journals and books
 
--- behind a head
+-- after a head
 pub journal : (count : ℕ) (a b c : Cut) (x y : List Carried) → count ≡ count_at 5 (left_of a) → Tells (head_told journal_rows) true a b x x → TellsAll (each_told entry_told count stray_told) b c x y → TellsAll journal_told a c x y
 unfolding journal_told
 journal count a b c x y is p q =

@@ -1,4 +1,4 @@
--- The parts behind a header, one more.
+-- The parts after a header, one more.
 use Rattle.std.proofs.Common.{◌≡◌, ◌≤◌, ◌<◌, ℕ, ◌+◌, ◌-◌, List, [], ◌∷◌, ◌++◌, length, take, drop, inl, inr, Result, Ok, Err, refl, ap, subst, sym, ◌∙◌, arith}
 use Rattle.std.specs.Prelude.{OnOk}
 use Rattle.std.specs.declared.alloc.AllocError.{AllocError}
@@ -63,7 +63,7 @@ pub no_body : (form : Form) (within : Within) (place : ℕ) (body : List PartSee
 no_body form within place [] h = refl
 no_body form within place (p ∷ ps) h = absurd (omega (arith, h.0))
 
--- a body behind a header
+-- a body after a header
 behind_header : (form : Form) (old mid : Cut) (size left : ℕ) (body : List PartSeen) → mid.whole ≡ old.whole → left ≡ size - width_of (header_rows form) → mid.place + left ≡ old.place + size
     → AreBody form at_first mid.place (next_bytes mid left) body
     → AreBody form at_first (old.place + width_of (header_rows form)) (drop (width_of (header_rows form)) (next_bytes old size)) body

@@ -14,13 +14,13 @@ take_front (suc n) zero xs le = absurd (omega arith)
 take_front (suc n) (suc m) [] le = refl
 take_front (suc n) (suc m) (x ∷ xs) le = ap (λ ys. x ∷ ys) (take_front n m xs (omega arith))
 
--- the front of what is left behind a part
+-- the front of what is left after a part
 pub front_behind : (whole : List ℕ) (place left count : ℕ) → count ≤ left → take (left - count) (drop (place + count) whole) ≡ drop count (take left (drop place whole))
 front_behind whole place left count le =
     let all : left ≡ count + (left - count) = omega arith in
     sym (ap (λ n. drop count (take n (drop place whole))) all ∙ drop-take count (left - count) (drop place whole) ∙ ap (take (left - count)) (drop-drop count place whole))
 
--- a part that the end may cut off, and what is left behind it
+-- a part that the end may cut off, and what is left after it
 pub taken_front : (xs : List ℕ) (width left count : ℕ) → count ≡ min width left → take count xs ≡ take width (take left xs)
 taken_front xs width left count e = elim (either width left) [
   | inl h ↦ let k : count ≡ width = omega (arith, e) in ap (λ n. take n xs) k ∙ sym (take_front width left xs h)

@@ -6,12 +6,12 @@ use Rattle.claim_profile.specs.Fields.{values, fields_of}
 use Rattle.claim_profile.specs.Tally.{Tally, tallied}
 use Rattle.claim_profile.proofs.Counting.{fields_of-none, fields_of-append, fields_of-here, fields_of-elsewhere, counted_further, counted_nothing}
 
--- the next field counted, and then those behind it
+-- the next field counted, and then those after it
 pub field_next : (r : List ℕ → List ℕ) (name : List ℕ) (t u : Tally) (f : FieldParts) (fs : List FieldParts)
     → u ≡ tallied t (values r name (f ∷ [])) → tallied u (values r name fs) ≡ tallied t (values r name (f ∷ fs))
 field_next r name t u f fs e = ap (λ v. tallied v (values r name fs)) e ∙ sym (counted_further t r name (f ∷ []) fs)
 
--- the next segment counted, and then those behind it
+-- the next segment counted, and then those after it
 pub segment_next : (r : List ℕ → List ℕ) (name id : List ℕ) (t u : Tally) (s : SegmentParts) (ss : List SegmentParts)
     → u ≡ tallied t (values r name (fields_of id (s ∷ []))) → tallied u (values r name (fields_of id ss)) ≡ tallied t (values r name (fields_of id (s ∷ ss)))
 segment_next r name id t u s ss e =

@@ -7,7 +7,7 @@ use Rattle.message_words.specs.declared.part.Part.{Part}
 use Rattle.message_words.specs.declared.part.PartKind.{PartKind}
 use Rattle.message_words.specs.Parts.{PartSeen, part_seen, told_bytes, AreBehind, IsCut}
 
--- a part behind parts that are all placed
+-- a part after parts that are all placed
 pub behind_more : (place : ℕ) (parts : List PartSeen) (p : PartSeen) → AreBehind place parts → p.place ≡ place + length (told_bytes parts) → AreBehind place (parts ++ p ∷ [])
 behind_more place [] p behind here = (omega (arith, here), tt)
 behind_more place (q ∷ qs) p behind here =

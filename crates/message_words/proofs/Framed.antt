@@ -55,14 +55,14 @@ starts_segment false true h is more none = absurd cc
 starts_segment false false true is more none = absurd cc
 starts_segment false false false is more none = absurd cc
 
--- a group separator has a segment behind it
+-- a group separator has a segment after it
 behind_group : (place b : ℕ) (bs : List ℕ) → (b == 29) ≡ true → ends_group bs ≡ false → first_fault b place bs ≡ None → begins_with 30 bs ≡ true
 behind_group place b [] is more none = absurd cc
 behind_group place b (c ∷ cs) is more none =
     let here = no_test place (starts_nothing b c) (is_empty_group c cs) (c == 30 && not (has_segment_id cs)) (is_later_field b c && not (has_field_id cs)) (neither (fault_at b place c cs) (first_fault c (place + 1) cs) none).0 in
     starts_segment (c == 30) (c == 29) (b == 29) is more here.0
 
--- a place where a part may begin: behind the header or a group separator, or before a separator or the end, and behind no segment separator
+-- a place where a part may begin: after the header or a group separator, or before a separator or the end, and after no segment separator
 record Begins (before : ℕ) (bytes : List ℕ) : Type 0 where
   pub behind : (before == 30) ≡ false
   pub here : ((before == 29) ≡ true) ⊎ (ends_here bytes ≡ true)
@@ -121,7 +121,7 @@ none_of false false s e = e
 no_segment_separator : (b : ℕ) → is_separator b ≡ false → (b == 30) ≡ false
 no_segment_separator b e = none_of (b == 28) (b == 29) (b == 30) e
 
--- behind the identification of a segment
+-- after the identification of a segment
 behind_segment : (before place b : ℕ) (bs : List ℕ) → has_segment_id bs ≡ true → first_fault before place (b ∷ bs) ≡ None → NextFree (drop 5 bs)
 behind_segment before place b [] is none = absurd cc
 behind_segment before place b (f ∷ []) is none = absurd cc
@@ -149,7 +149,7 @@ behind_segment before place b (f ∷ a ∷ m ∷ x ∷ y ∷ rest) is none =
 one_more : (n : ℕ) → 1 + n ≡ suc n
 one_more n = omega arith
 
--- behind the bytes up to the next separator
+-- after the bytes up to the next separator
 behind_plain : (place b : ℕ) (bs : List ℕ) → (b == 30) ≡ false → first_fault b place bs ≡ None → NextFree (drop (plain_length bs) bs)
 behind_plain place b [] behind none = record { before = b; place = place; none = none; begins = record { behind = behind; here = inr refl } }
 behind_plain place b (c ∷ cs) behind none = elim (cases (is_separator c)) [
@@ -223,7 +223,7 @@ transmission_stands form at place bytes parts none t =
     (both (head_parts rows place bytes) t.body (head_stands rows place bytes (header_stands form))
     (body_stands form at_first 29 at (place + width_of rows) (drop (width_of rows) bytes) t.body (record { behind = refl; here = inl refl }) none t.behind))
 
--- no fault of a transmission, so none of what stands behind its header
+-- no fault of a transmission, so none of what stands after its header
 no_body_fault : (o : Option HeaderFault) (later count : Option FramingFault) → after_header o (or_else later count) ≡ None → later ≡ None
 no_body_fault (Some fault) later count e = absurd cc
 no_body_fault None (Some fault) count e = absurd cc

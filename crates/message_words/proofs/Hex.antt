@@ -53,7 +53,7 @@ pub ended : (place : ℕ) (line bytes : List ℕ) (all : Result (List ℕ) ℕ) 
 ended place line bytes all ge before =
     sym before ∙ ap (λ (xs : List ℕ). spelled_behind bytes (hex_from place xs)) (drop_all place line ge) ∙ ap (λ (bs : List ℕ). Ok bs) (append-nil bytes)
 
--- a fault behind bytes is the fault
+-- a fault after bytes is the fault
 fault_behind : (bytes : List ℕ) (r : Result (List ℕ) ℕ) (place : ℕ) (all : Result (List ℕ) ℕ) → spelled_behind bytes r ≡ all → r ≡ Err place → all ≡ Err place
 fault_behind bytes r place all before e = sym before ∙ ap (spelled_behind bytes) e
 

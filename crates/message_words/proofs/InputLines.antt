@@ -18,7 +18,7 @@ stretch_is bytes from to begin end e b =
     let parts : end ≡ begin + (end - begin) = omega (arith, b) in
     sym (drop-take begin (end - begin) bytes) ∙ ap (λ n. drop begin (take n bytes)) (sym parts) ∙ drop_min (take end bytes) from begin first ∙ ap (drop from) (take_min bytes to end e)
 
--- nothing is left behind nothing
+-- nothing is left after nothing
 pub kept_by : (known now : Option (List ℕ)) (front new : List ℕ) → front ≡ [] → Consumes known now new → Keeps (prepend_known front known) (prepend_known new now)
 kept_by None now front new none read = tt
 kept_by (Some xs) None front new none read = absurd read
@@ -41,7 +41,7 @@ taken (Some xs) (Some ys) front behind piece more line None a k e = absurd k
 taken (Some xs) (Some ys) front behind piece more line (Some zs) a k e =
     a ∙ ap (λ (bs : List ℕ). line ++ bs) (sym k ∙ ap (λ (bs : List ℕ). bs ++ zs) e ∙ append_assoc more behind zs) ∙ sym (append_assoc line more (behind ++ zs))
 
--- behind a newline
+-- after a newline
 pub behind_newline : (u slice mid new : List ℕ) (count : ℕ) → slice ≡ u → count ≡ line_length slice → count < length slice → mid ≡ drop count u → new ≡ drop 1 mid
     → new ≡ (if has_newline u then drop (line_length u + 1) u else [])
 behind_newline u slice mid new count is n less m e =
@@ -83,7 +83,7 @@ plain_more [] ys plain = omega arith
 plain_more (x ∷ xs) ys plain =
     plain_step (not (x == 10)) (line_length xs) (line_length (xs ++ ys)) (line_length ys) (length xs) (length (x ∷ xs)) (omega arith) (plain_more xs ys) plain
 
--- a newline behind bytes without one
+-- a newline after bytes without one
 split_line : (p rest : List ℕ) → line_length p ≡ length p → first_line (p ++ 10 ∷ rest) ≡ (without_return p, rest)
 split_line p rest plain =
     let xs : List ℕ = p ++ 10 ∷ rest in

@@ -229,7 +229,7 @@ long_2 [] taken e = absurd cc
 long_2 (a ∷ []) taken e = absurd cc
 long_2 (a ∷ b ∷ rest) taken e = omega arith
 
--- behind a byte
+-- after a byte
 after_1 : (bytes : List ℕ) (taken : ℕ × List ℕ) → u8_at bytes ≡ Some taken → taken.1 ≡ drop 1 bytes
 after_1 bytes taken e = sym (ap (drop 1) (one_byte bytes taken e))
 
@@ -237,7 +237,7 @@ after_1 bytes taken e = sym (ap (drop 1) (one_byte bytes taken e))
 counted : (place : ℕ) (bytes rest : List ℕ) (taken : ℕ × List ℕ) → rest ≡ drop place bytes → u32_at rest ≡ Some taken → taken.0 ≡ count_at place bytes
 counted place bytes rest taken is e = sym (ap (λ (bs : List ℕ). count_in (u32_at bs)) (sym is) ∙ ap count_in e)
 
--- bytes behind others
+-- bytes after others
 further : (more place far : ℕ) (bytes rest behind : List ℕ) → rest ≡ drop place bytes → behind ≡ drop more rest → far ≡ more + place → behind ≡ drop far bytes
 further more place far bytes rest behind is e sum = e ∙ ap (drop more) is ∙ drop-drop more place bytes ∙ ap (λ n. drop n bytes) (omega (arith, sum))
 

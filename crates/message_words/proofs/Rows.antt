@@ -22,7 +22,7 @@ use Rattle.message_words.proofs.AtRest.{transmission_is}
 
 -- ---- pieces of a row
 
--- what a value means stands behind as many letters as the value has
+-- what a value means stands after as many letters as the value has
 pub line_taken : (front value meaning : List ℕ) (a b c d : Text) (from : ℕ) → Takes front a b → from ≡ length b.bytes.items → Takes value b c
     → Takes (meaning_behind (length c.bytes.items - from) meaning) c d → Takes (front ++ value ++ meaning_behind (length value) meaning) a d
 line_taken front value meaning a b c d from p is q r = λ e.
@@ -166,7 +166,7 @@ put_in front text count from behind line is start end fits =
 split_spaces : (a b n : ℕ) → n ≡ a + b → spaces n ≡ spaces a ++ spaces b
 split_spaces a b n e = ap spaces e ∙ sym (replicate-append-replicate a b 32)
 
--- a text to the left, and a space behind it
+-- a text to the left, and a space after it
 left_column : (front text : List ℕ) (width count from : ℕ) (line : List ℕ) → line ≡ front ++ spaces (width + (1 + count)) → from ≡ length front
     → take from line ++ take width text ++ drop (from + min (length text) width) line ≡ (front ++ to_left width text ++ codes " ") ++ spaces count
 left_column front text width count from line is start =
@@ -179,7 +179,7 @@ left_column front text width count from line is start =
     ∙ ap (λ (bs : List ℕ). (front ++ t) ++ bs) rest ∙ sym (append_assoc (front ++ t) s (codes " " ++ spaces count)) ∙ sym (append_assoc ((front ++ t) ++ s) (codes " ") (spaces count))
     ∙ ap (λ (bs : List ℕ). (bs ++ codes " ") ++ spaces count) (append_assoc front t s)
 
--- the columns, one behind the other
+-- the columns, one after the other
 pub columns_are : (digits number name l0 l1 l2 l3 : List ℕ) → l0 ≡ 10 ∷ spaces 48
     → l1 ≡ take (9 - min (length digits) 8) l0 ++ drop (length digits - 8) digits ++ drop 9 l0
     → l2 ≡ take 10 l1 ++ take 7 number ++ drop (10 + min (length number) 7) l1

@@ -60,7 +60,7 @@ pub one : (form : Form) (old new : Cut) (size : ℕ) (before after : List Carrie
 one form old new size before after (Ok u) start no_part none all adds carried = one_ok form old new size before after start no_part none all adds carried
 one form old new size before after (Err e) start no_part none all adds carried = tt
 
--- what stands behind the head of an envelope
+-- what stands after the head of an envelope
 at_width : (form : Form) (old mid : Cut) (size left width : ℕ) (added : List PartSeen) → old.place ≡ 0 → size ≡ length old.whole → mid.whole ≡ old.whole → left ≡ size - width → mid.place + left ≡ old.place + size
     → AreTransmission form mid.place (next_bytes mid left) added → AreTransmission form width (drop width old.whole) added
 at_width form old mid size left width added start all whole l place t = elim (either width size) [

@@ -1,4 +1,4 @@
--- Words written one behind the other.
+-- Words written one after the other.
 use Rattle.std.proofs.Common.{◌≡◌, ◌<◌, ◌+◌, ℕ, false, List, [], ◌∷◌, ◌++◌, ap, ◌∙◌, append_assoc}
 use Rattle.std.specs.Fmt.{decimal}
 use Rattle.std.proofs.lemmas.Fmt.{decimal_digit}
@@ -18,7 +18,7 @@ three u v w a b c d p q r = both (u ++ v) w a c d (both u v a b c p q) r
 pub four : (u v w x : List ℕ) (a b c d e : Text) → Takes u a b → Takes v b c → Takes w c d → Takes x d e → Takes (u ++ v ++ w ++ x) a e
 four u v w x a b c d e p q r s = both (u ++ v ++ w) x a d e (three u v w a b c d p q r) s
 
--- five of them behind nothing
+-- five of them after nothing
 pub five : (u v w x y : List ℕ) (a b c d e f : Text) → a.bytes.items ≡ [] → Takes u a b → Takes v b c → Takes w c d → Takes x d e → Takes y e f → f.refused ≡ false → f.bytes.items ≡ u ++ v ++ w ++ x ++ y
 five u v w x y a b c d e f none p q r s t taken =
     let all : Takes (u ++ v ++ w ++ x ++ y) a f = both (u ++ v ++ w ++ x) y a e f (both (u ++ v ++ w) x a d e (both (u ++ v) w a c d (both u v a b c p q) r) s) t in

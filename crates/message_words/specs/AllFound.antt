@@ -40,7 +40,7 @@ place_told _ place = None
 abbrev pub group_of : MessageKind → List ℕ → Carried → Group
 group_of k bytes c = (place_told k c.place, carried_said bytes c)
 
--- groups, one behind the other
+-- groups, one after the other
 abbrev pub groups_text : Style → (started : Bool) → List Group → List ℕ
 groups_text style started [] = []
 groups_text style started (g ∷ gs) = all_said style started g.0 g.1 ++ groups_text style (started_with started g.1) gs
@@ -50,7 +50,7 @@ abbrev pub groups_started : Bool → List Group → Bool
 groups_started started [] = started
 groups_started started (g ∷ gs) = groups_started (started_with started g.1) gs
 
--- these groups are written behind what was there, unless memory was refused, now or before
+-- these groups are written after what was there, unless memory was refused, now or before
 pub record AreGroups (gs : List Group) (old new : FindingPage) : Type 0 where
   pub was : IsTaken old
   pub text : new.out.bytes.items ≡ old.out.bytes.items ++ groups_text old.style old.started gs
@@ -66,7 +66,7 @@ found_text style k bytes carried =
     all_said style false None (first_said k bytes carried)
     ++ groups_text style (started_with false (first_said k bytes carried)) (map (group_of k bytes) carried)
 
--- all of it is written behind what was there, unless memory was refused
+-- all of it is written after what was there, unless memory was refused
 pub record AreAllFound (k : MessageKind) (bytes : List ℕ) (carried : List Carried) (old new : FindingPage) : Type 0 where
   pub was : IsTaken old
   pub text : new.out.bytes.items ≡ old.out.bytes.items ++ found_text old.style k bytes carried

@@ -33,7 +33,7 @@ money_members m =
     number_member (codes "cost") m.cost ++ number_member (codes "fee") m.fee ++ number_member (codes "copay") m.copay
     ++ number_member (codes "total") m.total
 
--- what is paid under which authorization, behind words that say whether it was paid before
+-- what is paid under which authorization, after words that say whether it was paid before
 unfoldable pub total_words : (front : List ℕ) → (digits : List ℕ) → (total : ℕ) → List ℕ
 total_words front digits total = front ++ dollars (pos total) ++ (codes " under " ++ digits)
 
@@ -51,7 +51,7 @@ payment_words front auth prescription m =
 unfoldable pub reversed_words : Authorization → (prescription : ℕ) → List ℕ
 reversed_words auth prescription = codes "reversed the payment under " ++ authorization_text auth ++ behind_money prescription
 
--- codes one behind the other, each with its name behind these words, and then behind others
+-- codes one after the other, each with its name after these words, and then after others
 unfoldable pub named_code : (front : List ℕ) → Code → List ℕ
 named_code front code = front ++ (code_text code ++ codes " " ++ code_name code)
 

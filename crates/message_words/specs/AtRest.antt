@@ -16,7 +16,7 @@ pub record Told : Type 0 where
   pub parts : List PartSeen
   pub carried : List Carried
 
--- these parts and transmissions, and then what is told of the bytes behind them
+-- these parts and transmissions, and then what is told of the bytes after them
 abbrev pub told_before : List PartSeen → List Carried → Told → Told
 told_before parts carried t = record { parts = parts ++ t.parts; carried = carried ++ t.carried }
 
@@ -26,7 +26,7 @@ Telling = ℕ → List ℕ → Told
 
 -- ---- a request or an answer in a record
 
--- the parts of bytes behind a header, so many at most
+-- the parts of bytes after a header, this many at most
 abbrev pub body_parts : ℕ → Form → Within → ℕ → List ℕ → List PartSeen
 body_parts zero form within place bytes = []
 body_parts (suc more) form within place [] = []
@@ -38,13 +38,13 @@ abbrev pub transmission_parts : Form → ℕ → List ℕ → List PartSeen
 transmission_parts form place bytes = head_parts (header_rows form) place bytes
     ++ body_parts (length bytes) form at_first (place + width_of (header_rows form)) (drop (width_of (header_rows form)) bytes)
 
--- ---- pieces of records, each with what stands behind it
+-- ---- pieces of records, each with what stands after it
 
 -- bytes that stand where none should
 abbrev pub stray_told : Telling
 stray_told place bytes = record { parts = filled_part Stray place bytes; carried = [] }
 
--- the next bytes, so many or what is left of them, as one part
+-- the next bytes, this many or what is left of them, as one part
 abbrev pub piece_told : PartKind → ℕ → Telling → Telling
 piece_told kind width behind place bytes =
     told_before (filled_part kind place (take width bytes)) [] (behind (place + length (take width bytes)) (drop width bytes))
@@ -60,11 +60,11 @@ taken_told form None behind place bytes = stray_told place bytes
 taken_told form (Some taken) behind place bytes =
     told_before (transmission_parts form place taken.0) (one_carried form place taken.0) (behind (place + length taken.0) taken.1)
 
--- a request or an answer behind its length, where it is all there and has at most 32,768 bytes
+-- a request or an answer after its length, where it is all there and has at most 32,768 bytes
 abbrev pub text_told : Form → Telling → Telling
 text_told form behind place bytes = piece_told (Mark mark.Length) 4 (taken_told form (text_at bytes) behind) place bytes
 
--- so many of these, one behind the other
+-- this many of these, one after the other
 unfoldable pub each_told : (Telling → Telling) → ℕ → Telling → Telling
 each_told one zero behind place bytes = behind place bytes
 each_told one (suc left) behind place bytes = one (each_told one left behind) place bytes
@@ -75,7 +75,7 @@ each_told one (suc left) behind place bytes = one (each_told one left behind) pl
 unfoldable pub journal_rows : List (PartKind × ℕ)
 journal_rows = (Mark mark.Letters, 2) ∷ (Mark mark.FormatVersion, 1) ∷ (Mark mark.Pharmacy, 2) ∷ (Mark mark.Count, 4) ∷ []
 
--- what stands behind this flag: nothing more of the entry behind 0, and an answer behind 1
+-- what stands after this flag: nothing more of the entry after 0, and an answer after 1
 abbrev pub flagged_told : List ℕ → Telling → Telling
 flagged_told [] behind place bytes = stray_told place bytes
 flagged_told (flag ∷ rest) behind place bytes =
@@ -86,7 +86,7 @@ flagged_told (flag ∷ rest) behind place bytes =
 abbrev pub flag_told : Telling → Telling
 flag_told behind place bytes = piece_told (Mark mark.AnswerFlag) 1 (flagged_told (take 1 bytes) behind) place bytes
 
--- an entry: its number, its request, and its answer behind a flag
+-- an entry: its number, its request, and its answer after a flag
 unfoldable pub entry_told : Telling → Telling
 entry_told behind = piece_told (Mark mark.Number) 8 (text_told Request (flag_told behind))
 
@@ -95,11 +95,11 @@ abbrev pub count_in : Option (ℕ × List ℕ) → ℕ
 count_in None = 0
 count_in (Some taken) = taken.0
 
--- the number of four bytes that stands so many bytes from the front
+-- the number of four bytes that stands this many bytes from the front
 abbrev pub count_at : ℕ → List ℕ → ℕ
 count_at place bytes = count_in (u32_at (drop place bytes))
 
--- a journal: its head, as many entries as the head says, and nothing behind them
+-- a journal: its head, as many entries as the head says, and nothing after them
 unfoldable pub journal_told : Telling
 journal_told place bytes = head_told journal_rows (each_told entry_told (count_at 5 bytes) stray_told) place bytes
 
@@ -125,7 +125,7 @@ product_told behind place bytes =
 unfoldable pub row_told : Telling → Telling
 row_told behind = piece_told (Mark mark.Pharmacy) 2 (piece_told (Mark mark.Number) 8 (text_told Request (text_told Answer behind)))
 
--- a book: its head, as many products and rows as the head says, and nothing behind them
+-- a book: its head, as many products and rows as the head says, and nothing after them
 unfoldable pub book_told : Telling
 book_told place bytes = head_told book_rows (each_told product_told (count_at 21 bytes) (each_told row_told (count_at 25 bytes) stray_told)) place bytes
 

@@ -18,7 +18,7 @@ is_refused page =
     (page.out.refused || page.note.refused)
     || (page.findings.out.refused || page.findings.note.refused || page.findings.members.refused || page.findings.around.refused || page.findings.below.refused)
 
--- these words where a byte before the message was dropped, and those where one behind it was
+-- these words where a byte before the message was dropped, and those where one after it was
 abbrev pub if_dropped : (before behind : List ℕ) → Bool × Bool → List ℕ
 if_dropped before behind dropped = (if dropped.0 then before else []) ++ (if dropped.1 then behind else [])
 

@@ -6,15 +6,15 @@ use Rattle.input_text.specs.Printing.{is_printable, printed, stands_for_itself}
 
 -- ---- columns of lines
 
--- so many spaces
+-- this many spaces
 abbrev pub spaces : ℕ → List ℕ
 spaces count = replicate count 32
 
--- a text to the left in so many letters, as far as it fits
+-- a text to the left in this many letters, as far as it fits
 abbrev pub to_left : ℕ → List ℕ → List ℕ
 to_left width text = take width text ++ spaces (width - length text)
 
--- a text to the right in so many letters; of a longer one its last letters
+-- a text to the right in this many letters; of a longer one its last letters
 abbrev pub to_right : ℕ → List ℕ → List ℕ
 to_right width text = spaces (width - length text) ++ drop (length text - width) text
 
@@ -37,7 +37,7 @@ json_letters text = flat_map json_letter text
 abbrev pub json_string : List ℕ → List ℕ
 json_string text = codes "\"" ++ json_letters text ++ codes "\""
 
--- the key of a member behind another one, and members of words, of bytes as they are printed, and of a number
+-- the key of a member after another one, and members of words, of bytes as they are printed, and of a number
 abbrev pub member_key : List ℕ → List ℕ
 member_key key = codes ",\"" ++ key ++ codes "\":"
 

@@ -29,7 +29,7 @@ shown_behind at bytes = printed (take 24 (drop at bytes))
 abbrev pub shown_around : ℕ → List ℕ → List ℕ
 shown_around at bytes = shown_before at bytes ++ shown_behind at bytes
 
--- the same in a line, and below it a caret in front of which so many letters stand
+-- the same in a line, and below it a caret in front of which this many letters stand
 abbrev pub caret_below : (around : List ℕ) → ℕ → List ℕ
 caret_below around caret = codes "\n    " ++ around ++ (codes "\n    " ++ spaces (min caret 128) ++ codes "^")
 
@@ -37,7 +37,7 @@ caret_below around caret = codes "\n    " ++ around ++ (codes "\n    " ++ spaces
 abbrev pub place_in : (at place : ℕ) → ℕ
 place_in at place = min (at + place) (2 ^ 64 - 1)
 
--- a fault at a place: behind what is said, in the members, and below
+-- a fault at a place: after what is said, in the members, and below
 abbrev pub at_words : ℕ → List ℕ
 at_words here = codes ", at byte " ++ decimal here
 

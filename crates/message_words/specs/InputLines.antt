@@ -27,7 +27,7 @@ has_newline bytes = nat_lt (line_length bytes) (length bytes)
 abbrev pub without_return : List ℕ → List ℕ
 without_return line = without_last (ends_with 13 line) line
 
--- the first line, and what stands behind it
+-- the first line, and what stands after it
 abbrev pub first_line : List ℕ → List ℕ × List ℕ
 first_line bytes =
     if has_newline bytes then (without_return (take (line_length bytes) bytes), drop (line_length bytes + 1) bytes) else (bytes, [])
@@ -47,7 +47,7 @@ pub record AreAll (bytes : List ℕ) (line : List ℕ) (left : Option (List ℕ)
 abbrev pub longest : ℕ
 longest = 16777216
 
--- a line of so many bytes is too long, where it is told so; nothing is known where memory was refused or a read failed
+-- a line of this many bytes is too long, where it is told so; nothing is known where memory was refused or a read failed
 abbrev pub LongFor : InputFault → ℕ → Type 0
 LongFor OutOfMemory size = Unit {0}
 LongFor Read size = Unit {0}

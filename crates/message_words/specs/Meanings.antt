@@ -48,7 +48,7 @@ status_meaning value =
     else (if bytes_eq value (codes "R") then codes "rejected"
     else codes "unknown")))
 
--- words for this value alone, behind which there may be spaces
+-- words for this value alone, after which there may be spaces
 abbrev pub words_for : (value expected words : List ℕ) → List ℕ
 words_for value expected words = if bytes_eq (trimmed value) expected then words else []
 
@@ -86,7 +86,7 @@ date_meaning date =
 
 -- ---- numbers and amounts
 
--- words, and a place behind them
+-- words, and a place after them
 abbrev pub at_place : List ℕ → ℕ → List ℕ
 at_place words place = words ++ decimal place
 
@@ -132,7 +132,7 @@ plain_meaning _ value = []
 unfoldable pub meaning_of : FieldName → List ℕ → List ℕ
 meaning_of name value = if holds_amount name then amount_words (amount_of value) else plain_meaning name value
 
--- the number that bytes spell behind another one, their high byte first; of more than eight bytes the last eight count
+-- the number that bytes spell after another one, their high byte first; of more than eight bytes the last eight count
 abbrev pub number_behind : ℕ → List ℕ → ℕ
 number_behind number [] = number
 number_behind number (b ∷ bs) = number_behind ((number * 256 % 2 ^ 64 + b) % 2 ^ 64) bs

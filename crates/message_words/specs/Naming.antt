@@ -29,7 +29,7 @@ spells_number mark.Letters = false
 spells_number mark.PlanProduct = false
 spells_number _ = true
 
--- a transmission stands behind a length
+-- a transmission stands after a length
 abbrev pub is_length : Mark → Bool
 is_length mark.Length = true
 is_length _ = false

@@ -1,4 +1,4 @@
--- The parts of a message, one behind the other.
+-- The parts of a message, one after the other.
 use Rattle.std.specs.Prelude.{◌≡◌, ◌≤◌, ℕ, ◌+◌, List, [], ◌∷◌, length, take}
 use Rattle.std.specs.List.{flat_map}
 use Rattle.message_words.specs.declared.part.Part.{Part}
@@ -14,7 +14,7 @@ pub record PartSeen : Type 0 where
 abbrev pub part_seen : Part → PartSeen
 part_seen p = record { place = p.place; bytes = p.bytes.now; kind = p.kind }
 
--- the bytes of parts, one behind the other
+-- the bytes of parts, one after the other
 abbrev pub told_bytes : List PartSeen → List ℕ
 told_bytes parts = flat_map (λ p. p.bytes) parts
 

@@ -56,7 +56,7 @@ record_told (fault.NumberOrder at) = told_at (codes "NumberOrder") (codes "an en
 abbrev pub record_fault_said : List ℕ → RecordFault → Said
 record_fault_said bytes f = fault_said (codes "no_record") (codes "no record: ") 0 bytes (record_told f)
 
--- a message that has no head of so many bytes that a record may have: it is too short, or names what no settings name
+-- a message that has no head of this many bytes that a record may have: it is too short, or names what no settings name
 abbrev pub no_head_said : ℕ → List ℕ → Said
 no_head_said size bytes = record_fault_said bytes (if nat_lt (length bytes) size then fault.Short else fault.NotABook)
 

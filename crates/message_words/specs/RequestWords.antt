@@ -208,7 +208,7 @@ finding_said t (Rejected transaction cause) told = cause_said t.header transacti
 abbrev pub left_to_tell : (last transaction left : ℕ) → ℕ
 left_to_tell last transaction left = if last == transaction then left else 5
 
--- all of them, where the last one was about a transaction of which so many causes may still be told
+-- all of them, where the last one was about a transaction of which this many causes may still be told
 abbrev pub findings_said : TransmissionParts Request → (last left : ℕ) → List FindingSeen → List Said
 findings_said t last left [] = []
 findings_said t last left (f ∷ fs) =

@@ -40,7 +40,7 @@ names_in (kind.Field name) bytes = field_names name bytes
 names_in (kind.Mark mark) bytes = titles [] (mark_names mark).words (mark_names mark).key
 names_in kind.Stray bytes = titles [] (codes "out of place") (codes "stray")
 
--- the value in its bytes: what stands behind a separator and a name
+-- the value in its bytes: what stands after a separator and a name
 abbrev pub value_in : PartKind → List ℕ → List ℕ
 value_in kind.Segment bytes = drop 4 bytes
 value_in (kind.Field name) bytes = drop 3 bytes
@@ -77,7 +77,7 @@ columns_text place number name =
 abbrev pub unless_empty : (text told : List ℕ) → List ℕ
 unless_empty text told = if length text == 0 then [] else told
 
--- what a value means, where that is told, behind at least two spaces
+-- what a value means, where that is told, after at least two spaces
 abbrev pub meaning_behind : ℕ → List ℕ → List ℕ
 meaning_behind width meaning = unless_empty meaning (spaces (max (21 - width) 2) ++ meaning)
 
@@ -115,7 +115,7 @@ group_text Lines place count = columns_text place [] (codes "transaction") ++ de
 group_text Json place count =
     codes "{\"at\":" ++ decimal place ++ word_member (codes "name") (codes "transaction") ++ number_member (codes "transaction") count ++ codes "}"
 
--- how many transactions of the transmission at hand have begun, with one more, and none behind the length of another transmission
+-- how many transactions of the transmission at hand have begun, with one more, and none after the length of another transmission
 abbrev pub one_more : ℕ → ℕ
 one_more count = min (count + 1) (2 ^ 64 - 1)
 
@@ -130,7 +130,7 @@ counted_with count _ = count
 
 -- ---- all parts
 
--- the row of a part, where so many transactions have begun with it: its place, its names, its value, and what that means
+-- the row of a part, where this many transactions have begun with it: its place, its names, its value, and what that means
 abbrev pub row_of : Style → ℕ → (place : ℕ) → (bytes : List ℕ) → PartKind → List ℕ
 row_of style count place bytes kind.Group = group_text style place count
 row_of style count place bytes kind = row_text style place (names_in kind bytes) (value_in kind bytes) (meaning_in kind bytes)
@@ -140,11 +140,11 @@ abbrev pub comma : Style → (started : Bool) → List ℕ
 comma Json true = codes ","
 comma _ _ = []
 
--- a part behind others
+-- a part after others
 abbrev pub next_row : Style → (started : Bool) → (count : ℕ) → PartSeen → List ℕ
 next_row style started count p = comma style started ++ row_of style (counted_with count p.kind) p.place p.bytes p.kind
 
--- all parts, one behind the other and in order, where so many transactions have begun before them
+-- all parts, one after the other and in order, where this many transactions have begun before them
 abbrev pub rows_of : Style → (started : Bool) → (count : ℕ) → List PartSeen → List ℕ
 rows_of style started count [] = []
 rows_of style started count (p ∷ ps) = next_row style started count p ++ rows_of style true (counted_with count p.kind) ps

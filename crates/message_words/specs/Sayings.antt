@@ -46,7 +46,7 @@ finding_text Json started within name members all below = finding_object started
 abbrev pub said_text : Style → (started : Bool) → Option ℕ → Said → List ℕ
 said_text style started within s = finding_text style started within s.name s.members (within_words within ++ s.words) s.below
 
--- findings, one behind the other, all about one transmission or about none
+-- findings, one after the other, all about one transmission or about none
 abbrev pub all_said : Style → (started : Bool) → Option ℕ → List Said → List ℕ
 all_said style started within [] = []
 all_said style started within (s ∷ more) = said_text style started within s ++ all_said style true within more
@@ -66,7 +66,7 @@ pub record IsTaken (f : FindingPage) : Type 0 where
   pub around : f.around.refused ≡ false
   pub below : f.below.refused ≡ false
 
--- these findings are written behind what was there
+-- these findings are written after what was there
 pub record AreSaid (found : List Said) (old new : FindingPage) : Type 0 where
   pub was : IsTaken old
   pub text : new.out.bytes.items ≡ old.out.bytes.items ++ all_said old.style old.started old.within found

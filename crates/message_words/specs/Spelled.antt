@@ -38,13 +38,13 @@ hex_pair None low = Err 0
 hex_pair (Some high) None = Err 1
 hex_pair (Some high) (Some low) = Ok (16 * high + low)
 
--- the byte at the front of letters; where a digit is left over, the place behind it
+-- the byte at the front of letters; where a digit is left over, the place after it
 abbrev pub hex_byte : List ℕ → Result ℕ ℕ
 hex_byte [] = Err 0
 hex_byte (a ∷ []) = hex_pair (hex_digit a) None
 hex_byte (a ∷ b ∷ rest) = hex_pair (hex_digit a) (hex_digit b)
 
--- a byte and what is spelled behind it, or the place where none is
+-- a byte and what is spelled after it, or the place where none is
 abbrev pub hex_before : ℕ → Result ℕ ℕ → Result (List ℕ) ℕ → Result (List ℕ) ℕ
 hex_before place (Err n) behind = Err (place + n)
 hex_before place (Ok byte) (Err other) = Err other

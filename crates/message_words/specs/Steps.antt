@@ -55,7 +55,7 @@ abbrev pub head_parts : List (PartKind × ℕ) → ℕ → List ℕ → List Par
 head_parts [] place bytes = []
 head_parts (row ∷ rows) place bytes = filled_part row.0 place (take row.1 bytes) ++ head_parts rows (place + row.1) (drop row.1 bytes)
 
--- ---- behind a header: each part reaches up to the next separator, and the head of a segment over its identification
+-- ---- after a header: each part reaches up to the next separator, and the head of a segment over its identification
 
 -- whether the head of a segment begins here, as the standard has it
 abbrev pub begins_segment : List ℕ → Bool
@@ -91,14 +91,14 @@ part_kind form within bytes =
     else (if begins_group bytes then Group
     else Stray))
 
--- where the part behind it stands
+-- where the part after it stands
 unfoldable pub within_behind : Within → List ℕ → Within
 within_behind within bytes =
     if begins_segment bytes then record { shared = within.shared; segment = segment_id bytes }
     else (if begins_group bytes then record { shared = false; segment = codes "  " }
     else within)
 
--- behind a header, before all segments
+-- after a header, before all segments
 abbrev pub at_first : Within
 at_first = record { shared = true; segment = codes "  " }
 
@@ -107,7 +107,7 @@ abbrev pub part_at : Form → Within → ℕ → List ℕ → PartSeen
 part_at form within place bytes =
     record { place = place; bytes = take (part_size bytes) bytes; kind = part_kind form within bytes }
 
--- these are the parts of the bytes behind a header: each is the one that begins at its place, up to the end
+-- these are the parts of the bytes after a header: each is the one that begins at its place, up to the end
 abbrev pub AreBody : Form → Within → ℕ → List ℕ → List PartSeen → Type 0
 AreBody form within place bytes [] = bytes ≡ []
 AreBody form within place bytes (p ∷ ps) =
@@ -116,7 +116,7 @@ AreBody form within place bytes (p ∷ ps) =
 
 -- ---- requests and answers
 
--- the parts of a request or an answer from a place on: its header, and what stands behind it
+-- the parts of a request or an answer from a place on: its header, and what stands after it
 pub record AreTransmission (form : Form) (place : ℕ) (bytes : List ℕ) (parts : List PartSeen) : Type 0 where
   pub body : List PartSeen
   pub are : parts ≡ head_parts (header_rows form) place bytes ++ body
@@ -143,7 +143,7 @@ pub record IsOne (form : Form) (bytes : List ℕ) (parts : List PartSeen) (carri
   pub transmission : AreTransmission form 0 bytes parts
   pub only : carried ≡ one_carried form 0 bytes
 
--- an envelope: its head, and the request or the answer behind it
+-- an envelope: its head, and the request or the answer after it
 pub record IsPacket (bytes : List ℕ) (parts : List PartSeen) (carried : List Carried) : Type 0 where
   pub behind : List PartSeen
   pub are : parts ≡ head_parts packet_rows 0 bytes ++ behind

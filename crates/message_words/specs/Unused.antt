@@ -192,7 +192,7 @@ answers_fields =
     ∷ titles (codes "566-J5") (codes "other payer amount recognized") (codes "other_payer_amount_recognized")
     ∷ titles (codes "545-2F") (codes "network reimbursement ID") (codes "network_reimbursement_id") ∷ []
 
--- the first of these fields whose number ends with two letters, behind three digits and a dash
+-- the first of these fields whose number ends with two letters, after three digits and a dash
 abbrev pub named_in : List Titles → List ℕ → Option Titles
 named_in [] letters = None
 named_in (t ∷ ts) letters = if bytes_eq (drop 4 t.number) letters then Some t else named_in ts letters

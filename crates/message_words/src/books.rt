@@ -58,7 +58,7 @@ fn cut_book_head(cutter: &mut Cutter<'_>) -> Result<(), AllocError>
     cut_marks(cutter, BOOK.as_slice())
 }
 
-/// Cuts so many products of a plan, as far as the bytes have them.
+/// Cuts this many products of a plan, as far as the bytes have them.
 fn cut_products(cutter: &mut Cutter<'_>, count: u32) -> Result<(), AllocError>
     ensures whole { cutter.new.whole ≡ cutter.old.whole }
     ensures told { OnOk result ((carried : List Carried)
@@ -85,7 +85,7 @@ fn cut_product(cutter: &mut Cutter<'_>) -> Result<(), AllocError>
     cut_mark(cutter, Mark::Price, 4)
 }
 
-/// Cuts so many rows of a book, as far as the bytes have them.
+/// Cuts this many rows of a book, as far as the bytes have them.
 fn cut_rows(
     cutter: &mut Cutter<'_>,
     carried: &mut Vec<Carried>,

@@ -61,7 +61,7 @@ impl<'a> Cutter<'a> {
         self.place
     }
 
-    /// Cuts off a part of so many bytes.
+    /// Cuts off a part of this many bytes.
     pub(crate) fn cut(&mut self, kind: PartKind, count: usize) -> Result<(), AllocError>
         requires { self.old.place + count ≤ length self.old.whole }
         ensures whole { self.new.whole ≡ self.old.whole }
@@ -125,7 +125,7 @@ impl<'a> Cutter<'a> {
     }
 }
 
-/// So many bytes from a place on.
+/// This many bytes from a place on.
 #[inline(always)]
 fn stretch(bytes: &[u8], place: usize, size: usize) -> &[u8]
     requires { place + size ≤ length bytes.now }

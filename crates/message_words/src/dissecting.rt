@@ -85,7 +85,7 @@ pub fn dissect<'a>(
 ) -> Result<Dissected<'a>, AllocError>
     // No byte is left out, none is told twice, and each part stands where it says.
     ensures parts { IfOk result (λ d. AreParts bytes.now (map part_seen d.parts.items)) }
-    // Each part is the one that begins at its place, and what is carried stands behind the head.
+    // Each part is the one that begins at its place, and what is carried stands after the head.
     ensures are { IfOk result (λ d. AreOf kind bytes.now (map part_seen d.parts.items) d.carried.items) }
 {
     let mut cutter = Cutter::new(alloc, bytes)?;
@@ -133,7 +133,7 @@ fn cut_whole(
     cut_carried(cutter, carried, form, size)
 }
 
-/// Cuts the next bytes, so many, as a transmission that the message carries.
+/// Cuts the next bytes, this many, as a transmission that the message carries.
 pub(crate) fn cut_carried(
     cutter: &mut Cutter<'_>,
     carried: &mut Vec<Carried>,

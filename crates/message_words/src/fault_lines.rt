@@ -30,7 +30,7 @@ use crate::transmissions::front_of;
 use d0_header::HeaderFault;
 use d0_segments::FramingFault;
 
-/// How many bytes before and behind a fault are shown.
+/// How many bytes before and after a fault are shown.
 const AROUND: usize = 24;
 
 /// A fault: how it is called, what is wrong, and its place, where it has one.
@@ -90,7 +90,7 @@ impl FindingPage {
         self.end_finding("not_framed");
     }
 
-    /// Writes a fault under the name of its finding, behind words, of bytes that stand at a place of the message.
+    /// Writes a fault under the name of its finding, after words, of bytes that stand at a place of the message.
     pub(crate) fn fault(
         &mut self,
         finding: &str,
@@ -193,7 +193,7 @@ fn put_caret(out: &mut Text, around: &[u8], caret: usize)
     put_spaced(out, caret);
 }
 
-/// Writes a caret behind so many spaces.
+/// Writes a caret after this many spaces.
 fn put_spaced(out: &mut Text, caret: usize)
     ensures { Takes (codes "\n    " ++ spaces (min caret 128) ++ codes "^") out.old out.new }
 {

@@ -42,7 +42,7 @@ impl Text {
         self.bytes(&[b'.', digit(number / 10), digit(number)]);
     }
 
-    /// Appends words, and a number behind them.
+    /// Appends words, and a number after them.
     pub(crate) fn numbered(&mut self, words: &str, number: u64)
         ensures { Takes (words.now ++ decimal number) self.old self.new }
     {
@@ -50,7 +50,7 @@ impl Text {
         self.number(number);
     }
 
-    /// Appends words, and cents as dollars behind them.
+    /// Appends words, and cents as dollars after them.
     pub(crate) fn priced(&mut self, words: &str, cents: u32)
         ensures { Takes (words.now ++ dollars (pos cents)) self.old self.new }
     {
@@ -58,7 +58,7 @@ impl Text {
         self.dollars(i64::from(cents));
     }
 
-    /// Appends words, and bytes behind them.
+    /// Appends words, and bytes after them.
     pub(crate) fn worded(&mut self, words: &str, bytes: &[u8])
         ensures { Takes (words.now ++ bytes.now) self.old self.new }
     {
@@ -93,7 +93,7 @@ impl Text {
         self.put(behind);
     }
 
-    /// Appends two numbers, each behind words.
+    /// Appends two numbers, each after words.
     pub(crate) fn two_numbers(&mut self, front: &str, first: u64, between: &str, second: u64)
         ensures { Takes (front.now ++ decimal first ++ between.now ++ decimal second) self.old self.new }
     {
@@ -101,7 +101,7 @@ impl Text {
         self.number(second);
     }
 
-    /// Appends bytes twice, each behind words.
+    /// Appends bytes twice, each after words.
     pub(crate) fn two_worded(&mut self, front: &str, first: &[u8], between: &str, second: &[u8])
         ensures { Takes (front.now ++ first.now ++ between.now ++ second.now) self.old self.new }
     {

@@ -97,7 +97,7 @@ impl FindingPage {
         self.within = within;
     }
 
-    /// Begins a finding. What it says is put into the note behind its place in a record, and its members are put
+    /// Begins a finding. What it says is put into the note after its place in a record, and its members are put
     /// together.
     pub(crate) fn begin_finding(&mut self)
         ensures { Begins self.old self.new }
@@ -179,7 +179,7 @@ fn put_head(out: &mut Text, started: bool, finding: &str, within: Option<usize>)
     put_within_member(out, within);
 }
 
-/// Writes the name of a finding behind the bracket of its object.
+/// Writes the name of a finding after the bracket of its object.
 fn put_name(out: &mut Text, finding: &str)
     ensures { Takes (finding_name finding.now) out.old out.new }
 {

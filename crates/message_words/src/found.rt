@@ -91,7 +91,7 @@ impl<'a> Found<'a> {
         (self, segment.fields())
     }
 
-    /// Counts the fields that are left of a segment, and gives the place behind them.
+    /// Counts the fields that are left of a segment, and gives the place after them.
     fn count_fields(self, sought: Sought, inside: Cursor<'a>) -> (Found<'a>, Cursor<'a>)
         ensures values { found_seen result.0
             ≡ after_fields sought (found_seen self.entry) (fields_left inside.entry.bytes.now) }

@@ -53,7 +53,7 @@ fn cut_journal_head(cutter: &mut Cutter<'_>) -> Result<(), AllocError>
     cut_marks(cutter, JOURNAL.as_slice())
 }
 
-/// Cuts so many entries of a journal, as far as the bytes have them.
+/// Cuts this many entries of a journal, as far as the bytes have them.
 fn cut_entries(
     cutter: &mut Cutter<'_>,
     carried: &mut Vec<Carried>,
@@ -86,7 +86,7 @@ fn cut_entry(cutter: &mut Cutter<'_>, carried: &mut Vec<Carried>) -> Result<bool
     cut_flag(cutter, carried)
 }
 
-/// Cuts the flag of an entry and what stands behind it, and says whether all of it was there.
+/// Cuts the flag of an entry and what stands after it, and says whether all of it was there.
 fn cut_flag(cutter: &mut Cutter<'_>, carried: &mut Vec<Carried>) -> Result<bool, AllocError>
     ensures whole { cutter.new.whole ≡ cutter.old.whole }
     ensures told { IfOk result (λ whole. Tells flag_told whole cutter.old cutter.new
@@ -97,7 +97,7 @@ fn cut_flag(cutter: &mut Cutter<'_>, carried: &mut Vec<Carried>) -> Result<bool,
     cut_flagged(cutter, carried, flag)
 }
 
-/// Cuts what stands behind this flag, and says whether all of it was there.
+/// Cuts what stands after this flag, and says whether all of it was there.
 fn cut_flagged(
     cutter: &mut Cutter<'_>,
     carried: &mut Vec<Carried>,

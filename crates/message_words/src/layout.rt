@@ -1,4 +1,4 @@
-//! Which part comes next behind a header: by its separator, and by the segment that it stands in.
+//! Which part comes next after a header: by its separator, and by the segment that it stands in.
 
 ghost use Rattle.std.specs.Prelude.{◌≡◌, ◌<◌, ◌≤◌, true, false, length, codes};
 ghost use Rattle.d0_segments.specs.Separators.{is_separator, begins_with, ends_here, plain_length};
@@ -38,7 +38,7 @@ pub(crate) struct Within {
     pub(crate) segment: [u8; 2],
 }
 
-/// The next part: what it is, how many bytes it has, and where the part behind it stands.
+/// The next part: what it is, how many bytes it has, and where the part after it stands.
 #[derive(Clone, Copy)]
 pub(crate) struct Step {
     pub(crate) kind: PartKind,
@@ -46,7 +46,7 @@ pub(crate) struct Step {
     pub(crate) within: Within,
 }
 
-/// The part at the front of the bytes behind a header.
+/// The part at the front of the bytes after a header.
 #[tactic(auto, unfolding(crate::specs::Steps::part_size, crate::specs::Steps::part_kind, crate::specs::Steps::within_behind))]
 pub(crate) fn next_step(form: Form, within: Within, bytes: &[u8]) -> Step
     requires { 0 < length bytes.now }
@@ -159,7 +159,7 @@ fn has_field_id(bytes: &[u8]) -> bool
     }
 }
 
-/// Whether a transaction begins here: a group separator, and a segment behind it.
+/// Whether a transaction begins here: a group separator, and a segment after it.
 fn begins_group(bytes: &[u8]) -> bool
     ensures { result ≡ begins_group bytes.now }
 {
@@ -169,7 +169,7 @@ fn begins_group(bytes: &[u8]) -> bool
     }
 }
 
-/// The identification behind the head of a segment.
+/// The identification after the head of a segment.
 fn segment_id(bytes: &[u8]) -> [u8; 2]
     requires { 6 ≤ length bytes.now }
     ensures { result ≡ segment_id bytes.now }

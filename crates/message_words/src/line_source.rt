@@ -120,7 +120,7 @@ impl Unread {
         &self.bytes.as_slice()[from..end]
     }
 
-    /// Leaves out the first ones, so many.
+    /// Leaves out the first ones, this many.
     fn pass(&mut self, count: usize)
         requires { count ≤ length (unread self.old) }
         ensures { unread self.new ≡ drop count (unread self.old) }
@@ -305,7 +305,7 @@ impl<R: ByteSource + Drop> LineSource<R> {
         self.take(count)
     }
 
-    /// Adds the next bytes, so many, to the line.
+    /// Adds the next bytes, this many, to the line.
     fn take(&mut self, count: usize) -> Result<(), InputFault>
         requires { count ≤ length (unread self.old.unread) }
         ensures reader { self.new.reader ≡ self.old.reader }

@@ -16,7 +16,7 @@ pub enum Mark {
     Pharmacy,
     /// The number of a transaction at its pharmacy.
     Number,
-    /// How many bytes the text behind it has.
+    /// How many bytes the text after it has.
     Length,
     /// How many entries or rows follow.
     Count,

@@ -86,7 +86,7 @@ fn code_of(value: &[u8]) -> Option<TransactionCode>
     }
 }
 
-/// These words for this value alone, behind which there may be spaces.
+/// These words for this value alone, after which there may be spaces.
 fn words_for(value: &[u8], expected: &[u8], words: &'static str) -> &'static str
     ensures { result.now ≡ words_for value.now expected.now words.now }
 {
@@ -141,7 +141,7 @@ fn put_amount(out: &mut Text, value: &[u8])
     }
 }
 
-/// Appends cents as so many dollars.
+/// Appends cents as this many dollars.
 fn put_dollars(out: &mut Text, cents: i64)
     ensures { Takes (amount_words (Ok cents)) out.old out.new }
 {

@@ -39,7 +39,7 @@ pub struct Page {
     pub(crate) started: bool,
     /// How many transactions of the transmission at hand have begun.
     pub(crate) transactions: u64,
-    /// Which of the bytes around a message were dropped: 0x02 before it, 0x03 behind it.
+    /// Which of the bytes around a message were dropped: 0x02 before it, 0x03 after it.
     pub(crate) dropped: (bool, bool),
 }
 
@@ -114,7 +114,7 @@ impl Page {
         }
     }
 
-    /// Begins the description of a message of so many bytes on a line of the input.
+    /// Begins the description of a message of this many bytes on a line of the input.
     pub(crate) fn begin(&mut self, line: u64, kind: MessageKind, size: usize)
         ensures text { self.new.out.refused ≡ false → (self.old.out.refused ≡ false)
             × (self.new.out.bytes.items ≡ head_text self.old.style line kind size self.old.dropped) }
@@ -214,7 +214,7 @@ fn put_head_object(out: &mut Text, line: u64, kind: MessageKind, size: usize, dr
     out.put(",\"parts\":[");
 }
 
-/// Writes the number of a line, and what its message is, each behind words.
+/// Writes the number of a line, and what its message is, each after words.
 fn put_between_words(out: &mut Text, front: &str, line: u64, between: &str, kind: MessageKind)
     ensures { Takes (line_and_kind front.now line between.now kind) out.old out.new }
 {
@@ -356,7 +356,7 @@ pub(crate) fn columns(place: usize, number: &[u8], name: &[u8]) -> [u8; VALUE]
     line
 }
 
-/// Puts a number to the right into the eight bytes behind the first one of a line.
+/// Puts a number to the right into the eight bytes after the first one of a line.
 fn put_place(line: &mut [u8], place: usize)
     requires { 9 ≤ length line.old }
     ensures { line.new ≡ take (9 - min (length (number_text place)) 8) line.old
@@ -369,7 +369,7 @@ fn put_place(line: &mut [u8], place: usize)
     put_column(line, 9 - size, size, text);
 }
 
-/// Puts a text to the left into so many bytes of a line from a place on, as far as it fits.
+/// Puts a text to the left into this many bytes of a line from a place on, as far as it fits.
 fn put_column(line: &mut [u8], from: usize, width: usize, text: &[u8])
     requires { from + width ≤ length line.old }
     ensures { line.new ≡ take from line.old ++ take width text.now ++ drop (from + min (length text.now) width) line.old }

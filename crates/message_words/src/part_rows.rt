@@ -67,7 +67,7 @@ impl Page {
         self.row(place, row);
     }
 
-    /// Writes a field behind its separator and its name.
+    /// Writes a field after its separator and its name.
     fn behind_name(&mut self, place: usize, name: Option<FieldName>, bytes: &[u8])
         requires { self.old.note.bytes.items ≡ [] }
         ensures row { Adds (field_names name bytes.now) place (drop 3 bytes.now) (field_meaning name bytes.now)
@@ -202,7 +202,7 @@ fn put_unused(out: &mut Text)
     out.put("not used by this profile");
 }
 
-/// How many transactions of the transmission at hand have begun behind a mark.
+/// How many transactions of the transmission at hand have begun after a mark.
 fn counted(mark: Mark, transactions: u64) -> u64
     ensures { result ≡ counted_anew (is_length mark) transactions }
 {
@@ -242,7 +242,7 @@ fn put_group_object(out: &mut Text, place: usize, count: u64)
     out.put("}");
 }
 
-/// The bytes behind so many; none where there are no more.
+/// The bytes after this many; none where there are no more.
 pub(crate) fn behind(bytes: &[u8], count: usize) -> &[u8]
     ensures { result.now ≡ drop count bytes.now }
 {

@@ -123,7 +123,7 @@ pub(crate) fn is_book(bytes: &[u8]) -> bool
     }
 }
 
-/// Cuts a text behind its length, and says whether all of it was there.
+/// Cuts a text after its length, and says whether all of it was there.
 pub(crate) fn cut_text(
     cutter: &mut Cutter<'_>,
     carried: &mut Vec<Carried>,
@@ -142,7 +142,7 @@ pub(crate) fn cut_text(
     }
 }
 
-/// How many bytes the text has that stands here behind its length; none where it is cut off or too long.
+/// How many bytes the text has that stands here after its length; none where it is cut off or too long.
 #[tactic(auto, unfolding(kept_records::specs::Fields::text_at, kept_records::specs::Fields::u32_at))]
 fn text_size(bytes: &[u8]) -> Option<usize>
     ensures text { text_at bytes.now
@@ -157,7 +157,7 @@ fn text_size(bytes: &[u8]) -> Option<usize>
     Some(size)
 }
 
-/// Cuts the next bytes, so many, as a transmission, and says that they were there.
+/// Cuts the next bytes, this many, as a transmission, and says that they were there.
 fn cut_sized(
     cutter: &mut Cutter<'_>,
     carried: &mut Vec<Carried>,
@@ -187,7 +187,7 @@ pub(crate) fn cut_marks(
     Ok(())
 }
 
-/// Cuts a mark of so many bytes, or what is left of it.
+/// Cuts a mark of this many bytes, or what is left of it.
 pub(crate) fn cut_mark(cutter: &mut Cutter<'_>, mark: Mark, width: usize) -> Result<(), AllocError>
     ensures whole { cutter.new.whole ≡ cutter.old.whole }
     ensures place { OnOk result (cutter.new.place ≡ cutter.old.place + min width (length (left_of cutter.old))) }
@@ -200,7 +200,7 @@ pub(crate) fn cut_mark(cutter: &mut Cutter<'_>, mark: Mark, width: usize) -> Res
     cutter.cut_some(PartKind::Mark(mark), count)
 }
 
-/// The number of four bytes that stands so many bytes from the front, and 0 where it is cut off.
+/// The number of four bytes that stands this many bytes from the front, and 0 where it is cut off.
 pub(crate) fn count_at(bytes: &[u8], place: usize) -> u32
     ensures { result ≡ count_at place bytes.now }
 {
@@ -210,7 +210,7 @@ pub(crate) fn count_at(bytes: &[u8], place: usize) -> u32
     }
 }
 
-/// The number that so many bytes from a place on spell, their high byte first; of those that are there.
+/// The number that this many bytes from a place on spell, their high byte first; of those that are there.
 pub(crate) fn number_at(bytes: &[u8], place: usize, size: usize) -> u64
     ensures { result ≡ number_in (take size (drop place bytes.now)) }
 {

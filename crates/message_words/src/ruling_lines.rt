@@ -109,7 +109,7 @@ fn put_money_members(out: &mut Text, amounts: Amounts)
     out.number_member("total", u64::from(amounts.total()));
 }
 
-/// Writes a payment in words, behind those that say whether it was made before.
+/// Writes a payment in words, after those that say whether it was made before.
 #[tactic(auto, unfolding(crate::specs::AnswerWords::payment_words))]
 fn put_payment_words(out: &mut Text, front: &str, auth: Auth, prescription: u64, amounts: Amounts)
     ensures { Takes (payment_words front.now auth prescription amounts) out.old out.new }
@@ -204,14 +204,14 @@ fn put_plain_codes(out: &mut Text, rejects: &[Code])
     }
 }
 
-/// Writes a code behind words, as letters of a string.
+/// Writes a code after words, as letters of a string.
 fn put_plain_code(out: &mut Text, front: &[u8], code: Code)
     ensures { Takes (json_letters (front.now ++ code_text code)) out.old out.new }
 {
     put_letters(out, front, &code.text());
 }
 
-/// Writes letters of a string, and others behind them.
+/// Writes letters of a string, and others after them.
 fn put_letters(out: &mut Text, front: &[u8], behind: &[u8])
     ensures { Takes (json_letters (front.now ++ behind.now)) out.old out.new }
 {
@@ -238,7 +238,7 @@ fn put_named_codes(out: &mut Text, rejects: &[Code])
     }
 }
 
-/// Writes a code with its name, behind words.
+/// Writes a code with its name, after words.
 #[tactic(auto, unfolding(crate::specs::AnswerWords::named_code))]
 fn put_named_code(out: &mut Text, front: &[u8], code: Code)
     ensures { Takes (named_code front.now code) out.old out.new }
@@ -246,7 +246,7 @@ fn put_named_code(out: &mut Text, front: &[u8], code: Code)
     put_name_behind(out, front, &code.text(), code_name(code).as_bytes());
 }
 
-/// Writes a code and its name, behind words.
+/// Writes a code and its name, after words.
 fn put_name_behind(out: &mut Text, front: &[u8], code: &[u8], name: &[u8])
     ensures { Takes (front.now ++ (code.now ++ codes " " ++ name.now)) out.old out.new }
 {

@@ -148,7 +148,7 @@ fn digit_of(letter: u8) -> Option<u8>
     }
 }
 
-/// A message without one byte 0x02 before it and one byte 0x03 behind it, and whether each of the two was there.
+/// A message without one byte 0x02 before it and one byte 0x03 after it, and whether each of the two was there.
 pub fn unwrapped(bytes: &[u8]) -> (&[u8], bool, bool)
     ensures before { result.1 ≡ begins_with 2 bytes.now }
     ensures behind { result.2 ≡ ends_with 3 (without_first result.1 bytes.now) }

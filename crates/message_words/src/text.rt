@@ -131,7 +131,7 @@ impl Text {
         self.spaces(column.saturating_sub(used).max(2));
     }
 
-    /// Appends so many spaces, at most 128.
+    /// Appends this many spaces, at most 128.
     pub(crate) fn spaces(&mut self, count: usize)
         ensures { Takes (spaces (min count 128)) self.old self.new }
     {
@@ -187,7 +187,7 @@ impl Text {
         }
     }
 
-    /// Appends a member of words behind another member.
+    /// Appends a member of words after another member.
     pub(crate) fn word_member(&mut self, key: &str, words: &[u8])
         ensures { Takes (word_member key.now words.now) self.old self.new }
     {
@@ -211,7 +211,7 @@ impl Text {
         self.number(number);
     }
 
-    /// Appends the key of a member behind another one.
+    /// Appends the key of a member after another one.
     pub(crate) fn key(&mut self, key: &str)
         ensures { Takes (member_key key.now) self.old self.new }
     {

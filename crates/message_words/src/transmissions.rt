@@ -34,7 +34,7 @@ static ANSWER: [(PartKind, usize); 7] = [
     (PartKind::Header(FieldName::DateOfService), 8),
 ];
 
-/// Cuts the next bytes, so many, as a request or an answer.
+/// Cuts the next bytes, this many, as a request or an answer.
 pub(crate) fn cut_transmission(
     cutter: &mut Cutter<'_>,
     form: Form,
@@ -66,7 +66,7 @@ fn cut_header(cutter: &mut Cutter<'_>, form: Form, size: usize) -> Result<usize,
     }
 }
 
-/// Cuts the fields of a head at their fixed places, as far as the next bytes reach, so many, and gives how many are
+/// Cuts the fields of a head at their fixed places, as far as the next bytes reach, this many, and gives how many are
 /// left of them.
 pub(crate) fn cut_head(
     cutter: &mut Cutter<'_>,
@@ -89,7 +89,7 @@ pub(crate) fn cut_head(
     Ok(left)
 }
 
-/// Cuts what stands behind a header.
+/// Cuts what stands after a header.
 fn cut_body(cutter: &mut Cutter<'_>, form: Form, size: usize) -> Result<(), AllocError>
     requires { cutter.old.place + size ≤ length cutter.old.whole }
     ensures whole { cutter.new.whole ≡ cutter.old.whole }
@@ -112,7 +112,7 @@ fn cut_body(cutter: &mut Cutter<'_>, form: Form, size: usize) -> Result<(), Allo
     Ok(())
 }
 
-/// The first so many bytes, or all where there are fewer.
+/// The first this many bytes, or all where there are fewer.
 pub(crate) fn front_of(bytes: &[u8], count: usize) -> &[u8]
     ensures { result.now ≡ take count bytes.now }
 {

@@ -148,7 +148,7 @@ fn named_in(table: &[Called], letters: &[u8]) -> Option<Named>
     None
 }
 
-/// Whether a number ends with these letters, behind three digits and a dash.
+/// Whether a number ends with these letters, after three digits and a dash.
 fn is_of(number: &[u8], letters: &[u8]) -> bool
     ensures { result ≡ bytes_eq (drop 4 number.now) letters.now }
 {

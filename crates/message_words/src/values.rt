@@ -19,7 +19,7 @@ pub(crate) fn is_bad_text(found: Found<'_>, limit: usize) -> bool
     }
 }
 
-/// Whether there is not exactly one value, or it is no number of at most so many digits.
+/// Whether there is not exactly one value, or it is no number of at most this many digits.
 pub(crate) fn is_bad_number(found: Found<'_>, digits: usize) -> bool
     requires some { 1 ≤ digits }
     requires room { digits ≤ 18 }

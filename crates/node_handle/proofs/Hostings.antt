@@ -12,7 +12,7 @@ LinesAdd = (s : Serving) (line : List ℕ) → after_line s line ≡ joined s (a
 pub grows : LinesAdd → (s : Serving) (line : List ℕ) (kept : ℕ) → kept ≤ length s.records → kept ≤ length (after_line s line).records
 grows add s line kept le = rw (add s line) (omega (arith, length-append s.records (after_line (cleared s) line).records))
 
--- the bytes that are kept go before the line or behind it
+-- the bytes that are kept go before the line or after it
 pub kept_before : LinesAdd → (s : Serving) (line : List ℕ) (kept : ℕ) → kept ≤ length s.records
     → with_records (after_line s line) (drop kept (after_line s line).records) ≡ after_line (with_records s (drop kept s.records)) line
 kept_before add s line kept le =

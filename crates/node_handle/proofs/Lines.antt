@@ -29,7 +29,7 @@ first_space (b ∷ word) rest inner =
     by_byte true e behind = absurd (false≢true (subst (λ (t : Bool). (not t && list_all is_inner word) ≡ true) e inner))
     by_byte false e behind = ap (λ (t : Bool). cond (not t) (1 + position_or_len is_space (word ++ 32 ∷ rest)) 0) e ∙ ap (λ (n : ℕ). 1 + n) (behind (subst (λ (t : Bool). (not t && list_all is_inner word) ≡ true) e inner)) ∙ omega arith
 
--- a word without a space is parted from what stands behind one
+-- a word without a space is parted from what stands after one
 pub parted : (word rest : List ℕ) → list_all is_inner word ≡ true → split_word (word ++ 32 ∷ rest) ≡ Some (word, rest)
 parted word rest inner =
     let whole : List ℕ = word ++ 32 ∷ rest in
@@ -41,7 +41,7 @@ parted word rest inner =
     ap (λ (place : Option ℕ). option_map cut place) found
     ∙ ap (λ (parts : List ℕ × List ℕ). Some parts) (rw (take-append_seam word (32 ∷ rest), drop-append-add word (32 ∷ rest) 1) refl)
 
--- a line of a word and what stands behind it asks for the call that they are
+-- a line of a word and what stands after it asks for the call that they are
 asks_call : (line word rest : List ℕ) (call : Call) → split_word line ≡ Some (word, rest) → bytes_eq word (codes "at") ≡ false → bytes_eq word (codes "submit-as") ≡ false → call_with word rest ≡ Some call
     → asked_of line ≡ Some (Calls (plain_call_of call))
 unfolding asked_of noted_of named_of call_of

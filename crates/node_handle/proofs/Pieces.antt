@@ -5,7 +5,7 @@ use Rattle.std.specs.Option.{option_map}
 use Rattle.std.proofs.lemmas.List.{at_drop_more, drop_all, map-append}
 use Rattle.node_handle.specs.Audits.{cut_at}
 
--- pieces, and behind them others, where there are any
+-- pieces, and after them others, where there are any
 abbrev pub joined : List (List ℕ) → Option (List (List ℕ)) → Option (List (List ℕ))
 joined before after = option_map (λ (more : List (List ℕ)). before ++ more) after
 

@@ -1,4 +1,4 @@
--- What is said of logs that stand one behind another.
+-- What is said of logs that stand one after another.
 use Rattle.std.specs.Prelude.{◌≡◌, ◌⊎◌, ℕ, nat_lt, Bool, true, false, List, [], ◌∷◌, map, length, take, drop, Ok, Err, Option, Some, None, MatchOption, if◌then◌else◌}
 use Rattle.std.specs.Global.{Vec}
 use Rattle.std.specs.Option.{option_map}

@@ -34,7 +34,7 @@ abbrev pub RefusesOpening : Option Hosting → List ℕ → List ℕ → List �
 RefusesOpening old settings name log why before kept =
     ((why ≡ Open) × (IsSome old × (kept ≡ before))) ⊎ RefusesNode settings name log why before kept
 
--- opened, the node is that of the settings, the name and the log, and so many bytes of the log stay; refused, the handle is as it was, and why and
+-- opened, the node is that of the settings, the name and the log, and this many bytes of the log stay; refused, the handle is as it was, and why and
 -- where is told
 abbrev pub Opens : Option Hosting → List ℕ → List ℕ → List ℕ → Said → ℕ → ℕ → Option Hosting → Type 0
 Opens old settings name log (Ok made) before kept new =
@@ -47,7 +47,7 @@ abbrev pub Serves : Option Hosting → List ℕ → Said → Option Hosting → 
 Serves old line (Ok made) new = IsSome old × (new ≡ option_map (λ h. line_served h line) old)
 Serves old line (Err why) new = ((why ≡ OutOfMemory) × (new ≡ None)) ⊎ ((why ≡ Closed) × ((old ≡ None) × (new ≡ None)))
 
--- so many bytes of the records are on disk; where there are fewer, nothing is taken to be
+-- this many bytes of the records are on disk; where there are fewer, nothing is taken to be
 abbrev pub KeepsBytes : Hosting → ℕ → Said → Hosting → Type 0
 KeepsBytes h size said new =
     ((size ≤ length h.serving.records) × ((said ≡ Ok tt) × (new ≡ bytes_kept size h))) ⊎ ((length h.serving.records < size) × ((said ≡ Err TooMany) × (new ≡ h)))

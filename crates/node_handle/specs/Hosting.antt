@@ -22,7 +22,7 @@ just_opened s = record { serving = s; synced = false }
 abbrev pub line_served : Hosting → List ℕ → Hosting
 line_served h line = record { serving = after_line h.serving line; synced = h.synced }
 
--- so many bytes of the records, the first, are on disk, and what stands in the file before them
+-- this many bytes of the records, the first, are on disk, and what stands in the file before them
 abbrev pub bytes_kept : ℕ → Hosting → Hosting
 bytes_kept size h = record { serving = with_records h.serving (drop size h.serving.records); synced = true }
 

@@ -8,5 +8,6 @@ pub mod Texts
 pub mod Messages
 pub mod Typed
 pub mod Asked
+pub mod Heard
 pub mod Payments
 pub mod Audits

@@ -159,7 +159,7 @@ fn give_request(
 }
 
 /// Copies the answer for an id by its two numbers.
-fn give_answer(
+pub(crate) fn give_answer(
     alloc: Global,
     node: &Service,
     pharmacy: u16,

@@ -15,7 +15,7 @@ use log_audit::{AuditFault, Audited, Form, Report, read_audited, report_on};
 use message_words::Style;
 use std::alloc::Global;
 
-/// Judges logs, which stand one behind another, each of its size; copies what claimaudit tells of them, as lines or as one
+/// Judges logs, which stand one after another, each of its size; copies what claimaudit tells of them, as lines or as one
 /// object of JSON.
 ///
 /// # Errors

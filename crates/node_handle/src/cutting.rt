@@ -1,11 +1,11 @@
-//! Bytes that stand one behind another.
+//! Bytes that stand one after another.
 
 ghost use Rattle.std.specs.Prelude.{◌≡◌, nat_lt, length, take, drop, true, false, [], Some, None, IfOk, MatchOption};
 ghost use Rattle.node_handle.specs.Audits.{cut_at, IsCutInto};
 
 use std::alloc::{AllocError, Global};
 
-/// Bytes cut into pieces of these sizes, one behind another; none where the sizes are not those of all bytes.
+/// Bytes cut into pieces of these sizes, one after another; none where the sizes are not those of all bytes.
 pub(crate) fn pieces_of(
     alloc: Global,
     bytes: &[u8],
@@ -25,7 +25,7 @@ pub(crate) fn pieces_of(
     Ok(all_of(pieces, rest))
 }
 
-/// The first bytes, so many, and what is behind them; none where there are fewer.
+/// The first bytes, this many, and what is after them; none where there are fewer.
 fn cut(bytes: &[u8], size: usize) -> Option<(&[u8], &[u8])>
     ensures { MatchOption result (nat_lt (length bytes.now) size ≡ true)
         (λ parts. (nat_lt (length bytes.now) size ≡ false)

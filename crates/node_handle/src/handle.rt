@@ -126,7 +126,7 @@ impl NodeHandle {
         }
     }
 
-    /// Notes that so many bytes of the records are on disk, the first of what `records` copies, and all that stands in the
+    /// Notes that this many bytes of the records are on disk, the first of what `records` copies, and all that stands in the
     /// log's file before them.
     ///
     /// # Errors

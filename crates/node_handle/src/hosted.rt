@@ -10,8 +10,8 @@ use node_service::{Service, lines_add};
 use std::alloc::{AllocError, Global};
 use std::marker::Model;
 
-/// A node, and what its host has said to be on disk. Nothing can be told of a node that was just opened, or has made a call,
-/// until its host has said so of all bytes.
+/// A node, and what its host has said to be on disk. Nothing but an answer that a payer gave can be told of a node that was just
+/// opened, or has made a call, until its host has said so of all bytes.
 #[derive(Drop)]
 pub struct Hosted {
     service: Service,
@@ -63,7 +63,7 @@ impl Hosted {
         }
     }
 
-    /// Notes that so many bytes of the records are on disk, and what stands in the file before them.
+    /// Notes that this many bytes of the records are on disk, and what stands in the file before them.
     ///
     /// # Errors
     /// `TooMany` where the records are fewer. Then nothing changes.
@@ -106,6 +106,13 @@ impl Hosted {
         ensures { result.now ≡ self.now.serving.records }
     {
         &self.service.records()[self.kept..]
+    }
+
+    /// The node, to be read for what is told before it is on disk.
+    pub(crate) fn unsettled(&self) -> &Service
+        ensures { self.now.serving ≡ with_records result.now self.now.serving.records }
+    {
+        &self.service
     }
 
     /// The node, to be read: where all is on disk.

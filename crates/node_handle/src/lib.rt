@@ -9,6 +9,7 @@ mod auditing;
 mod cutting;
 mod describing;
 mod handle;
+mod heard;
 mod hosted;
 mod loose;
 mod making;

@@ -61,7 +61,7 @@ pub enum Refusal {
     FieldSeparator,
     /// A field of a message ends in a space.
     FieldSpace,
-    /// A field of a message is not so many digits.
+    /// A field of a message is not this many digits.
     FieldDigits,
     /// A field of a message is no day.
     FieldDay,

@@ -9,7 +9,7 @@ use Rattle.node_log.specs.Fits.{FitsBy, Fits}
 use Rattle.node_log.specs.declared.misfit.FirstMisfit.{FirstMisfit}
 use Rattle.node_log.specs.Misfits.{Does, DoesNot, BreaksAt, IsFirst, IsMadeFrom}
 
--- what these calls come to from this state, all calls come to from that one, so many calls before
+-- what these calls come to from this state, all calls come to from that one, this many calls before
 pub record Leads (ctx : Context) (s : AnyNode) (calls : List Logged) (t : AnyNode) (all : List Logged) (passed : ℕ) : Type 0 where
   pub fits : Fits ctx s calls → Fits ctx t all
   pub breaks : (p q : ℕ) → q ≡ passed + p → BreaksAt ctx s calls p → BreaksAt ctx t all q

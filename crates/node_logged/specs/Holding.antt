@@ -23,7 +23,7 @@ pub record IsKept (settings : WorldSettings) (state : AnyNode) (log : NodeLog) :
   pub replay : IsReplay settings state log
   pub fits : FitsThere (context_of settings) (opened settings log.node) log.calls
 
--- the log with an accepted call and what it sent behind the others
+-- the log with an accepted call and what it sent after the others
 abbrev pub recorded : NodeLog → Call → List Sent → NodeLog
 recorded log call sent = record { node = log.node; calls = log.calls ++ record { call = call; sent = sent } ∷ [] }
 
@@ -31,7 +31,7 @@ abbrev pub held_by : Holding → Call → Outcome AnyNode → Option Holding
 held_by h call (Done next sent) = Some (record { settings = h.settings; state = next; log = recorded h.log call sent })
 held_by h call (Refused why) = None
 
--- one step of the node, and one record of it behind the others; none where the node refuses the call
+-- one step of the node, and one record of it after the others; none where the node refuses the call
 abbrev pub after_call : Holding → Call → Option Holding
 after_call h call = held_by h call (node_step (context_of h.settings) h.state call)
 

@@ -19,7 +19,7 @@ next_name nodes (OfPharmacy node) = Pharmacy (suc (length nodes.pharmacies))
 next_name nodes (OfSwitch node) = Switch (suc (length nodes.switches))
 next_name nodes (OfPayer node) = Payer (suc (length nodes.payers))
 
--- the nodes, and one more behind those of its kind
+-- the nodes, and one more after those of its kind
 abbrev pub with_node : NodeLists → AnyNode → NodeLists
 with_node nodes (OfPharmacy node) = record { pharmacies = nodes.pharmacies ++ node ∷ []; switches = nodes.switches; payers = nodes.payers }
 with_node nodes (OfSwitch node) = record { pharmacies = nodes.pharmacies; switches = nodes.switches ++ node ∷ []; payers = nodes.payers }

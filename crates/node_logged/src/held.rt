@@ -148,7 +148,7 @@ impl Held {
         let entries = self.state.entries(alloc)? as u64;
         match entries.checked_add(1) {
             Some(number) => Ok(number),
-            // No memory has so many entries.
+            // No memory has this many entries.
             None => Err(AllocError),
         }
     }

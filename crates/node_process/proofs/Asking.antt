@@ -1,4 +1,4 @@
--- The node behind an input that comes in pieces.
+-- The node after an input that comes in pieces.
 use Rattle.std.proofs.Common.{◌≡◌, ℕ, List, [], ◌∷◌, ◌++◌, Option, Some, None, refl, sym, ap, ◌∙◌, subst, append_assoc}
 use Rattle.std.specs.List.{AllByRecursion}
 use Rattle.claim_model.specs.Node.{Call}
@@ -18,7 +18,7 @@ lines_append : (s : Serving) (lines more : List (List ℕ)) → after_lines s (l
 lines_append s [] more = refl
 lines_append s (line ∷ lines) more = lines_append (after_line s line) lines more
 
--- what a node is behind more of the input, where it was this behind the input so far
+-- what a node is after more of the input, where it was this after the input so far
 pub record IsFurther (start : Serving) (input bytes : List ℕ) (s : Serving) : Type 0 where
   pub added : Serving
   pub own : after_lines s (whole_lines (begun_line input ++ bytes)) ≡ joined s added

@@ -290,7 +290,7 @@ module _ (whose : Whose) (settings : Settings) (spells : Spells whose.settings s
         },
       )
 
-  -- what stands behind the whole records is cut off
+  -- what stands after the whole records is cut off
   cut_step : (size : ℕ) (done : Bool) (start : Serving) (whole : ℕ) → turned_under whose.settings whose.rest (found t) ≡ digest → IsOpened whose.settings node whose.rest (found t) whole start → found t ≡ left_of h → t ≡ Found (found t) ∷ [] → take size (found t) ≡ take whole (found t)
       → GoesOn whose settings (Does (Cut size done) ∷ h) p
   cut_step size done start whole second o is only cuts = by_begun (subst (λ (x : List ℕ). IsBegun x node (found t) o.log whole start.records) second o.begun) lies_found

@@ -187,9 +187,9 @@ whole_front digest node front calls d c (log, reads) =
           ∙ (back.text ∙ ap (λ (cs : List Stamped). kept_text digest (record { node = node; calls = cs })) first)))
     ]
 
--- ---- zeros behind them
+-- ---- zeros after them
 
--- bytes are such first bytes of a log's text, and behind them nothing; or they end with a record, and zeros stand behind it
+-- bytes are such first bytes of a log's text, and after them nothing; or they end with a record, and zeros stand after it
 pub record IsTornOf (digest : List ℕ) (node : Node) (bytes : List ℕ) (calls : List Stamped) : Type 0 where
   pub front : List ℕ
   pub lost : ℕ
@@ -206,7 +206,7 @@ torn_fits digest node bytes calls t = calls_fit digest node t.front calls t.cut
 no_zeros : (front bytes : List ℕ) (n : ℕ) → bytes ≡ front ++ zeros n → n ≡ 0 → bytes ≡ front
 no_zeros front bytes n is none = is ∙ (ap (λ m. front ++ zeros m) none ∙ append-nil front)
 
--- zeros behind the text of a log
+-- zeros after the text of a log
 pub zeros_read : (digest : List ℕ) (node : Node) (front bytes : List ℕ) (calls : List Stamped) (n : ℕ) → length digest ≡ 33 → FitsKept (record { node = node; calls = calls })
     → bytes ≡ front ++ zeros n → front ≡ kept_text digest (record { node = node; calls = calls })
     → kept_in digest bytes ≡ Ok (record { log = record { node = node; calls = calls }; whole = length front })

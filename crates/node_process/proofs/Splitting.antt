@@ -83,7 +83,7 @@ begun_none (b ∷ bytes) = by_test (begun_none bytes) (is_newline b) refl
         subst (λ (parts : List (List ℕ)). NoNewline (last_part parts)) (sym (ap (λ t. cond t ([] ∷ slice_split is_newline bytes) (onto_first b (slice_split is_newline bytes))) e ∙ ap (onto_first b) s.2))
         (onto_none b s.0 s.1 e (subst (λ (parts : List (List ℕ)). NoNewline (last_part parts)) s.2 inner))
 
--- ---- what comes behind what has come
+-- ---- what comes after what has come
 
 full_glue : (first : List ℕ) (more : List (List ℕ)) (y : List ℕ) (ys : List (List ℕ)) → full_lines (glue (first ∷ more) (y ∷ ys)) ≡ full_lines (first ∷ more) ++ full_lines (glue (last_part (first ∷ more) ∷ []) (y ∷ ys))
 full_glue first [] y ys = refl
@@ -95,7 +95,7 @@ last_glue first [] y ys = refl
 last_glue first (z ∷ []) y ys = refl
 last_glue first (z ∷ w ∷ more) y ys = last_glue z (w ∷ more) y ys
 
--- what was begun, and what comes behind it
+-- what was begun, and what comes after it
 begun_split : (a b : List ℕ) → slice_split is_newline (begun_line a ++ b) ≡ glue (begun_line a ∷ []) (slice_split is_newline b)
 begun_split a b = split_append (begun_line a) b ∙ ap (λ (parts : List (List ℕ)). glue parts (slice_split is_newline b)) (split_none (begun_line a) (begun_none a))
 
@@ -177,7 +177,7 @@ split_at (p ∷ pending) rest end n e = split_by p (pending ++ rest) false n.0 �
 pub none_ends : (rest : List ℕ) → position is_newline rest ≡ None → NoNewline rest
 none_ends rest e = no_place rest (found_none (position_or_len is_newline rest) (length rest) (nat_lt (position_or_len is_newline rest) (length rest)) refl e)
 
--- a line that has come whole, and the lines behind it
+-- a line that has come whole, and the lines after it
 pub whole_one : (pending rest : List ℕ) (end : ℕ) → NoNewline pending → position is_newline rest ≡ Some end → whole_lines (pending ++ rest) ≡ strip_carriage_return (pending ++ take end rest) ∷ whole_lines (drop (end + 1) rest)
 whole_one pending rest end n e =
     let s = split_some (drop (end + 1) rest) in

@@ -1,4 +1,4 @@
--- Zeros behind the text of a log are read as a record that is cut off.
+-- Zeros after the text of a log are read as a record that is cut off.
 use Rattle.std.proofs.Common.{◌≡◌, inl, inr, ℕ, zero, suc, ◌+◌, ◌-◌, ◌<◌, ◌≤◌, true, cond, List, [], ◌∷◌, ◌++◌, length, nat_lt, Some, None, Ok, refl, ap, ◌∙◌, arith, append_assoc, length-append}
 use Rattle.std.proofs.lemmas.Bool.{cases_lt}
 use Rattle.std.proofs.lemmas.Bool.Decides.{nat_tests}
@@ -54,7 +54,7 @@ zeros_none : (version number place n : ℕ) → record_in version number place (
 unfolding record_in
 zeros_none version number place n = ap (framed_record place) (zeros_cut version number n)
 
--- ---- records, and zeros behind them
+-- ---- records, and zeros after them
 
 zeros_stop : (version total number most n : ℕ) → calls_in version total number most (zeros n) ≡ Ok ([], zeros n)
 unfolding calls_in
@@ -94,7 +94,7 @@ calls_then_zeros version total number (suc most) n (r ∷ calls) fits room =
     ∙ (ap (calls_in version total number (suc most)) (append_assoc front text (zeros n))
     ∙ (one_more version total number most r (text ++ zeros n) fits.0 ∙ ap (behind (r ∷ [])) (calls_then_zeros version total (number + 1) most n calls fits.1 (omega (arith, size, sum, long, room)))))
 
--- ---- a log, and zeros behind it
+-- ---- a log, and zeros after it
 
 pub reads_zeros : (digest : List ℕ) (log : KeptLog) (n : ℕ) → length digest ≡ 33 → FitsKept log → kept_in digest (kept_text digest log ++ zeros n) ≡ Ok (record { log = log; whole = length (kept_text digest log) })
 unfolding kept_in kept_text

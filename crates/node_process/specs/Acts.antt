@@ -6,7 +6,7 @@ use Rattle.std.specs.Prelude.{ℕ, Bool, false, not, ◌&&◌, ◌||◌, cond, L
 pub data Act : Type 0 where
   -- the bytes of the log were read
   Found : (bytes : List ℕ) → Act
-  -- the file was cut behind so many bytes
+  -- the file was cut after this many bytes
   Cut : (size : ℕ) → (done : Bool) → Act
   Append : (bytes : List ℕ) → (done : Bool) → Act
   Sync : (done : Bool) → Act
@@ -45,7 +45,7 @@ has_failed (Sync done ∷ before) = not done || has_failed before
 has_failed (Say bytes done ∷ before) = not done || has_failed before
 has_failed (Hear bytes ∷ before) = has_failed before
 
--- the bytes that are on the disk for certain. What was found may be in the system's memory alone, and a sync behind a failure is worth nothing
+-- the bytes that are on the disk for certain. What was found may be in the system's memory alone, and a sync after a failure is worth nothing
 abbrev pub kept : List Act → List ℕ
 kept [] = []
 kept (Found bytes ∷ before) = []

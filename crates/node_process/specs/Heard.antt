@@ -6,7 +6,7 @@ use Rattle.std.specs.Str.Lines.{strip_carriage_return}
 abbrev pub is_newline : ℕ → Bool
 is_newline byte = byte == 10
 
--- all parts but the last, behind which no newline has come
+-- all parts but the last, after which no newline has come
 abbrev pub full_lines : List (List ℕ) → List (List ℕ)
 full_lines [] = []
 full_lines (x ∷ []) = []

@@ -64,7 +64,7 @@ on_disk (Does (Say bytes done) ∷ before) = on_disk before
 on_disk (Does (Hear bytes) ∷ before) = on_disk before
 on_disk (Dies left ∷ before) = on_disk before
 
--- so many zeros
+-- this many zeros
 abbrev pub zeros : ℕ → List ℕ
 zeros n = replicate n 0
 
@@ -72,8 +72,8 @@ zeros n = replicate n 0
 abbrev pub IsWholeLog : List ℕ → List ℕ → Type 0
 IsWholeLog digest bytes = (log : KeptLog) × KeptAs digest bytes log
 
--- a death leaves what is on the disk for certain, and behind that a beginning of what the system had; or of what it had when the process began,
--- since what was cut off may be there again. Where this ends with a record, zeros may stand behind it: some file systems leave them, however many,
+-- a death leaves what is on the disk for certain, and after that a beginning of what the system had; or of what it had when the process began,
+-- since what was cut off may be there again. Where this ends with a record, zeros may stand after it: some file systems leave them, however many,
 -- where bytes are lost that were not synced
 pub record IsLeft (whose : Whose) (before : List Happening) (left : List ℕ) : Type 0 where
   pub front : List ℕ
@@ -161,7 +161,7 @@ pub record IsProcess (whose : Whose) (settings : Settings) (history : List Happe
   pub told : IsToldBy whose.node p.synced (said (acts_of history))
 
 -- so at any two moments, and the steps to the later one go on from those to the first. They are steps over this log alone, which begins with the node
--- that the settings open, or behind closed logs with the one that the rest starts
+-- that the settings open, or after closed logs with the one that the rest starts
 pub record IsCourse (whose : Whose) (settings : Settings) (now later : List Happening) : Type 0 where
   pub steps : List Step
   pub more : List Step

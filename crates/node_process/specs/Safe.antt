@@ -19,15 +19,15 @@ pub record IsStartOf (front bytes : List ℕ) : Type 0 where
   pub rest : List ℕ
   pub is : front ++ rest ≡ bytes
 
--- the node behind the whole lines of an input
+-- the node after the whole lines of an input
 abbrev pub asked : Serving → List ℕ → Serving
 asked start input = after_lines start (whole_lines input)
 
--- the log behind them: what stays of the file, and the records
+-- the log after them: what stays of the file, and the records
 abbrev pub log_of : Serving → List ℕ → List ℕ → List ℕ
 log_of start base input = base ++ (asked start input).records
 
--- a node is served whose log goes on behind closed ones: how many calls the log has, and how many these have
+-- a node is served whose log goes on after closed ones: how many calls the log has, and how many these have
 abbrev pub behind_line : ℕ → ℕ → List ℕ
 behind_line before calls = codes "ready " ++ (decimal calls ++ (codes " behind " ++ (decimal before ++ codes "\n")))
 
@@ -35,7 +35,7 @@ behind_line before calls = codes "ready " ++ (decimal calls ++ (codes " behind "
 abbrev pub greeting : ℕ → ℕ → List ℕ
 greeting before calls = cond (before == 0) (ready_line calls) (behind_line before calls)
 
--- the words behind them, where so many calls were made before the log
+-- the words after them, where this many calls were made before the log
 abbrev pub words_of : ℕ → Serving → List ℕ → List ℕ
 words_of before start input = greeting before start.calls ++ (asked start input).out
 
@@ -67,8 +67,8 @@ IsRead (act ∷ before) = ⊤
 abbrev pub GoesWell : List Act → Type 0
 GoesWell acts = IsRead acts × (has_failed acts ≡ false)
 
--- the log is read first, and once; what is cut off is what stands behind its whole records, before anything else is done; an append stands on what
--- is synced, and makes of it the log of a beginning of the input; what is synced is such a log; and nothing is done behind a failure
+-- the log is read first, and once; what is cut off is what stands after its whole records, before anything else is done; an append stands on what
+-- is synced, and makes of it the log of a beginning of the input; what is synced is such a log; and nothing is done after a failure
 abbrev pub IsInOrder : Serving → List ℕ → List Act → Type 0
 IsInOrder start base [] = ⊤
 IsInOrder start base (Found bytes ∷ before) = before ≡ []
@@ -97,7 +97,7 @@ AtEachMoment closed start base (act ∷ before) = IsSafe closed start base (act 
 abbrev pub IsUnopened : List Act → Type 0
 IsUnopened acts = (acts ≡ []) ⊎ ((bytes : List ℕ) × (acts ≡ Found bytes ∷ []))
 
--- whose process it is: the text of the settings, the node, what its log begins with where it goes on behind closed ones, and how many calls all
+-- whose process it is: the text of the settings, the node, what its log begins with where it goes on after closed ones, and how many calls all
 -- of its logs have at least
 pub record Whose : Type 0 where
   pub settings : List ℕ
@@ -113,7 +113,7 @@ owner_seen o = record { settings = o.settings.now; node = node_seen o.node; rest
 abbrev pub closed_calls : Whose → ℕ
 closed_calls whose = calls_before whose.rest
 
--- so many calls of the log, and those that were made before it, are as many as there are at least
+-- this many calls of the log, and those that were made before it, are as many as there are at least
 abbrev pub AreEnough : Whose → ℕ → Type 0
 AreEnough whose calls = whose.least ≤ closed_calls whose + calls
 
@@ -170,7 +170,7 @@ pub record IsOpening (before : ℕ) (start : Serving) (base : List ℕ) (acts : 
   pub deaf : heard acts ≡ []
   pub is : file acts ≡ text
 
--- the log was read, and opens this node; so many of its bytes stay
+-- the log was read, and opens this node; this many of its bytes stay
 pub record Reads (whose : Whose) (acts : List Act) (whole size : ℕ) (s : Serving) : Type 0 where
   pub bytes : List ℕ
   pub is : acts ≡ Found bytes ∷ []
@@ -178,7 +178,7 @@ pub record Reads (whose : Whose) (acts : List Act) (whole size : ℕ) (s : Servi
   pub opened : IsOpened whose.settings whose.node whose.rest bytes whole s
   pub enough : AreEnough whose s.calls
 
--- what is behind its whole records is cut off
+-- what is after its whole records is cut off
 pub record Trims (whose : Whose) (acts : List Act) (whole : ℕ) (s : Serving) : Type 0 where
   pub opened : IsOpened whose.settings whose.node whose.rest (found acts) whole s
   pub enough : AreEnough whose s.calls

@@ -9,8 +9,8 @@ use std::{fs, io};
 /// The most files beside one log that end alike.
 const MOST_FILES: u32 = 1_000;
 
-/// Keeps what stands in a file behind so many bytes in a new file beside it, and says so on standard error: at the name of the
-/// log with `.cut-` and the place behind it. Its bytes and its name are on disk then.
+/// Keeps what stands in a file after this many bytes in a new file beside it, and says so on standard error: at the name of the
+/// log with `.cut-` and the place after it. Its bytes and its name are on disk then.
 pub fn keep_end(rt: &HostRuntime, path: &str, size: u64) -> io::Result<()> {
     let bytes = fs::read(rt, path)?;
     let Some(end) = bytes.get(size as usize..) else {

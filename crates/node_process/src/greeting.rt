@@ -7,7 +7,7 @@ use input_text::put_decimal;
 use node_service::ready_line;
 use std::alloc::{AllocError, Global};
 
-/// Whether so many calls of a log, and those before it, are as many as there are at least.
+/// Whether this many calls of a log, and those before it, are as many as there are at least.
 pub(crate) fn are_enough(before: u64, calls: u64, least: u64) -> bool
     ensures { IsTrue result ↔ (least ≤ before + calls) }
 {
@@ -25,7 +25,7 @@ pub(crate) fn greeting(alloc: Global, before: u64, calls: u64) -> Result<Vec<u8>
     }
 }
 
-/// The line of a log that goes on behind closed ones.
+/// The line of a log that goes on after closed ones.
 fn behind_line(alloc: Global, before: u64, calls: u64) -> Result<Vec<u8>, AllocError>
     ensures { IfOk result (λ line. line.items ≡ behind_line before calls) }
 {

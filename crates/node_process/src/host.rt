@@ -1,29 +1,16 @@
 //! The system over a real file. Each method makes its call, and then notes it with its answer.
 
-ghost use Rattle.std.specs.Prelude.{◌≡◌, ◌≤◌, []};
-ghost use Rattle.std.specs.Prelude.{length, IfOk};
+ghost use Rattle.std.specs.Prelude.{◌≡◌, []};
 
 use crate::beside::{keep_all, keep_end, leave_mark};
 use crate::machine::Machine;
-use crate::noted::Noted;
+use crate::noted::{APPENDED, CUT, FOUND, HEARD, Noted, SAID, SYNCED};
+use crate::streams::{heard, written};
 use std::alloc::Global;
 use std::fs::File;
 use std::io::{ErrorKind, Read, Write};
 use std::os::unix::fs::MetadataExt;
 use std::{fs, io};
-
-/// Kinds of acts, as they are noted.
-const FOUND: u64 = 0;
-
-const CUT: u64 = 1;
-
-const APPENDED: u64 = 2;
-
-const SYNCED: u64 = 3;
-
-const SAID: u64 = 4;
-
-const HEARD: u64 = 5;
 
 /// A log in a file, which is read from where it begins and appended to, an input and an output. What is cut off the file is kept
 /// in another one beside it, and a sync that fails leaves a mark there.
@@ -40,7 +27,7 @@ pub struct Host<'a, I: Read + Drop, O: Write + Drop> {
 }
 
 impl<'a, I: Read + Drop, O: Write + Drop> Host<'a, I, O> {
-    /// Over a file of this name that was opened to read and to append, and stands at the place where the log begins, behind so
+    /// Over a file of this name that was opened to read and to append, and stands at the place where the log begins, after so
     /// many bytes.
     pub fn new(
         rt: &'a HostRuntime,
@@ -110,7 +97,7 @@ impl<'a, I: Read + Drop, O: Write + Drop> Machine for Host<'a, I, O> {
     }
 }
 
-/// Cuts a file behind so many bytes, once what stands there is kept beside it.
+/// Cuts a file after this many bytes, once what stands there is kept beside it.
 fn cut_off(rt: &HostRuntime, path: &str, file: &File, size: u64) -> io::Result<()> {
     keep_end(rt, path, size)?;
     file.set_len(size)
@@ -158,17 +145,4 @@ fn has_name(rt: &HostRuntime, path: &str, file: &File) -> io::Result<bool> {
             Err(error)
         }
     }
-}
-
-/// Writes all bytes, and has them leave.
-fn written<O: Write>(output: &mut O, bytes: &[u8]) -> io::Result<()> {
-    output.write_all(bytes)?;
-    output.flush()
-}
-
-/// Reads some bytes.
-fn heard<I: Read>(input: &mut I, buffer: &mut [u8]) -> io::Result<usize>
-    ensures { IfOk result (λ count. count ≤ length buffer.old) }
-{
-    input.read(buffer)
 }

@@ -9,7 +9,7 @@ ghost use Rattle.node_process.specs.Safe.{IsRun, IsUnopened, Whose};
 ghost use Rattle.node_process.specs.Histories.{BeginsWith, Happening, IsCourse, IsHistory, acts_of, happenings, left_of};
 
 /// What `serve_all` asks of the system, at each moment of it, goes on from what the process before it left: over a log that
-/// begins with the settings, and over one that goes on behind closed logs and begins with their rest.
+/// begins with the settings, and over one that goes on after closed logs and begins with their rest.
 pub fn processes_follow_one_another()
     ensures { (whose : Whose) (acts : List Act) (history : List Happening)
         → IsHistory whose history → acts_of history ≡ [] → BeginsWith (left_of history) acts
@@ -19,7 +19,7 @@ pub fn processes_follow_one_another()
 /// Whatever is heard and done by the processes of a node, one after another, each as `serve_all` leaves it at any moment, and
 /// whatever their deaths leave of the file of its log: what is on the disk, in the file and in memory is what a process of
 /// `crash_safety` has that makes the same calls, syncs, crashes and restarts; and what was said is what its synced calls sent.
-/// What happens later goes on from there. The log may begin with the settings, or go on behind closed logs and begin with
+/// What happens later goes on from there. The log may begin with the settings, or go on after closed logs and begin with
 /// their rest: the process begins with the node that the settings open, or with the one that the rest starts, and has the
 /// calls of this log alone.
 pub fn files_are_processes()

@@ -7,6 +7,7 @@
 #![tactic(auto)]
 
 mod beside;
+mod diskless;
 mod greeting;
 mod host;
 mod laws;
@@ -15,9 +16,11 @@ mod noted;
 mod opening;
 mod pending;
 mod serving;
+mod streams;
 mod unserved;
 
 pub use beside::{keep_end, mark_of_failed_sync, sync_folder};
+pub use diskless::Diskless;
 pub use host::Host;
 pub use laws::{files_are_processes, processes_follow_one_another};
 pub use machine::Machine;

@@ -19,7 +19,7 @@ pub trait Machine {
         ensures found { IfOk result (λ bytes. acts self.new ≡ Found bytes.items ∷ acts self.old) }
         ensures failed { OnErr result (acts self.new ≡ acts self.old) };
 
-    /// Cuts the log off behind so many bytes.
+    /// Cuts the log off after this many bytes.
     fn cut(&mut self, size: usize) -> io::Result<()>
         ensures { acts self.new ≡ Cut size (is_ok result) ∷ acts self.old };
 

@@ -7,6 +7,19 @@ ghost use Rattle.node_process.specs.Noting.{act_of};
 
 use std::marker::{Model, PhantomData};
 
+/// Kinds of acts, as they are noted.
+pub(crate) const FOUND: u64 = 0;
+
+pub(crate) const CUT: u64 = 1;
+
+pub(crate) const APPENDED: u64 = 2;
+
+pub(crate) const SYNCED: u64 = 3;
+
+pub(crate) const SAID: u64 = 4;
+
+pub(crate) const HEARD: u64 = 5;
+
 /// The acts of a machine so far, the newest first.
 #[derive(Drop)]
 pub struct Noted {

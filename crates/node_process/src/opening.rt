@@ -22,7 +22,7 @@ pub struct Owner<'a> {
     pub settings: &'a [u8],
     /// The node.
     pub node: Node,
-    /// What the log begins with, where it goes on behind closed ones.
+    /// What the log begins with, where it goes on after closed ones.
     pub rest: Option<&'a [u8]>,
     /// How many calls its logs are known to have, the closed ones too: a log with which there are fewer is an older copy, or was
     /// cut, and is not served.
@@ -65,7 +65,7 @@ pub(crate) fn open<M: Machine>(
     }
 }
 
-/// The node of a log of so many bytes, once what stays of these is on disk and how many calls it has was said.
+/// The node of a log of this many bytes, once what stays of these is on disk and how many calls it has was said.
 fn begin<M: Machine>(
     alloc: Global,
     owner: &Owner<'_>,
@@ -87,7 +87,7 @@ fn begin<M: Machine>(
     }
 }
 
-/// Has on disk what stays of a log of so many bytes, and says how many calls it has.
+/// Has on disk what stays of a log of this many bytes, and says how many calls it has.
 fn lay_down<M: Machine>(
     alloc: Global,
     owner: &Owner<'_>,
@@ -111,7 +111,7 @@ fn lay_down<M: Machine>(
     Ok(())
 }
 
-/// Cuts off what stands behind the whole records of a log of so many bytes.
+/// Cuts off what stands after the whole records of a log of this many bytes.
 fn trim<M: Machine>(
     owner: &Owner<'_>,
     machine: &mut M,

@@ -55,7 +55,7 @@ fn newline_in(bytes: &[u8]) -> Option<usize>
     memchr(b'\n', bytes)
 }
 
-/// The bytes behind the one at this place.
+/// The bytes after the one at this place.
 fn behind(bytes: &[u8], end: usize) -> &[u8]
     requires { end < length bytes.now }
     ensures { result.now ≡ drop (end + 1) bytes.now }

@@ -21,7 +21,7 @@ const CHUNK: usize = 65_536;
 ///
 /// # Errors
 /// What refuses the node, a log of fewer calls than it is known to have, a line that is too long, or the first call of the
-/// system that failed: nothing is done behind it.
+/// system that failed: nothing is done after it.
 pub fn serve_all<M: Machine>(
     alloc: Global,
     keys: &HashKeys,

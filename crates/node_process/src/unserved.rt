@@ -14,7 +14,7 @@ pub enum Unserved {
     /// The settings, the node or its log are refused.
     #[error("{0}")]
     Refused(ServiceFault),
-    /// The log, and the closed ones before it, have fewer calls than they are known to have: so many.
+    /// The log, and the closed ones before it, have fewer calls than they are known to have: this many.
     #[error("the log has {0} calls, fewer than it is known to have")]
     FewCalls(u64),
     /// A line is longer than the most bytes that a line may have.

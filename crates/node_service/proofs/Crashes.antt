@@ -30,7 +30,7 @@ longer_text version number (r ∷ calls) more =
     let inner = longer_text version (number + 1) calls more in
     omega (arith, inner, length-append (frame_text version number (stamped_text r)) (calls_text version (number + 1) calls), length-append (frame_text version number (stamped_text r)) (calls_text version (number + 1) (calls ++ more)))
 
--- the first so many of the first so many more
+-- the first this many of the first this many more
 take_fewer : (m k : ℕ) (calls : List Stamped) → m ≤ k → take m (take k calls) ≡ take m calls
 take_fewer zero k calls h = refl
 take_fewer (suc m) zero calls h = absurd (omega (arith, h))
@@ -46,7 +46,7 @@ length_bare : (calls : List Stamped) → length (bare_calls calls) ≡ length ca
 length_bare [] = refl
 length_bare (r ∷ calls) = ap suc (length_bare calls)
 
--- a cut behind the synced calls leaves them all
+-- a cut after the synced calls leaves them all
 all_synced : (digest : List ℕ) (kept : KeptLog) (m n : ℕ) → length digest ≡ 33 → FitsKept kept → m ≤ length kept.calls → length (kept_text digest (first_calls m kept)) ≤ n → m ≤ calls_within digest n kept
 all_synced digest kept m n d fits few long =
     let k = calls_within digest n kept in

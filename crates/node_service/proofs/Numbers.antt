@@ -8,7 +8,7 @@ use Rattle.kept_logs.specs.References.{Reference}
 use Rattle.node_service.specs.Serving.{found}
 use Rattle.node_service.specs.Numbers.{HasNumbers, is_name}
 
--- what is found first, or else behind it
+-- what is found first, or else after it
 abbrev or_else : Option ℕ → Option ℕ → Option ℕ
 or_else None other = other
 or_else (Some number) other = Some number

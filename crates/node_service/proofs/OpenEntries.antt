@@ -5,7 +5,7 @@ use Rattle.std.proofs.lemmas.Grind.{flat_map-append}
 use Rattle.claim_model.specs.Journal.{Kept}
 use Rattle.node_service.specs.Listing.{answer_in, entry_line, entry_lines, open_then, open_numbers, open_from}
 
--- the entry at a place, and those behind it
+-- the entry at a place, and those after it
 at : (n place : ℕ) (entries : List Kept) → place < length entries → open_numbers n (drop place entries) ≡ open_then (answer_in entries (suc place)) n (open_numbers (n + 1) (drop (suc place) entries))
 at n place [] h = absurd (omega (arith, h))
 at n zero (k ∷ entries) h = refl

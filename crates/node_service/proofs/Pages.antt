@@ -6,7 +6,7 @@ take_none : {A : Type 0} (count : ℕ) → take {A = A} count [] ≡ []
 take_none zero = refl
 take_none (suc count) = refl
 
--- nothing stands behind the end
+-- nothing stands after the end
 pub none_behind : {A : Type 0} (passed count : ℕ) (xs : List A) → length xs ≤ passed → take count (drop passed xs) ≡ []
 none_behind {A} passed count xs h = ap (λ (ys : List A). take count ys) (drop_all passed xs h) ∙ take_none count
 

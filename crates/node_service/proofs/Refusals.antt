@@ -111,7 +111,7 @@ length_bare : (calls : List Stamped) → length (bare_calls calls) ≡ length ca
 length_bare [] = refl
 length_bare (r ∷ calls) = ap suc (length_bare calls)
 
--- the node does not make the call behind so many, whose record is at the place behind them
+-- the node does not make the call after this many, whose record is at the place after them
 pub breaks_off : (digest : List ℕ) (settings : WorldSettings) (node : Node) (rest : Option (List ℕ)) (bytes : List ℕ) (read : Reading) (before : AnyNode) (count place : ℕ) → log_in digest bytes ≡ Ok read → same_node read.log.node node ≡ true
     → begins settings node rest ≡ Some before → BreaksAt (context_of settings) before read.log.calls count
     → ((k : KeptReading) → kept_in digest bytes ≡ Ok k → count ≤ length k.log.calls → place ≡ length (kept_text digest (first_calls count k.log))) → BreaksOff digest settings node rest bytes place

@@ -9,7 +9,7 @@ use Rattle.input_text.specs.Printing.{hex_digit, hex_value, hex_spelling, printe
 use Rattle.schedule.proofs.Names.{is_inner}
 use Rattle.node_service.specs.Payments.{word_byte, word_of}
 
--- what a rest spells at every place, it spells behind bytes that belong to a spelling before it
+-- what a rest spells at every place, it spells after bytes that belong to a spelling before it
 passes : (k : ℕ) (text rest : List ℕ) (got : Result (List ℕ) ℕ) → k ≤ length text → drop k text ≡ rest → ((p : ℕ) → unprinted_from p 0 rest ≡ got) → (p : ℕ) → unprinted_from p k text ≡ got
 unfolding unprinted_from
 passes zero text rest got fits same all p = ap (unprinted_from p 0) same ∙ all p

@@ -21,7 +21,7 @@ sent_lines sent = flat_map sent_line sent
 abbrev pub refused_line : List ℕ → List ℕ
 refused_line name = codes "refused " ++ (name ++ codes "\n")
 
--- a call that was made, behind the packets that it sent
+-- a call that was made, after the packets that it sent
 abbrev pub done_line : List ℕ
 done_line = codes "ok\n"
 

@@ -25,7 +25,7 @@ Call = declared.Call (List ℕ)
 abbrev pub submission : List ℕ → Option Call
 submission text = option_map Submit (result_ok (unprinted text))
 
--- the node that sent a packet and, behind one space, the packet in printed bytes
+-- the node that sent a packet and, after one space, the packet in printed bytes
 unfoldable pub taking : List ℕ → Option Call
 taking rest = do
   parts ← split_word rest
@@ -37,7 +37,7 @@ taking rest = do
 abbrev pub bytes_in : List ℕ → Option (List ℕ)
 bytes_in text = result_ok (unprinted text)
 
--- the node that sent a packet, an advice as one word of printed bytes, and the packet in printed bytes, each behind one space
+-- the node that sent a packet, an advice as one word of printed bytes, and the packet in printed bytes, each after one space
 unfoldable pub adjudication : List ℕ → Option Call
 adjudication rest = do
   parts ← split_word rest
@@ -62,7 +62,7 @@ plain_call line =
     if bytes_eq line (codes "stop") then Some Stop else
     if bytes_eq line (codes "start") then Some Start else None
 
--- the call of a word and what stands behind it
+-- the call of a word and what stands after it
 abbrev pub call_with : List ℕ → List ℕ → Option Call
 call_with word rest =
     if bytes_eq word (codes "submit") then submission rest else
@@ -93,7 +93,7 @@ reference_of name = if nat_le 1 (length name) && nat_le (length name) 64 then So
 unfoldable pub reference_in : List ℕ → Option (List ℕ)
 reference_in word = result_ok (unprinted word) >>= reference_of
 
--- a submission under a reference, and behind one space the request
+-- a submission under a reference, and after one space the request
 unfoldable pub named_submission : List ℕ → Option Noted
 named_submission rest = do
   parts ← split_word rest
@@ -120,7 +120,7 @@ named_of line = named_parted line (split_word line)
 abbrev pub at_time : ℕ → Option Noted → Option Noted
 at_time time o = option_map (λ n. record { call = n.call; stamp = record { time = time; reference = n.stamp.reference } }) o
 
--- a time in 1 to 18 digits, and behind one space a call
+-- a time in 1 to 18 digits, and after one space a call
 unfoldable pub timed : List ℕ → Option Noted
 timed rest = do
   parts ← split_word rest
@@ -159,7 +159,7 @@ ranged_question word range =
     if bytes_eq word (codes "open") then Some (Open range.0 range.1) else
     if bytes_eq word (codes "payments") then Some (Payments range.0 range.1) else None
 
--- the question of a word and what stands behind it
+-- the question of a word and what stands after it
 abbrev pub question_with : List ℕ → List ℕ → Option Question
 question_with word rest =
     if bytes_eq word (codes "answer") then option_map Answer (decimal_number 18 rest) else

@@ -66,7 +66,7 @@ lines_calls s (line ∷ lines) = line_calls s line ++ lines_calls (after_line s 
 abbrev pub with_records : KeptLog → List Stamped → KeptLog
 with_records log more = record { node = log.node; calls = log.calls ++ more }
 
--- the node that is served makes this log, and is its replay, with the references of all submissions; the bytes of its file, and behind them the records
+-- the node that is served makes this log, and is its replay, with the references of all submissions; the bytes of its file, and after them the records
 -- that are to be appended, are its text
 pub record IsServing (rest : Option (List ℕ)) (digest : List ℕ) (bytes : List ℕ) (log : KeptLog) (s : Serving) : Type 0 where
   pub named : s.node ≡ log.node
@@ -88,7 +88,7 @@ pub record IsSame (s t : Serving) : Type 0 where
   pub records : t.records ≡ []
   pub silent : t.out ≡ []
 
--- a file that a crash has left, of a process whose synced calls' text it has: it is read as the log of that process, crashed with so many calls
+-- a file that a crash has left, of a process whose synced calls' text it has: it is read as the log of that process, crashed with this many calls
 -- left, and the node that is opened from it is the one that this process restarts with
 pub record IsRestart (settings : List ℕ) (node : Node) (rest : Option (List ℕ)) (p : Process) (image : List ℕ) : Type 0 where
   pub left : ℕ

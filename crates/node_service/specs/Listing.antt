@@ -18,7 +18,7 @@ entry_line number = codes "entry " ++ (decimal number ++ codes "\n")
 abbrev pub answer_in : List Kept → ℕ → Option (List ℕ)
 answer_in entries number = option_and_then (λ (k : Kept). k.answer) (numbered entries number)
 
--- a number, where its entry has no answer, in front of those behind it
+-- a number, where its entry has no answer, in front of those after it
 abbrev pub open_then : Option (List ℕ) → ℕ → List ℕ → List ℕ
 open_then None number more = number ∷ more
 open_then (Some answer) number more = more
@@ -28,7 +28,7 @@ abbrev pub open_numbers : ℕ → List Kept → List ℕ
 open_numbers n [] = []
 open_numbers n (k ∷ entries) = open_then k.answer n (open_numbers (n + 1) entries)
 
--- at most so many of them, the oldest first, behind so many entries
+-- at most this many of them, the oldest first, after this many entries
 abbrev pub open_behind : ℕ → ℕ → List Kept → List ℕ
 open_behind passed count entries = take count (open_numbers (passed + 1) (drop passed entries))
 
@@ -40,7 +40,7 @@ open_from number count entries = open_behind (number - 1) count entries
 unfoldable pub entry_lines : List ℕ → List ℕ
 entry_lines numbers = flat_map entry_line numbers
 
--- what is told behind a list: that this was all
+-- what is told after a list: that this was all
 abbrev pub end_line : List ℕ
 end_line = codes "end\n"
 

@@ -47,14 +47,14 @@ referred_behind settings node rest calls = references_before rest ++ referred_fr
 abbrev pub empty_log : Node → KeptLog
 empty_log node = record { node = node; calls = [] }
 
--- a log that was read, or begun: its calls, how many of the bytes stay, and what is to be appended. What is behind those bytes is a record
+-- a log that was read, or begun: its calls, how many of the bytes stay, and what is to be appended. What is after those bytes is a record
 -- that was cut off. Where the bytes end before the head does, none stay, and the head is to be appended
 abbrev pub IsBegun : List ℕ → Node → List ℕ → KeptLog → ℕ → List ℕ → Type 0
 IsBegun digest node bytes log kept records =
     ((kept_in digest bytes ≡ Ok (record { log = log; whole = kept })) × (records ≡ []))
     ⊎ ((kept_in digest bytes ≡ Err Short) × ((log ≡ empty_log node) × ((kept ≡ zero) × (records ≡ kept_text digest (empty_log node)))))
 
--- the node that is served makes the log that the bytes are, from the opening of the settings that the text spells, or where the log goes on behind closed
+-- the node that is served makes the log that the bytes are, from the opening of the settings that the text spells, or where the log goes on after closed
 -- ones, from the rest that it begins with; and is its replay, with the references of all submissions
 pub record IsOpened (settings : List ℕ) (node : Node) (rest : Option (List ℕ)) (bytes : List ℕ) (kept : ℕ) (s : Serving) : Type 0 where
   pub spells : Spells settings s.settings
@@ -93,7 +93,7 @@ abbrev pub IsRead : WorldSettings → Option (List ℕ) → List ℕ → Node �
 IsRead settings rest digest node bytes None = IsUnmade settings node rest (log_in digest bytes)
 IsRead settings rest digest node bytes (Some made) = IsMadeLog settings rest digest node bytes made
 
--- the node that is served is this one, under these settings, with a log of this version, and these references from before it; so many bytes stay, and
+-- the node that is served is this one, under these settings, with a log of this version, and these references from before it; this many bytes stay, and
 -- nothing is to be appended
 pub record IsServedAs (settings : WorldSettings) (node : Node) (log_version : ℕ) (before : List Reference) (made : MadeLog) (stay : ℕ) (s : Serving) : Type 0 where
   pub own : s.settings ≡ settings

@@ -59,7 +59,7 @@ payments_by ctx None None = []
 abbrev pub payments_of : Context → AnyNode → List NodePayment
 payments_of ctx state = payments_by ctx (journal_of state) (book_of state)
 
--- so many of them at most, from the one of a number on; they are numbered from 1
+-- this many of them at most, from the one of a number on; they are numbered from 1
 abbrev pub page : ℕ → ℕ → List NodePayment → List NodePayment
 page number count payments = take count (drop (number - 1) payments)
 
@@ -71,11 +71,11 @@ word_byte byte = if byte == 32 then codes "\\x20" else printed_byte byte
 abbrev pub word_of : List ℕ → List ℕ
 word_of bytes = flat_map word_byte bytes
 
--- bytes as a word behind a space
+-- bytes as a word after a space
 unfoldable pub text_behind : List ℕ → List ℕ
 text_behind bytes = 32 ∷ word_of bytes
 
--- a number behind a space
+-- a number after a space
 unfoldable pub number_behind : ℕ → List ℕ
 number_behind number = 32 ∷ decimal number
 
@@ -101,6 +101,6 @@ payment_line p =
 unfoldable pub payment_lines : List NodePayment → List ℕ
 payment_lines payments = flat_map payment_line payments
 
--- the payments of a node, so many at most from the one of a number on, and that these were all
+-- the payments of a node, this many at most from the one of a number on, and that these were all
 abbrev pub payments_text : Context → ℕ → ℕ → AnyNode → List ℕ
 payments_text ctx number count state = payment_lines (page number count (payments_of ctx state)) ++ end_line

@@ -42,18 +42,18 @@ pub(crate) enum Question {
     Answer(u64),
     /// How many entries, slots or rows the node has.
     Count,
-    /// The entries of a pharmacy without an answer, the oldest first: from this number on, so many at most.
+    /// The entries of a pharmacy without an answer, the oldest first: from this number on, this many at most.
     Open(u64, u64),
     /// The row of this number of a payer's book, from 1.
     Row(u64),
-    /// The payments of a pharmacy or a payer: from the one of this number on, so many at most.
+    /// The payments of a pharmacy or a payer: from the one of this number on, this many at most.
     Payments(u64, u64),
 }
 
 /// What a line asks; `None` where it spells nothing.
 ///
 /// The lines: `submit TEXT`, `submit-as REFERENCE TEXT`, `tick`, `take FROM TEXT`, `adjudicate FROM ADVICE TEXT`, `stop`, `start`,
-/// `plan PRODUCT PRICE`, each also behind `at TIME`, and those that change nothing, `answer NUMBER`, `open NUMBER COUNT`, `count`,
+/// `plan PRODUCT PRICE`, each also after `at TIME`, and those that change nothing, `answer NUMBER`, `open NUMBER COUNT`, `count`,
 /// `row NUMBER`, `payments NUMBER COUNT`. Texts, references and advices are printed bytes.
 ///
 /// # Errors
@@ -187,7 +187,7 @@ fn question_of(line: &[u8]) -> Option<Question>
     }
 }
 
-/// The question of a word and what stands behind it.
+/// The question of a word and what stands after it.
 fn question_with(word: &[u8], rest: &[u8]) -> Option<Question>
     ensures { result ≡ question_with word.now rest.now }
 {
@@ -244,7 +244,7 @@ fn call_of(alloc: Global, line: &[u8]) -> Result<Option<Call>, AllocError>
     }
 }
 
-/// The call of a word and what stands behind it.
+/// The call of a word and what stands after it.
 fn call_with(alloc: Global, word: &[u8], rest: &[u8]) -> Result<Option<Call>, AllocError>
     ensures { IfOk result (λ call. call ≡ call_with word.now rest.now) }
 {

@@ -18,7 +18,7 @@ pub enum ServiceFault {
     /// The settings have no such node.
     #[error("the settings have no such node")]
     NoSuchNode,
-    /// What the log begins with, behind closed ones, is no rest of this node under these settings, or is damaged.
+    /// What the log begins with, after closed ones, is no rest of this node under these settings, or is damaged.
     #[error("what the log begins with is no rest of this node")]
     Rest,
     /// The bytes are no log of these settings.

@@ -45,7 +45,7 @@ pub fn restarts_are_the_same()
         → (kept ≡ length (bytes ++ s.records)) × IsSame s t }
 {}
 
-/// A crash leaves of a log's file a beginning that has the text of its synced calls, whatever was noted of them; behind it a
+/// A crash leaves of a log's file a beginning that has the text of its synced calls, whatever was noted of them; after it a
 /// record may be cut off. Such a file is read as the log of the process after that crash, and opens as the process that is
 /// restarted: what the theorems on crashes say of processes is true of files.
 pub fn crashed_files_restart()

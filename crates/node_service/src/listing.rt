@@ -16,7 +16,7 @@ pub(crate) fn put_count(out: &mut Vec<u8>, count: u64) -> Result<(), AllocError>
     out.extend_from_slice(b"\n")
 }
 
-/// Appends a line for each entry without an answer, from the entry of a number on, so many at most, and that this was all.
+/// Appends a line for each entry without an answer, from the entry of a number on, this many at most, and that this was all.
 pub(crate) fn put_open(
     out: &mut Vec<u8>,
     journal: &JournalReading<'_>,
@@ -37,7 +37,7 @@ pub(crate) fn put_end(out: &mut Vec<u8>) -> Result<(), AllocError>
     out.extend_from_slice(b"end\n")
 }
 
-/// Appends a line for each entry without an answer, from the entry of a number on, so many at most.
+/// Appends a line for each entry without an answer, from the entry of a number on, this many at most.
 fn put_entries(
     out: &mut Vec<u8>,
     journal: &JournalReading<'_>,

@@ -30,8 +30,8 @@ use world_settings::{SettingsFault, read_living_settings};
 use world_setup::{CheckedSettings, Node, WorldSettings};
 
 impl Service {
-    /// The node of this name under the settings that a text spells, from the bytes of its log, and where this goes on behind
-    /// closed ones, from the rest that it begins with; and how many of the log's bytes stay. What stands behind them is a
+    /// The node of this name under the settings that a text spells, from the bytes of its log, and where this goes on after
+    /// closed ones, from the rest that it begins with; and how many of the log's bytes stay. What stands after them is a
     /// record that was cut off, or zeros, and goes. Where there is no log yet, or no whole head of one, the head is to be
     /// appended. The node has made each call of the log anew, and sent every byte that the log has as sent. The maps of a
     /// payer's book hash with these keys, on which no answer hangs.

@@ -33,7 +33,7 @@ fn put_payment(out: &mut Vec<u8>, payment: &NodePayment) -> Result<(), AllocErro
     out.extend_from_slice(b"\n")
 }
 
-/// Appends amounts in cents, each behind a space: cost, fee, the patient's part, total.
+/// Appends amounts in cents, each after a space: cost, fee, the patient's part, total.
 #[tactic(auto, unfolding(crate::specs::Payments::amounts_behind))]
 fn put_amounts(out: &mut Vec<u8>, amounts: Amounts) -> Result<(), AllocError>
     ensures { OnOk result (out.new.items ≡ out.old.items ++ amounts_behind amounts) }
@@ -44,7 +44,7 @@ fn put_amounts(out: &mut Vec<u8>, amounts: Amounts) -> Result<(), AllocError>
     put_number(out, u64::from(amounts.total()))
 }
 
-/// Appends what was paid for, each word behind a space.
+/// Appends what was paid for, each word after a space.
 #[tactic(auto, unfolding(crate::specs::Payments::fill_behind))]
 fn put_fill(out: &mut Vec<u8>, fill: &Fill) -> Result<(), AllocError>
     ensures { OnOk result (out.new.items ≡ out.old.items ++ fill_behind fill.now) }
@@ -71,7 +71,7 @@ fn put_reversed(out: &mut Vec<u8>, pharmacy: u16, number: u64) -> Result<(), All
     put_decimal(out, number)
 }
 
-/// Appends a number behind a space.
+/// Appends a number after a space.
 #[tactic(auto, unfolding(crate::specs::Payments::number_behind))]
 fn put_number(out: &mut Vec<u8>, number: u64) -> Result<(), AllocError>
     ensures { OnOk result (out.new.items ≡ out.old.items ++ number_behind number) }
@@ -80,7 +80,7 @@ fn put_number(out: &mut Vec<u8>, number: u64) -> Result<(), AllocError>
     put_decimal(out, number)
 }
 
-/// Appends bytes as a word behind a space.
+/// Appends bytes as a word after a space.
 #[tactic(auto, unfolding(crate::specs::Payments::text_behind))]
 fn put_text(out: &mut Vec<u8>, bytes: &[u8]) -> Result<(), AllocError>
     ensures { OnOk result (out.new.items ≡ out.old.items ++ text_behind bytes.now) }

@@ -44,7 +44,7 @@ pub fn payments_of(alloc: Global, state: &NodeState) -> Result<Vec<NodePayment>,
     }
 }
 
-/// So many of these payments at most, from the one of a number on; they are numbered from 1.
+/// This many of these payments at most, from the one of a number on; they are numbered from 1.
 #[tactic(auto, using(crate::proofs::Pages::none_behind))]
 pub(crate) fn page(list: &[NodePayment], number: u64, count: u64) -> &[NodePayment]
     ensures { result.now ≡ page number count list.now }
@@ -56,7 +56,7 @@ pub(crate) fn page(list: &[NodePayment], number: u64, count: u64) -> &[NodePayme
     front(&list[passed as usize..], count)
 }
 
-/// So many of these payments at most.
+/// This many of these payments at most.
 #[tactic(auto, using(crate::proofs::Pages::all_of))]
 fn front(list: &[NodePayment], count: u64) -> &[NodePayment]
     ensures { result.now ≡ take count list.now }

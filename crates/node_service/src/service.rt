@@ -28,7 +28,7 @@ use std::alloc::{AllocError, Global};
 use std::marker::Model;
 use world_setup::{Call, CheckedSettings, Fault, Node};
 
-/// A node that is served, with what is to be appended to its log and, behind that, to be written.
+/// A node that is served, with what is to be appended to its log and, after that, to be written.
 #[derive(Drop)]
 pub struct Service {
     pub(crate) shared: CheckedSettings,
@@ -187,6 +187,13 @@ impl Service {
         ensures { result.now ≡ self.now.state }
     {
         &self.state
+    }
+
+    /// The settings.
+    pub fn settings(&self) -> &CheckedSettings
+        ensures { result.now ≡ self.now.settings }
+    {
+        &self.shared
     }
 
     /// The node's name.

@@ -108,7 +108,7 @@ fn put_row_of(
     }
 }
 
-/// Appends the payments of a node, so many at most from the one of a number on.
+/// Appends the payments of a node, this many at most from the one of a number on.
 fn put_payments_of(
     alloc: Global,
     out: &mut Vec<u8>,

@@ -9,7 +9,7 @@ use Rattle.node_log.specs.There.{is_there}
 use Rattle.node_threads.specs.declared.hall.NodeKind.{NodeKind}
 use Rattle.node_threads.specs.declared.hall.NodeKind.TheVariants as kind
 
--- there are so many pharmacies, switches and payers in the settings
+-- there are this many pharmacies, switches and payers in the settings
 pub record AreStations (s : WorldSettings) (of_pharmacies of_switches of_payers : ℕ) : Type 0 where
   pub pharmacies : of_pharmacies ≡ vec_len s.pharmacies
   pub switches : of_switches ≡ vec_len s.switches

@@ -176,7 +176,7 @@ fn close_all<R: Wait>(rt: &R, stations: &[Station]) {
     }
 }
 
-/// Adds the nodes of stations behind those that are there.
+/// Adds the nodes of stations after those that are there.
 fn add_nodes(nodes: &mut Vec<Held>, stations: Vec<Station>) -> Result<(), AllocError> {
     for station in stations {
         nodes.push(station.into_held())?;

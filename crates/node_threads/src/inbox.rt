@@ -32,14 +32,14 @@ pub struct Inbox {
 }
 
 impl Inbox {
-    /// An empty inbox with so many places for packets.
+    /// An empty inbox with this many places for packets.
     ///
     /// # Errors
     /// Memory was refused.
     pub fn new(alloc: Global, cap: usize) -> Result<Inbox, AllocError>
         requires { (0 < cap) × (cap ≤ 65536) }
     {
-        // The queue has room for the mark of the end behind a packet in every place.
+        // The queue has room for the mark of the end after a packet in every place.
         let first = Pass::first(alloc, cap + 1)?;
         Ok(Inbox {
             passes: Mutex::new(first),
@@ -103,7 +103,7 @@ impl Inbox {
     }
 
     /// Closes the inbox: the first call puts the mark of the end, and no packet is put from then on. A packet that took
-    /// its place before may land behind the mark, and stays in the queue.
+    /// its place before may land after the mark, and stays in the queue.
     pub fn close<R: Wait>(&self, rt: &R, pass: &mut Pass)
         ensures { Added pass.old End pass.new ⊎ (pass.new ≡ pass.old) }
     {

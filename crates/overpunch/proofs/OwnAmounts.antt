@@ -76,7 +76,7 @@ last_digit_below byte sign digit e = by_test (is_ascii_digit byte) refl e
     by_test true t h = let same : byte - 48 ≡ digit = second_of (Positive, byte - 48) (sign, digit) h in omega (arith, plain_below byte t)
     by_test false t h = either_below (digit_among Positive byte) (digit_among Negative byte) sign digit (among_below Positive byte) (among_below Negative byte) h
 
--- the magnitude of a text of so many bytes
+-- the magnitude of a text of this many bytes
 pub magnitude_below : (text : List ℕ) (cents : ℤ) → IsSigned text cents → unsigned_abs cents < 10 ^ length text
 magnitude_below text cents r =
     let front : length (front_of text) ≡ length text - 1 = length-take-le (length text - 1) text (omega arith) in

@@ -39,7 +39,7 @@ number_is_read digits text number e =
     short_from : (m n : ℕ) → nat_lt m n ≡ false → n ≤ m
     short_from m n e = grind (arith, nat_tests)
 
--- so many digits spell a number below that power of ten
+-- this many digits spell a number below that power of ten
 pub read_below : (digits : ℕ) (text : List ℕ) (number : ℕ) → IsRead digits text number → number < 10 ^ length text
 read_below digits text number r = omega (arith, number_value-lt text (digits_from_none text r.alone), r.value)
 

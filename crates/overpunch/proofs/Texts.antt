@@ -25,7 +25,7 @@ digits_below (x ∷ xs) h =
     let here : IsAsciiDigit x = h 0 (omega arith) in
     (omega arith, digits_below xs (λ k q. h (suc k) (omega arith)))
 
--- so many digits spell less than ten to that power
+-- this many digits spell less than ten to that power
 pub number_value-lt : (text : List ℕ) → AreDigits text → number_value text < 10 ^ length text
 number_value-lt text h = rw (← length-map text (λ byte. byte - 48)) (places_value-lt (digits_in text) (digits_below text h))
 
@@ -50,7 +50,7 @@ digits_from_none text none = λ k h.
 abbrev pub AreDigitsUpTo : ℕ → List ℕ → Type 0
 AreDigitsUpTo place text = (k : ℕ) → k < place → IsAsciiDigit (get_or text k 0)
 
--- so many digits at the front spell less than ten to that power
+-- this many digits at the front spell less than ten to that power
 pub number_value_front-lt : (text : List ℕ) (i k : ℕ) → AreDigitsUpTo i text → i ≤ length text → i ≤ k → number_value (take i text) < 10 ^ k
 number_value_front-lt text i k h within below =
     let long : length (take i text) ≡ i = length-take-le i text within in

@@ -1,4 +1,4 @@
--- Texts written from the front: one or two more bytes behind what stands there.
+-- Texts written from the front: one or two more bytes after what stands there.
 use Rattle.std.proofs.Common.{◌≡◌, ℕ, ◌+◌, ◌/◌, ◌%◌, ◌<◌, ◌≤◌, List, [], ◌∷◌, ◌++◌, length, take, drop, set, refl, sym, ◌∙◌, ap, arith, add-one, drop-cons, append_assoc, length-append}
 use Rattle.std.proofs.lemmas.Grind.{common_steps}
 use Rattle.std.proofs.lemmas.List.{map-append, length-map}
@@ -13,13 +13,13 @@ put_at_end : (xs zs : List ℕ) (d : ℕ) → set (xs ++ zs) (length xs) d ≡ x
 put_at_end [] zs d = refl
 put_at_end (x ∷ xs) zs d = ap (λ t. x ∷ t) (put_at_end xs zs d)
 
--- a byte put behind xs
+-- a byte put after xs
 pub put_behind : (xs ys : List ℕ) (p d : ℕ) → p ≡ length xs → p < length ys → set (xs ++ drop p ys) p d ≡ (xs ++ d ∷ []) ++ drop (p + 1) ys
 put_behind xs ys p d e h =
     ap (λ i. set (xs ++ drop p ys) i d) e ∙ put_at_end xs (drop p ys) d
     ∙ ap (λ t. xs ++ t) (put_first ys p d h) ∙ sym (append_assoc xs (d ∷ []) (drop (p + 1) ys))
 
--- what then stands in front, and what behind
+-- what then stands in front, and what after
 pub put_behind_front : (xs ys : List ℕ) (p d : ℕ) → p ≡ length xs → p < length ys → take (p + 1) (set (xs ++ drop p ys) p d) ≡ xs ++ d ∷ []
 put_behind_front xs ys p d e h = rw (put_behind xs ys p d e h) (grind (arith, common_steps))
 
@@ -29,7 +29,7 @@ leading_digits_step n h = rw (digits_of_step 10 n (omega arith) h) (map-append (
 pub length-leading_digits : (n : ℕ) → length (leading_digits n) ≡ length (digits_of 10 n)
 length-leading_digits n = length-map (digits_of 10 n) (λ digit. 48 + digit)
 
--- two bytes put behind xs
+-- two bytes put after xs
 pub put_pair_behind : (xs ys : List ℕ) (p d e : ℕ) → p ≡ length xs → p + 1 < length ys → set (set (xs ++ drop p ys) p d) (p + 1) e ≡ (xs ++ d ∷ e ∷ []) ++ drop (p + 2) ys
 put_pair_behind xs ys p d e same h =
     let long : p + 1 ≡ length (xs ++ d ∷ []) = rw (length-append xs (d ∷ []), same) refl in

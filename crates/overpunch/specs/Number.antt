@@ -35,7 +35,7 @@ abbrev pub or_bad_digit : Result ℕ ℕ → Result ℕ NumberFault
 or_bad_digit (Ok number) = Ok number
 or_bad_digit (Err place) = Err (BadDigit place)
 
--- what a text is as a number of at most so many digits, or its fault
+-- what a text is as a number of at most this many digits, or its fault
 unfoldable pub number_of : ℕ → List ℕ → Result ℕ NumberFault
 number_of digits text =
     if length text == 0 then Err Empty

@@ -63,7 +63,7 @@ const NEGATIVE: [u8; 10] = *b"}JKLMNOPQR";
 const LARGEST: u64 = 99_999_999;
 
 impl Amount {
-    /// The amount of so many cents; none outside -99,999,999 to 99,999,999.
+    /// The amount of this many cents; none outside -99,999,999 to 99,999,999.
     pub fn new(cents: i64) -> Option<Amount>
         ensures { SomeIff result (IsAmount cents) cents }
     {
@@ -110,7 +110,7 @@ impl Amount {
     }
 
     /// Writes the shortest text of the amount at the front of `text`, and says how many bytes
-    /// it has. The bytes behind it stay.
+    /// it has. The bytes after it stay.
     #[tactic(auto, unfolding(crate::specs::Amount::amount_text))]
     pub fn write(self, text: &mut [u8; 8]) -> usize
         ensures length { result ≡ length (amount_text self) }

@@ -45,7 +45,7 @@ pub fn read_number(text: &[u8], digits: usize) -> Result<u64, NumberFault>
 }
 
 /// Writes the shortest text of a number at the front of `text`, and says how many bytes it has.
-/// The bytes behind it stay.
+/// The bytes after it stay.
 #[tactic(auto, unfolding(crate::specs::Number::number_text))]
 pub fn write_number(number: u64, text: &mut [u8; 20]) -> usize
     ensures length { result ≡ length (number_text number) }

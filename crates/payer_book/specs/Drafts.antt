@@ -136,7 +136,7 @@ next_ruling d l prices order = ruling_on l (pricing prices) d.changes.items (ord
 abbrev pub next_advised : Draft → Ledger → Prices → Result Order OrderFault → Bool
 next_advised d l prices order = advised_on l (pricing prices) d.changes.items (order_in order)
 
--- it stands behind the rulings of the places before, and what it changes behind what they change
+-- it stands after the rulings of the places before, and what it changes after what they change
 abbrev pub AddsRuling : Draft → Ledger → Prices → Result Order OrderFault → Draft → Type 0
 AddsRuling old l prices order new = new.rulings.items ≡ old.rulings.items ++ next_ruling old l prices order ∷ []
 

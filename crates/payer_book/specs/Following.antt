@@ -51,7 +51,7 @@ pub record IsKeptBook (b : Book) : Type 0 where
   pub some_serial : 1 ≤ b.settings.serial
   pub made : added_all (Some (record { payer = b.payer; settings = b.settings; plan = b.plan; rows = [] })) (map kept_row b.rows) ≡ Some b
 
--- the book after some kept rows is the one before them with these rows behind its own
+-- the book after some kept rows is the one before them with these rows after its own
 pub record KeepsRows (b : Book) (more : List KeptRow) (after : Book) : Type 0 where
   pub payer : after.payer ≡ b.payer
   pub settings : after.settings ≡ b.settings

@@ -20,7 +20,7 @@ pub fn kept_rows_follow_rules()
     bytes_keep_laws();
 }
 
-/// What was added to a book stands behind its rows as it was kept, and nothing else is changed.
+/// What was added to a book stands after its rows as it was kept, and nothing else is changed.
 pub fn added_rows_are_kept()
     ensures one { (b : Book) (id : TxnId) (request answer : List ℕ) (after : Book)
         → added b id request answer ≡ Some after

@@ -11,7 +11,7 @@ abbrev pub settings_of : List ℕ → List ℕ → List ℕ → ℕ → ℕ → 
 settings_of qualifier provider nodes again tries cap =
     record { qualifier = qualifier; provider = provider; nodes = nodes; again = again; tries = tries; cap = cap }
 
--- waits of 1 to 1,000 ticks, 1 to 1,000 tries, at most so many entries and one at least, and an identity without separators
+-- waits of 1 to 1,000 ticks, 1 to 1,000 tries, at most this many entries and one at least, and an identity without separators
 pub record AreWithin (most : ℕ) (s : PharmacySettings) : Type 0 where
   pub some_ticks : 0 < s.again
   pub ticks_in_limit : s.again ≤ 1000

@@ -26,7 +26,7 @@ NamesAll told all = told.named.items ≡ filter_map named_in all
 abbrev pub ReversesAll : Told → List Outcome → Type 0
 ReversesAll told all = (a : Auth) → has_auth told.reversed.keys a ≡ list_any (outcome_reverses a) all
 
--- the payments that these outcomes name come behind those that were named before
+-- the payments that these outcomes name come after those that were named before
 abbrev pub NamesMore : Told → Told → List Outcome → Type 0
 NamesMore old new more = new.named.items ≡ old.named.items ++ filter_map named_in more
 

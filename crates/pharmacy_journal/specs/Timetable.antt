@@ -55,11 +55,11 @@ bucket_at buckets b = slice_index_or buckets b []
 abbrev pub open_at : List (Option ℕ) → List (List ℕ) → ℕ → List ℕ
 open_at leads buckets b = filter (is_open leads) (bucket_at buckets b)
 
--- the buckets, with a place behind those of one bucket
+-- the buckets, with a place after those of one bucket
 abbrev pub with_place : List (List ℕ) → ℕ → ℕ → List (List ℕ)
 with_place buckets b place = slice_set buckets b (bucket_at buckets b ++ place ∷ [])
 
--- each of the places is below so many
+-- each of the places is below this many
 abbrev pub AreBelow : ℕ → List ℕ → Type 0
 AreBelow n places = AllByRecursion (λ k. k < n) places
 

@@ -1,4 +1,4 @@
-//! Where the entries stand that one tick in so many sends.
+//! Where the entries stand that one tick in this many sends.
 
 ghost use Rattle.std.specs.Prelude.{◌≡◌, ◌<◌, ◌++◌, ◌∷◌, [], ℕ, OnOk, OnErr};
 ghost use Rattle.std.specs.List.{AllByRecursion, filter};
@@ -7,8 +7,8 @@ ghost use Rattle.pharmacy_journal.specs.Timetable.{is_open, has_open};
 use std::alloc::{AllocError, Global};
 use std::marker::Model;
 
-/// Places of entries, in increasing order: a new entry's place is put behind the others. A settled entry leaves its place
-/// behind as a hole. Where more than half of the places would be holes, all holes are closed in one walk.
+/// Places of entries, in increasing order: a new entry's place is put after the others. A settled entry leaves its place
+/// after as a hole. Where more than half of the places would be holes, all holes are closed in one walk.
 ///
 /// So a walk over the places meets at most two for each open entry, and none where no entry is open. Closing holes passes
 /// fewer than two places for each entry that was settled since it was last done.
@@ -38,7 +38,7 @@ impl Bucket {
         }
     }
 
-    /// Adds the place of a new entry, behind all others.
+    /// Adds the place of a new entry, after all others.
     pub(crate) fn push(&mut self, place: usize) -> Result<(), AllocError>
         ensures ok { OnOk result (self.new ≡ self.old ++ place ∷ []) }
         ensures err { OnErr result (self.new ≡ self.old) }

@@ -279,7 +279,7 @@ fn first_of_each(
     Ok(payments)
 }
 
-/// Counts a payment, where its authorization was not seen: it comes behind the first payments of the list, which are counted, so
+/// Counts a payment, where its authorization was not seen: it comes after the first payments of the list, which are counted, so
 /// many. Gives how many are counted then.
 fn count(
     payments: &mut Vec<CountedPayment>,

@@ -87,7 +87,7 @@ fn held_at(slots: &[Slot], number: u64) -> Option<&[u8]>
     }
 }
 
-/// The place of a number among so many entries.
+/// The place of a number among this many entries.
 pub(crate) fn place_of(number: u64, count: usize) -> Option<usize>
     ensures { SomeIff result ((0 < number) × (number ≤ count)) (number - 1) }
 {

@@ -143,7 +143,7 @@ fn empty_buckets(alloc: Global, count: u32) -> Result<Vec<Bucket>, AllocError>
     Ok(buckets)
 }
 
-/// Puts a place into a bucket, behind the places that are there.
+/// Puts a place into a bucket, after the places that are there.
 fn put(buckets: &mut Vec<Bucket>, bucket: usize, place: usize) -> Result<(), AllocError>
     requires { bucket < length buckets.old.items }
     ensures ok { OnOk result (buckets.new.items ≡ with_place buckets.old.items bucket place) }

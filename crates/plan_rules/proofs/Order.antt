@@ -69,7 +69,7 @@ module _ {K X : Type 0} (R : K → K → Ordering) where
       elim (R p e.0) as (λ o. T (is_lt o && below_all R p es) → o ≡ Less) [ Less ↦ λ h. refl | Equal ↦ λ h. absurd h | Greater ↦ λ h. absurd h ] h
   below_at p (e ∷ es) h (suc i) d lt = below_at p es (both_parts (is_lt (R p e.0)) (below_all R p es) h).1 i d (omega arith)
 
-  -- each key is below those behind it
+  -- each key is below those after it
   pub sorted_at : (es : List (K × X)) → T (is_sorted R es) → (i j : ℕ) (d : K × X) → i < j → j < length es → R (get_or es i d).0 (get_or es j d).0 ≡ Less
   sorted_at [] h i j d lt in_range = absurd (omega arith)
   sorted_at (e ∷ es) h i zero d lt in_range = absurd (omega arith)

@@ -61,7 +61,7 @@ RefusedFor BadProduct changed = changed ≡ Err BadProduct
 RefusedFor PlanFull changed = changed ≡ Err PlanFull
 RefusedFor NegativeAmount changed = changed ≡ Err NegativeAmount
 
--- one more product beside so many is refused for this cause
+-- one more product beside this many is refused for this cause
 abbrev pub IsNoRoom : PlanFault → ℕ → Type 0
 IsNoRoom OutOfMemory count = Unit {0}
 IsNoRoom PriceTooLarge count = ⊥

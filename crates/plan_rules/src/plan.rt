@@ -110,7 +110,7 @@ impl Plan {
         self.prices.len()
     }
 
-    /// The product at a place in byte order, from 0, and its price; None where there are not so many.
+    /// The product at a place in byte order, from 0, and its price; None where there are not this many.
     pub fn product(&self, place: usize) -> Option<(&[u8], u32)>
         ensures { option_map (λ p. (p.0.now, p.1)) result ≡ slice_get self.now.prices place }
     {

@@ -45,7 +45,7 @@ fn amounts(cost: u32, fee: u32, copay: u32) -> Amounts
     .unwrap()
 }
 
-/// The amount of so many cents.
+/// The amount of this many cents.
 fn amount(cents: u32) -> Amount
     requires { cents ≤ largest }
     ensures { result ≡ pos cents }

@@ -15,7 +15,7 @@ Appends-keeps (Some a) None new xs p q = absurd p
 Appends-keeps (Some a) (Some b) None xs p q = absurd q
 Appends-keeps (Some a) (Some b) (Some c) xs p q = q ∙ p
 
--- the next bytes of a list, behind those that were taken
+-- the next bytes of a list, after those that were taken
 pub take-next : (done count : ℕ) (xs : List ℕ) → count ≤ length xs - done → take done xs ++ take count (take (length xs - done) (drop done xs)) ≡ take (done + count) xs
 take-next done count xs within =
     let e1 = take-take done (done + count) xs (omega arith) in

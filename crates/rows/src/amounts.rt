@@ -43,7 +43,7 @@ fn write(told: &mut Told, argument: &[u8]) {
     }
 }
 
-/// The same for so many cents, where they are an amount.
+/// The same for this many cents, where they are an amount.
 fn write_cents(told: &mut Told, cents: i64) {
     match Amount::new(cents) {
         Some(amount) => {

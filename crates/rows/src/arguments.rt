@@ -6,7 +6,7 @@ use input_text::{read_decimal, split_word};
 use overpunch::Amount;
 use payer_book::BookSettings;
 
-/// The first word of a text, and what stands behind its space. A text without a space is one word.
+/// The first word of a text, and what stands after its space. A text without a space is one word.
 pub(crate) fn first_word(text: &[u8]) -> (&[u8], &[u8]) {
     match split_word(text) {
         Some(parts) => parts,
@@ -14,7 +14,7 @@ pub(crate) fn first_word(text: &[u8]) -> (&[u8], &[u8]) {
     }
 }
 
-/// The number of at most eighteen digits that stands first, and what stands behind its space, where it has one.
+/// The number of at most eighteen digits that stands first, and what stands after its space, where it has one.
 pub(crate) fn number_first(argument: &[u8]) -> Option<(u64, &[u8])> {
     let (word, rest) = first_word(argument);
     match read_decimal(word, 18) {
@@ -23,7 +23,7 @@ pub(crate) fn number_first(argument: &[u8]) -> Option<(u64, &[u8])> {
     }
 }
 
-/// Two numbers, and what stands behind them.
+/// Two numbers, and what stands after them.
 pub(crate) fn two_first(argument: &[u8]) -> Option<(u64, u64, &[u8])> {
     match number_first(argument) {
         Some((first, rest)) => match number_first(rest) {
@@ -71,7 +71,7 @@ pub(crate) fn unsigned(text: &[u8]) -> Option<u64> {
     }
 }
 
-/// The amount of so many cents.
+/// The amount of this many cents.
 pub(crate) fn amount_of(cents: u64) -> Option<Amount> {
     match cents {
         0..=99_999_999 => Amount::new(cents as i64),
@@ -87,7 +87,7 @@ pub(crate) fn id_of(pharmacy: u64, number: u64) -> Option<TxnId> {
     }
 }
 
-/// A transaction, and the text behind it: `PHARMACY NUMBER TEXT`.
+/// A transaction, and the text after it: `PHARMACY NUMBER TEXT`.
 pub(crate) fn id_first(argument: &[u8]) -> Option<(TxnId, &[u8])> {
     match two_first(argument) {
         Some((pharmacy, number, text)) => match id_of(pharmacy, number) {
@@ -98,7 +98,7 @@ pub(crate) fn id_first(argument: &[u8]) -> Option<(TxnId, &[u8])> {
     }
 }
 
-/// The id of a request of pharmacy 1, and what stands behind its number.
+/// The id of a request of pharmacy 1, and what stands after its number.
 pub(crate) fn numbered(text: &[u8]) -> Option<(TxnId, &[u8])> {
     match number_first(text) {
         Some((number, rest)) => match TxnId::new(1, number) {
@@ -109,7 +109,7 @@ pub(crate) fn numbered(text: &[u8]) -> Option<(TxnId, &[u8])> {
     }
 }
 
-/// The number of a first word `NAMENUMBER`, and what stands behind it.
+/// The number of a first word `NAMENUMBER`, and what stands after it.
 pub(crate) fn named_number<'a>(name: &[u8], text: &'a [u8]) -> Option<(u64, &'a [u8])> {
     let (word, rest) = first_word(text);
     match number_in(name, word) {
@@ -126,7 +126,7 @@ fn number_in(name: &[u8], word: &[u8]) -> Option<u64> {
     }
 }
 
-/// The first serial number and the most rows of a book, and what stands behind them.
+/// The first serial number and the most rows of a book, and what stands after them.
 pub(crate) fn book_settings(text: &[u8]) -> Option<(BookSettings, &[u8])> {
     match named_number(b"serial=", text) {
         Some((serial, rest)) => settings_from(serial, rest),
@@ -134,7 +134,7 @@ pub(crate) fn book_settings(text: &[u8]) -> Option<(BookSettings, &[u8])> {
     }
 }
 
-/// The same behind the first serial number.
+/// The same after the first serial number.
 fn settings_from(serial: u64, text: &[u8]) -> Option<(BookSettings, &[u8])> {
     match capped(text) {
         Some((cap, rest)) => match BookSettings::new(serial, cap) {
@@ -145,7 +145,7 @@ fn settings_from(serial: u64, text: &[u8]) -> Option<(BookSettings, &[u8])> {
     }
 }
 
-/// The most rows or entries, and what stands behind them.
+/// The most rows or entries, and what stands after them.
 pub(crate) fn capped(text: &[u8]) -> Option<(u32, &[u8])> {
     match named_number(b"cap=", text) {
         Some((cap @ 0..=65_536, rest)) => Some((cap as u32, rest)),
@@ -153,7 +153,7 @@ pub(crate) fn capped(text: &[u8]) -> Option<(u32, &[u8])> {
     }
 }
 
-/// What stands before and behind the arrow `=>`; nothing where it ends the text.
+/// What stands before and after the arrow `=>`; nothing where it ends the text.
 pub(crate) fn in_two(argument: &[u8]) -> Option<(&[u8], &[u8])> {
     match argument.strip_suffix(b" =>") {
         Some(front) => Some((front, b"")),

@@ -22,7 +22,7 @@ impl Subject for Building {
     }
 }
 
-/// A header, and what stands behind it and a space.
+/// A header, and what stands after it and a space.
 fn header_first(argument: &[u8]) -> Option<(RequestHeader, &[u8])> {
     match argument.split_at_checked(57) {
         Some((front, rest)) => match RequestHeader::read(front) {
@@ -67,7 +67,7 @@ fn billing_of(header: RequestHeader, argument: &[u8]) -> Option<BillingParts<'_>
     }
 }
 
-/// A prescription, a fill and a quantity, and what stands behind them.
+/// A prescription, a fill and a quantity, and what stands after them.
 fn dispensed(argument: &[u8]) -> Option<(u64, u8, u64, &[u8])> {
     match two_first(argument) {
         Some((prescription, fill @ 0..=255, rest)) => match number_first(rest) {
@@ -78,7 +78,7 @@ fn dispensed(argument: &[u8]) -> Option<(u64, u8, u64, &[u8])> {
     }
 }
 
-/// A cost and a fee, and what stands behind them.
+/// A cost and a fee, and what stands after them.
 fn asked(argument: &[u8]) -> Option<(Amount, Amount, &[u8])> {
     match two_first(argument) {
         Some((cost, fee, rest)) => match (amount_of(cost), amount_of(fee)) {

@@ -137,7 +137,7 @@ fn field(told: &mut Told, argument: &[u8]) {
     }
 }
 
-/// Tells the request of a header and one group, whose one segment 99 has one field. The field stands behind the header.
+/// Tells the request of a header and one group, whose one segment 99 has one field. The field stands after the header.
 fn one_field(told: &mut Told, alloc: Global, argument: &[u8]) {
     match argument.get(56..) {
         Some([first, second, value @ ..]) => match Field::new([*first, *second], value) {
@@ -148,7 +148,7 @@ fn one_field(told: &mut Told, alloc: Global, argument: &[u8]) {
     }
 }
 
-/// The same behind a header that announces one group.
+/// The same after a header that announces one group.
 fn behind_header(told: &mut Told, alloc: Global, argument: &[u8], field: Field<'_>) {
     match RequestHeader::read(argument) {
         Ok(header) if header.count() == 1 => tell_text(told, by_hand(alloc, header, field)),

@@ -21,7 +21,7 @@ impl Subject for Numbers {
     }
 }
 
-/// Tells the number of a field of so many digits.
+/// Tells the number of a field of this many digits.
 fn read(told: &mut Told, argument: &[u8]) {
     match number_first(argument) {
         Some((digits @ 1..=18, text)) => read_field(told, text, digits as usize),

@@ -13,7 +13,7 @@ name_cases a b = elim (told_apart a b) [ inl s ↦ inl (s.1, s.0) | inr d ↦ in
 pub apart : (a b : Node) → same_node a b ≡ false → b ≡ a → ⊥
 apart a b d e = both_ways (same_node a b) d (ap (same_node a) e ∙ same_self a)
 
--- elements of two lists, one behind the other, by their number
+-- elements of two lists, one after the other, by their number
 
 get_behind : {A : Type 0} (xs ys : List A) (k : ℕ) (a : A) → slice_get ys k ≡ Some a → (m : ℕ) × (slice_get (xs ++ ys) m ≡ Some a)
 get_behind [] ys k a h = (k, h)

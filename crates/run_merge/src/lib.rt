@@ -12,3 +12,4 @@ mod woken;
 
 pub use history::{MergeFault, merge};
 pub use known::{MergedRun, merge_fitting};
+pub use posted::Posted;

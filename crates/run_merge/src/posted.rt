@@ -13,9 +13,9 @@ use std::collections::HashMap;
 use std::marker::Model;
 use world_setup::{Node, Packet, Sent};
 
-/// The packets that were sent, numbered from 1, with a number of each.
+/// The packets that were sent, numbered from 1, with a number of each: who sent one to whom, and its bytes (own).
 #[derive(Drop)]
-pub(crate) struct Posted<'a> {
+pub struct Posted<'a> {
     packets: Vec<Slip<'a>>,
     numbers: HashMap<Slip<'a>, u64>,
 }
@@ -36,7 +36,7 @@ impl<'a> Model for Posted<'a> {
 
 impl<'a> Posted<'a> {
     /// No packets.
-    pub(crate) fn new(alloc: Global) -> Posted<'a>
+    pub fn new(alloc: Global) -> Posted<'a>
         ensures { result ≡ [] }
     {
         Posted {
@@ -46,7 +46,7 @@ impl<'a> Posted<'a> {
     }
 
     /// Adds what a node sent.
-    pub(crate) fn post(&mut self, from: Node, sent: &'a [Sent]) -> Result<(), AllocError>
+    pub fn post(&mut self, from: Node, sent: &'a [Sent]) -> Result<(), AllocError>
         ensures { OnOk result (self.new ≡ posted self.old (node_seen from) (map sent_seen sent.now)) }
     {
         for one in sent {
@@ -78,7 +78,7 @@ impl<'a> Posted<'a> {
     }
 
     /// The number of a packet with this sender, this addressee and these bytes.
-    pub(crate) fn find(&self, from: Node, to: Node, bytes: &'a Octets) -> Option<u64>
+    pub fn find(&self, from: Node, to: Node, bytes: &'a Octets) -> Option<u64>
         ensures { NumberOf self.now (record { from = node_seen from; to = node_seen to; bytes = bytes.now }) result }
     {
         match self.numbers.get(&Slip::new(from, to, bytes)) {

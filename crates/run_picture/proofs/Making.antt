@@ -37,7 +37,7 @@ pub sent_is_done : (a whole : List Mark) (number i : ℕ) (packets : List Packet
 sent_is_done a whole number i packets le so_far =
     sym (append-nil a) ∙ (sym (ap (λ (left : List Packet). a ++ sent_marks number (i + 1) (map packet_seen left)) (drop_all i packets le)) ∙ so_far)
 
--- the packets behind those that were sent before, by their views
+-- the packets after those that were sent before, by their views
 pub sent_by_views : (a : List Mark) (number posted : ℕ) (packets : List Packet)
     → a ++ sent_marks number (posted + 1) (map packet_seen (drop posted packets)) ≡ a ++ sent_marks number (posted + 1) (drop posted (map packet_seen packets))
 sent_by_views a number posted packets = ap (λ (ps : List model.Packet). a ++ sent_marks number (posted + 1) ps) (sym (drop-map packet_seen posted packets))

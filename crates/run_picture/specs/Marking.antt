@@ -9,7 +9,7 @@ use Rattle.run_picture.specs.declared.mark.Mark as code
 use Rattle.run_picture.specs.Marks.{Mark, event_marks}
 use Rattle.run_picture.specs.Seen.{mark_seen}
 
--- these marks come behind those that were there
+-- these marks come after those that were there
 abbrev pub AddsMarks : Vec code.Mark → Vec code.Mark → List Mark → Type 0
 AddsMarks old new more = map mark_seen new.items ≡ map mark_seen old.items ++ more
 

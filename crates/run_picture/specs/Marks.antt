@@ -31,11 +31,11 @@ abbrev pub sent_marks : ℕ → ℕ → List Packet → List Mark
 sent_marks event number [] = []
 sent_marks event number (p ∷ more) = Sent event number p.from p.to ∷ sent_marks event (number + 1) more
 
--- the marks of those behind so many that were sent before
+-- the marks of those after this many that were sent before
 abbrev pub marks_behind : ℕ → ℕ → List Packet → List Mark
 marks_behind event posted packets = sent_marks event (posted + 1) (drop posted packets)
 
--- the marks of an event before which so many packets were sent: the event and what it sent, or its refusal
+-- the marks of an event before which this many packets were sent: the event and what it sent, or its refusal
 abbrev pub event_marks : ℕ → ℕ → Event → Outcome World → List Mark
 event_marks number posted event (Refused why) = Turned number (refusal_name why) ∷ []
 event_marks number posted event (Done next sent) = made_mark number event ∷ marks_behind number posted next.packets

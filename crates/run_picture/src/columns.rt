@@ -18,7 +18,7 @@ pub(crate) struct Columns {
     width: u64,
 }
 
-/// The widths that words need: before the first lifeline, between two of them, and behind the last.
+/// The widths that words need: before the first lifeline, between two of them, and after the last.
 #[derive(Drop)]
 struct Gaps {
     lanes: Lanes,
@@ -109,7 +109,7 @@ impl Gaps {
         Ok(())
     }
 
-    /// Makes room for so many characters beside the lifeline of a node.
+    /// Makes room for this many characters beside the lifeline of a node.
     fn want(&mut self, node: Node, side: Side, characters: usize) {
         let column = self.lanes.of(node);
         let gap = match side {

@@ -34,7 +34,7 @@ pub(crate) struct Hidden {
 const NONE: Gap = Gap { first: 1, last: 0 };
 
 impl Extent {
-    /// Which of so many events are not drawn.
+    /// Which of this many events are not drawn.
     pub(crate) fn hidden(self, events: u64) -> Hidden {
         match self {
             Extent::Ends if events > MOST_EVENTS => Hidden {

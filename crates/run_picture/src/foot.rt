@@ -141,7 +141,7 @@ impl Foot {
         Ok(())
     }
 
-    /// Adds the line of a node with so many payments.
+    /// Adds the line of a node with this many payments.
     fn add_head(&mut self, node: Node, verb: &[u8], count: usize) -> Result<(), AllocError> {
         let mut words = Vec::new(self.alloc);
         put_node(&mut words, node)?;

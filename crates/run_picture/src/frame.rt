@@ -66,7 +66,7 @@ fn put_count(out: &mut Vec<u8>, count: u64, noun: &[u8]) -> Result<(), AllocErro
     Ok(())
 }
 
-/// What a screen reader is told behind the title.
+/// What a screen reader is told after the title.
 pub(crate) fn description_of(plan: &Plan<'_>) -> Result<Vec<u8>, AllocError> {
     let mut description = Vec::new(plan.alloc);
     description.extend_from_slice(

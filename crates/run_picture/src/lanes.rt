@@ -69,7 +69,7 @@ impl Lanes {
     }
 }
 
-/// The column of the node of a number, of so many whose columns begin here.
+/// The column of the node of a number, of this many whose columns begin here.
 fn within(before: usize, number: u16, count: usize) -> usize {
     let number = usize::from(number);
     if number == 0 || number > count {

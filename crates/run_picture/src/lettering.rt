@@ -31,7 +31,7 @@ pub(crate) fn put_dollars(out: &mut Vec<u8>, cents: u32) -> Result<(), AllocErro
     out.extend_from_slice(&[b'.', b'0' + rest / 10, b'0' + rest % 10])
 }
 
-/// Appends a price of so many ten-thousandths of a dollar a unit.
+/// Appends a price of this many ten-thousandths of a dollar a unit.
 pub(crate) fn put_price(out: &mut Vec<u8>, price: u32) -> Result<(), AllocError> {
     out.extend_from_slice(b"$")?;
     put_decimal(out, u64::from(price / 10_000))?;

@@ -51,7 +51,7 @@ fn mark_event(
     }
 }
 
-/// Adds the marks of an event that was made, before which so many packets were sent.
+/// Adds the marks of an event that was made, before which this many packets were sent.
 fn mark_made(
     marks: &mut Vec<Mark>,
     packets: &[Packet],
@@ -102,7 +102,7 @@ fn made_mark(number: u64, event: &Event) -> Mark
     }
 }
 
-/// Adds the marks of the packets behind those that were sent before.
+/// Adds the marks of the packets after those that were sent before.
 fn mark_sent(
     marks: &mut Vec<Mark>,
     packets: &[Packet],

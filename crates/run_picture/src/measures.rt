@@ -29,7 +29,7 @@ pub(crate) const LEAST_GAP: u64 = 104;
 /// The height of the band that stands for events that are not drawn.
 pub(crate) const BAND: u64 = 48;
 
-/// The width of so many characters of the one font: 8.5 pixels each, a little more than they take.
+/// The width of this many characters of the one font: 8.5 pixels each, a little more than they take.
 pub(crate) fn width_of(characters: usize) -> u64 {
     (characters as u64).saturating_mul(17) / 2 + 1
 }

@@ -52,7 +52,7 @@ pub(crate) fn write_beside(
     }
 }
 
-/// Draws a blank box behind words of this width whose left end is here.
+/// Draws a blank box after words of this width whose left end is here.
 fn draw_blank(drawing: &mut Drawing, left: u64, y: u64, width: u64) -> Result<(), AllocError> {
     let corner = Point {
         x: left,

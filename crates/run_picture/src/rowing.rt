@@ -182,7 +182,7 @@ fn write_at(
     write_beside(drawing, Side::Right, plan.x(node), y, words)
 }
 
-/// Writes why an event was refused, at its node, or behind the event where there is none.
+/// Writes why an event was refused, at its node, or after the event where there is none.
 fn write_refusal(
     drawing: &mut Drawing,
     plan: &Plan<'_>,

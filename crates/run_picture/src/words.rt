@@ -23,7 +23,7 @@ pub enum Wish {
 /// What the command line asks for; its first word is the program's own name.
 ///
 /// # Errors
-/// `Usage` where more stands behind the name than `all`, a part such as `100-180`, or a wish for help or the version;
+/// `Usage` where more stands after the name than `all`, a part such as `100-180`, or a wish for help or the version;
 /// `Fault(OutOfMemory)` where memory was refused.
 pub fn wish_of(alloc: Global, words: &[String]) -> Result<Wish, PictureStop> {
     let command = command_of(alloc)?;

@@ -11,6 +11,6 @@ pub texts-numbered : (n : ℕ) (all : List (List ℕ)) → texts (enumerate_from
 texts-numbered n [] = refl
 texts-numbered n (line ∷ rest) = ap (λ more. line ∷ more) (texts-numbered (n + 1) rest)
 
--- behind the line that divides stands the schedule
+-- after the line that divides stands the schedule
 pub behind : (all : List (ℕ × List ℕ)) (line : ℕ × List ℕ) (more : List (ℕ × List ℕ)) → all ≡ line ∷ more → is_divider line.1 ≡ true → texts more ≡ schedule_lines (texts all)
 behind all line more steps is = rw steps (rw is refl)

@@ -13,7 +13,7 @@ use Rattle.schedule.specs.Events.{event_with, event_of, adjudication, living_eve
 use Rattle.schedule.specs.Reading.{NumberedLine, told_lines, spelled_in}
 use Rattle.schedule.proofs.EventLists.{joined, first_taken, first_bad, no_lines}
 
--- what stands behind `adjudicate` is no other event
+-- what stands after `adjudicate` is no other event
 advised_by : (packet : ℕ) (text : Option (List ℕ)) (e : Event) → (text >>= (λ advice. Some (Adjudicate packet advice))) ≡ Some e → has_no_advice e ≡ true → ⊥
 advised_by packet None e is plain = absurd cc
 advised_by packet (Some advice) e is plain =

@@ -29,7 +29,7 @@ awaited rest = do
   number ← decimal_number 18 words.1
   Some (Await pharmacy number)
 
--- the command of a word and what stands behind it
+-- the command of a word and what stands after it
 abbrev pub command_with : List ℕ → List ℕ → Option Command
 command_with word rest =
     if bytes_eq word (codes "restart") then option_map Restart (node_in rest) else

@@ -12,20 +12,20 @@ abbrev pub settings_lines : List (List ℕ) → List (List ℕ)
 settings_lines [] = []
 settings_lines (line ∷ rest) = if is_divider line then [] else line ∷ settings_lines rest
 
--- the lines behind it; none where no line is `---`
+-- the lines after it; none where no line is `---`
 abbrev pub schedule_lines : List (List ℕ) → List (List ℕ)
 schedule_lines [] = []
 schedule_lines (line ∷ rest) = if is_divider line then rest else schedule_lines rest
 
--- a line with a newline behind it
+-- a line with a newline after it
 abbrev pub ended : List ℕ → List ℕ
 ended line = line ++ 10 ∷ []
 
--- lines, each with a newline behind it
+-- lines, each with a newline after it
 abbrev pub ended_lines : List (List ℕ) → List ℕ
 ended_lines all = flat_map ended all
 
--- the lines of the settings of an input, each with a newline behind it
+-- the lines of the settings of an input, each with a newline after it
 abbrev pub ended_settings : List ℕ → List ℕ
 ended_settings input = ended_lines (settings_lines (lines input))
 

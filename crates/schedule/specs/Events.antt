@@ -11,7 +11,7 @@ use Rattle.world_setup.specs.declared.event.Event.{Event}
 use Rattle.world_setup.specs.declared.event.Event.TheVariants.{Submit, Tick, Deliver, Stop, Start, Plan, Adjudicate}
 use Rattle.schedule.specs.Nodes.{pharmacy_in, payer_in, node_in}
 
--- a pharmacy and, behind one space, the rest of the line: a request in printed bytes, which may be empty
+-- a pharmacy and, after one space, the rest of the line: a request in printed bytes, which may be empty
 unfoldable pub submission : List ℕ → Option Event
 submission rest = do
   parts ← split_word rest
@@ -41,7 +41,7 @@ plan_change rest = do
   price ← price_in words.1
   Some (Plan payer product price)
 
--- the events that have no text: behind their word stands one word
+-- the events that have no text: after their word stands one word
 unfoldable pub plain_event : List ℕ → List ℕ → Option Event
 plain_event word rest =
     if bytes_eq word (codes "tick") then option_map Tick (pharmacy_in rest) else
@@ -49,7 +49,7 @@ plain_event word rest =
     if bytes_eq word (codes "stop") then option_map Stop (node_in rest) else
     if bytes_eq word (codes "start") then option_map Start (node_in rest) else None
 
--- the event of a word and what stands behind it
+-- the event of a word and what stands after it
 abbrev pub event_with : List ℕ → List ℕ → Option Event
 event_with word rest =
     if bytes_eq word (codes "submit") then submission rest else
@@ -61,7 +61,7 @@ event_of line = split_word line >>= (λ parts. event_with parts.0 parts.1)
 
 -- ---- of nodes that live: a payer may ask
 
--- a packet and, behind one space, the rest of the line: an advice in printed bytes, which may be empty
+-- a packet and, after one space, the rest of the line: an advice in printed bytes, which may be empty
 unfoldable pub adjudication : List ℕ → Option Event
 adjudication rest = do
   parts ← split_word rest
@@ -69,7 +69,7 @@ adjudication rest = do
   advice ← result_ok (unprinted parts.1)
   Some (Adjudicate packet advice)
 
--- the event of a word and what stands behind it
+-- the event of a word and what stands after it
 abbrev pub living_event_with : List ℕ → List ℕ → Option Event
 living_event_with word rest = if bytes_eq word (codes "adjudicate") then adjudication rest else event_with word rest
 

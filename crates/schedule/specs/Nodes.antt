@@ -7,7 +7,7 @@ use Rattle.claim_model.specs.Node as model
 use Rattle.world_setup.specs.declared.node.Node.{Node}
 use Rattle.world_setup.specs.declared.node.Node.TheVariants.{Pharmacy, Switch, Payer}
 
--- what stands behind these letters, where a word begins with them
+-- what stands after these letters, where a word begins with them
 abbrev pub behind : List ℕ → List ℕ → Option (List ℕ)
 behind letters word = if bytes_eq (take (length letters) word) letters then Some (drop (length letters) word) else None
 
@@ -19,7 +19,7 @@ known_number number = if nat_le number 65535 then number else 0
 abbrev pub node_number : List ℕ → Option ℕ
 node_number digits = option_map known_number (decimal_number 5 digits)
 
--- the number behind these letters
+-- the number after these letters
 abbrev pub numbered : List ℕ → List ℕ → Option ℕ
 numbered letters word = behind letters word >>= node_number
 

@@ -10,7 +10,7 @@ use Rattle.schedule.specs.Commands.{command_of}
 use Rattle.schedule.specs.Faults.{fault_of}
 use Rattle.schedule.specs.Reading.{NumberedLine, told_lines, spelled_in}
 
--- faults, and the commands behind them
+-- faults, and the commands after them
 pub record RunParts : Type 0 where
   pub faults : List LinkFault
   pub commands : List Command
@@ -39,7 +39,7 @@ abbrev pub run_in : List NumberedLine → Result RunParts ℕ
 run_in [] = Ok (record { faults = []; commands = [] })
 run_in (l ∷ rest) = begun_by (fault_of l.1) (run_in rest) (spelled_in command_of (l ∷ rest))
 
--- the fault that a line spells where it may still spell one: behind no command
+-- the fault that a line spells where it may still spell one: after no command
 abbrev pub front_fault : List Command → List ℕ → Option LinkFault
 front_fault [] line = fault_of line
 front_fault (c ∷ cs) line = None

@@ -62,7 +62,7 @@ pub(crate) fn command_of(alloc: Global, line: &[u8]) -> Result<Option<Command>, 
     }
 }
 
-/// The command of a word and what stands behind it.
+/// The command of a word and what stands after it.
 fn command_with(alloc: Global, word: &[u8], rest: &[u8]) -> Result<Option<Command>, AllocError>
     ensures { IfOk result (λ command. command ≡ command_with word.now rest.now) }
 {

@@ -16,7 +16,7 @@ const DIVIDER: &[u8] = b"---";
 pub struct Division<'a> {
     /// The text of the settings: their lines without the carriage returns that belong to line ends.
     pub settings: Vec<u8>,
-    /// The bytes behind the line that divides; none where no line does.
+    /// The bytes after the line that divides; none where no line does.
     pub schedule: &'a [u8],
 }
 
@@ -41,7 +41,7 @@ pub fn divide(alloc: Global, input: &[u8]) -> Result<Division<'_>, AllocError>
     Ok(Division { settings, schedule })
 }
 
-/// Appends the lines before the first that divides, each with a newline, and gives what stands behind that line.
+/// Appends the lines before the first that divides, each with a newline, and gives what stands after that line.
 fn front<'a>(settings: &mut Vec<u8>, input: &'a [u8]) -> Result<Option<&'a [u8]>, AllocError>
     ensures settings { OnOk result (settings.new.items ≡ settings.old.items ++ ended_settings input.now) }
     ensures schedule { IfOk result (λ schedule. IfSome schedule (λ rest. lines rest.now ≡ scheduled_lines input.now)) }

@@ -49,7 +49,7 @@ pub(crate) fn line_event(
     event_of(alloc, line)
 }
 
-/// The event of a word and what stands behind it, where payers may ask.
+/// The event of a word and what stands after it, where payers may ask.
 fn living_event_with(alloc: Global, word: &[u8], rest: &[u8]) -> Result<Option<Event>, AllocError>
     ensures { IfOk result (λ event. event ≡ living_event_with word.now rest.now) }
 {
@@ -80,7 +80,7 @@ fn adjudication(alloc: Global, rest: &[u8]) -> Result<Option<Event>, AllocError>
     }
 }
 
-/// The event of a word and what stands behind it.
+/// The event of a word and what stands after it.
 pub(crate) fn event_with(
     alloc: Global,
     word: &[u8],

@@ -69,7 +69,7 @@ pub(crate) fn payer_in(word: &[u8]) -> Option<u16>
     numbered(b"pr", word)
 }
 
-/// The number behind these letters.
+/// The number after these letters.
 fn numbered(letters: &[u8], word: &[u8]) -> Option<u16>
     ensures { result ≡ numbered letters.now word.now }
 {
@@ -79,7 +79,7 @@ fn numbered(letters: &[u8], word: &[u8]) -> Option<u16>
     }
 }
 
-/// What stands behind these letters, where a word begins with them.
+/// What stands after these letters, where a word begins with them.
 fn behind<'a>(letters: &[u8], word: &'a [u8]) -> Option<&'a [u8]>
     ensures { option_map (λ rest. rest.now) result ≡ behind letters.now word.now }
 {

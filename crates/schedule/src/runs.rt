@@ -16,7 +16,7 @@ use world_setup::LinkFault;
 pub struct Run {
     /// The faults of links, in the order of their lines.
     pub faults: Vec<LinkFault>,
-    /// The commands behind them, in order.
+    /// The commands after them, in order.
     pub commands: Vec<Command>,
 }
 
@@ -49,7 +49,7 @@ pub fn read_run(alloc: Global, text: &[u8]) -> Result<Run, ScheduleFault>
     Ok(Run { faults, commands })
 }
 
-/// The fault that a line spells where it may still spell one: behind no command.
+/// The fault that a line spells where it may still spell one: after no command.
 fn front_fault(
     alloc: Global,
     commands: &[Command],

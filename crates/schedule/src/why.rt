@@ -62,7 +62,7 @@ pub enum LineFault {
     /// There are no actions.
     #[error("actions are wanted: deliver, lose, twice and hold, joined by commas")]
     Actions,
-    /// A fault of a link stands behind a command.
+    /// A fault of a link stands after a command.
     #[error("faults of links stand before all commands")]
     Order,
 }
@@ -126,7 +126,7 @@ fn living_cause(alloc: Global, line: &[u8]) -> Result<LineFault, AllocError> {
     }
 }
 
-/// What is wrong behind `adjudicate`.
+/// What is wrong after `adjudicate`.
 fn advice_cause(alloc: Global, rest: &[u8]) -> Result<LineFault, AllocError> {
     let Some((number, text)) = split_word(rest) else {
         return Ok(match read_decimal(rest, MOST_DIGITS) {
@@ -163,7 +163,7 @@ fn command_cause(alloc: Global, line: &[u8]) -> Result<LineFault, AllocError> {
     }
 }
 
-/// What is wrong behind `submit`.
+/// What is wrong after `submit`.
 fn request_cause(alloc: Global, rest: &[u8]) -> Result<LineFault, AllocError> {
     let Some((node, text)) = split_word(rest) else {
         return Ok(match pharmacy_in(rest) {
@@ -181,7 +181,7 @@ fn request_cause(alloc: Global, rest: &[u8]) -> Result<LineFault, AllocError> {
     }
 }
 
-/// What is wrong behind `plan`.
+/// What is wrong after `plan`.
 fn plan_cause(alloc: Global, rest: &[u8]) -> Result<LineFault, AllocError> {
     let Some((node, rest)) = split_word(rest) else {
         return Ok(match payer_in(rest) {
@@ -201,7 +201,7 @@ fn plan_cause(alloc: Global, rest: &[u8]) -> Result<LineFault, AllocError> {
     }
 }
 
-/// What is wrong behind `await`.
+/// What is wrong after `await`.
 fn await_cause(rest: &[u8]) -> LineFault {
     let node = match split_word(rest) {
         Some((node, _)) => node,
@@ -213,7 +213,7 @@ fn await_cause(rest: &[u8]) -> LineFault {
     }
 }
 
-/// What is wrong behind `fault`.
+/// What is wrong after `fault`.
 fn link_cause(rest: &[u8]) -> LineFault {
     let Some((from, rest)) = split_word(rest) else {
         return LineFault::Node;

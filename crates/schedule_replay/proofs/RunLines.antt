@@ -25,7 +25,7 @@ use Rattle.schedule_replay.proofs.Begun.{scheduled_is}
 use Rattle.schedule_replay.specs.Events.{event_lines, run_lines}
 use Rattle.schedule_replay.specs.Replays.{report_of, replay_of, IsRun, IsRunOf}
 
--- what a text and a world come to with the events of some lines, the first of this number: the events' lines behind the text, and the world after them
+-- what a text and a world come to with the events of some lines, the first of this number: the events' lines after the text, and the world after them
 abbrev pub run_on : Context → List ℕ → World → ℕ → Result (List Event) ℕ → Result (List ℕ × World) ℕ
 run_on ctx out w number (Ok events) = Ok (out ++ lines_text (event_lines ctx w number (map event_seen events)), run ctx w (map event_seen events))
 run_on ctx out w number (Err line) = Err line
@@ -94,7 +94,7 @@ report_joins : (ctx : Context) (w : World) (events : List SeenEvent) (b c : List
 unfolding run_lines
 report_joins ctx w events b c one two = blocks_join [] b c (event_lines ctx w 1 events) (world_lines ctx (run ctx w events)) one two
 
--- the lines of the nodes behind those of the events
+-- the lines of the nodes after those of the events
 pub run_is_told : (input told report : List ℕ) (after : WorldParts) → IsRunOf input told after → report ≡ told ++ lines_text (world_lines (context_of after) after.world) → replay_of input ≡ Ok report
 unfolding replay_of
 run_is_told input told report after r is = by_lines (events_of (schedule_lines (lines input))) refl r.run

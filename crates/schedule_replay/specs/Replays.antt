@@ -25,7 +25,7 @@ report_of (Err why) = Err why
 unfoldable pub replay_of : List ℕ → Result (List ℕ) InputFault
 replay_of input = report_of (scheduled_of input)
 
--- behind what was written stand the lines of these events from the world as it was, and the world is as it is after all of them
+-- after what was written stand the lines of these events from the world as it was, and the world is as it is after all of them
 pub record IsAfter (events : List Event) (written : List ℕ) (before : WorldParts) (now : List ℕ) (after : WorldParts) : Type 0 where
   pub lines : now ≡ written ++ lines_text (event_lines (context_of before) before.world 1 (map event_seen events))
   pub world : after.world ≡ run (context_of before) before.world (map event_seen events)

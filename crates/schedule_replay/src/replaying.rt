@@ -100,7 +100,7 @@ fn report_on(
     }
 }
 
-/// The lines of the events, and those of the nodes behind them. The world that was run is left in `left`.
+/// The lines of the events, and those of the nodes after them. The world that was run is left in `left`.
 fn with_nodes(alloc: Global, run: Replayed, left: &mut Option<World>) -> Result<Vec<u8>, AllocError>
     ensures { IfOk result (λ report. report.items
         ≡ run.report.items ++ lines_text (world_lines (context_of run.world) run.world.world)) }

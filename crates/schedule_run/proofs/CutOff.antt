@@ -50,14 +50,14 @@ none_written (Some bytes) = sym (append-nil bytes)
 whole_front : (text : List ℕ) → text ≡ take (length text) text
 whole_front text = sym (take_all (length text) text (omega arith))
 
--- a text, and a beginning of what stands behind it
+-- a text, and a beginning of what stands after it
 front_behind : (a b : List ℕ) (count : ℕ) → a ++ take count b ≡ take (length a + count) (a ++ b)
 front_behind [] b count = let none : count ≡ 0 + count = omega arith in ap (λ (n : ℕ). take n b) none
 front_behind (x ∷ a) b count =
     let next : suc (length a + count) ≡ suc (length a) + count = omega arith in
     ap (λ t. x ∷ t) (front_behind a b count) ∙ ap (λ (n : ℕ). take n (x ∷ (a ++ b))) next
 
--- lines, and a beginning of those behind them
+-- lines, and a beginning of those after them
 lines_behind : (lines more : List Line) (count : ℕ) → lines_text lines ++ take count (lines_text more) ≡ take (length (lines_text lines) + count) (lines_text (lines ++ more))
 lines_behind lines more count =
     front_behind (lines_text lines) (lines_text more) count ∙ ap (take (length (lines_text lines) + count)) (sym (lines_text-append lines more))

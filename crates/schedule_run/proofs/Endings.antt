@@ -59,7 +59,7 @@ written_back items new len whole same =
     let rest : drop (length new) items ≡ [] = ap (λ (n : ℕ). drop n items) same ∙ drop_all (length items) items (omega arith) in
     ap (λ r. take len (new ++ r)) rest ∙ (ap (take len) (append-nil new) ∙ (ap (λ (n : ℕ). take n new) (whole ∙ sym same) ∙ take_all (length new) new (omega arith)))
 
--- the lines of faults, and behind them those of commands
+-- the lines of faults, and after them those of commands
 pub run_told : (before mid after : Option (List ℕ)) (run : RunParts) (items new : List Till) (len : ℕ) (text : List ℕ) → AllByRecursion IsEmpty (tills_seen items) → len ≡ length items
     → text ≡ lines_text (replicate (length run.faults) done_line) → Appends before mid text
     → (lines : List Line) × Appends mid after (lines_text lines) × AreTold run.commands (tills_seen items) lines (tills_seen new)

@@ -17,7 +17,7 @@ pub call_told : {U : Type 0} (a b : List ℕ) (ts : List Till) (outcome : Result
 call_told a b ts (Ok done) told = (told.0 ∷ [], told.1 ∙ ap (λ (t : List ℕ). a ++ t) (sym (lines_text-one told.0)), ((told.0, refl, inl told.2), refl))
 call_told a b ts (Err fault) told = (told.0 ∷ [], told.1 ∙ ap (λ (t : List ℕ). a ++ t) (sym (lines_text-one told.0)), ((told.0, refl, inr told.2), refl))
 
--- one fault more, of so many
+-- one fault more, of this many
 pub faults_go_on : (a b whole : List ℕ) (count i : ℕ) → i < count → b ≡ a ++ line_text done_line → a ++ lines_text (replicate (count - i) done_line) ≡ whole
     → b ++ lines_text (replicate (count - (i + 1)) done_line) ≡ whole
 faults_go_on a b whole count i lt one so_far =
@@ -62,7 +62,7 @@ turn_told commands i command before mid after lines first lt is so_far told =
     subst (λ (cs : List Command). AreTold cs before (lines ++ first) after) (sym (take_more commands i command lt ∙ ap (λ (c : Command). take i commands ++ c ∷ []) (sym is)))
     (told_more (take i commands) command before mid after lines first so_far told)
 
--- lines that were written, and what is written behind them
+-- lines that were written, and what is written after them
 pub written_more : (before mid after : Option (List ℕ)) (lines more : List Line) → Appends before mid (lines_text lines) → Appends mid after (lines_text more)
     → Appends before after (lines_text (lines ++ more))
 written_more before mid after lines more one two =

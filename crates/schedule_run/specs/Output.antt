@@ -43,7 +43,7 @@ pub record EndsAs (s : WorldSettings) (run : RunParts) (told : List Line) (world
   pub judged : IsRun s tills end end.logs.items
   pub world_is : world ≡ end.world
 
--- an output of nodes of these settings: what the commands were told, and behind that the lines of the nodes of the world that they ended in
+-- an output of nodes of these settings: what the commands were told, and after that the lines of the nodes of the world that they ended in
 pub record IsReported (s : WorldSettings) (run : RunParts) (output : List ℕ) : Type 0 where
   pub told : List Line
   pub world : WorldParts
@@ -155,7 +155,7 @@ StopsRun NoThread input asked = IsTaken input asked
 
 -- what a run does from its input to its output, where its reader and its writer tell their bytes
 pub record Runs {W : Type 0} (result : Result (Unit {0}) RunFault) (input : Option (List ℕ)) (contents : W → Option (List ℕ)) (old new : W) : Type 0 where
-  -- what the commands were told was written, and behind it the lines of the nodes, which bear out the numbers and answers that were told
+  -- what the commands were told was written, and after it the lines of the nodes, which bear out the numbers and answers that were told
   pub output : OnOk result (IfSome input (λ bytes. (output : List ℕ) × IsOutput bytes output × Appends (contents old) (contents new) output))
   -- an input is refused only for what is bad in it, and nodes start only where nothing is
   pub stops : IfErr result (λ fault. IfSome input (λ bytes. StopsRun fault bytes (asked_in bytes)))

@@ -48,7 +48,7 @@ abbrev pub settled_lines : ℕ → ℕ → List Ruling → List Line
 settled_lines pharmacy number rulings =
     map (λ line. pharmacy_word pharmacy ∷ line) (place_lines (decimal number) (length rulings) (codes "settled") 1 (map ruling_words rulings))
 
--- a line for each of so many places without a ruling
+-- a line for each of this many places without a ruling
 abbrev pub open_lines : ℕ → ℕ → ℕ → List Line
 open_lines pharmacy number places =
     map (λ line. pharmacy_word pharmacy ∷ line) (place_lines (decimal number) places (codes "open") 1 (replicate places []))
@@ -65,7 +65,7 @@ IsOutcome line = (line ≡ done_line) ⊎ IsRefusal line
 abbrev pub IsLineOf : {A : Type 0} → (A → Line) → Result A Fault → Line → Type 0
 IsLineOf told outcome line = MatchResult outcome (λ made. line ≡ told made) (λ _. IsRefusal line)
 
--- lines come behind a text, of which this holds
+-- lines come after a text, of which this holds
 abbrev pub AddsTold : Vec ℕ → Vec ℕ → (List Line → Type 0) → Type 0
 AddsTold old new P = (lines : List Line) × AddsLines old new lines × P lines
 
@@ -160,7 +160,7 @@ pub record IsCutOff (commands : List Command) (before : List Till) (written : Li
   pub count : ℕ
   pub is : written ≡ take count (lines_text lines)
 
--- what was written of a run when the telling stopped: a beginning of the lines of its links' faults and, behind them, of its first commands
+-- what was written of a run when the telling stopped: a beginning of the lines of its links' faults and, after them, of its first commands
 pub record RunCutOff (run : RunParts) (written : List ℕ) : Type 0 where
   pub made : ℕ
   pub lines : List Line

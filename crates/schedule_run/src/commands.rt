@@ -20,7 +20,7 @@ use world_setup::{Fault, Refusal};
 /// Makes the commands in order, each line written before the next command is made.
 ///
 /// # Errors
-/// `Write`, where the commands behind that line are not made; `OutOfMemory`. What was written is a beginning of the lines of
+/// `Write`, where the commands after that line are not made; `OutOfMemory`. What was written is a beginning of the lines of
 /// the first commands.
 pub(crate) fn make_commands<T: Wait + Clock, K: Sink>(
     rt: &T,

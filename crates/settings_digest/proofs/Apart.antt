@@ -8,7 +8,7 @@ use Rattle.kept_logs.proofs.FieldsBack.{text_at-put}
 use Rattle.settings_digest.specs.Said.{number_text, list_text}
 use Rattle.settings_digest.specs.Fits.{FitsNumber, FitsText, FitsList}
 
--- two texts that are the same with what is behind them are texts of the same, and the same is behind them
+-- two texts that are the same with what is after them are texts of the same, and the same is after them
 pub record Apart {A : Type 0} (Fits : A → Type 0) (text : A → List ℕ) : Type 0 where
   pub tells : (x y : A) (r s : List ℕ) → Fits x → Fits y → text x ++ r ≡ text y ++ s → (x ≡ y) × (r ≡ s)
 
@@ -29,7 +29,7 @@ text_apart = read_back FitsText text_of text_at (λ t rest f. text_at-put t rest
 same_pair : {A B : Type 0} (x y : A × B) → x.0 ≡ y.0 → x.1 ≡ y.1 → x ≡ y
 same_pair {A} {B} x y e f = let a : ◌≡◌ {A = A × B} (x.0, x.1) (y.0, x.1) = ap (λ (z : A). (z, x.1)) e in let b : ◌≡◌ {A = A × B} (y.0, x.1) (y.0, y.1) = ap (λ (z : B). (y.0, z)) f in a ∙ b
 
--- one behind the other
+-- one after the other
 pub both : {A B : Type 0} {P : A → Type 0} {Q : B → Type 0} {f : A → List ℕ} {g : B → List ℕ} → Apart P f → Apart Q g → Apart {A = A × B} (λ p. P p.0 × Q p.1) (λ p. f p.0 ++ g p.1)
 both {A} {B} {P} {Q} {f} {g} a b = record {
   tells = λ x y r s u v h.
@@ -55,7 +55,7 @@ items_apart {A} P f a (x ∷ xs) (y ∷ ys) r s n u v h =
     let more = items_apart P f a xs ys r s (omega (arith, n)) u.1 v.1 first.1 in
     (ap (λ (z : A). z ∷ xs) first.0 ∙ ap (λ (zs : List A). y ∷ zs) more.0, more.1)
 
--- a list behind its length
+-- a list after its length
 pub listed : {A : Type 0} {P : A → Type 0} {f : A → List ℕ} → Apart P f → Apart (FitsList P) (list_text f)
 unfolding list_text
 listed {A} {P} {f} a = record {

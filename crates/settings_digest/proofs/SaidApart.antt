@@ -69,7 +69,7 @@ providers_apart = by_parts (λ (p : Providers). (p.qualifier, (p.first, p.last))
 abbrev Key : Type 0
 Key = Option (List ℕ) × Option Providers
 
--- which of the four kinds a key is, and what stands behind the number that says it
+-- which of the four kinds a key is, and what stands after the number that says it
 abbrev kind : Key → ℕ
 kind (None, None) = 0
 kind (Some pcn, None) = 1

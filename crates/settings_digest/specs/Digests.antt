@@ -19,7 +19,7 @@ digest_in file = of_said (said_by (living_in file))
 unfoldable pub digest_under : List ℕ → List ℕ → List ℕ
 digest_under file bytes = cond (is_first bytes) (of_file file) (digest_in file)
 
--- the digest of a log that begins: as the settings open its node, or with a rest, behind closed ones
+-- the digest of a log that begins: as the settings open its node, or with a rest, after closed ones
 abbrev pub turned_in : List ℕ → Option (List ℕ) → List ℕ
 turned_in file None = digest_in file
 turned_in file (Some rest) = behind (digest_in file) rest

@@ -35,7 +35,7 @@ impl Digests {
         })
     }
 
-    /// The one under which bytes are read as a log that begins with this rest, where it goes on behind closed ones.
+    /// The one under which bytes are read as a log that begins with this rest, where it goes on after closed ones.
     pub fn turned(&self, rest: Option<&[u8]>, bytes: &[u8]) -> SettingsDigest
         ensures { result ≡ turned self.now (option_copied rest.entry) bytes.now }
     {

@@ -1,4 +1,4 @@
-//! Numbers, texts and lists, put behind what is written already; numbers have their high byte first (own).
+//! Numbers, texts and lists, put after what is written already; numbers have their high byte first (own).
 
 ghost use Rattle.std.specs.Prelude.{◌≡◌, ◌++◌, OnOk};
 ghost use Rattle.std.specs.List.{AllByRecursion, flat_map};
@@ -44,7 +44,7 @@ pub(crate) fn put_number(out: &mut Vec<u8>, number: u64) -> Result<(), AllocErro
     put_u64(out, number)
 }
 
-/// Puts a text behind its length.
+/// Puts a text after its length.
 #[tactic(auto, unfolding(kept_logs::specs::Fields::text_of))]
 pub(crate) fn put_text(out: &mut Vec<u8>, text: &[u8]) -> Result<(), AllocError>
     ensures text { OnOk result (out.new.items ≡ out.old.items ++ text_of text.now) }
@@ -54,7 +54,7 @@ pub(crate) fn put_text(out: &mut Vec<u8>, text: &[u8]) -> Result<(), AllocError>
     out.extend_from_slice(text)
 }
 
-/// Puts a list behind its length.
+/// Puts a list after its length.
 #[tactic(auto, unfolding(crate::specs::Said::list_text))]
 pub(crate) fn put_list<T: Say>(out: &mut Vec<u8>, items: &[T]) -> Result<(), AllocError>
     ensures text { OnOk result (out.new.items ≡ out.old.items ++ list_text T.text items.now) }
@@ -64,7 +64,7 @@ pub(crate) fn put_list<T: Say>(out: &mut Vec<u8>, items: &[T]) -> Result<(), All
     put_items(out, items)
 }
 
-/// Puts the items of a list, one behind the other.
+/// Puts the items of a list, one after the other.
 fn put_items<T: Say>(out: &mut Vec<u8>, items: &[T]) -> Result<(), AllocError>
     ensures text { OnOk result (out.new.items ≡ out.old.items ++ flat_map T.text items.now) }
     ensures fits { OnOk result (AllByRecursion T.Fits items.now) }

@@ -116,7 +116,7 @@ fn put_prices(out: &mut Vec<u8>, plan: &Plan) -> Result<(), AllocError>
     put_each_price(out, plan)
 }
 
-/// Puts each price of a plan, one behind the other.
+/// Puts each price of a plan, one after the other.
 fn put_each_price(out: &mut Vec<u8>, plan: &Plan) -> Result<(), AllocError>
     ensures text { OnOk result (out.new.items ≡ out.old.items ++ flat_map price_text plan.now.prices) }
     ensures fits { OnOk result (AllByRecursion FitsPrice plan.now.prices) }

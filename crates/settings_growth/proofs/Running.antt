@@ -102,7 +102,7 @@ empty_made ctx t log (Some before) is there none = record { before = before; ope
 more_log : (logs more : List NodeLog) (node : Node) → HasLog logs node → HasLog (logs ++ more) node
 more_log logs more node h = record { number = h.number; log = h.log; at = numbered_append logs more h.number h.log h.at; names = h.names }
 
--- a log behind these has a number beyond theirs
+-- a log after these has a number beyond theirs
 record Beyond {A : Type 0} (xs ys : List A) (a : A) : Type 0 where
   number : ℕ
   far : length xs < number
@@ -116,7 +116,7 @@ beyond (x ∷ xs) ys n a e = next (beyond xs ys n a e).number (beyond xs ys n a 
     next zero far is = absurd cc
     next (suc k) far is = record { number = suc (suc k); far = omega (arith, far); is = is }
 
--- a node with a log among the first has none behind them
+-- a node with a log among the first has none after them
 apart : (t : WorldSettings) (logs more : List NodeLog) (n : ℕ) (log : NodeLog) → OnePerNode t (logs ++ more) → numbered more n ≡ Some log → HasLog logs log.node → ⊥
 apart t logs more n log one at h =
     let b = beyond logs more n log at in

@@ -16,7 +16,7 @@ abbrev pub MakesAt : Context → Option AnyNode → List Logged → Type 0
 MakesAt ctx None log = log ≡ []
 MakesAt ctx (Some node) log = Makes ctx node log
 
--- the calls of a node behind a turn
+-- the calls of a node after a turn
 
 own_turn : (t : Turn) (turns : List Turn) (node : Node) → same_node t.asked.node node ≡ true → turns_of (t ∷ turns) node ≡ record { call = t.asked.call; sent = t.sent } ∷ turns_of turns node
 own_turn t turns node e = ap (λ b. cond b (record { call = t.asked.call; sent = t.sent } ∷ []) [] ++ turns_of turns node) e
@@ -29,7 +29,7 @@ pub record IsRun (ctx : Context) (w : World) (turns : List Turn) : Type 0 where
   pub accepted : AllAccepted ctx w (events_of turns)
   pub each : (node : Node) → log_in ctx w (events_of turns) node ≡ turns_of turns node
 
--- a turn that is accepted, and the run behind it
+-- a turn that is accepted, and the run after it
 one_more : (ctx : Context) (w v : World) (t : Turn) (turns : List Turn) → asked w.packets t.event ≡ Some t.asked → step ctx w t.event ≡ Done v t.sent → IsRun ctx v turns → IsRun ctx w (t ∷ turns)
 one_more ctx w v t turns asks is r =
     record {

@@ -44,7 +44,7 @@ vain ctx (OfPharmacy (AtRest j)) idle = absurd idle
 vain ctx (OfSwitch node) idle = absurd idle
 vain ctx (OfPayer node) idle = absurd idle
 
--- it is the same node behind such a tick, which has sent nothing
+-- it is the same node after such a tick, which has sent nothing
 
 same_after : (ctx : Context) (node : AnyNode) → HasNothingToSend node → node_after node (node_step ctx node Tick) ≡ node
 same_after ctx node idle = ap (node_after node) (vain ctx node idle)

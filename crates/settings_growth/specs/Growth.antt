@@ -27,13 +27,13 @@ pub record PayerGrows (old new : PayerSettings) : Type 0 where
   pub same : new ≡ record old { book = record old.book { cap = new.book.cap } }
   pub cap : old.book.cap ≤ new.book.cap
 
--- each of these has its number in the other list too, as it was or grown; behind them there may be more
+-- each of these has its number in the other list too, as it was or grown; after them there may be more
 abbrev pub Extends : {A : Type 0} → (A → A → Type 0) → List A → List A → Type 0
 Extends Grows [] new = ⊤
 Extends Grows (a ∷ old) [] = ⊥
 Extends Grows (a ∷ old) (b ∷ new) = Grows a b × Extends Grows old new
 
--- settings grow: each node is there under its number, as it was or with a larger cap, a switch's cap excepted; behind them there may be more nodes;
+-- settings grow: each node is there under its number, as it was or with a larger cap, a switch's cap excepted; after them there may be more nodes;
 -- and what had a route has it still
 pub record Grows (ctx wider : Context) (s t : WorldSettings) : Type 0 where
   pub widens : Widens ctx wider
@@ -57,7 +57,7 @@ pub record WidensFor (s : WorldSettings) (ctx wider : Context) : Type 0 where
   pub reading : wider ≡ record ctx { route = wider.route }
   pub routes : (key : RouteKey) (payer : ℕ) → IsOfPharmacy s key.qualifier key.provider → ctx.route key ≡ Some payer → wider.route key ≡ Some payer
 
--- nodes grow: each is there under its number, as it was or with a larger cap, a switch's cap excepted; behind them there may be more
+-- nodes grow: each is there under its number, as it was or with a larger cap, a switch's cap excepted; after them there may be more
 pub record NodesGrow (s t : WorldSettings) : Type 0 where
   pub pharmacies : Extends PharmacyGrows s.pharmacies t.pharmacies
   pub switches : Extends (λ (old new : ℕ). new ≡ old) s.switches t.switches

@@ -59,7 +59,7 @@ pub fn runs_of_pharmacies_go_over()
         → IsInterleaving ctx s logs events → IsInterleaving wider t (logs ++ more) events }
 {}
 
-/// Rows for providers that are no pharmacy yet may be added behind the others: the old pharmacies keep their payers.
+/// Rows for providers that are no pharmacy yet may be added after the others: the old pharmacies keep their payers.
 pub fn rows_for_newcomers_may_be_added()
     ensures { (s : WorldSettings) (rows more : List Row) → AreForNewcomers s more
         → WidensFor s (bytes_with (routes_of rows)) (bytes_with (routes_of (rows ++ more))) }

@@ -6,7 +6,7 @@ use Rattle.input_text.proofs.Joining.{lists_join}
 use Rattle.svg_text.specs.Pieces.{Piece, piece_text, pieces_text}
 use Rattle.svg_text.specs.Picture.{Framed, head_text, picture_text, IsPieces, IsPicture}
 
--- several texts, each behind the one before
+-- several texts, each after the one before
 pub three_join : (a b c d x y z : List ℕ) → b ≡ a ++ x → c ≡ b ++ y → d ≡ c ++ z → d ≡ a ++ (x ++ (y ++ z))
 three_join a b c d x y z one two three = lists_join a b d x (y ++ z) one (lists_join b c d y z two three)
 

@@ -16,7 +16,7 @@ pub enum Stroke {
     Arrow,
     /// A broad line.
     Broad,
-    /// A pale line behind all others.
+    /// A pale line after all others.
     Pale,
 }
 
@@ -40,7 +40,7 @@ pub enum Face {
     Bold,
     /// As they are.
     Plain,
-    /// As they are, with a white edge that keeps them apart from lines behind them.
+    /// As they are, with a white edge that keeps them apart from lines after them.
     Edged,
 }
 

@@ -28,6 +28,6 @@ pub length-rejection : (h : Request) (n : ℕ) → length (response_text (answer
 unfolding answer_text
 length-rejection h n head few = omega (arith, length-append (response_text (answer_to h 82)) (groups_text (ruling_groups (replicate n rejected))), length-groups n)
 
--- so many of four equal rulings
+-- this many of four equal rulings
 pub four-rejected : (rejects : List Code) (n m : ℕ) → rejects ≡ Bin ∷ [] → n ≡ m → m ≤ 4 → take n (Rejected rejects ∷ Rejected rejects ∷ Rejected rejects ∷ Rejected rejects ∷ []) ≡ replicate m rejected
 four-rejected rejects n m one same few = (λ j. take (same j) (replicate 4 (Rejected (one j)))) ∙ take-replicate m 4 rejected few

@@ -48,7 +48,7 @@ after_swap rest last head gone within =
     ∙ take_at (slice_set rest head last) (last ∷ []) (length rest) long
 
 module _ {X : Type 0} (xs : List X) (x : X) (head cap : ℕ) (full : length xs ≡ cap) (within : head < cap) where
-  -- the ring from the place behind the head
+  -- the ring from the place after the head
   behind : turned (head + 1) (slice_set xs head x) ≡ drop 1 (turned head xs) ++ x ∷ []
   unfolding turned
   behind =

@@ -26,6 +26,6 @@ in_flight e = record { id = e.0; answered = is_some e.1.answer }
 abbrev pub answered_at : TxnId → List ℕ → TxnId × Slot → TxnId × Slot
 answered_at id answer e = cond (same_id id e.0) (e.0, record { request = e.1.request; answer = Some answer }) e
 
--- the place after this one, round a ring of so many places
+-- the place after this one, round a ring of this many places
 abbrev pub next : ℕ → ℕ → ℕ
 next place cap = if place + 1 == cap then 0 else place + 1

@@ -1,4 +1,4 @@
-//! A switch: the requests that it forwarded and the answers that came back, oldest first and at most so many.
+//! A switch: the requests that it forwarded and the answers that came back, oldest first and at most this many.
 //! What it sends for a request or a response, and its whole table after it, are those of the model. In a full
 //! table the oldest entry leaves for a new one, in constant time. A stop loses the table.
 #![tactic(auto)]

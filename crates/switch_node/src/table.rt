@@ -137,7 +137,7 @@ fn put(ring: &mut IndexMap<TxnId, Slot>, id: TxnId, slot: Slot) -> Result<(), Al
     Ok(())
 }
 
-/// The place after this one, round a ring of so many places.
+/// The place after this one, round a ring of this many places.
 fn next(place: usize, cap: usize) -> usize
     requires { place < cap }
     ensures { result ≡ next place cap }

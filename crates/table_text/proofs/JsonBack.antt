@@ -183,7 +183,7 @@ rows_spaced (row ∷ more) = (codes "\n", begin_object) ∷ members_spaced row (
 abbrev list_spaced : List Row → Spaced
 list_spaced rows = ([], begin_array) ∷ rows_spaced rows
 
--- a value behind its name
+-- a value after its name
 printed_value : (v : Value) (rest : Spaced) → HasWord v → print_spaced false (([], value_token v) ∷ rest) ≡ json_value v ++ print_spaced true rest
 unfolding print_spaced
 printed_value (Number n) rest held = refl

@@ -89,7 +89,7 @@ value_is (Flag true) held = refl
 value_is (Flag false) held = refl
 value_is Nothing held = refl
 
--- texts behind commas, and with commas between them
+-- texts after commas, and with commas between them
 behind_is : {A : Type 0} (text given : A → List ℕ) (xs : List A) → All (λ x. text x ≡ field_text default_writer (given x)) xs
     → behind_commas text xs ≡ fields_text default_writer (map given xs)
 unfolding fields_text

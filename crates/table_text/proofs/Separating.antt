@@ -1,4 +1,4 @@
--- Objects with a comma behind each, and with commas between them.
+-- Objects with a comma after each, and with commas between them.
 use Rattle.std.proofs.Common.{◌≡◌, ℕ, ◌-◌, List, [], ◌∷◌, ◌++◌, length, take, refl, sym, ap, ◌∙◌, append_assoc, append-nil, length-append, arith}
 use Rattle.std.specs.Prelude.{codes}
 use Rattle.std.specs.List.{flat_map}
@@ -22,7 +22,7 @@ rows_are row (next ∷ more) =
     ∙ (append_assoc (json_object row) (codes ",") (separated json_object (next ∷ more) ++ codes ",")
     ∙ sym (append_assoc (json_object row) (codes "," ++ separated json_object (next ∷ more)) (codes ","))))
 
--- a text without the comma behind it
+-- a text without the comma after it
 comma_off : (t : List ℕ) → take (length (t ++ codes ",") - 1) (t ++ codes ",") ≡ t
 comma_off t =
     let count : length (t ++ codes ",") - 1 ≡ length t = rw (length-append t (codes ",")) (omega arith) in

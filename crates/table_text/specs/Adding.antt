@@ -5,7 +5,7 @@ use Rattle.table_text.specs.Members.{Row}
 use Rattle.table_text.specs.Rows.{row_text, rows_text}
 use Rattle.table_text.specs.declared.layout.Style.{Style}
 
--- these bytes come behind what was there
+-- these bytes come after what was there
 abbrev pub Adds : Vec ℕ → Vec ℕ → List ℕ → Type 0
 Adds old new text = new.items ≡ old.items ++ text
 

@@ -31,7 +31,7 @@ json_member m = json_text m.name ++ (codes ":" ++ json_value m.value)
 unfoldable pub json_object : Row → List ℕ
 json_object row = codes "\n{" ++ (separated json_member row ++ codes "}")
 
--- the same with a comma behind it
+-- the same with a comma after it
 unfoldable pub json_row : Row → List ℕ
 json_row row = codes "\n{" ++ (separated json_member row ++ codes "},")
 
@@ -47,7 +47,7 @@ rows_text style rows = flat_map (row_text style) rows
 unfoldable pub head_text : List (List ℕ) → List ℕ
 head_text names = separated csv_text names ++ codes "\n"
 
--- rows that were written as JSON, as a list: without the comma behind the last of them
+-- rows that were written as JSON, as a list: without the comma after the last of them
 unfoldable pub list_text : List ℕ → List ℕ
 list_text rows = codes "[" ++ (take (length rows - 1) rows ++ codes "\n]")
 

@@ -13,7 +13,7 @@ pub enum Cell<'a> {
     Text(&'a [u8]),
     /// A word, as it is printed.
     Word(&'static [u8]),
-    /// Letters, and a number behind them.
+    /// Letters, and a number after them.
     Named(&'static [u8], u64),
     /// `true` or `false`.
     Flag(bool),
@@ -69,7 +69,7 @@ impl<'a> Field<'a> {
         }
     }
 
-    /// Letters, and a number behind them.
+    /// Letters, and a number after them.
     pub fn named(name: &'static [u8], letters: &'static [u8], number: u64) -> Field<'a>
         ensures { field_seen result ≡ record { name = name.now; value = NamedSeen letters.now number } }
     {

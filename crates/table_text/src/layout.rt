@@ -16,7 +16,7 @@ use std::alloc::AllocError;
 pub enum Style {
     /// A line for each row: its values with commas between them.
     Csv,
-    /// An object for each row, on a line of its own, and a comma behind it. `put_list` makes a list of them.
+    /// An object for each row, on a line of its own, and a comma after it. `put_list` makes a list of them.
     Json,
 }
 

@@ -96,7 +96,7 @@ fn put_json_byte(out: &mut Vec<u8>, byte: u8) -> Result<(), AllocError>
     }
 }
 
-/// Appends a byte as it is printed, behind a backslash.
+/// Appends a byte as it is printed, after a backslash.
 fn put_marked(out: &mut Vec<u8>, byte: u8) -> Result<(), AllocError>
     ensures { OnOk result (Adds out.old out.new (92 ∷ printed (byte ∷ []))) }
 {

@@ -39,7 +39,7 @@ pub fn put_json_value(out: &mut Vec<u8>, cell: Cell<'_>) -> Result<(), AllocErro
     }
 }
 
-/// Appends letters, and a number behind them.
+/// Appends letters, and a number after them.
 fn put_named(out: &mut Vec<u8>, letters: &[u8], number: u64) -> Result<(), AllocError>
     ensures { OnOk result (Adds out.old out.new (printed letters.now ++ decimal number)) }
 {

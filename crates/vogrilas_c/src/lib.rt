@@ -16,6 +16,7 @@ ghost use Rattle.message_making.specs.Judged.{wrong_in_billing, wrong_in_reversa
 ghost use Rattle.message_making.specs.Made.{billing_said, reversal_said};
 ghost use Rattle.node_handle.specs.Typed.{Adjudicates, Takes, submit_line};
 ghost use Rattle.node_handle.specs.Asked.{GivesAnswer, GivesRequest, Sizes};
+ghost use Rattle.node_handle.specs.Heard.{GivesHeard};
 ghost use Rattle.node_handle.specs.Payments.{ListsPayments};
 ghost use Rattle.node_handle.specs.Audits.{Audits};
 
@@ -187,6 +188,23 @@ pub extern "C" fn vogrilas_answer(
     number_of(node.answer(alloc, pharmacy, number, buffer, size))
 }
 
+/// Copies the answer of a pharmacy's entry that a payer gave, whether or not it is on disk.
+#[unsafe(no_mangle)]
+pub extern "C" fn vogrilas_heard(
+    alloc: Global,
+    node: &mut NodeHandle,
+    pharmacy: u16,
+    number: u64,
+    buffer: &mut [u8],
+    size: &mut usize,
+) -> u32
+    ensures kept { node.new.part.node ≡ node.old.part.node }
+    ensures copied { Says result (λ said.
+        GivesHeard pharmacy number node.old.part.node said buffer.old buffer.new size.old size.new) }
+{
+    number_of(node.heard(alloc, pharmacy, number, buffer, size))
+}
+
 /// Copies the payments that a pharmacy counts, or those of a payer's book with what reversed them.
 #[unsafe(no_mangle)]
 pub extern "C" fn vogrilas_payments(
@@ -202,7 +220,7 @@ pub extern "C" fn vogrilas_payments(
     number_of(node.payments(alloc, payments, count))
 }
 
-/// Notes that so many bytes of the records are on disk, and what stands in the log's file before them.
+/// Notes that this many bytes of the records are on disk, and what stands in the log's file before them.
 #[unsafe(no_mangle)]
 pub extern "C" fn vogrilas_kept(alloc: Global, node: &mut NodeHandle, size: usize) -> u32
     ensures { Says result (λ said. Keeps node.old.part.node size said node.new.part.node) }
@@ -298,7 +316,7 @@ pub extern "C" fn vogrilas_describe(
 }
 
 /// Judges whether logs are those of one legal run, and copies what claimaudit tells of them: an object of JSON where `json` is
-/// not 0, else lines. The logs stand one behind another, each of its size.
+/// not 0, else lines. The logs stand one after another, each of its size.
 #[unsafe(no_mangle)]
 pub extern "C" fn vogrilas_audit(
     alloc: Global,

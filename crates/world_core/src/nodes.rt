@@ -15,7 +15,7 @@ use octets::Octets;
 use std::alloc::Global;
 use world_setup::{Call, Fault, Refusal, Sent};
 
-/// The place, from 0, of the node of a number, where there are so many nodes.
+/// The place, from 0, of the node of a number, where there are this many nodes.
 fn place_of(number: u16, count: usize) -> Option<usize>
     ensures place { IfSome result (λ place. (number ≡ suc place) × (place < count)) }
     ensures nobody { IfNone result ((number ≡ 0) ⊎ (count < number)) }

@@ -1,4 +1,4 @@
--- The lines of all nodes behind one another.
+-- The lines of all nodes after one another.
 use Rattle.std.proofs.Common.{◌≡◌, ℕ, List, ◌++◌}
 use Rattle.claim_model.specs.Context.{Context}
 use Rattle.claim_model.specs.World.{World}

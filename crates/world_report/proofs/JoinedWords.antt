@@ -14,7 +14,7 @@ pub behind_spaces-nil : behind_spaces [] ≡ []
 unfolding behind_spaces
 behind_spaces-nil = refl
 
--- words behind words
+-- words after words
 pub words_join : (a b c : List ℕ) (xs ys : Line) → b ≡ a ++ behind_spaces xs → c ≡ b ++ behind_spaces ys → c ≡ a ++ behind_spaces (xs ++ ys)
 words_join a b c xs ys one two =
     lists_join a b c (behind_spaces xs) (behind_spaces ys) one two ∙ ap (λ (t : List ℕ). a ++ t) (sym (behind_spaces-append xs ys))

@@ -6,7 +6,7 @@ use Rattle.world_report.specs.Words.{Line, line_text, lines_text}
 use Rattle.world_report.specs.Nodes.{lines_from}
 use Rattle.world_report.proofs.JoinedWords.{lines_text-append, lines_text-nil, lines_text-one}
 
--- lines behind lines
+-- lines after lines
 pub lines_join : (a b c : List ℕ) (xs ys : List Line) → b ≡ a ++ lines_text xs → c ≡ b ++ lines_text ys → c ≡ a ++ lines_text (xs ++ ys)
 lines_join a b c xs ys one two =
     two ∙ (ap (λ (t : List ℕ). t ++ lines_text ys) one ∙ (append_assoc a (lines_text xs) (lines_text ys) ∙ ap (λ (t : List ℕ). a ++ t) (sym (lines_text-append xs ys))))

@@ -7,7 +7,7 @@ use Rattle.world_report.specs.Places.{txn_name}
 use Rattle.world_report.specs.Heads.{done_line}
 use Rattle.world_report.proofs.JoinedWords.{line_text-cons}
 
--- the words behind the number of an event, and the end of the line
+-- the words after the number of an event, and the end of the line
 words_behind : (packet : ℕ) → behind_spaces (codes "ok" ∷ decimal packet ∷ []) ++ codes "\n" ≡ 32 ∷ 111 ∷ 107 ∷ 32 ∷ (decimal packet ++ 10 ∷ [])
 unfolding behind_spaces
 words_behind packet = ap (λ (t : List ℕ). (32 ∷ 111 ∷ 107 ∷ 32 ∷ t) ++ 10 ∷ []) (append-nil (decimal packet))

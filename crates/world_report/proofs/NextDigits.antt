@@ -7,7 +7,7 @@ use Rattle.std.proofs.lemmas.List.{get_or-drop, drop-set-add}
 use Rattle.std.proofs.Math.Seq.{set-append_seam, get_or-append_seam}
 use Rattle.world_report.specs.Words.{behind_spaces}
 
--- a word behind a space
+-- a word after a space
 pub one_word : (word : List ℕ) → 32 ∷ word ≡ behind_spaces (word ∷ [])
 unfolding behind_spaces
 one_word word = ap (λ (t : List ℕ). 32 ∷ t) (sym (append-nil word))

@@ -6,15 +6,15 @@ use Rattle.claim_model.specs.Bytes.{bytes_with}
 use Rattle.claim_model.specs.Context.{Context}
 use Rattle.world_report.specs.Words.{Line, behind_spaces, line_text, lines_text}
 
--- words with a space before each come behind what was there
+-- words with a space before each come after what was there
 abbrev pub AddsWords : Vec ℕ → Vec ℕ → Line → Type 0
 AddsWords old new words = new.items ≡ old.items ++ behind_spaces words
 
--- a line comes behind what was there
+-- a line comes after what was there
 abbrev pub AddsLine : Vec ℕ → Vec ℕ → Line → Type 0
 AddsLine old new line = new.items ≡ old.items ++ line_text line
 
--- lines come behind what was there
+-- lines come after what was there
 abbrev pub AddsLines : Vec ℕ → Vec ℕ → List Line → Type 0
 AddsLines old new lines = new.items ≡ old.items ++ lines_text lines
 

@@ -9,7 +9,7 @@ power_word up = cond up (codes "up") (codes "down")
 abbrev pub head_line : List ℕ → ℕ → Bool → List ℕ → ℕ → Line
 head_line kind number up noun count = kind ∷ decimal number ∷ power_word up ∷ noun ∷ decimal count ∷ []
 
--- so many numbers from one on
+-- this many numbers from one on
 abbrev pub numbers_from : ℕ → ℕ → List ℕ
 numbers_from first zero = []
 numbers_from first (suc more) = first ∷ numbers_from (first + 1) more

@@ -6,7 +6,7 @@ use Rattle.world_report.specs.declared.places.Place.{Place}
 use Rattle.world_report.specs.Words.{Line}
 use Rattle.world_report.specs.Rulings.{ruling_words}
 
--- what names a place behind the number of its request: nothing where the request has one transaction, else `/` and the place from 1
+-- what names a place after the number of its request: nothing where the request has one transaction, else `/` and the place from 1
 abbrev pub place_mark : ℕ → ℕ → List ℕ
 place_mark count place = cond (count == 1) [] (codes "/" ++ decimal place)
 
@@ -23,7 +23,7 @@ abbrev pub place_lines : List ℕ → ℕ → List ℕ → ℕ → List Line →
 place_lines name count code place [] = []
 place_lines name count code place (words ∷ more) = place_line name count place code words ∷ place_lines name count code (place + 1) more
 
--- what is told of so many places without an answer
+-- what is told of this many places without an answer
 abbrev pub open_places : ℕ → List Line
 open_places count = replicate count (codes "open" ∷ [])
 
@@ -55,7 +55,7 @@ flight_line id answered = txn_name id ∷ flight_word answered ∷ []
 abbrev pub standing_word : Bool → List ℕ
 standing_word reversed = cond reversed (codes "reversed") (codes "standing")
 
--- whether a payment stands; nothing behind another ruling
+-- whether a payment stands; nothing after another ruling
 abbrev pub standing_words : Ruling → Bool → Line
 standing_words (Paid auth prescription amounts) reversed = standing_word reversed ∷ []
 standing_words (Duplicate auth prescription amounts) reversed = []

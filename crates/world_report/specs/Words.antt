@@ -14,6 +14,6 @@ line_text words = join_with_byte 32 words ++ codes "\n"
 unfoldable pub lines_text : List Line → List ℕ
 lines_text lines = flat_map line_text lines
 
--- words with a space before each: how a line goes on behind its first word
+-- words with a space before each: how a line goes on after its first word
 unfoldable pub behind_spaces : Line → List ℕ
 behind_spaces words = flat_map (λ word. 32 ∷ word) words

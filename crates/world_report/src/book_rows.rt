@@ -15,7 +15,7 @@ use claim_profile::{Auth, Ruling, code_of};
 use payer_book::{Book, Row};
 use std::alloc::AllocError;
 
-/// Appends the lines of a row of this book: one for each place of its request, and behind a payment whether it stands.
+/// Appends the lines of a row of this book: one for each place of its request, and after a payment whether it stands.
 pub fn put_row(out: &mut Vec<u8>, book: &Book, row: &Row) -> Result<(), AllocError>
     ensures { TellsLines out.old out.new (λ ctx. row_lines ctx book.now.rows row.now) result }
 {

@@ -1,4 +1,4 @@
-//! Numbers behind a space.
+//! Numbers after a space.
 
 ghost use Rattle.std.specs.Prelude.{◌≡◌, ◌≤◌, ◌<◌, ◌+◌, ◌-◌, ◌^◌, ◌∷◌, [], ◌++◌, decimal, drop, map, OnOk};
 ghost use Rattle.world_report.specs.Adding.{AddsWords};
@@ -16,7 +16,7 @@ pub fn put_number(out: &mut Vec<u8>, number: u64) -> Result<(), AllocError>
     put_end(out, &text, start)
 }
 
-/// Appends the numbers from `first` on, up to the one before `past`, each behind a space. The text of one becomes that of the
+/// Appends the numbers from `first` on, up to the one before `past`, each after a space. The text of one becomes that of the
 /// next, of which mostly the last digit is another.
 pub(crate) fn put_numbers(out: &mut Vec<u8>, first: u64, past: u64) -> Result<(), AllocError>
     ensures { OnOk result (AddsWords out.old out.new (map decimal (numbers_from first (past - first)))) }

@@ -17,7 +17,7 @@ pub(crate) struct Place {
     pub(crate) code: [u8; 2],
 }
 
-/// Appends what names one of so many places, from 1, behind the number of its request: nothing where the request has one
+/// Appends what names one of this many places, from 1, after the number of its request: nothing where the request has one
 /// transaction.
 pub fn put_mark(out: &mut Vec<u8>, count: u64, place: u64) -> Result<(), AllocError>
     ensures { OnOk result (out.new.items ≡ out.old.items ++ place_mark count place) }

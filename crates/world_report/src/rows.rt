@@ -28,7 +28,7 @@ fn flight_word(answered: bool) -> &'static [u8]
     if answered { b"answered" } else { b"open" }
 }
 
-/// Appends the line of a place of a row: its transaction, the code of the request, the ruling, and behind a payment
+/// Appends the line of a place of a row: its transaction, the code of the request, the ruling, and after a payment
 /// `reversed` or `standing`.
 pub(crate) fn put_row_place(
     out: &mut Vec<u8>,
@@ -54,7 +54,7 @@ fn put_ruled(out: &mut Vec<u8>, ruling: &Ruling, reversed: bool) -> Result<(), A
     put_standing(out, ruling, reversed)
 }
 
-/// Appends whether a payment stands; nothing behind another ruling.
+/// Appends whether a payment stands; nothing after another ruling.
 #[tactic(auto, using(crate::proofs::JoinedWords::no_words))]
 fn put_standing(out: &mut Vec<u8>, ruling: &Ruling, reversed: bool) -> Result<(), AllocError>
     ensures { OnOk result (AddsWords out.old out.new (standing_words ruling.now reversed)) }

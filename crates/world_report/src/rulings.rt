@@ -15,7 +15,7 @@ use pharmacy_journal::CountedPayment;
 use std::alloc::AllocError;
 
 /// The room for the longest words of a payment: an authorization of sixteen digits and four amounts of at most ten, each
-/// behind a space.
+/// after a space.
 const PAYMENT: usize = 61;
 
 /// Appends the words of a ruling: `P` or `D` with the authorization and the amounts of the payment, `A` with the
@@ -62,7 +62,7 @@ fn put_payment(out: &mut Vec<u8>, auth: Auth, amounts: Amounts) -> Result<(), Al
     Ok(())
 }
 
-/// Writes an authorization and amounts at the end of a text, each behind a space, and gives the place where they begin.
+/// Writes an authorization and amounts at the end of a text, each after a space, and gives the place where they begin.
 fn write_payment(auth: Auth, amounts: Amounts, text: &mut [u8; PAYMENT]) -> usize
     ensures within { result ≤ 61 }
     ensures written { drop result text.new ≡ behind_spaces (payment_words auth amounts) }
@@ -85,7 +85,7 @@ fn write_digits_of(auth: Auth, text: &mut [u8; PAYMENT], end: usize) -> usize
     first - 1
 }
 
-/// Writes amounts in cents at the end of a text, each behind a space, and gives the place where they begin: cost (506-F6),
+/// Writes amounts in cents at the end of a text, each after a space, and gives the place where they begin: cost (506-F6),
 /// fee (507-F7), the patient's part (505-F5), total (509-F9).
 fn write_amounts(amounts: Amounts, text: &mut [u8; PAYMENT]) -> usize
     ensures room { 17 ≤ result }

@@ -50,7 +50,7 @@ limits_in table = limits_or_stated (get_member (codes "limits") table)
 abbrev pub caps_within : {A : Type 0} → (A → ℕ) → ℕ → List A → Bool
 caps_within cap most nodes = list_all (λ node. nat_le (cap node) most) nodes
 
--- there may be so many pharmacies, switches and payers
+-- there may be this many pharmacies, switches and payers
 abbrev pub has_room : Limits → ℕ → ℕ → ℕ → Bool
 has_room limits pharmacies switches payers = nat_le pharmacies limits.pharmacies && (nat_le switches limits.switches && nat_le payers limits.payers)
 

@@ -14,7 +14,7 @@ use Rattle.world_settings.specs.Lists.{list_at}
 abbrev pub pharmacy_keys : List (List ℕ)
 pharmacy_keys = codes "qualifier" ∷ codes "provider" ∷ codes "nodes" ∷ codes "cap" ∷ []
 
--- a text of at most so many bytes at a key, filled with spaces
+-- a text of at most this many bytes at a key, filled with spaces
 abbrev pub identity : ℕ → List ℕ → Members → Option (List ℕ)
 identity width key table = text_at key table >>= filled width
 

@@ -25,6 +25,6 @@ number_or default most (Some value) = number most value
 abbrev pub text_at : List ℕ → Members → Option (List ℕ)
 text_at key table = get_member key table >>= as_str
 
--- a text of at most so many bytes, filled with spaces
+-- a text of at most this many bytes, filled with spaces
 unfoldable pub filled : ℕ → List ℕ → Option (List ℕ)
 filled width text = if nat_le (length text) width then Some (text ++ replicate (width - length text) 32) else None

@@ -81,7 +81,7 @@ pub(crate) fn allows(limits: Limits, settings: &WorldSettings) -> bool
     has_room(limits, settings) && caps_fit(limits.entries(), settings)
 }
 
-/// Whether there may be so many pharmacies, switches and payers.
+/// Whether there may be this many pharmacies, switches and payers.
 fn has_room(limits: Limits, settings: &WorldSettings) -> bool
     ensures { result ≡ has_room limits (length settings.now.pharmacies.items) (length settings.now.switches.items)
         (length settings.now.payers.items) }

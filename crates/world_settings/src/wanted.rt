@@ -23,7 +23,7 @@ pub(crate) enum Wanted {
     Cap,
     /// The number of a payer.
     Payer,
-    /// A text of at most so many bytes without a separator.
+    /// A text of at most this many bytes without a separator.
     Text(usize),
     /// Six digits.
     Bin,
@@ -219,7 +219,7 @@ fn is_within(value: &Value, least: i64, most: i64) -> bool {
     }
 }
 
-/// Whether a text has at most so many bytes and no separator.
+/// Whether a text has at most this many bytes and no separator.
 fn is_plain(text: &[u8], most: usize) -> bool {
     text.len() <= most && !text.iter().any(|byte| matches!(*byte, 0x1C..=0x1E))
 }

@@ -98,6 +98,7 @@ _CALLS = {
     "most": [_NODE, ctypes.POINTER(ctypes.c_uint64)],
     "request": [_NODE, ctypes.c_uint64, *_BUFFER],
     "answer": [_NODE, ctypes.c_uint16, ctypes.c_uint64, *_BUFFER],
+    "heard": [_NODE, ctypes.c_uint16, ctypes.c_uint64, *_BUFFER],
     "payments": [_NODE, ctypes.POINTER(RawPayment), ctypes.c_size_t, _PLACE],
     "clear": [_NODE],
     "close": [_NODE],

@@ -241,7 +241,7 @@ class Node:
 
     `kept` is how many bytes of the log stay. Behind `serve` come `records`, which are appended to the log's file and synced;
     `synced`, which says so; `written`, and `clear`. A node that was just opened also wants to hear, by `synced`, that its log is
-    on disk. Until then each call that tells of the node raises VogrilasError with UNSYNCED.
+    on disk. Until then each call that tells of the node but `heard` raises VogrilasError with UNSYNCED.
     """
 
     def __init__(self, settings: bytes, name: str, log: bytes = b"") -> None:
@@ -339,10 +339,20 @@ class Node:
         """The answer that the node holds for a request, by its pharmacy and its number there: a pharmacy those to its own
         entries, a switch those in its table, a payer those of its book. None where it is an open entry of this pharmacy; raises
         VogrilasError with NOT_FOUND where there is nothing."""
+        return self._answer(LIBRARY.vogrilas_answer, pharmacy, number)
+
+    def heard(self, pharmacy: int, number: int) -> Optional[bytes]:
+        """The answer of a pharmacy's own entry that a payer gave, also before it is on disk: where it is lost the payer gives the
+        same again. None where the entry is open; raises VogrilasError with UNSYNCED where the request has no route (`answer` tells
+        that once all is on disk), and with NOT_FOUND where there is no such entry."""
+        return self._answer(LIBRARY.vogrilas_heard, pharmacy, number)
+
+    def _answer(self, gives: Callable[..., int], pharmacy: int, number: int) -> Optional[bytes]:
+        """The answer that a call of the library gives; none where the entry is open."""
         _expect_id(number, pharmacy)
         try:
             with self._lock:
-                return _copied(LIBRARY.vogrilas_answer, ctypes.byref(self._handle), pharmacy, number, room=1 << 10)
+                return _copied(gives, ctypes.byref(self._handle), pharmacy, number, room=1 << 10)
         except VogrilasError as refused:
             if refused.code is Code.UNANSWERED:
                 return None

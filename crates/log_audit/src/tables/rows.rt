@@ -193,7 +193,7 @@ fn put_answered(
     put_row(out, style, &fields)
 }
 
-/// Reject codes with a space behind each but the last.
+/// Reject codes with a space after each but the last.
 fn codes_text(alloc: Global, rejects: &[Code]) -> Result<Vec<u8>, AllocError>
     ensures { IfOk result (λ text. text.items ≡ codes_text rejects.now) }
 {

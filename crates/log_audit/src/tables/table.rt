@@ -73,7 +73,7 @@ pub(crate) fn put_csv<K: TextSink + Drop>(
     put_table(alloc, out, Style::Csv, world, senders, table)
 }
 
-/// Appends all tables of what a run left as members of an object of JSON, each behind a comma.
+/// Appends all tables of what a run left as members of an object of JSON, each after a comma.
 pub(crate) fn put_json<K: TextSink + Drop>(
     alloc: Global,
     out: &mut Outgoing<K>,
@@ -89,7 +89,7 @@ pub(crate) fn put_json<K: TextSink + Drop>(
     put_member(alloc, out, world, senders, Table::Counted)
 }
 
-/// Appends a table as a member of an object of JSON, behind a comma.
+/// Appends a table as a member of an object of JSON, after a comma.
 fn put_member<K: TextSink + Drop>(
     alloc: Global,
     out: &mut Outgoing<K>,

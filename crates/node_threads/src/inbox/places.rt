@@ -39,7 +39,7 @@ impl Model for Places {
 }
 
 impl Places {
-    /// So many places, none of them taken, of an inbox that is open.
+    /// This many places, none of them taken, of an inbox that is open.
     pub fn new(cap: usize) -> Places
         ensures { result ≡ places cap 0 false }
     {

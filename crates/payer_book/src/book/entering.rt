@@ -62,7 +62,7 @@ impl Book {
         Ok(Row::copy_of(alloc, id, request, rulings, text.as_slice())?)
     }
 
-    /// Takes memory for so many more rows and payments at once. Answers that make them then move nothing of what the book
+    /// Takes memory for this many more rows and payments at once. Answers that make them then move nothing of what the book
     /// has. Where memory is refused the book may have room for some.
     pub fn reserve(&mut self, rows: usize, payments: usize) -> Result<(), AllocError>
         ensures { self.new ≡ self.old }

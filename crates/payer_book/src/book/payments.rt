@@ -180,7 +180,7 @@ impl Payments {
         }
     }
 
-    /// Room for so many more payments: so many calls of `push` then take no memory.
+    /// Room for this many more payments: this many calls of `push` then take no memory.
     pub(crate) fn reserve(&mut self, more: usize) -> Result<(), AllocError>
         ensures same { SameButRoom self.old self.new }
         ensures ok { OnOk result (more ≤ self.new.room) }

@@ -96,7 +96,7 @@ impl Rows {
         }
     }
 
-    /// Room for so many more rows: adding them then moves none of those that are there.
+    /// Room for this many more rows: adding them then moves none of those that are there.
     pub(crate) fn reserve(&mut self, more: usize) -> Result<(), AllocError>
         ensures { self.new ≡ self.old }
     {

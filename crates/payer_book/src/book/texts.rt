@@ -5,7 +5,7 @@ ghost use Rattle.std.specs.Prelude.{◌≡◌, IfOk};
 use std::alloc::{AllocError, Global};
 use std::marker::Model;
 
-/// A request and its answer in one piece of memory without room to spare: the request, and the answer behind it.
+/// A request and its answer in one piece of memory without room to spare: the request, and the answer after it.
 #[derive(Drop)]
 pub(crate) struct Texts {
     bytes: Vec<u8>,

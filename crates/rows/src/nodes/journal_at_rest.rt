@@ -40,7 +40,7 @@ impl Rests {
         }
     }
 
-    /// A journal at rest without entries, which takes so many.
+    /// A journal at rest without entries, which takes this many.
     fn open(&mut self, told: &mut Told, alloc: Global, argument: &[u8]) {
         self.rest = match small(argument) {
             Some(cap) => opened(alloc, cap),
@@ -73,7 +73,7 @@ impl Rests {
     }
 }
 
-/// A journal at rest of pharmacy 1, which takes so many entries.
+/// A journal at rest of pharmacy 1, which takes this many entries.
 fn opened(alloc: Global, cap: u32) -> Option<JournalAtRest> {
     match pharmacy_settings(alloc, 1, 1, cap) {
         Some(settings) => Some(JournalAtRest::new(alloc, 1, settings)),

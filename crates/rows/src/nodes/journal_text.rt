@@ -153,7 +153,7 @@ fn read_as(alloc: Global, cap: u32, bytes: &[u8]) -> Result<JournalAtRest, Recor
     }
 }
 
-/// A journal of pharmacy 1 with at most so many entries.
+/// A journal of pharmacy 1 with at most this many entries.
 #[derive(Clone, Copy)]
 struct JournalKind {
     cap: u32,

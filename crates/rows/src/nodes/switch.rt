@@ -39,7 +39,7 @@ impl Switches {
         }
     }
 
-    /// Opens a switch whose table has so many entries at most, and tells the cap of its settings.
+    /// Opens a switch whose table has this many entries at most, and tells the cap of its settings.
     fn open(&mut self, told: &mut Told, alloc: Global, argument: &[u8]) {
         match small(argument) {
             Some(cap) => match SwitchSettings::new(cap) {

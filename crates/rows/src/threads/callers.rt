@@ -7,7 +7,7 @@ use std::sync::Wait;
 use std::thread;
 use std::thread::Threads;
 
-/// The tills of two callers that submit so many fills each of one prescription at pharmacy 1. A till is not there where a
+/// The tills of two callers that submit this many fills each of one prescription at pharmacy 1. A till is not there where a
 /// submission was refused.
 pub(crate) fn submit_by_two<T: Threads + Wait + Sync>(
     rt: &T,
@@ -34,7 +34,7 @@ pub(crate) fn push_till(tills: &mut Vec<Till>, till: Option<Till>) {
     }
 }
 
-/// Submits so many fills from one on by a till of its own.
+/// Submits this many fills from one on by a till of its own.
 fn submit_all<T: Wait>(
     rt: &T,
     alloc: Global,

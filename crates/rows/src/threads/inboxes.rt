@@ -83,7 +83,7 @@ impl Inboxes {
         }
     }
 
-    /// Begins with so many places, all of them free.
+    /// Begins with this many places, all of them free.
     fn set_places(&mut self, told: &mut Told, argument: &[u8]) {
         match read_number(argument) {
             Some(cap) => {
@@ -108,7 +108,7 @@ impl Inboxes {
         told.word("ok");
     }
 
-    /// Opens an inbox of so many places.
+    /// Opens an inbox of this many places.
     fn open<T: Wait>(&mut self, rt: &T, told: &mut Told, alloc: Global, argument: &[u8]) {
         self.open = match read_number(argument) {
             Some(cap) => inbox_with_passes(rt, alloc, cap as usize),
@@ -118,7 +118,7 @@ impl Inboxes {
     }
 }
 
-/// An inbox of so many places with its passes.
+/// An inbox of this many places with its passes.
 fn inbox_with_passes<T: Wait>(rt: &T, alloc: Global, cap: usize) -> Option<Opened> {
     match inbox_of(alloc, cap) {
         Some(inbox) => with_passes(rt, inbox),
@@ -215,7 +215,7 @@ fn tell_packet(told: &mut Told, packet: &Packet) {
     told.bytes(packet.bytes.as_slice());
 }
 
-/// Tells whether each packet is taken as often as it was put, where two threads put so many each and one takes.
+/// Tells whether each packet is taken as often as it was put, where two threads put this many each and one takes.
 fn exchange<T: Threads + Wait + Sync>(rt: &T, told: &mut Told, alloc: Global, argument: &[u8]) {
     match count_and_rest(argument) {
         Some((each @ 1..=1000, _)) => match exchanged(rt, alloc, each as u16) {
@@ -255,7 +255,7 @@ fn exchanged<T: Threads + Wait + Sync>(rt: &T, alloc: Global, each: u16) -> Opti
     if first && second { counts } else { None }
 }
 
-/// An inbox of so many places, where there may be one.
+/// An inbox of this many places, where there may be one.
 fn inbox_of(alloc: Global, cap: usize) -> Option<Inbox> {
     if cap == 0 || cap > 65_536 {
         return None;
@@ -297,7 +297,7 @@ fn put_each<T: Wait>(
     true
 }
 
-/// Takes so many packets with a pass of its own, and counts how often each came.
+/// Takes this many packets with a pass of its own, and counts how often each came.
 fn count_all<T: Wait>(
     rt: &T,
     alloc: Global,

@@ -101,7 +101,7 @@ impl Running<'_> {
         }
     }
 
-    /// Takes a fault of a link for the next start; its line stands behind the word.
+    /// Takes a fault of a link for the next start; its line stands after the word.
     fn fault(&mut self, told: &mut Told, alloc: Global, line: &[u8]) {
         match fault_of(alloc, line) {
             Some(fault) => match self.faults.push(fault) {
@@ -140,7 +140,7 @@ impl Running<'_> {
         }
     }
 
-    /// Ends the system with the first so many of its tills, or with all.
+    /// Ends the system with the first this many of its tills, or with all.
     fn finish<T: Threads + Wait>(&mut self, rt: &T, told: &mut Told, argument: &[u8]) {
         match self.live.take() {
             Some(live) => {
@@ -180,7 +180,7 @@ where
     }
 }
 
-/// Ends a system with the first so many of its tills.
+/// Ends a system with the first this many of its tills.
 fn finished<T: Threads + Wait>(rt: &T, told: &mut Told, live: Live, tills: usize) -> Option<Ended> {
     let Live {
         system,
@@ -260,7 +260,7 @@ impl Live {
         }
     }
 
-    /// Two callers submit so many fills each, by tills of their own.
+    /// Two callers submit this many fills each, by tills of their own.
     fn two_callers<T: Threads + Wait + Sync>(
         &mut self,
         rt: &T,

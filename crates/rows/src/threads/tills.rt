@@ -37,7 +37,7 @@ pub(crate) fn tell(
     }
 }
 
-/// What stands behind the first word.
+/// What stands after the first word.
 fn behind(argument: &[u8]) -> &[u8] {
     match split_word(argument) {
         Some((_, rest)) => rest,

@@ -16,7 +16,7 @@ pub(crate) fn read_number(digits: &[u8]) -> Option<u16> {
     }
 }
 
-/// A number and what stands behind it; nothing may stand there.
+/// A number and what stands after it; nothing may stand there.
 pub(crate) fn count_and_rest(argument: &[u8]) -> Option<(u64, &[u8])> {
     let (digits, rest) = split_word(argument).unwrap_or((argument, b""));
     match read_count(digits) {
@@ -25,7 +25,7 @@ pub(crate) fn count_and_rest(argument: &[u8]) -> Option<(u64, &[u8])> {
     }
 }
 
-/// Two numbers and what stands behind them.
+/// Two numbers and what stands after them.
 pub(crate) fn two_and_rest(argument: &[u8]) -> Option<(u64, u64, &[u8])> {
     match count_and_rest(argument) {
         Some((first, rest)) => match count_and_rest(rest) {

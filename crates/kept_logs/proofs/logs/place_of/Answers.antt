@@ -1,4 +1,4 @@
--- The place behind the records of the first calls.
+-- The place after the records of the first calls.
 use Rattle.std.proofs.Common.{arith}
 use Rattle.world_setup.specs.Seen.{node_seen}
 use Rattle.kept_logs.specs.Digests.{version_seen}

@@ -4,7 +4,7 @@ use Rattle.table_text.specs.declared.layout.Style.TheVariants.{Csv}
 use Rattle.log_audit.specs.Prices.{change_seen, rows_behind}
 use Rattle.log_audit.proofs.prices.put_changes.Given as goal
 
--- the rows so far, and then those of the changes that are left, behind those that were told
+-- the rows so far, and then those of the changes that are left, after those that were told
 abbrev pub invariant-loop-place : goal.invariant-loop-place
 invariant-loop-place l =
     l.out.items ++ rows_text Csv (rows_behind l.settings l.name (map change_seen (take l.place l.changes)) (map change_seen (drop l.place l.changes)))

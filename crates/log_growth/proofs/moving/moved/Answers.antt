@@ -1,4 +1,4 @@
--- The records that were read stand behind the new head.
+-- The records that were read stand after the new head.
 use Rattle.std.proofs.Common.{◌∙◌, ◌++◌, ℕ, List, ap, subst, arith}
 use Rattle.claim_model.specs.Logs.{NodeLog}
 use Rattle.kept_logs.specs.Stamps.{plain_log}

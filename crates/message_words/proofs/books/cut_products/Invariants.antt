@@ -4,7 +4,7 @@ use Rattle.message_words.specs.AtRest.{Telling, each_told, product_told}
 use Rattle.message_words.specs.Added.{told_with, left_of}
 use Rattle.message_words.proofs.books.cut_products.Given as goal
 
--- what was told, and then the products that are left and what stands behind them, are all
+-- what was told, and then the products that are left and what stands after them, are all
 abbrev pub invariant-loop : goal.invariant-loop
 invariant-loop l = record {
   whole : l.cutter.whole ≡ l.fn.cutter.whole;

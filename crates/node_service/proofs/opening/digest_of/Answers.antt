@@ -1,4 +1,4 @@
--- Of both digests that of the log's version, or that of a log which goes on behind closed ones.
+-- Of both digests that of the log's version, or that of a log which goes on after closed ones.
 use Rattle.std.proofs.Common.{◌∙◌}
 use Rattle.std.specs.Option.{option_copied}
 use Rattle.settings_digest.proofs.Keeping.{turned_at}

@@ -1,4 +1,4 @@
-//! A day: settings, events, and the lines of the nodes behind them. What is refused memory is asked again.
+//! A day: settings, events, and the lines of the nodes after them. What is refused memory is asked again.
 
 use schedule::{divide, read_schedule};
 use std::alloc::Global;
@@ -55,7 +55,7 @@ fn with_events<'a>(
     }
 }
 
-/// What stands behind so many lines of a text.
+/// What stands after this many lines of a text.
 fn behind_lines(text: &[u8], lines: usize) -> &[u8] {
     let mut count = 0usize;
     for (place, byte) in text.iter().enumerate() {

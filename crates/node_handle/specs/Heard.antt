@@ -1,0 +1,27 @@
+-- An answer that is told before it is on disk.
+use Rattle.std.specs.Prelude.{ℕ, List, Result, Err, Option, Some, None, if◌then◌else◌}
+use Rattle.std.specs.Option.{option_map}
+use Rattle.node_state.specs.Nodes.{request_of}
+use Rattle.node_logged.specs.Setting.{context_of}
+use Rattle.node_service.specs.Serving.{Serving}
+use Rattle.node_handle.specs.declared.refusal.Refusal.{Refusal}
+use Rattle.node_handle.specs.declared.refusal.Refusal.TheVariants.{Unsynced, NotFound}
+use Rattle.node_handle.specs.Saying.{Said}
+use Rattle.node_handle.specs.Hosting.{Hosting}
+use Rattle.request_route.specs.Routed.{is_routed}
+use Rattle.node_handle.specs.Asked.{Gives, answer_in}
+
+abbrev pub heard_by : Serving → ℕ → ℕ → Option (List ℕ) → Result (List ℕ) Refusal
+heard_by s pharmacy number (Some request) = if is_routed (context_of s.settings) request then answer_in pharmacy number s else Err Unsynced
+heard_by s pharmacy number None = Err NotFound
+
+-- the answer that a pharmacy has under a number, where a payer gave it; nothing is asked of the disk
+abbrev pub heard_in : ℕ → ℕ → Serving → Result (List ℕ) Refusal
+heard_in pharmacy number s = heard_by s pharmacy number (request_of s.state number)
+
+abbrev pub heard_of : ℕ → ℕ → Hosting → Result (List ℕ) Refusal
+heard_of pharmacy number h = heard_in pharmacy number h.serving
+
+-- such an answer is copied into a buffer, or it is said why there is none; then the buffer is as it was
+abbrev pub GivesHeard : ℕ → ℕ → Option Hosting → Said → List ℕ → List ℕ → ℕ → ℕ → Type 0
+GivesHeard pharmacy number node said buffer after before size = Gives (option_map (heard_of pharmacy number) node) said buffer after before size

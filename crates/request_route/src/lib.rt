@@ -1,0 +1,35 @@
+//! Whether a request has a route, so that what answers it is a payer's.
+#![tactic(auto)]
+
+ghost use Rattle.std.specs.Prelude.{◌≡◌};
+ghost use Rattle.claim_model.specs.Bytes.{bytes_with};
+ghost use Rattle.claim_model.specs.Readable.{route_key};
+ghost use Rattle.request_route.specs.Routed.{is_routed};
+
+use bin_routes::{RouteKey, Routes};
+use claim_model::readable_requests;
+use claim_profile::check_readable;
+use d0_header::RequestHeader;
+
+/// Whether a request is one that this product carries, and has a route.
+pub fn is_routed(routes: &Routes, request: &[u8]) -> bool
+    ensures { result ≡ is_routed (bytes_with routes.now) request.now }
+{
+    readable_requests();
+    match check_readable(request) {
+        Some(framed) => routes.payer(&key_of(framed.header())).is_some(),
+        None => false,
+    }
+}
+
+/// What a route may look at in a header.
+fn key_of(header: &RequestHeader) -> RouteKey
+    ensures { result ≡ route_key header.now }
+{
+    RouteKey {
+        bin: header.bin(),
+        pcn: header.pcn(),
+        qualifier: header.qualifier(),
+        provider: header.provider(),
+    }
+}

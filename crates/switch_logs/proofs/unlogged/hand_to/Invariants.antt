@@ -1,0 +1,7 @@
+use Rattle.std.proofs.Common.{◌≡◌}
+use Rattle.switch_logs.specs.Made.{who}
+use Rattle.switch_logs.proofs.unlogged.hand_to.Given as goal
+
+-- it is the same node still
+abbrev pub invariant-loop-packet : goal.invariant-loop-packet
+invariant-loop-packet l = who l.switch ≡ who l.fn.switch
