@@ -22,3 +22,5 @@ pub mod Storied
 pub mod Deciding
 pub mod Handed
 pub mod Filed
+pub mod Ordering
+pub mod Grown

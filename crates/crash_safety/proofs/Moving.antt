@@ -78,7 +78,7 @@ after_call_well : (ctx : Context) (s : WorldSettings) (packets : List Packet) (n
 after_call_well ctx s packets node p m call (Refused why) w c is e = (w, refl)
 after_call_well ctx s packets node p m call (Done next sent) w c is e = (called_well ctx s packets node p m next (record { call = call; sent = sent }) w c is e, refl)
 
-calls_well : (ctx : Context) (s : WorldSettings) (packets : List Packet) (node : Node) (p : Process) (call : Call) (o : Option AnyNode) → IsWell ctx s packets node p → Comes packets node call → p.memory ≡ o
+pub calls_well : (ctx : Context) (s : WorldSettings) (packets : List Packet) (node : Node) (p : Process) (call : Call) (o : Option AnyNode) → IsWell ctx s packets node p → Comes packets node call → p.memory ≡ o
     → IsWell ctx s packets node (calls ctx p call o) × ((calls ctx p call o).synced ≡ p.synced)
 calls_well ctx s packets node p call None w c is = (w, refl)
 calls_well ctx s packets node p call (Some m) w c is = after_call_well ctx s packets node p m call (node_step ctx m call) w c is refl
@@ -99,7 +99,7 @@ advised_again packets wire k advice a among e =
     let same : adjudicating advice t.0 ≡ a = t.2 in
     record { event = Adjudication there.number advice; asks = ap (option_map (adjudicating advice)) there.is ∙ ap (λ (x : Asked). Some x) same }
 
-comes_again : (packets : List Packet) (wire : List Packet) (event : Event) (a : Asked) → ((j : ℕ) (p : Packet) → numbered wire j ≡ Some p → IsAmong packets p) → asked wire event ≡ Some a → Comes packets a.node a.call
+pub comes_again : (packets : List Packet) (wire : List Packet) (event : Event) (a : Asked) → ((j : ℕ) (p : Packet) → numbered wire j ≡ Some p → IsAmong packets p) → asked wire event ≡ Some a → Comes packets a.node a.call
 comes_again packets wire (Submission n text) a among e = record { event = Submission n text; asks = e }
 comes_again packets wire (Ticking n) a among e = record { event = Ticking n; asks = e }
 comes_again packets wire (Delivery k) a among e = taken_again packets wire k a among e
@@ -118,7 +118,7 @@ calling_on ctx s n events event (Some a) i e =
 
 -- a crash, and a restart
 
-empty_left : {A : Type 0} (xs ys : List A) → xs ++ ys ≡ [] → xs ≡ []
+pub empty_left : {A : Type 0} (xs ys : List A) → xs ++ ys ≡ [] → xs ≡ []
 empty_left [] ys e = refl
 empty_left (x ∷ xs) ys e = absurd cc
 
@@ -222,7 +222,7 @@ sync_one ctx s n events node l more before i is opens =
       };
     }
 
-no_nothing : {A : Type 0} (x : A) (xs : List A) → x ∷ xs ≡ [] → ⊥
+pub no_nothing : {A : Type 0} (x : A) (xs : List A) → x ∷ xs ≡ [] → ⊥
 no_nothing x xs e = cc
 
 sync_by : (ctx : Context) (s : WorldSettings) (n : Network) (events : List Event) (node : Node) (l : Logged) (more : List Logged) (o : Option AnyNode) → IsSound ctx s n events → (n.at node).unsynced ≡ l ∷ more → node_at (opening s) node ≡ o

@@ -21,27 +21,27 @@ use Rattle.crash_safety.proofs.Worlds.{with_packets, is_of_run, reached, standin
 
 -- with other packets each promise says the same
 
-one_standing_with : (ctx : Context) (r : World) (packets : List Packet) → OneStandingPayment ctx r → OneStandingPayment ctx (with_packets r packets)
+pub one_standing_with : (ctx : Context) (r : World) (packets : List Packet) → OneStandingPayment ctx r → OneStandingPayment ctx (with_packets r packets)
 one_standing_with ctx r packets o = record { one = o.one }
 
-reversed_with : (ctx : Context) (r : World) (packets : List Packet) → ReversedByOwner ctx r → ReversedByOwner ctx (with_packets r packets)
+pub reversed_with : (ctx : Context) (r : World) (packets : List Packet) → ReversedByOwner ctx r → ReversedByOwner ctx (with_packets r packets)
 reversed_with ctx r packets o = record {
   reversed = λ n b k q auth prescription book stands ruling.
       let x = o.reversed n b k q auth prescription book stands ruling in
       record { payment = x.payment; found = x.found; journal = x.journal; there = x.there; qualifier = x.qualifier; provider = x.provider };
 }
 
-counted_with : (ctx : Context) (r : World) (packets : List Packet) → CountedPaymentsStand ctx r → CountedPaymentsStand ctx (with_packets r packets)
+pub counted_with : (ctx : Context) (r : World) (packets : List Packet) → CountedPaymentsStand ctx r → CountedPaymentsStand ctx (with_packets r packets)
 counted_with ctx r packets o = record {
   counts = λ n j k c journal stands.
       let x = o.counts n j k c journal stands in
       record { book = x.book; there = x.there; payment = x.payment; found = x.found; fill = x.fill; amounts = x.amounts; reversed = x.reversed; reversals = x.reversals };
 }
 
-in_full_with : (ctx : Context) (r : World) (packets : List Packet) → StandingAreCounted ctx r → StandingAreCounted ctx (with_packets r packets)
+pub in_full_with : (ctx : Context) (r : World) (packets : List Packet) → StandingAreCounted ctx r → StandingAreCounted ctx (with_packets r packets)
 in_full_with ctx r packets o = record { counted = o.counted }
 
-one_answer_with : (ctx : Context) (r q : World) (ps qs : List Packet) → OneAnswer ctx r q → OneAnswer ctx (with_packets r ps) (with_packets q qs)
+pub one_answer_with : (ctx : Context) (r q : World) (ps qs : List Packet) → OneAnswer ctx r q → OneAnswer ctx (with_packets r ps) (with_packets q qs)
 unfolding held
 one_answer_with ctx r q ps qs o = record { bytes = o.bytes; places = o.places }
 

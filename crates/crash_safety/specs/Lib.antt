@@ -11,3 +11,4 @@ pub mod Greedy
 pub mod Story
 pub mod Explains
 pub mod Handing
+pub mod Growing

@@ -6,7 +6,7 @@
 //! synced calls sent and nothing else. Of switches less is asked: `diskless` lets them keep nothing and say at once
 //! what they do, `handing` has in their place whoever hands on bytes as they came. Of such networks the logs of
 //! pharmacies and payers are explained by themselves (`explained`), and what a pharmacy tells before it keeps it is
-//! the answer for good (`told`).
+//! the answer for good (`told`). Settings may grow meanwhile, and nodes go over one by one (`growing`).
 #![tactic(auto)]
 
 mod answers;
@@ -14,6 +14,7 @@ mod closed;
 mod diskless;
 mod explained;
 mod fences;
+mod growing;
 mod handing;
 mod payments;
 mod runs;
@@ -30,6 +31,9 @@ pub use explained::{
     explanations_are_tested, outside_has_the_logs, runs_are_explained,
 };
 pub use fences::{candidates_are_replays, fences_make_one_process};
+pub use growing::{
+    growing_networks_are_runs, growing_networks_have_worlds, growing_networks_keep_promises,
+};
 pub use handing::{
     answers_whatever_switches_are, any_switches_will_do, files_whatever_switches_are,
     payments_whatever_switches_are,
