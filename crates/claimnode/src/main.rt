@@ -85,7 +85,8 @@ fn serve<M: Machine>(
 ) -> Result<(), End<Finding>>
     requires { M.acts machine.old ≡ [] }
 {
-    match serve_all(rt.alloc(), &hash_keys(rt), owner, machine) {
+    let mut memory = None;
+    match serve_all(rt.alloc(), &hash_keys(rt), owner, machine, &mut memory) {
         Ok(()) => Ok(()),
         Err(Unserved::OutOfMemory) => Err(End::OutOfMemory),
         Err(Unserved::Refused(fault)) => Err(End::Own(Finding::Service(fault))),

@@ -28,7 +28,7 @@ pub bare_has : (digest : List ℕ) (node : Node) (bytes : List ℕ) (calls : Lis
 bare_has digest node bytes calls fits (inl text) = inl (record { kept = record { node = node; calls = calls }; of = refl; is = text; fits = fits })
 bare_has digest node bytes calls fits (inr none) = inr (none.0, ap bare_calls none.1)
 
-reading_alone : (digest bytes : List ℕ) (reading : Result KeptReading LogFault) → kept_in digest bytes ≡ reading → log_in digest bytes ≡ calls_alone reading
+pub reading_alone : (digest bytes : List ℕ) (reading : Result KeptReading LogFault) → kept_in digest bytes ≡ reading → log_in digest bytes ≡ calls_alone reading
 unfolding log_in
 reading_alone digest bytes reading e = ap calls_alone e
 

@@ -1,5 +1,5 @@
 -- Bytes that are taken line by line.
-use Rattle.std.proofs.Common.{◌≡◌, ℕ, ◌+◌, ◌<◌, ◌≤◌, false, List, [], ◌∷◌, ◌++◌, take, drop, length, length-drop, Some, Result, Ok, Err, OnOk, refl, sym, ap, ◌∙◌, subst, arith}
+use Rattle.std.proofs.Common.{◌≡◌, ℕ, ◌+◌, ◌<◌, ◌≤◌, false, List, [], ◌∷◌, ◌++◌, take, drop, length, length-drop, Some, Result, Ok, Err, OnOk, IfErr, refl, sym, ap, ◌∙◌, subst, arith}
 use Rattle.std.proofs.lemmas.List.Quantifiers.{position-Some}
 use Rattle.std.specs.List.{AllByRecursion}
 use Rattle.std.specs.Prelude.{position}
@@ -8,6 +8,9 @@ use Rattle.claim_model.proofs.Lists.{all_append}
 use Rattle.kept_logs.specs.Fits.{FitsStamped}
 use Rattle.node_service.specs.Serving.{Serving, after_line}
 use Rattle.node_service.specs.Lines.{after_lines, line_kept, lines_kept}
+use Rattle.node_process.specs.declared.unserved.Unserved.{Unserved}
+use Rattle.node_process.specs.declared.unserved.Unserved.TheVariants.{OutOfMemory, Refused, FewCalls, LongLine, TooManyTurns, Io}
+use Rattle.node_process.specs.Ends.{most_bytes, IsTooMuch, IsUnheeded}
 use Rattle.node_process.specs.Heard.{is_newline, whole_lines, begun_line, NoNewline}
 use Rattle.node_process.proofs.Splitting.{whole_one, begun_one, whole_none, begun_all}
 
@@ -72,3 +75,16 @@ whatever (Err e) p = tt
 
 pub none_left : (rest : List ℕ) (count total : ℕ) → count + length rest ≤ total → total ≤ count → length rest ≤ 0
 none_left rest count total h over = omega (arith, h, over)
+
+-- a line that is too long is one of what came
+unheeded : (text begun : List ℕ) (why : Unserved) → begun ≡ begun_line text → IsTooMuch begun why → IsUnheeded text why
+unheeded text begun OutOfMemory same u = tt
+unheeded text begun (Refused fault) same u = u
+unheeded text begun (FewCalls calls) same u = u
+unheeded text begun LongLine same u = subst (λ (x : List ℕ). most_bytes < length x) same u
+unheeded text begun TooManyTurns same u = u
+unheeded text begun (Io error) same u = u
+
+pub too_much : {T : Type 0} (text begun : List ℕ) (r : Result T Unserved) → begun ≡ begun_line text → IfErr r (IsTooMuch begun) → IfErr r (IsUnheeded text)
+too_much text begun (Ok x) same u = tt
+too_much text begun (Err why) same u = unheeded text begun why same u

@@ -3,6 +3,7 @@ pub mod Splitting
 pub mod Asking
 pub mod Moments
 pub mod Hearing
+pub mod Remembering
 pub mod Turning
 pub mod Bare
 pub mod Zeros

@@ -1,10 +1,10 @@
 -- Each act of a process, from a moment that is safe to the next.
-use Rattle.std.proofs.Common.{◌≡◌, ◌≤◌, ℕ, zero, suc, Bool, true, false, not, ◌&&◌, cond, List, [], ◌∷◌, ◌++◌, take, length, Result, Ok, Err, OnOk, is_ok, ◌==◌, refl, sym, ap, ◌∙◌, subst, ◌⊎◌, inl, inr, append_assoc, append-nil, arith}
+use Rattle.std.proofs.Common.{◌≡◌, ◌≤◌, ℕ, zero, suc, Bool, true, false, not, ◌&&◌, cond, List, [], ◌∷◌, ◌++◌, take, length, Result, Ok, Err, OnOk, OnErr, is_ok, ◌==◌, refl, sym, ap, ◌∙◌, subst, ◌⊎◌, inl, inr, append_assoc, append-nil, arith}
 use Rattle.std.proofs.lemmas.Bool.Decides.{nat_tests}
 use Rattle.node_service.specs.Serving.{Serving, cleared}
 use Rattle.node_service.specs.Lines.{after_lines}
 use Rattle.node_service.specs.Opened.{IsOpened}
-use Rattle.node_process.specs.Acts.{Act, Found, Cut, Append, Sync, Say, Hear, found, file, has_failed, kept, said, heard}
+use Rattle.node_process.specs.Acts.{Act, Found, Cut, Append, Sync, Say, Hear, Unheard, found, file, has_failed, kept, said, heard}
 use Rattle.node_process.specs.Heard.{whole_lines, begun_line}
 use Rattle.node_process.specs.Safe.{Whose, AreEnough, closed_calls, greeting, IsStartOf, asked, log_of, words_of, FitsInput, IsCovered, IsLogOfInput, IsWholeFile, IsSafe, AtEachMoment, IsRun, IsRunDone, IsServed, IsLogged, IsOpening, Reads, Trims, Heads, Begins, Serves, Logs}
 use Rattle.node_service.proofs.Lines.{new_or_whole}
@@ -133,12 +133,27 @@ module _ (before : ℕ) (start : Serving) (base : List ℕ) where
   whole_on t bytes (inr (inl e)) = inr (inl e)
   whole_on t bytes (inr (inr l)) = inr (inr (record { input = l.input; came = start_with l.input (heard t) bytes l.came; fits = l.fits; is = l.is }))
 
+  whole_still : (t : List Act) → IsWholeFile start base t → IsWholeFile start base (Unheard ∷ t)
+  whole_still t (inl e) = inl e
+  whole_still t (inr (inl e)) = inr (inl e)
+  whole_still t (inr (inr l)) = inr (inr (record { input = l.input; came = l.came; fits = l.fits; is = l.is }))
+
   pub hear_each : (t : List Act) (s : Serving) (bytes : List ℕ) → IsServed before start base t s → AtEachMoment before start base (Hear bytes ∷ t)
   hear_each t s bytes v = (
     record {
       order = v.on.well;
       covered = cover_on t (Hear bytes ∷ t) refl (record { rest = bytes; is = refl }) (all_of (kept t)) (now t v.on.each).covered;
       whole = whole_on t bytes (now t v.on.each).whole;
+    },
+    v.on.each,
+  )
+
+  pub unheard_each : (t : List Act) (s : Serving) → IsServed before start base t s → AtEachMoment before start base (Unheard ∷ t)
+  unheard_each t s v = (
+    record {
+      order = v.on.well;
+      covered = cover_on t (Unheard ∷ t) refl (all_of (heard t)) (all_of (kept t)) (now t v.on.each).covered;
+      whole = whole_still t (now t v.on.each).whole;
     },
     v.on.each,
   )
@@ -240,6 +255,15 @@ runs whose t start whole opened enough each =
 pub when_done : {T E : Type 0} (r : Result T E) (P : Bool → Type 0) → P true → OnOk r (P (is_ok r))
 when_done (Ok x) P p = p
 when_done (Err e) P p = tt
+
+-- and where it was not
+pub when_failed : {T E : Type 0} (r : Result T E) (P : Bool → Type 0) → P false → OnErr r (P (is_ok r))
+when_failed (Ok x) P p = tt
+when_failed (Err e) P p = p
+
+pub whatever_failed : {T E : Type 0} (r : Result T E) {P : Type 0} → P → OnErr r P
+whatever_failed (Ok x) p = tt
+whatever_failed (Err e) p = p
 
 -- ---- in the words of the clauses
 
@@ -356,6 +380,9 @@ say_serves whose t s v = record { start = v.start; whole = v.whole; opened = v.o
 
 pub hear_runs : (whose : Whose) (t : List Act) (s : Serving) (bytes : List ℕ) → Serves whose t s → IsRun whose (Hear bytes ∷ t)
 hear_runs whose t s bytes v = runs whose (Hear bytes ∷ t) v.start v.whole v.opened v.enough (hear_each (closed_calls whose) v.start (take v.whole (found t)) t s bytes v.served)
+
+pub unheard_runs : (whose : Whose) (t : List Act) (s : Serving) → Serves whose t s → IsRun whose (Unheard ∷ t)
+unheard_runs whose t s v = runs whose (Unheard ∷ t) v.start v.whole v.opened v.enough (unheard_each (closed_calls whose) v.start (take v.whole (found t)) t s v.served)
 
 pub hear_serves : (whose : Whose) (t : List Act) (s : Serving) (bytes : List ℕ) → Serves whose t s → FitsInput s (begun_line (heard t) ++ bytes) → Serves whose (Hear bytes ∷ t) (after_lines s (whole_lines (begun_line (heard t) ++ bytes)))
 hear_serves whose t s bytes v fits = record { start = v.start; whole = v.whole; opened = v.opened; enough = v.enough; served = heard_served (closed_calls whose) v.start (take v.whole (found t)) t s bytes v.served fits }

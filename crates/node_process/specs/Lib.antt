@@ -3,4 +3,5 @@ pub mod Acts
 pub mod Noting
 pub mod Heard
 pub mod Safe
+pub mod Ends
 pub mod Histories

@@ -11,7 +11,7 @@ use Rattle.node_service.specs.Answering.{ready_line}
 use Rattle.node_service.specs.Serving.{Serving, cleared}
 use Rattle.node_service.specs.Lines.{after_lines, lines_kept}
 use Rattle.node_service.specs.Opened.{IsOpened}
-use Rattle.node_process.specs.Acts.{Act, Found, Cut, Append, Sync, Say, Hear, found, file, has_failed, kept, said, heard, heard_last}
+use Rattle.node_process.specs.Acts.{Act, Found, Unread, Cut, Append, Sync, Say, Hear, Unheard, found, file, has_failed, kept, said, heard, heard_last}
 use Rattle.node_process.specs.Heard.{whole_lines, begun_line, NoNewline}
 
 -- bytes begin these
@@ -72,11 +72,13 @@ GoesWell acts = IsRead acts × (has_failed acts ≡ false)
 abbrev pub IsInOrder : Serving → List ℕ → List Act → Type 0
 IsInOrder start base [] = ⊤
 IsInOrder start base (Found bytes ∷ before) = before ≡ []
+IsInOrder start base (Unread ∷ before) = ⊥
 IsInOrder start base (Cut size done ∷ before) = (before ≡ Found (found before) ∷ []) × (take size (found before) ≡ base)
 IsInOrder start base (Append bytes done ∷ before) = GoesWell before × ((kept before ≡ file before) × IsLogOfInput start base (Append bytes done ∷ before))
 IsInOrder start base (Sync done ∷ before) = GoesWell before × IsLogOfInput start base before
 IsInOrder start base (Say bytes done ∷ before) = GoesWell before
 IsInOrder start base (Hear bytes ∷ before) = GoesWell before
+IsInOrder start base (Unheard ∷ before) = GoesWell before
 
 -- the file is as it was found, or cut to what stays of it, or the log of a beginning of the input
 abbrev pub IsWholeFile : Serving → List ℕ → List Act → Type 0
@@ -93,9 +95,9 @@ abbrev pub AtEachMoment : ℕ → Serving → List ℕ → List Act → Type 0
 AtEachMoment closed start base [] = IsSafe closed start base []
 AtEachMoment closed start base (act ∷ before) = IsSafe closed start base (act ∷ before) × AtEachMoment closed start base before
 
--- nothing was done but to read the log
+-- nothing was done but to read the log, which may have failed
 abbrev pub IsUnopened : List Act → Type 0
-IsUnopened acts = (acts ≡ []) ⊎ ((bytes : List ℕ) × (acts ≡ Found bytes ∷ []))
+IsUnopened acts = (acts ≡ []) ⊎ ((acts ≡ Unread ∷ []) ⊎ ((bytes : List ℕ) × (acts ≡ Found bytes ∷ [])))
 
 -- whose process it is: the text of the settings, the node, what its log begins with where it goes on after closed ones, and how many calls all
 -- of its logs have at least

@@ -35,6 +35,8 @@ impl<I: Read + Drop, O: Write + Drop> Diskless<I, O> {
 impl<I: Read + Drop, O: Write + Drop> Machine for Diskless<I, O> {
     ghost acts = { λ host. host.noted.acts };
 
+    ghost coming = { λ host. I.remaining host.input };
+
     fn read(&mut self, alloc: Global) -> io::Result<Vec<u8>> {
         let bytes = Vec::new(alloc);
         self.noted.note(&[FOUND, 1, 0], bytes.as_slice());
@@ -64,8 +66,15 @@ impl<I: Read + Drop, O: Write + Drop> Machine for Diskless<I, O> {
     }
 
     fn hear(&mut self, buffer: &mut [u8]) -> io::Result<usize> {
-        let count = heard(&mut self.input, buffer)?;
-        self.noted.note(&[HEARD, 1, 0], &buffer[..count]);
-        Ok(count)
+        match heard(&mut self.input, buffer) {
+            Ok(count) => {
+                self.noted.note(&[HEARD, 1, 0], &buffer[..count]);
+                Ok(count)
+            }
+            Err(error) => {
+                self.noted.note(&[HEARD, 0, 0], &[]);
+                Err(error)
+            }
+        }
     }
 }

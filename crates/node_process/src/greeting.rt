@@ -1,17 +1,24 @@
 //! How many calls a node's logs have, and the line that says so.
 
-ghost use Rattle.std.specs.Prelude.{◌≡◌, ◌≤◌, ◌+◌, ◌↔◌, ◌++◌, codes, decimal, IfOk, IsTrue, OnOk};
+ghost use Rattle.std.specs.Prelude.{◌≡◌, ◌++◌, codes, decimal, IfOk, OnOk};
+ghost use Rattle.node_process.specs.Ends.{TellsLack};
 ghost use Rattle.node_process.specs.Safe.{behind_line, greeting};
 
 use input_text::put_decimal;
 use node_service::ready_line;
 use std::alloc::{AllocError, Global};
 
-/// Whether this many calls of a log, and those before it, are as many as there are at least.
-pub(crate) fn are_enough(before: u64, calls: u64, least: u64) -> bool
-    ensures { IsTrue result ↔ (least ≤ before + calls) }
+/// How many calls of a log and before it there are, where these are fewer than there are at least.
+pub(crate) fn lack(before: u64, calls: u64, least: u64) -> Option<u64>
+    ensures { TellsLack before calls least result }
 {
-    least <= before.saturating_add(calls)
+    let Some(all) = before.checked_add(calls) else {
+        return None;
+    };
+    if all < least {
+        return Some(all);
+    }
+    None
 }
 
 /// The line that says that a node is served: how many calls its log has, and how many were made before it, where there were some.

@@ -54,11 +54,20 @@ impl<'a, I: Read + Drop, O: Write + Drop> Host<'a, I, O> {
 impl<'a, I: Read + Drop, O: Write + Drop> Machine for Host<'a, I, O> {
     ghost acts = { λ host. host.noted.acts };
 
+    ghost coming = { λ host. I.remaining host.input };
+
     fn read(&mut self, alloc: Global) -> io::Result<Vec<u8>> {
         let mut bytes = Vec::new(alloc);
-        self.file.read_to_end(&mut bytes)?;
-        self.noted.note(&[FOUND, 1, 0], bytes.as_slice());
-        Ok(bytes)
+        match self.file.read_to_end(&mut bytes) {
+            Ok(_) => {
+                self.noted.note(&[FOUND, 1, 0], bytes.as_slice());
+                Ok(bytes)
+            }
+            Err(error) => {
+                self.noted.note(&[FOUND, 0, 0], &[]);
+                Err(error)
+            }
+        }
     }
 
     fn cut(&mut self, size: usize) -> io::Result<()> {
@@ -91,9 +100,16 @@ impl<'a, I: Read + Drop, O: Write + Drop> Machine for Host<'a, I, O> {
     }
 
     fn hear(&mut self, buffer: &mut [u8]) -> io::Result<usize> {
-        let count = heard(&mut self.input, buffer)?;
-        self.noted.note(&[HEARD, 1, 0], &buffer[..count]);
-        Ok(count)
+        match heard(&mut self.input, buffer) {
+            Ok(count) => {
+                self.noted.note(&[HEARD, 1, 0], &buffer[..count]);
+                Ok(count)
+            }
+            Err(error) => {
+                self.noted.note(&[HEARD, 0, 0], &[]);
+                Err(error)
+            }
+        }
     }
 }
 

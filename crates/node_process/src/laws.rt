@@ -1,19 +1,19 @@
 //! What holds of every process over bytes, as facts that a caller cites by a call.
 
-ghost use Rattle.std.specs.Prelude.{◌≡◌, ◌⊎◌, List, [], ◌++◌};
+ghost use Rattle.std.specs.Prelude.{◌≡◌, ◌⊎◌, ℕ, List, [], ◌++◌};
 ghost use Rattle.world_setup.specs.declared.settings.WorldSettings.{WorldSettings as Settings};
 ghost use Rattle.kept_logs.specs.Fits.{FitsNode};
 ghost use Rattle.node_service.specs.Opened.{Spells};
 ghost use Rattle.node_process.specs.Acts.{Act};
 ghost use Rattle.node_process.specs.Safe.{IsRun, IsUnopened, Whose};
-ghost use Rattle.node_process.specs.Histories.{BeginsWith, Happening, IsCourse, IsHistory, acts_of, happenings, left_of};
+ghost use Rattle.node_process.specs.Histories.{BeginsWith, CanBegin, Happening, IsCourse, IsHistory, acts_of, happenings, left_of};
 
 /// What `serve_all` asks of the system, at each moment of it, goes on from what the process before it left: over a log that
 /// begins with the settings, and over one that goes on after closed logs and begins with their rest.
 pub fn processes_follow_one_another()
-    ensures { (whose : Whose) (acts : List Act) (history : List Happening)
-        → IsHistory whose history → acts_of history ≡ [] → BeginsWith (left_of history) acts
-        → IsUnopened acts ⊎ IsRun whose acts → IsHistory whose (happenings acts ++ history) }
+    ensures { (whose : Whose) (begun : List ℕ) (acts : List Act) (history : List Happening)
+        → IsHistory whose begun history → acts_of history ≡ [] → BeginsWith (left_of begun history) acts
+        → IsUnopened acts ⊎ IsRun whose acts → IsHistory whose begun (happenings acts ++ history) }
 {}
 
 /// Whatever is heard and done by the processes of a node, one after another, each as `serve_all` leaves it at any moment, and
@@ -23,7 +23,7 @@ pub fn processes_follow_one_another()
 /// their rest: the process begins with the node that the settings open, or with the one that the rest starts, and has the
 /// calls of this log alone.
 pub fn files_are_processes()
-    ensures { (whose : Whose) (settings : Settings) (later before : List Happening)
-        → Spells whose.settings settings → FitsNode whose.node → IsHistory whose (later ++ before)
-        → IsCourse whose settings before (later ++ before) }
+    ensures { (whose : Whose) (begun : List ℕ) (settings : Settings) (later before : List Happening)
+        → Spells whose.settings settings → FitsNode whose.node → CanBegin whose begun → IsHistory whose begun (later ++ before)
+        → IsCourse whose begun settings before (later ++ before) }
 {}

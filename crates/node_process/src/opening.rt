@@ -1,17 +1,18 @@
 //! From the file of a log to a node that is served.
 
-ghost use Rattle.std.specs.Prelude.{◌≡◌, ◌⊎◌, [], IfOk, OnOk};
+ghost use Rattle.std.specs.Prelude.{◌≡◌, [], IfErr, IfOk, OnErr, OnOk};
 ghost use Rattle.node_service.specs.Serving.{cleared};
 ghost use Rattle.node_process.specs.Acts.{heard};
+ghost use Rattle.node_process.specs.Ends.{Breaks, EndsFor, Stops, TellsLack};
 ghost use Rattle.node_process.specs.Safe.{IsRun, IsUnopened, Serves, Begins, Heads, Reads, Trims, closed_calls, greeting, owner_seen};
 
-use crate::greeting::{are_enough, greeting};
+use crate::greeting::{greeting, lack};
 use crate::machine::Machine;
 use crate::unserved::Unserved;
 use kept_logs::calls_before;
 use node_service::Service;
 use payer_book::HashKeys;
-use std::alloc::Global;
+use std::alloc::{AllocError, Global};
 use std::io;
 use world_setup::Node;
 
@@ -29,21 +30,25 @@ pub struct Owner<'a> {
     pub least: u64,
 }
 
-/// Reads the log, opens its node, and has on disk what stays of the log before a word is said: then how many calls it has, and how
-/// many were made before it.
+/// A node that was opened, how many bytes of its log stay, and how many the log has.
+#[derive(Drop)]
+pub(crate) struct Opened {
+    pub(crate) service: Service,
+    pub(crate) whole: usize,
+    pub(crate) size: usize,
+}
+
+/// Reads the log and opens its node.
 pub(crate) fn open<M: Machine>(
     alloc: Global,
     keys: &HashKeys,
     owner: &Owner<'_>,
     machine: &mut M,
-) -> Result<Service, Unserved>
+) -> Result<Opened, Unserved>
     requires { M.acts machine.old ≡ [] }
-    ensures each { IsUnopened (M.acts machine.new)
-        ⊎ IsRun (owner_seen owner.now) (M.acts machine.new) }
-    ensures served { IfOk result (λ s.
-        Serves (owner_seen owner.now) (M.acts machine.new) s) }
-    ensures deaf { OnOk result (heard (M.acts machine.new) ≡ []) }
-    ensures quiet { IfOk result (λ s. (s.records ≡ []) × (s.out ≡ [])) }
+    ensures reads { IfOk result (λ o. Reads (owner_seen owner.now) (M.acts machine.new) o.whole o.size o.service) }
+    ensures unopened { OnErr result (IsUnopened (M.acts machine.new)) }
+    ensures why { IfErr result (EndsFor (owner_seen owner.now) (M.acts machine.new)) }
 {
     let bytes = machine.read(alloc)?;
     match Service::open(
@@ -54,41 +59,30 @@ pub(crate) fn open<M: Machine>(
         owner.rest,
         bytes.as_slice(),
     ) {
-        Ok((service, whole)) => {
-            let before = calls_before(alloc, owner.rest)?;
-            if !are_enough(before, service.calls(), owner.least) {
-                return Err(Unserved::FewCalls(before.saturating_add(service.calls())));
-            }
-            begin(alloc, owner, machine, service, whole, bytes.len())
-        }
+        Ok((service, whole)) => match lacking(alloc, owner, &service) {
+            Ok(None) => Ok(Opened {
+                service,
+                whole,
+                size: bytes.len(),
+            }),
+            Ok(Some(calls)) => Err(Unserved::FewCalls(calls)),
+            Err(AllocError) => Err(Unserved::OutOfMemory),
+        },
         Err(why) => Err(Unserved::Refused(why)),
     }
 }
 
-/// The node of a log of this many bytes, once what stays of these is on disk and how many calls it has was said.
-fn begin<M: Machine>(
-    alloc: Global,
-    owner: &Owner<'_>,
-    machine: &mut M,
-    service: Service,
-    whole: usize,
-    size: usize,
-) -> Result<Service, Unserved>
-    requires { Reads (owner_seen owner.now) (M.acts machine.old) whole size service }
-    ensures each { IsRun (owner_seen owner.now) (M.acts machine.new) }
-    ensures served { IfOk result (λ s.
-        Serves (owner_seen owner.now) (M.acts machine.new) s) }
-    ensures deaf { OnOk result (heard (M.acts machine.new) ≡ []) }
-    ensures quiet { IfOk result (λ s. (s.records ≡ []) × (s.out ≡ [])) }
+/// How many calls a node's logs have, where these are fewer than they are known to have.
+fn lacking(alloc: Global, owner: &Owner<'_>, service: &Service) -> Result<Option<u64>, AllocError>
+    ensures { IfOk result (TellsLack (closed_calls (owner_seen owner.now)) service.now.calls owner.now.least) }
 {
-    match lay_down(alloc, owner, machine, &service, whole, size) {
-        Ok(()) => Ok(ready_to_serve(service)),
-        Err(why) => Err(why),
-    }
+    let before = calls_before(alloc, owner.rest)?;
+    Ok(lack(before, service.calls(), owner.least))
 }
 
-/// Has on disk what stays of a log of this many bytes, and says how many calls it has.
-fn lay_down<M: Machine>(
+/// Has on disk what stays of a log of this many bytes before a word is said: then how many calls it has, and how many were made
+/// before it.
+pub(crate) fn lay_down<M: Machine>(
     alloc: Global,
     owner: &Owner<'_>,
     machine: &mut M,
@@ -101,6 +95,7 @@ fn lay_down<M: Machine>(
     ensures served { OnOk result
         (Serves (owner_seen owner.now) (M.acts machine.new) (cleared service.now)) }
     ensures deaf { OnOk result (heard (M.acts machine.new) ≡ []) }
+    ensures why { IfErr result (Stops (owner_seen owner.now) (M.acts machine.new) service.now) }
 {
     let before = calls_before(alloc, owner.rest)?;
     let ready = greeting(alloc, before, service.calls())?;
@@ -123,6 +118,7 @@ fn trim<M: Machine>(
     ensures each { IsRun (owner_seen owner.now) (M.acts machine.new) }
     ensures trimmed { OnOk result
         (Trims (owner_seen owner.now) (M.acts machine.new) whole service.now) }
+    ensures broken { OnErr result (Breaks (owner_seen owner.now) (M.acts machine.new) service.now) }
 {
     if whole == size {
         return Ok(());
@@ -141,6 +137,7 @@ fn append_head<M: Machine>(
     ensures each { IsRun (owner_seen owner.now) (M.acts machine.new) }
     ensures headed { OnOk result
         (Heads (owner_seen owner.now) (M.acts machine.new) whole service.now) }
+    ensures broken { OnErr result (Breaks (owner_seen owner.now) (M.acts machine.new) service.now) }
 {
     if service.records().is_empty() {
         return Ok(());
@@ -159,6 +156,7 @@ fn settle<M: Machine>(
     ensures each { IsRun (owner_seen owner.now) (M.acts machine.new) }
     ensures begun { OnOk result
         (Begins (owner_seen owner.now) (M.acts machine.new) whole service.now) }
+    ensures broken { OnErr result (Breaks (owner_seen owner.now) (M.acts machine.new) service.now) }
 {
     machine.sync()
 }
@@ -177,15 +175,7 @@ fn greet<M: Machine>(
     ensures served { OnOk result
         (Serves (owner_seen owner.now) (M.acts machine.new) (cleared service.now)) }
     ensures deaf { OnOk result (heard (M.acts machine.new) ≡ []) }
+    ensures broken { OnErr result (Breaks (owner_seen owner.now) (M.acts machine.new) service.now) }
 {
     machine.say(ready)
-}
-
-/// A node whose head is on disk.
-fn ready_to_serve(service: Service) -> Service
-    ensures { result ≡ cleared service }
-{
-    let mut service = service;
-    service.clear();
-    service
 }

@@ -1,11 +1,12 @@
 //! Lines as they come whole.
 
-ghost use Rattle.std.specs.Prelude.{◌≡◌, ◌<◌, ◌+◌, ◌++◌, [], length, drop, position, IfSome, OnOk};
+ghost use Rattle.std.specs.Prelude.{◌≡◌, ◌<◌, ◌+◌, ◌++◌, [], length, drop, position, IfErr, IfSome, OnOk};
 ghost use Rattle.std.specs.List.{AllByRecursion};
 ghost use Rattle.std.specs.Str.Lines.{strip_carriage_return};
 ghost use Rattle.kept_logs.specs.Fits.{FitsStamped};
 ghost use Rattle.node_service.specs.Serving.{after_line};
 ghost use Rattle.node_service.specs.Lines.{after_lines, line_kept, lines_kept};
+ghost use Rattle.node_process.specs.Ends.{IsTooMuch, IsUnheeded};
 ghost use Rattle.node_process.specs.Heard.{NoNewline, begun_line, is_newline, whole_lines};
 
 use crate::unserved::Unserved;
@@ -19,7 +20,7 @@ const MOST_BYTES: usize = 16_777_216;
 /// Serves the lines that have come whole with these bytes, and keeps what has begun of the next one.
 ///
 /// # Errors
-/// Memory was refused, or what has begun is longer than a line may be.
+/// Memory was refused, or what has begun is longer than a line may be: `LongLine`.
 pub(crate) fn serve_heard(
     alloc: Global,
     service: &mut Service,
@@ -33,6 +34,7 @@ pub(crate) fn serve_heard(
         (AllByRecursion FitsStamped (lines_kept service.old (whole_lines (pending.old.items ++ bytes.now)))) }
     ensures kept { OnOk result (pending.new.items ≡ begun_line (pending.old.items ++ bytes.now)) }
     ensures begun { OnOk result (NoNewline pending.new.items) }
+    ensures why { IfErr result (IsUnheeded (pending.old.items ++ bytes.now)) }
 {
     let mut rest = bytes;
     for _ in 0..bytes.len() {
@@ -65,7 +67,8 @@ fn behind(bytes: &[u8], end: usize) -> &[u8]
 
 /// Keeps what has begun of a line.
 fn keep_begun(pending: &mut Vec<u8>, bytes: &[u8]) -> Result<(), Unserved>
-    ensures { OnOk result (pending.new.items ≡ pending.old.items ++ bytes.now) }
+    ensures kept { OnOk result (pending.new.items ≡ pending.old.items ++ bytes.now) }
+    ensures why { IfErr result (IsTooMuch (pending.old.items ++ bytes.now)) }
 {
     pending.extend_from_slice(bytes)?;
     if pending.len() > MOST_BYTES {

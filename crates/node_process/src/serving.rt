@@ -1,11 +1,13 @@
 //! Lines served in turns.
 
-ghost use Rattle.std.specs.Prelude.{◌≡◌, ◌⊎◌, [], OnOk};
+ghost use Rattle.std.specs.Prelude.{◌≡◌, ◌<◌, ◌⊎◌, [], cond, length, Some, None, IfErr, OnErr, OnOk};
+ghost use Rattle.std.specs.Io.KnownBytes.{IsAtEnd};
 ghost use Rattle.node_process.specs.Acts.{heard};
-ghost use Rattle.node_process.specs.Safe.{IsRun, IsRunDone, IsUnopened, Logs, Serves, owner_seen};
+ghost use Rattle.node_process.specs.Ends.{Breaks, EndsFor, Leaves, Remembers, Stops, stays};
+ghost use Rattle.node_process.specs.Safe.{IsRun, IsRunDone, IsUnopened, Logs, Reads, Serves, owner_seen};
 
 use crate::machine::Machine;
-use crate::opening::{Owner, open};
+use crate::opening::{Opened, Owner, lay_down, open};
 use crate::pending::serve_heard;
 use crate::unserved::Unserved;
 use node_service::Service;
@@ -17,7 +19,8 @@ use std::io;
 const CHUNK: usize = 65_536;
 
 /// Serves the owner's node from its log until the input ends: a turn takes what waits, appends what it records and syncs it,
-/// and then says what came of it.
+/// and then says what came of it. What it had in memory when it ended is left to its caller: at the end of the input, and
+/// where a call of the system has failed, the node that it served.
 ///
 /// # Errors
 /// What refuses the node, a log of fewer calls than it is known to have, a line that is too long, or the first call of the
@@ -27,16 +30,95 @@ pub fn serve_all<M: Machine>(
     keys: &HashKeys,
     owner: &Owner<'_>,
     machine: &mut M,
+    memory: &mut Option<Service>,
 ) -> Result<(), Unserved>
-    requires { M.acts machine.old ≡ [] }
+    requires new { M.acts machine.old ≡ [] }
+    requires empty { memory.old ≡ None }
     // Stopped at any moment, it was safe: at `Ok`, and at every error; and nothing was said from a log of fewer calls.
     ensures each { IsUnopened (M.acts machine.new) ⊎ IsRun (owner_seen owner.now) (M.acts machine.new) }
     // At `Ok` the input has ended, and all whole lines of it are on disk and were answered.
     ensures done { OnOk result (IsRunDone (owner_seen owner.now) (M.acts machine.new)) }
+    ensures ended { OnOk result (IsAtEnd (M.coming machine.new)) }
+    // At an error its cause is true.
+    ensures why { IfErr result (EndsFor (owner_seen owner.now) (M.acts machine.new)) }
+    // What is in memory is what the log makes, whichever call of the system was the last; and nothing where opening was refused.
+    ensures memory { Leaves (owner_seen owner.now) (M.acts machine.new) result memory.new }
 {
     let mut buffer = Vec::from_elem(alloc, 0u8, CHUNK)?;
-    let mut service = open(alloc, keys, owner, machine)?;
-    serve(alloc, owner, machine, &mut service, buffer.as_mut_slice())
+    let opened = open(alloc, keys, owner, machine)?;
+    live(alloc, owner, machine, memory, opened, buffer.as_mut_slice())
+}
+
+/// Serves a node that was opened, and leaves it.
+fn live<M: Machine>(
+    alloc: Global,
+    owner: &Owner<'_>,
+    machine: &mut M,
+    memory: &mut Option<Service>,
+    opened: Opened,
+    buffer: &mut [u8],
+) -> Result<(), Unserved>
+    requires reads { Reads (owner_seen owner.now) (M.acts machine.old) opened.whole opened.size opened.service }
+    requires empty { memory.old ≡ None }
+    requires room { 0 < length buffer.old }
+    ensures each { IsRun (owner_seen owner.now) (M.acts machine.new) }
+    ensures done { OnOk result (IsRunDone (owner_seen owner.now) (M.acts machine.new)) }
+    ensures ended { OnOk result (IsAtEnd (M.coming machine.new)) }
+    ensures why { IfErr result (EndsFor (owner_seen owner.now) (M.acts machine.new)) }
+    ensures memory { Leaves (owner_seen owner.now) (M.acts machine.new) result memory.new }
+{
+    let Opened {
+        service,
+        whole,
+        size,
+    } = opened;
+    let mut service = service;
+    let ended = serve_opened(alloc, owner, machine, &mut service, whole, size, buffer);
+    remember(memory, service, stays(&ended));
+    ended
+}
+
+/// Leaves a node where it stays.
+fn remember(memory: &mut Option<Service>, service: Service, stays: bool)
+    ensures { memory.new ≡ cond stays (Some service) memory.old }
+{
+    if stays {
+        *memory = Some(service);
+    }
+}
+
+/// Whether the node stays in memory where a process ends so.
+fn stays(ended: &Result<(), Unserved>) -> bool
+    ensures { result ≡ stays ended.now }
+{
+    match ended {
+        Ok(()) => true,
+        Err(Unserved::Io(_)) => true,
+        Err(_) => false,
+    }
+}
+
+/// Has the log of a node that was opened on disk, and serves it until the input ends.
+fn serve_opened<M: Machine>(
+    alloc: Global,
+    owner: &Owner<'_>,
+    machine: &mut M,
+    service: &mut Service,
+    whole: usize,
+    size: usize,
+    buffer: &mut [u8],
+) -> Result<(), Unserved>
+    requires reads { Reads (owner_seen owner.now) (M.acts machine.old) whole size service.old }
+    requires room { 0 < length buffer.old }
+    ensures each { IsRun (owner_seen owner.now) (M.acts machine.new) }
+    ensures done { OnOk result (IsRunDone (owner_seen owner.now) (M.acts machine.new)) }
+    ensures ended { OnOk result (IsAtEnd (M.coming machine.new)) }
+    ensures held { OnOk result (Remembers (owner_seen owner.now) (M.acts machine.new) service.new) }
+    ensures why { IfErr result (Stops (owner_seen owner.now) (M.acts machine.new) service.new) }
+{
+    lay_down(alloc, owner, machine, service, whole, size)?;
+    service.clear();
+    serve(alloc, owner, machine, service, buffer)
 }
 
 /// Serves turns until the input ends.
@@ -50,8 +132,12 @@ fn serve<M: Machine>(
     requires served { Serves (owner_seen owner.now) (M.acts machine.old) service.old }
     requires deaf { heard (M.acts machine.old) ≡ [] }
     requires quiet { (service.old.records ≡ []) × (service.old.out ≡ []) }
+    requires room { 0 < length buffer.old }
     ensures each { IsRun (owner_seen owner.now) (M.acts machine.new) }
     ensures done { OnOk result (IsRunDone (owner_seen owner.now) (M.acts machine.new)) }
+    ensures ended { OnOk result (IsAtEnd (M.coming machine.new)) }
+    ensures held { OnOk result (Remembers (owner_seen owner.now) (M.acts machine.new) service.new) }
+    ensures why { IfErr result (Stops (owner_seen owner.now) (M.acts machine.new) service.new) }
 {
     let mut pending = Vec::new(alloc);
     for _ in 0..u64::MAX {
@@ -73,6 +159,7 @@ fn keep_records<M: Machine>(owner: &Owner<'_>, machine: &mut M, service: &Servic
     ensures heard { heard (M.acts machine.new) ≡ heard (M.acts machine.old) }
     ensures logged { OnOk result
         (Logs (owner_seen owner.now) (M.acts machine.new) service.now) }
+    ensures broken { OnErr result (Breaks (owner_seen owner.now) (M.acts machine.new) service.now) }
 {
     if service.records().is_empty() {
         return Ok(());
@@ -89,6 +176,7 @@ fn say<M: Machine>(owner: &Owner<'_>, machine: &mut M, service: &mut Service) ->
     ensures served { OnOk result
         (Serves (owner_seen owner.now) (M.acts machine.new) service.new) }
     ensures quiet { OnOk result ((service.new.records ≡ []) × (service.new.out ≡ [])) }
+    ensures broken { OnErr result (Breaks (owner_seen owner.now) (M.acts machine.new) service.new) }
 {
     machine.say(service.written())?;
     service.clear();

@@ -1,5 +1,8 @@
 //! Why a node is not served to the end of its input.
 
+ghost use Rattle.std.specs.Prelude.{◌≡◌};
+ghost use Rattle.node_process.specs.declared.unserved.Unserved.TheVariants.{Io, OutOfMemory};
+
 use node_service::ServiceFault;
 use std::alloc::AllocError;
 use std::io;
@@ -29,12 +32,16 @@ pub enum Unserved {
 }
 
 impl From<AllocError> for Unserved {
+    ghost from_gives = { λ _ why. why ≡ OutOfMemory };
+
     fn from(_refused: AllocError) -> Unserved {
         Unserved::OutOfMemory
     }
 }
 
 impl From<io::Error> for Unserved {
+    ghost from_gives = { λ error why. why ≡ Io error };
+
     fn from(error: io::Error) -> Unserved {
         Unserved::Io(error)
     }
