@@ -15,14 +15,15 @@
 **
 ** What a node tells before its records are on disk, a crash takes back: two answers to one claim, or a payment that nobody has
 ** made. So the node waits for your word: from vogrilas_open(), and from each call that it makes, until vogrilas_kept() has said
-** that all is on disk, every call that tells of the node says VOGRILAS_UNSYNCED and tells nothing, but for vogrilas_heard(), whose
-** answers a crash takes back for no one. docs/DEPLOYING.md says what a host owes, docs/FORMATS.md has the lines, and examples/embed a
+** that all is on disk, every call that tells of the node says VOGRILAS_UNSYNCED and tells nothing, but for two: vogrilas_heard(), whose
+** answers a crash takes back for no one, and vogrilas_written(), which tells of each call as soon as the records of it and of all
+** before it are on disk. So a host may serve and append while it syncs what came before. docs/DEPLOYING.md says what a host owes, docs/FORMATS.md has the lines, and examples/embed a
 ** whole host. bindings/make lays out the library: link lib/libvogrilas.a, or -lvogrilas.
 **
 ** The calls, by what they are for:
 **
 **     a node        vogrilas_open, vogrilas_serve, vogrilas_submit, vogrilas_take, vogrilas_adjudicate, vogrilas_records,
-**                   vogrilas_kept, vogrilas_written, vogrilas_clear, vogrilas_close
+**                   vogrilas_records_after, vogrilas_kept, vogrilas_written, vogrilas_clear, vogrilas_close
 **     what it has   vogrilas_calls, vogrilas_count, vogrilas_most, vogrilas_request, vogrilas_answer, vogrilas_heard, vogrilas_payments
 **     messages      vogrilas_make_billing, vogrilas_make_reversal, vogrilas_describe
 **     no node       vogrilas_print, vogrilas_unprint, vogrilas_audit, vogrilas_version
@@ -234,18 +235,37 @@ vogrilas_code vogrilas_adjudicate(vogrilas_node *node, const void *from, size_t 
 vogrilas_code vogrilas_records(vogrilas_node *node, void *buffer, size_t room, size_t *size);
 
 /*
+** Copies what comes after the first `passed` bytes of that, nothing where there are no more: for a host that has appended those and waits
+** for their sync, and appends these meanwhile. The codes are those of vogrilas_records().
+**
+** Two syncs on the way, of a host that syncs by a thread of its own; `appended` and `syncing` are 0 at first:
+**
+**     vogrilas_records_after(&node, appended, ..);  append these bytes; appended += size
+**     where no sync is under way:                   syncing = appended; begin one
+**     vogrilas_serve(&node, line, size); ..         as before, while it is under way
+**     where it has ended well:                      vogrilas_kept(&node, syncing); appended -= syncing
+**     vogrilas_written(&node, ..);                  what stands here may be sent: that of the calls before the sync
+**     vogrilas_clear(&node);
+*/
+vogrilas_code vogrilas_records_after(vogrilas_node *node, size_t passed, void *buffer, size_t room, size_t *size);
+
+/*
 ** Says that so many bytes of the records are on disk: appended to the log's file, the first of what vogrilas_records() copies, and
 ** synced with all that stands in the file before them. The node never asks; whatever it promises of crashes stands on this word.
 **
-** VOGRILAS_OK: vogrilas_records() has what is left, and where nothing is, the node tells again what it has. A host that appends in
-** pieces says each piece; one that has no records says 0, which is what a node wants that was just opened. VOGRILAS_TOO_MANY: there
+** VOGRILAS_OK: vogrilas_records() has what is left, and where nothing is, the node tells again what it has; vogrilas_written() has the
+** words of the calls whose records these were. A host that appends in pieces says each piece; one that has no records says 0, which is what a node wants that was just opened. VOGRILAS_TOO_MANY: there
 ** are fewer records. VOGRILAS_CLOSED: there is no node. Nothing has changed at both.
 */
 vogrilas_code vogrilas_kept(vogrilas_node *node, size_t size);
 
 /*
-** Copies what came of the lines. Codes, buffer and *size are as of vogrilas_records(), and VOGRILAS_UNSYNCED: not all is on disk,
-** as far as vogrilas_kept() has said, and buffer and *size are as they were.
+** Copies what came of the lines, as far as it may be told: in order, the words of the lines from the first on, up to one that waits. A
+** line waits until vogrilas_kept() has said so of all records that there were once it was served, its own and those before it. Where all is
+** on disk that is all of it.
+**
+** Codes, buffer and *size are as of vogrilas_records(), and VOGRILAS_UNSYNCED: no word may be told, since vogrilas_kept() was not called
+** since vogrilas_open(), or there are records that are not on disk, and every line waits for some. Then buffer and *size are as they were.
 */
 vogrilas_code vogrilas_written(vogrilas_node *node, void *buffer, size_t room, size_t *size);
 
@@ -360,8 +380,8 @@ typedef struct vogrilas_payment {
 vogrilas_code vogrilas_payments(vogrilas_node *node, vogrilas_payment *payments, size_t room, size_t *count);
 
 /*
-** Notes that what was written was used: from here on nothing is to be written, until there are lines again. VOGRILAS_UNSYNCED: not
-** all is on disk. VOGRILAS_CLOSED: there is no node. Nothing has changed at both.
+** Notes that what vogrilas_written() copies was used: the words that may be told are forgotten, and those that wait are not. VOGRILAS_UNSYNCED:
+** no word may be told, as there. VOGRILAS_CLOSED: there is no node. Nothing has changed at both.
 */
 vogrilas_code vogrilas_clear(vogrilas_node *node);
 

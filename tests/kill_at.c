@@ -3,9 +3,10 @@
 **
 **     kill_at [-l] STOP STATE LOG PROGRAM WORD..
 **
-** Each system call of its first thread is two stops: before it is made, and behind it; with -l each that touches LOG, its folder or a file
-** whose name begins with that of LOG, and then the other threads go on for a moment, so that what was handed to them gets out. At the stop of
-** this number, from 1, the program is killed by SIGKILL.
+** Each system call of its first thread is two stops: before it is made, and behind it; with -l each call of any thread that touches LOG, its
+** folder or a file whose name begins with that of LOG. At the stop of this number, from 1, the program is killed by SIGKILL; with -l the other
+** threads first go on for a moment, so that what was handed to them gets out. With -l a sync waits until another thread has written to LOG, or for
+** some milliseconds, in which the other threads go on.
 ** STATE then has a line `STOPS SYNCED NAMED OPENED`: how many stops there were, how many bytes of LOG were on the disk for certain (its size
 ** when the last fsync or fdatasync of it began that was seen to succeed), 1 where its folder was synced, and at which stop LOG was opened.
 ** Where the program ends by itself first, the same line is written, and the status is the program's.
@@ -24,29 +25,49 @@
 #include <sys/uio.h>
 #include <sys/user.h>
 #include <sys/wait.h>
+#include <time.h>
 #include <unistd.h>
 
 /* The status where the program cannot be traced. */
 #define FAILED 125
-/* How long other threads go on, in microseconds. */
+/* How long other threads go on, and how long a sync takes at the most, in microseconds; how often one looks meanwhile. */
 #define MOMENT 10000
+#define SYNC_TAKES 40000
+#define LOOK 200
+#define MOST_THREADS 256
+
+/* A thread, and the call that it is in. */
+struct thread {
+    pid_t id;
+    /* Whether that counts, what a sync will have on the disk, and when it begins, 0 where it does not wait. */
+    bool touches, naming;
+    long long syncing;
+    double held;
+};
 
 struct watch {
     const char *log;
     char folder[PATH_MAX];
-    /* Whether calls count that touch the log alone, and whether the one that goes on does. */
-    bool is_choosy, touches;
+    /* Whether calls count that touch the log alone. */
+    bool is_choosy;
     long stops;
-    /* What is on the disk for certain, and what the call that goes on will have there. */
-    long long synced, syncing;
-    bool named, naming;
-    bool inside;
+    /* What is on the disk for certain. */
+    long long synced;
+    bool named;
     long opened;
+    struct thread thread[MOST_THREADS];
+    int threads;
 };
 
 static void fail(const char *what) {
     perror(what);
     exit(FAILED);
+}
+
+static double now(void) {
+    struct timespec time;
+    clock_gettime(CLOCK_MONOTONIC, &time);
+    return (double)time.tv_sec + (double)time.tv_nsec / 1e9;
 }
 
 /* Puts the name of an open file of the program into `at`; false where it has none. */
@@ -100,32 +121,44 @@ static bool touches(const struct watch *watch, pid_t child, const struct user_re
 }
 
 /* A sync begins: of the log as long as it is now, or of its folder. */
-static void begin(struct watch *watch, pid_t child, unsigned long long file) {
+static void begin(const struct watch *watch, struct thread *thread, unsigned long long file) {
     struct stat at;
-    watch->syncing = -1;
-    if (is_file(child, file, watch->log) && stat(watch->log, &at) == 0) watch->syncing = at.st_size;
-    watch->naming = is_file(child, file, watch->folder);
+    thread->syncing = -1;
+    if (is_file(thread->id, file, watch->log) && stat(watch->log, &at) == 0) thread->syncing = at.st_size;
+    thread->naming = is_file(thread->id, file, watch->folder);
+    if (watch->is_choosy && thread->syncing >= 0) thread->held = now() + SYNC_TAKES / 1e6;
 }
 
-static void end(struct watch *watch, long long result) {
-    if (result == 0 && watch->syncing >= 0) watch->synced = watch->syncing;
-    if (result == 0 && watch->naming) watch->named = true;
-    watch->syncing = -1;
-    watch->naming = false;
+static void end(struct watch *watch, struct thread *thread, long long result) {
+    if (result == 0 && thread->syncing >= 0) watch->synced = thread->syncing;
+    if (result == 0 && thread->naming) watch->named = true;
+    thread->syncing = -1;
+    thread->naming = false;
 }
 
-static void note(struct watch *watch, pid_t child) {
+/* The log was written to while syncs wait: they go on. */
+static void let_go(struct watch *watch) {
+    for (int at = 0; at < watch->threads; at++)
+        if (watch->thread[at].held != 0) watch->thread[at].held = now();
+}
+
+/* Notes a stop of a thread, before its call or behind it; whether it counts. */
+static bool note(struct watch *watch, struct thread *thread) {
     struct user_regs_struct registers;
-    if (ptrace(PTRACE_GETREGS, child, NULL, &registers) != 0) return;
-    watch->inside = !watch->inside;
-    if (watch->inside) watch->touches = !watch->is_choosy || touches(watch, child, &registers);
-    if (!watch->touches) return;
+    struct __ptrace_syscall_info info;
+    if (ptrace(PTRACE_GETREGS, thread->id, NULL, &registers) != 0) return false;
+    if (ptrace(PTRACE_GET_SYSCALL_INFO, thread->id, (void *)sizeof info, &info) <= 0) return false;
+    bool is_entry = info.op == PTRACE_SYSCALL_INFO_ENTRY;
+    if (is_entry) thread->touches = !watch->is_choosy || touches(watch, thread->id, &registers);
+    if (!thread->touches) return false;
     bool is_sync = registers.orig_rax == SYS_fsync || registers.orig_rax == SYS_fdatasync;
+    if (is_sync && is_entry) begin(watch, thread, registers.rdi);
+    if (is_sync && !is_entry) end(watch, thread, (long long)registers.rax);
+    if (registers.orig_rax == SYS_write && !is_entry && is_file(thread->id, registers.rdi, watch->log)) let_go(watch);
+    bool is_open = registers.orig_rax == SYS_openat && !is_entry && watch->opened == 0;
     watch->stops += 1;
-    if (is_sync && watch->inside) begin(watch, child, registers.rdi);
-    if (is_sync && !watch->inside) end(watch, (long long)registers.rax);
-    bool is_open = registers.orig_rax == SYS_openat && !watch->inside && watch->opened == 0;
-    if (is_open && is_file(child, registers.rax, watch->log)) watch->opened = watch->stops;
+    if (is_open && is_file(thread->id, registers.rax, watch->log)) watch->opened = watch->stops;
+    return true;
 }
 
 static void tell(const struct watch *watch, const char *path) {
@@ -135,23 +168,79 @@ static void tell(const struct watch *watch, const char *path) {
     if (fclose(file) != 0) fail(path);
 }
 
+/* The thread of this id, which may be new. */
+static struct thread *thread_of(struct watch *watch, pid_t id) {
+    for (int at = 0; at < watch->threads; at++)
+        if (watch->thread[at].id == id) return &watch->thread[at];
+    if (watch->threads == MOST_THREADS) fail("too many threads");
+    struct thread *made = &watch->thread[watch->threads++];
+    *made = (struct thread){ .id = id, .syncing = -1 };
+    return made;
+}
+
+static void forget(struct watch *watch, pid_t id) {
+    struct thread *gone = thread_of(watch, id);
+    *gone = watch->thread[--watch->threads];
+}
+
+/* Has threads go on whose syncs have waited; whether any waits still. */
+static bool go_on(struct watch *watch) {
+    bool waits = false;
+    for (int at = 0; at < watch->threads; at++) {
+        struct thread *thread = &watch->thread[at];
+        if (thread->held == 0) continue;
+        waits = waits || thread->held > now();
+        if (thread->held > now()) continue;
+        thread->held = 0;
+        ptrace(PTRACE_SYSCALL, thread->id, NULL, NULL);
+    }
+    return waits;
+}
+
+/* The next thread that has come to a stop, and its status; 0 where none has until then, which 0 sets no end to. */
+static pid_t stopped(struct watch *watch, int *status, double until) {
+    for (;;) {
+        bool waits = go_on(watch);
+        pid_t id = waitpid(-1, status, __WALL | (waits || until > 0 ? WNOHANG : 0));
+        if (id < 0) fail("waitpid");
+        if (id > 0) return id;
+        if (until > 0 && now() > until) return 0;
+        usleep(LOOK);
+    }
+}
+
+/* Takes a stop of a thread that lives: whether it is one that counts. The thread goes on, unless it is to be held. */
+static bool take(struct watch *watch, pid_t id, int status, bool counts, long last) {
+    struct thread *thread = thread_of(watch, id);
+    long before = watch->stops;
+    bool is_call = WSTOPSIG(status) == (SIGTRAP | 0x80), is_own = WSTOPSIG(status) == SIGTRAP || WSTOPSIG(status) == SIGSTOP;
+    bool is_stop = is_call && note(watch, thread);
+    if (!counts) watch->stops = before;
+    if (counts && is_stop && watch->stops == last) return true;
+    if (thread->held == 0) ptrace(PTRACE_SYSCALL, id, NULL, (void *)(long)(is_call || is_own ? 0 : WSTOPSIG(status)));
+    return false;
+}
+
 /* Goes from stop to stop until the program is killed or ends; its status as a shell has it. */
 static int follow(struct watch *watch, pid_t child, long last) {
-    int status, signal = 0;
+    int status;
+    ptrace(PTRACE_SYSCALL, child, NULL, NULL);
     for (;;) {
-        if (ptrace(PTRACE_SYSCALL, child, NULL, (void *)(long)signal) != 0) fail("ptrace");
-        if (waitpid(child, &status, 0) < 0) fail("waitpid");
-        if (WIFEXITED(status)) return WEXITSTATUS(status);
-        if (WIFSIGNALED(status)) return 128 + WTERMSIG(status);
-        bool is_call = WSTOPSIG(status) == (SIGTRAP | 0x80);
-        signal = is_call || WSTOPSIG(status) == SIGTRAP ? 0 : WSTOPSIG(status);
-        if (is_call) note(watch, child);
-        if (is_call && watch->touches && watch->stops == last) {
-            if (watch->is_choosy) usleep(MOMENT);
-            kill(child, SIGKILL);
-            waitpid(child, &status, 0);
-            return 128 + SIGKILL;
+        pid_t id = stopped(watch, &status, 0);
+        if (!WIFSTOPPED(status)) {
+            forget(watch, id);
+            if (id == child) return WIFEXITED(status) ? WEXITSTATUS(status) : 128 + WTERMSIG(status);
+            continue;
         }
+        if (!take(watch, id, status, true, last)) continue;
+        double until = now() + MOMENT / 1e6;
+        while (watch->is_choosy && (id = stopped(watch, &status, until)) != 0) {
+            if (WIFSTOPPED(status)) take(watch, id, status, false, last);
+            else if (id == child) break;
+        }
+        kill(child, SIGKILL);
+        while (waitpid(-1, &status, __WALL) > 0) continue;
+        return 128 + SIGKILL;
     }
 }
 
@@ -162,7 +251,9 @@ int main(int count, char **words) {
         fprintf(stderr, "kill_at [-l] STOP STATE LOG PROGRAM WORD..\n");
         return FAILED;
     }
-    struct watch watch = {.log = words[3], .is_choosy = is_choosy, .syncing = -1};
+    static struct watch watch;
+    watch.log = words[3];
+    watch.is_choosy = is_choosy;
     snprintf(watch.folder, sizeof watch.folder, "%s", watch.log);
     char *slash = strrchr(watch.folder, '/');
     if (slash != NULL) *slash = '\0';
@@ -177,7 +268,8 @@ int main(int count, char **words) {
     int status;
     if (waitpid(child, &status, 0) < 0) fail("waitpid");
     if (!WIFSTOPPED(status)) return FAILED;
-    if (ptrace(PTRACE_SETOPTIONS, child, NULL, (void *)(long)(PTRACE_O_TRACESYSGOOD | PTRACE_O_EXITKILL)) != 0) fail("ptrace");
+    long options = PTRACE_O_TRACESYSGOOD | PTRACE_O_EXITKILL | (is_choosy ? PTRACE_O_TRACECLONE : 0);
+    if (ptrace(PTRACE_SETOPTIONS, child, NULL, (void *)options) != 0) fail("ptrace");
     int ended = follow(&watch, child, atol(words[1]));
     tell(&watch, words[2]);
     return ended;

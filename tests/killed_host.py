@@ -15,6 +15,8 @@ from suite.printed import octets_of
 WORDS = ("--tick", "1000000", "--hold-back", "0")
 INBOX = "_INBOX.killed"
 WAIT_SECONDS = 30
+# How long after one call another is asked, while the first has its sync: tests/kill_at.c has one take longer.
+BETWEEN_SECONDS = 0.01
 # How long what a host said just before its end is on its way.
 LAST_WORDS_SECONDS = 0.03
 
@@ -134,27 +136,42 @@ class Host:
 
     def ask(self, line):
         """What a call comes to: its last line, or that some entries are open. The packets that it sends are on their way."""
+        (told,) = self.ask_all([line])
+        if told is None:
+            raise Died
+        return told
+
+    def ask_all(self, lines):
+        """What calls come to that are asked right after one another, so that a sync is under way as the next comes; None of those of which
+        nothing was said before the host died."""
+        told = {}
+        for line in lines:
+            told[self.publish(line)] = None
+            time.sleep(BETWEEN_SECONDS)
+        end = time.monotonic() + WAIT_SECONDS
+        while None in told.values() and time.monotonic() < end:
+            came = self.wire.next(0.02)
+            if came is None and self.process.poll() is not None:
+                break
+            self.hear(came, told)
+        if None in told.values():
+            for came in self.wire.rest():
+                self.hear(came, told)
+        return list(told.values())
+
+    def publish(self, line):
+        """Asks for a call; the inbox in which its last line comes."""
         word, _, rest = line.partition(" ")
         sender, _, packet = rest.partition(" ")
         is_packet = word == "take"
         subject = f"claims.{self.name}.from.{sender}" if is_packet else f"claims.{self.name}.operate"
-        inbox = self.wire.publish(subject, (packet if is_packet else line).encode("latin-1"))
-        end = time.monotonic() + WAIT_SECONDS
-        while time.monotonic() < end:
-            came = self.wire.next(0.02)
-            if came is None and self.process.poll() is not None:
-                break
-            if came is not None and came[0] == inbox:
-                return self.told(came[1].decode("latin-1").splitlines())
-            self.hear(came)
-        for came in self.wire.rest():
-            if came[0] == inbox:
-                return self.told(came[1].decode("latin-1").splitlines())
-            self.hear(came)
-        raise Died
+        return self.wire.publish(subject, (packet if is_packet else line).encode("latin-1"))
 
-    def hear(self, came):
-        """Notes a packet that this node has sent."""
+    def hear(self, came, told=None):
+        """Notes the last line of a call, or a packet that this node has sent."""
+        if came and told is not None and came[0] in told:
+            told[came[0]] = self.told(came[1].decode("latin-1").splitlines())
+            return
         words = came[0].split(".") if came else ()
         if len(words) == 4 and words[3] == self.name:
             self.sent.append((words[1], octets_of(came[1].decode("latin-1"))))

@@ -99,6 +99,31 @@ static void taken(natsConnection *connection, natsSubscription *subscription, na
     natsMsg_Destroy(text);
 }
 
+/* Whether a reply is the word to the server that keeps a packet. */
+static bool is_acknowledgement(const struct carrier *carrier, const char *subject) {
+    char head[64];
+    if (!carrier->is_kept) return false;
+    snprintf(head, sizeof head, "$JS.ACK.claims-%s.%s.", carrier->name, carrier->name);
+    return begins(subject, strlen(subject), head);
+}
+
+/* Replies to a message; called by threads of libnats too. */
+static void reply_to(struct carrier *carrier, natsMsg *to, const char *line, size_t size) {
+    const char *subject = natsMsg_GetReply(to);
+    if (subject == NULL) return;
+    /* A list that is longer than a message may be: the server would not take it, and fewer are to be asked for. */
+    if (size > MOST_BYTES) {
+        counts_refusal("TooLong", 7);
+        line = "refused TooLong";
+        size = strlen(line);
+    }
+    if (begins(subject, strlen(subject), "_INBOX.")) natsConnection_Publish(carrier->connection, subject, line, (int)size);
+    else if (!is_acknowledgement(carrier, subject)) {
+        counts_dropped(NO_INBOX);
+        say_some("warning", "a reply was asked for elsewhere than in an inbox", "reply", FACTS(TEXT("subject", subject)));
+    }
+}
+
 /* Takes a line of a caller or an operator, or refuses it. */
 static void asked(struct carrier *carrier, natsMsg *text, enum sender from) {
     bool is_line = natsMsg_GetDataLength(text) <= MOST_BYTES;
@@ -108,7 +133,7 @@ static void asked(struct carrier *carrier, natsMsg *text, enum sender from) {
     if (!carrier->is_silent) {
         counts_refusal(is_line ? "Busy" : "Line", 4);
         say_refused(&lost, carrier->name, "warning", "a call was refused", is_line ? "Busy" : "Line");
-        reply(carrier, text, is_line ? "refused Busy" : "refused Line", 12);
+        reply_to(carrier, text, is_line ? "refused Busy" : "refused Line", 12);
     }
     natsMsg_Destroy(text);
 }
@@ -244,7 +269,14 @@ struct carrier *carrier_open(const char *name, const struct access *access, vola
     return carrier;
 }
 
-struct message *take_all(struct carrier *carrier, double seconds) {
+void carrier_wake(struct carrier *carrier) {
+    pthread_mutex_lock(&carrier->lock);
+    carrier->is_woken = true;
+    pthread_cond_signal(&carrier->came);
+    pthread_mutex_unlock(&carrier->lock);
+}
+
+struct message *take_all(struct carrier *carrier, double seconds, bool takes) {
     struct timespec until;
     double whole_seconds = floor(seconds > 0 ? seconds : 0);
     clock_gettime(CLOCK_MONOTONIC, &until);
@@ -252,11 +284,14 @@ struct message *take_all(struct carrier *carrier, double seconds) {
     until.tv_nsec += (long)(((seconds > 0 ? seconds : 0) - whole_seconds) * 1e9);
     if (until.tv_nsec >= 1000000000L) until.tv_sec++, until.tv_nsec -= 1000000000L;
     pthread_mutex_lock(&carrier->lock);
-    while (carrier->first == NULL && pthread_cond_timedwait(&carrier->came, &carrier->lock, &until) == 0) continue;
-    struct message *batch = carrier->first;
-    carrier->first = NULL;
-    carrier->last = &carrier->first;
-    memset(carrier->waiting, 0, sizeof carrier->waiting);
+    while ((carrier->first == NULL || !takes) && !carrier->is_woken && pthread_cond_timedwait(&carrier->came, &carrier->lock, &until) == 0) continue;
+    struct message *batch = takes ? carrier->first : NULL;
+    carrier->is_woken = false;
+    if (takes) {
+        carrier->first = NULL;
+        carrier->last = &carrier->first;
+        memset(carrier->waiting, 0, sizeof carrier->waiting);
+    }
     pthread_mutex_unlock(&carrier->lock);
     return batch;
 }
@@ -283,14 +318,7 @@ void send_packet(struct carrier *carrier, const char *to, size_t to_size, const 
     memcpy(at + to_size + strlen(".from."), carrier->name, own_size + 1);
     if (!torment_packet(carrier->connection, subject, text, size, handed)) publish_packet(carrier->connection, subject, text, size, handed);
     counts_sent(to, to_size);
-}
-
-/* Whether a reply is the word to the server that keeps a packet. */
-static bool is_acknowledgement(const struct carrier *carrier, const char *subject) {
-    char head[64];
-    if (!carrier->is_kept) return false;
-    snprintf(head, sizeof head, "$JS.ACK.claims-%s.%s.", carrier->name, carrier->name);
-    return begins(subject, strlen(subject), head);
+    carrier->said++;
 }
 
 void acknowledge(struct carrier *carrier, natsMsg *packet) {
@@ -299,19 +327,8 @@ void acknowledge(struct carrier *carrier, natsMsg *packet) {
 }
 
 void reply(struct carrier *carrier, natsMsg *to, const char *line, size_t size) {
-    const char *subject = natsMsg_GetReply(to);
-    if (subject == NULL) return;
-    /* A list that is longer than a message may be: the server would not take it, and fewer are to be asked for. */
-    if (size > MOST_BYTES) {
-        counts_refusal("TooLong", 7);
-        line = "refused TooLong";
-        size = strlen(line);
-    }
-    if (begins(subject, strlen(subject), "_INBOX.")) natsConnection_Publish(carrier->connection, subject, line, (int)size);
-    else if (!is_acknowledgement(carrier, subject)) {
-        counts_dropped(NO_INBOX);
-        say_some("warning", "a reply was asked for elsewhere than in an inbox", "reply", FACTS(TEXT("subject", subject)));
-    }
+    reply_to(carrier, to, line, size);
+    carrier->said++;
 }
 
 void carrier_stop(struct carrier *carrier) {

@@ -124,12 +124,25 @@ void log_write(const struct log *log, const char *bytes, size_t size) {
         fail("the log takes no records", FACTS(TEXT("reason", strerror(errno)), TEXT("file", log->path)));
 }
 
-void log_sync(struct log *log) {
-    double before = now();
+int log_to_disk(const struct log *log) {
 #ifndef WRONG_UNSYNCED
-    if (fdatasync(log->file) != 0) fail_synced(log->path, "the log is not synced");
+    if (fdatasync(log->file) != 0) return errno;
+#else
+    (void)log;
 #endif
-    counts_sync(now() - before);
+    return 0;
+}
+
+void log_synced(struct log *log, int error, double seconds) {
+    errno = error;
+    if (error != 0) fail_synced(log->path, "the log is not synced");
+    counts_sync(seconds);
     check_name(log);
     log->syncs++;
+}
+
+void log_sync(struct log *log) {
+    double before = now();
+    int error = log_to_disk(log);
+    log_synced(log, error, now() - before);
 }

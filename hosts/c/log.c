@@ -13,26 +13,32 @@ void draw(void *to, size_t size) {
     close(source);
 }
 
-/* What the node hands out by one of its two calls. */
-static struct bytes handed(struct served *node, vogrilas_code (*call)(vogrilas_node *, void *, size_t, size_t *)) {
+/* What the node hands out by one of its calls. */
+static struct bytes handed(struct served *node, vogrilas_code (*call)(vogrilas_node *, size_t, void *, size_t, size_t *), size_t passed) {
     struct bytes bytes = { NULL, 0, 0 };
     size_t size = 0;
     add(&bytes, "", 0);
-    vogrilas_code code = call(&node->node, bytes.at, 0, &size);
+    vogrilas_code code = call(&node->node, passed, bytes.at, 0, &size);
     if (code == VOGRILAS_SHORT_BUFFER) {
         free(bytes.at);
         bytes.at = malloc(size + 1);
         if (bytes.at == NULL) fail_memory();
         bytes.room = size + 1;
-        code = call(&node->node, bytes.at, size, &size);
+        code = call(&node->node, passed, bytes.at, size, &size);
     }
-    if (code != VOGRILAS_OK) fail("the node fails", FACTS(TEXT("reason", vogrilas_code_text(code))));
-    bytes.size = size;
+    /* While words wait for their records there are none. */
+    if (code != VOGRILAS_OK && code != VOGRILAS_UNSYNCED) fail("the node fails", FACTS(TEXT("reason", vogrilas_code_text(code))));
+    bytes.size = code == VOGRILAS_OK ? size : 0;
     return bytes;
 }
 
 struct bytes node_records(struct served *node) {
-    return handed(node, vogrilas_records);
+    return handed(node, vogrilas_records_after, 0);
+}
+
+static vogrilas_code written(vogrilas_node *node, size_t passed, void *buffer, size_t room, size_t *size) {
+    (void)passed;
+    return vogrilas_written(node, buffer, room, size);
 }
 
 struct bytes settings_of(const char *settings) {
@@ -115,6 +121,14 @@ void node_append(struct served *node, const struct bytes *records, bool speaks) 
     }
 }
 
+size_t node_append_after(struct served *node, size_t appended) {
+    struct bytes records = handed(node, vogrilas_records_after, appended);
+    size_t size = records.size;
+    if (records.size > 0) log_write(&node->log, records.at, records.size);
+    free(records.at);
+    return size;
+}
+
 void node_keep(struct served *node, bool speaks) {
     struct bytes records = node_records(node);
     node_append(node, &records, speaks);
@@ -123,7 +137,7 @@ void node_keep(struct served *node, bool speaks) {
 }
 
 struct bytes node_written(struct served *node) {
-    return handed(node, vogrilas_written);
+    return handed(node, written, 0);
 }
 
 void node_clear(struct served *node) {

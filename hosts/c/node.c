@@ -88,9 +88,10 @@ static void drain(struct host *host) {
     service_tell("STOPPING=1");
     say("info", "draining", NULL);
     carrier_stop(host->carrier);
-    for (struct message *batch; (batch = take_all(host->carrier, 0)) != NULL;) turn(host, batch, false);
+    for (struct message *batch; (batch = take_all(host->carrier, 0, true)) != NULL;) turn(host, batch, false);
+    host_settle(host);
     for (double end = now() + RULES_SECONDS; rules_under_way(host->rules) > 0 && now() < end;)
-        turn(host, take_all(host->carrier, TURN_SECONDS), false);
+        turn(host, take_all(host->carrier, TURN_SECONDS, true), false);
     later_send(&host->later, host->carrier, true);
 }
 
@@ -100,7 +101,7 @@ static bool move(struct host *host) {
     const char *whom = move_begin(host->candidate);
     if (whom != NULL) {
         carrier_stop(host->carrier);
-        for (struct message *batch; (batch = take_all(host->carrier, 0)) != NULL;) turn(host, batch, false);
+        for (struct message *batch; (batch = take_all(host->carrier, 0, true)) != NULL;) turn(host, batch, false);
         later_send(&host->later, host->carrier, true);
         natsConnection_FlushTimeout(host->carrier->connection, 1000);
         move_end(host->candidate, whom, &host->served);
@@ -132,7 +133,8 @@ static void serve_for_ever(struct host *host) {
     while (!is_stopping && !host->carrier->is_closed) {
         double wait = later_send(&host->later, host->carrier, false);
         if (ticks && host->next_tick - now() < wait) wait = host->next_tick - now();
-        struct message *batch = take_all(host->carrier, wait < TURN_SECONDS ? wait : TURN_SECONDS);
+        if (sync_wait(host) < wait) wait = sync_wait(host);
+        struct message *batch = take_all(host->carrier, wait < TURN_SECONDS ? wait : TURN_SECONDS, takes_more(host));
         bool is_due = ticks && now() >= host->next_tick;
         if (host->candidate != NULL) candidate_look(host->candidate);
         /* No two hosts tick together for long, since the time between two ticks is never quite the same. */
@@ -184,8 +186,8 @@ static bool open_node(struct host *host) {
 }
 
 /* Lets messages go that came while another host had the log. */
-static void let_go(struct host *host) {
-    for (struct message *batch = take_all(host->carrier, 0), *next; batch != NULL; batch = next) {
+static void release(struct host *host) {
+    for (struct message *batch = take_all(host->carrier, 0, true), *next; batch != NULL; batch = next) {
         next = batch->next;
         natsMsg_Destroy(batch->text);
         free(batch);
@@ -206,7 +208,7 @@ static void hear_callers(void *closure, bool is_called) {
         return;
     }
     carrier_stop(host->carrier);
-    let_go(host);
+    release(host);
     carrier_close(host->carrier);
     host->carrier = NULL;
 }
@@ -218,7 +220,7 @@ static bool own(struct host *host) {
     if (!candidate_own(host->candidate)) return false;
     if (host->candidate->called > 0 && !move_is_handed(host->candidate)) {
         /* Who was to hand the log over has died: nobody knows which calls it has served. */
-        let_go(host);
+        release(host);
         host->candidate->called = 0;
     }
     node_keep(&host->node, false);
@@ -234,6 +236,9 @@ static int serve_node(struct host *host) {
     if (host->carrier == NULL) open_carrier(host);
     host->carrier->is_silent = false;
     host->rules = rules_start(&host->given, host->carrier);
+    host->last = &host->first;
+    /* Of a log in a stream, and of a payer that asks, each turn waits for its sync. */
+    if (host->candidate == NULL && host->rules == NULL && host->given.log != NULL) host->syncs = syncs_start(&host->node.log, host->carrier);
     if (!is_stopping) {
         say("info", "ready", NULL);
         service_tell("READY=1");
@@ -243,6 +248,7 @@ static int serve_node(struct host *host) {
     }
     bool is_lost = host->carrier->is_closed;
     if (!is_lost && !host->has_moved) drain(host);
+    syncs_stop(host->syncs);
     rules_stop(host->rules);
     carrier_close(host->carrier);
     return is_lost ? 1 : host->has_moved ? OVERTAKEN : 0;

@@ -1,7 +1,7 @@
 /*
 ** The rooms of the host: bytes (bytes.c), what it says (said.c), the file of a log (file.c), the node with its log (log.c), the way to
-** servers (access.c), the carrier (carrier.c), packets that are held back or go out later (packets.c), callers who wait (waits.c), turns
-** (turn.c), room for reversals (reserve.c), what it has seen (counts.c, metrics.c), who asks for that (watch.c), and what a command line
+** servers (access.c), the carrier (carrier.c), packets that are held back or go out later (packets.c), callers who wait (waits.c), turns (turn.c,
+** serving.c, telling.c) and their syncs (syncs.c), room for reversals (reserve.c), what it has seen (counts.c, metrics.c), who asks for that (watch.c), and what a command line
 ** asks for (words.c).
 ** stream.h has those of a log in a stream, rules.h those of a payer that asks its own system, signed.h those of packets that are signed.
 */
@@ -93,6 +93,9 @@ void log_cut(const struct log *log, const struct bytes *bytes, size_t kept);
 void log_write(const struct log *log, const char *bytes, size_t size);
 /* Has on disk what was written; the file and its name, where it may be new. Both end the process where that fails. */
 void log_sync(struct log *log);
+/* The two parts of a sync: what may be done by any thread, which gives 0 or an error; and what is made of it, where a failure ends the process. */
+int log_to_disk(const struct log *log);
+void log_synced(struct log *log, int error, double seconds);
 void log_sync_all(const struct log *log);
 /* The name of a file beside a log. */
 char *beside(const char *path, const char *ending);
@@ -125,6 +128,8 @@ void node_make(struct served *node, const char *record, size_t size);
 void node_keep(struct served *node, bool speaks);
 /* The first part of it: has them there. */
 void node_append(struct served *node, const struct bytes *records, bool speaks);
+/* Appends the records behind so many that were appended before, to a log that is a file alone; how many bytes those are. */
+size_t node_append_after(struct served *node, size_t appended);
 /* Notes that so many bytes of records stand where they have to: the one place behind each way in which they come there, that of an owner,
    of its log in a file or in a stream, and that of a stand-by. */
 void node_kept(struct served *node, size_t size);
@@ -181,6 +186,8 @@ struct message {
     char sender[9];
     struct head head;
     bool is_served;
+    /* What came of it was told; it was told or waits without a line of the node; it is no message, but stands for a tick. */
+    bool is_told, is_heard, is_tick;
     /* It would have the node enter a billing while only the reserve is left. */
     bool is_over;
     /* It is a packet whose signature lacks or does not hold, and why it is not taken. */
@@ -208,11 +215,13 @@ struct carrier {
     pthread_cond_t came;
     struct message *first, **last, *spare;
     size_t spare_count;
+    /* How many packets and replies the node's thread has sent in a turn. */
+    size_t said;
     /* How many of these have a place of those that each kind of sender has, and their bytes. */
     struct most {
         size_t count, bytes;
     } waiting[SENDERS];
-    bool is_kept;
+    bool is_kept, is_woken;
     volatile bool is_closing, is_closed;
     /* Two hosts hear the callers: what has no room here is the other's. */
     volatile bool is_silent;
@@ -224,8 +233,11 @@ natsOptions *access_options(const struct access *access, const char *name);
 natsConnection *access_connect(natsOptions *options, volatile sig_atomic_t *is_stopping);
 
 struct carrier *carrier_open(const char *name, const struct access *access, volatile sig_atomic_t *is_stopping);
-/* All messages that wait; where there is none, those that come within so many seconds, or none. */
-struct message *take_all(struct carrier *carrier, double seconds);
+/* All messages that wait; where there is none, those that come within so many seconds, or none. With `takes` false, and where it is woken, it
+   ends before: then there may be none. */
+struct message *take_all(struct carrier *carrier, double seconds, bool takes);
+/* Has `take_all` end, now or the next time; called by any thread. */
+void carrier_wake(struct carrier *carrier);
 /* Sends a packet with the signature that was handed over beside it, or with the node's own where none was and it has keys. */
 void send_packet(struct carrier *carrier, const char *to, size_t to_size, const char *text, size_t size, const char *handed);
 /* Publishes a packet, with its signature unless that is NULL. */
@@ -245,6 +257,13 @@ bool sender_of(const char *node, const char *subject, char sender[9]);
 /* Takes no more messages; those that had come wait in the list when it returns. */
 void carrier_stop(struct carrier *carrier);
 void carrier_close(struct carrier *carrier);
+
+/* The syncs of a log by a thread of their own (syncs.c), one at a time. Who begins one has appended what it is for; `syncs_ended` is true once
+   behind each that has ended, and with `waits` where one is under way. A failure ends the process there, so nothing is told behind it. */
+struct syncs *syncs_start(struct log *log, struct carrier *carrier);
+void syncs_begin(struct syncs *syncs);
+bool syncs_ended(struct syncs *syncs, bool waits);
+void syncs_stop(struct syncs *syncs);
 
 /* How many callers may wait for answers, whatever else waits. */
 #define MOST_WAITS 65536
@@ -312,9 +331,22 @@ struct host {
     volatile sig_atomic_t *is_stopping;
     struct bytes line;
     struct later later;
+    /* NULL where a turn waits for its sync. Of the records that are not known to be on disk, so many bytes were appended, and so many of those the
+       sync under way is for; when the next is to begin, 0 where nothing wants one. */
+    struct syncs *syncs;
+    size_t appended, syncing;
+    double sync_due;
+    /* When all was on disk the last time, and whether no more is served until it is. */
+    double settled_at;
+    bool is_settling;
+    /* The messages of which not all was told, in order. */
+    struct message *first, **last;
+    size_t waiting;
     double next_tick, next_word, next_open;
     /* The entries or rows of the node as the last turn left them, behind so many calls; the most of them; how many are kept for reversals. */
     uint64_t rows, rows_calls, most, reserve;
+    /* How many calls the log has on disk, and how many messages were served since the rows were counted. */
+    uint64_t calls, served_since;
     /* The operator who has the log moved, and where replies of calls went since another host hears them too, each behind a space. */
     natsMsg *mover;
     struct bytes served;
@@ -328,8 +360,21 @@ void reserve_count(struct host *host);
 /* Marks the messages of a turn for which no room is left but the reserve. */
 void reserve_mark(struct host *host, struct message *batch);
 
-/* One turn: all that waits, one sync, and then what came of it. Ticks come last, since they have no message. */
+/* Serves a message, or refuses it; where it was served, the next last line is for it. What has happened where one was refused. */
+void host_serve(struct host *host, struct message *one);
+const char *what_refused(const struct message *one);
+/* Tells what may be told; of how many messages. Lets those go of which all is told, and tells who waits for an answer that a payer gave. */
+size_t host_tell(struct host *host);
+void host_let_go(struct host *host);
+void host_tell_heard(struct host *host, const struct message *batch);
+/* One turn: all that waits is served and appended, and what came of it is told once it is on disk, in this turn or in a later one. */
 void turn(struct host *host, struct message *batch, bool is_tick);
+/* Has all on disk that was served, and tells what came of it. */
+void host_settle(struct host *host);
+/* In how many seconds a sync is to begin; a turn does it. */
+double sync_wait(const struct host *host);
+/* Whether more messages are to be served now: not where many wait for their syncs, nor where all is to be on disk for once. */
+bool takes_more(const struct host *host);
 
 /* What hosts/torture builds in: a death, behind what was said on a connection or NULL; packets that are taken from the way, or late. */
 #ifdef TORMENTED

@@ -57,12 +57,18 @@ void reserve_begin(struct host *host) {
 }
 
 void reserve_count(struct host *host) {
+    /* While not all is on disk the node tells of nothing. */
+    if (host->appended > 0) return;
     uint64_t calls = node_calls(&host->node);
     bool is_switch = begins(host->given.name, 2, "sw");
+    host->calls = calls;
+    host->settled_at = now();
+    host->is_settling = false;
     /* Without a call the rows are what they were, and what stops keeps them: it is asked again once it is up. */
-    if (calls == host->rows_calls || (!is_switch && !node_is_up(&host->node))) return;
+    if (calls != host->rows_calls && !is_switch && !node_is_up(&host->node)) return;
+    if (calls != host->rows_calls) host->rows = node_count(&host->node);
     host->rows_calls = calls;
-    host->rows = node_count(&host->node);
+    host->served_since = 0;
 }
 
 void reserve_mark(struct host *host, struct message *batch) {
@@ -73,6 +79,9 @@ void reserve_mark(struct host *host, struct message *batch) {
         waiting++;
         is_operated = is_operated || one->from == FROM_OPERATOR;
     }
+    if (rows + host->served_since + waiting <= room) return;
+    host_settle(host);
+    rows = host->rows;
     if (rows + waiting <= room) return;
     /* All is on disk here, so the node tells of its rows. One that is stopped refuses every packet, and is asked of none. Where somebody
        may start it in this turn, what asks for a billing counts as new. */

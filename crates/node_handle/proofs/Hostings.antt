@@ -1,21 +1,20 @@
--- Lines that are served while some bytes of the records are on disk already.
-use Rattle.std.proofs.Common.{◌≡◌, ℕ, ◌≤◌, List, length, drop, ap, arith}
-use Rattle.std.proofs.lemmas.List.{length-append, drop-append-le}
-use Rattle.node_service.specs.Serving.{Serving, after_line, cleared}
-use Rattle.node_service.specs.Lines.{joined}
-use Rattle.node_handle.specs.Hosting.{with_records}
+-- What a host has of a node, as records come and are kept.
+use Rattle.std.proofs.Common.{◌≡◌, ℕ, ◌+◌, ◌-◌, List, [], ◌∷◌, ◌++◌, map, refl, ap, ◌∙◌, arith}
+use Rattle.std.proofs.lemmas.List.{map-append}
+use Rattle.node_handle.specs.Waiting.{Waiting, lowered, all_lowered}
 
--- what node_service says of a line: that what it adds hangs on no record
-abbrev pub LinesAdd : Type 0
-LinesAdd = (s : Serving) (line : List ℕ) → after_line s line ≡ joined s (after_line (cleared s) line)
+-- a call more, whose mark is counted from the first records that ever were
+pub added_behind : (kept size : ℕ) (words new : List Waiting) (text : List ℕ) → new ≡ words ++ record { mark = kept + size; text = text } ∷ []
+    → all_lowered kept new ≡ all_lowered kept words ++ record { mark = size; text = text } ∷ []
+added_behind kept size words new text is =
+    let same : kept + size - kept ≡ size = omega arith in
+    ap (all_lowered kept) is ∙ (map-append (lowered kept) words (record { mark = kept + size; text = text } ∷ [])
+    ∙ ap (λ (n : ℕ). all_lowered kept words ++ record { mark = n; text = text } ∷ []) same)
 
-pub grows : LinesAdd → (s : Serving) (line : List ℕ) (kept : ℕ) → kept ≤ length s.records → kept ≤ length (after_line s line).records
-grows add s line kept le = rw (add s line) (omega (arith, length-append s.records (after_line (cleared s) line).records))
-
--- the bytes that are kept go before the line or after it
-pub kept_before : LinesAdd → (s : Serving) (line : List ℕ) (kept : ℕ) → kept ≤ length s.records
-    → with_records (after_line s line) (drop kept (after_line s line).records) ≡ after_line (with_records s (drop kept s.records)) line
-kept_before add s line kept le =
-    let more : Serving = after_line (cleared s) line in
-    rw (add s line, add (with_records s (drop kept s.records)) line)
-    (ap (λ (records : List ℕ). with_records (joined s more) records) (drop-append-le kept s.records more.records le))
+-- what is kept in two steps is kept in one
+pub lowered_twice : (kept size : ℕ) (words : List Waiting) → all_lowered (kept + size) words ≡ all_lowered size (all_lowered kept words)
+lowered_twice kept size [] = refl
+lowered_twice kept size (w ∷ words) =
+    let same : w.mark - (kept + size) ≡ w.mark - kept - size = omega arith in
+    ap (λ (n : ℕ). record { mark = n; text = w.text } ∷ all_lowered (kept + size) words) same
+    ∙ ap (λ (more : List Waiting). record { mark = w.mark - kept - size; text = w.text } ∷ more) (lowered_twice kept size words)

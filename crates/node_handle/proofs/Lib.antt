@@ -4,4 +4,6 @@ pub mod Crosses
 pub mod Lines
 pub mod Pieces
 pub mod Rooms
+pub mod Marks
 pub mod Hostings
+pub mod InOrder

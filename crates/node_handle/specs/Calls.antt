@@ -13,7 +13,8 @@ use Rattle.node_handle.specs.declared.refusal.Refusal.{Refusal}
 use Rattle.node_handle.specs.declared.refusal.Refusal.TheVariants.{OutOfMemory, Closed, Open, ShortBuffer, Name, TooMany, Unsynced}
 use Rattle.node_handle.specs.Refusals.{refusal_of, place_in}
 use Rattle.node_handle.specs.Saying.{Said}
-use Rattle.node_handle.specs.Hosting.{Hosting, Settled, bytes_kept, is_settled, just_opened, line_served, words_cleared}
+use Rattle.node_handle.specs.Waiting.{told}
+use Rattle.node_handle.specs.Hosting.{Hosting, Settled, bytes_kept, just_opened, line_served, may_write, words_cleared}
 
 -- a node is refused for a true cause, and the place of the record that it is about is told
 pub record HasCause (settings name log : List ℕ) (why : Refusal) (before kept : ℕ) : Type 0 where
@@ -56,10 +57,10 @@ abbrev pub Keeps : Option Hosting → ℕ → Said → Option Hosting → Type 0
 Keeps None size said new = (said ≡ Err Closed) × (new ≡ None)
 Keeps (Some h) size said new = (kept : Hosting) × ((new ≡ Some kept) × KeepsBytes h size said kept)
 
--- what was written is forgotten, where all is on disk; else nothing is
+-- what may be written is forgotten, and nothing else; where nothing may be, nothing is
 abbrev pub ClearsWords : Hosting → Said → Hosting → Type 0
 ClearsWords h said new =
-    ((is_settled h ≡ true) × ((said ≡ Ok tt) × (new ≡ words_cleared h))) ⊎ ((is_settled h ≡ false) × ((said ≡ Err Unsynced) × (new ≡ h)))
+    ((may_write h ≡ true) × ((said ≡ Ok tt) × (new ≡ words_cleared h))) ⊎ ((may_write h ≡ false) × ((said ≡ Err Unsynced) × (new ≡ h)))
 
 abbrev pub Clears : Option Hosting → Said → Option Hosting → Type 0
 Clears None said new = (said ≡ Err Closed) × (new ≡ None)
@@ -92,8 +93,9 @@ Caps node said before after = Settled node (after ≡ before) (λ s out. TellsMo
 abbrev pub records_of : Hosting → List ℕ
 records_of h = h.serving.records
 
-abbrev pub written_of : Serving → List ℕ
-written_of s = s.out
+-- those of them that come after so many bytes
+abbrev pub records_after : ℕ → Hosting → List ℕ
+records_after passed h = drop passed h.serving.records
 
 -- these bytes, or elements, stand at the start of a buffer, and how many they are is told
 abbrev pub Stands : {A : Type 0} → List A → List A → List A → ℕ → Type 0
@@ -113,7 +115,16 @@ Copies given (Err why) buffer after before size =
 abbrev pub CopiesRecords : Option Hosting → Said → List ℕ → List ℕ → ℕ → ℕ → Type 0
 CopiesRecords node said buffer after before size = Copies (option_map records_of node) said buffer after before size
 
--- so is what is to be written, where all is on disk
+-- so is what comes after so many bytes of it
+abbrev pub CopiesRecordsAfter : ℕ → Option Hosting → Said → List ℕ → List ℕ → ℕ → ℕ → Type 0
+CopiesRecordsAfter passed node said buffer after before size = Copies (option_map (records_after passed) node) said buffer after before size
+
+-- what may be written is copied: the words of the calls, from the first on, of which all records are on disk. Where nothing may be, that is said
+abbrev pub CopiesWords : Hosting → Said → List ℕ → List ℕ → ℕ → ℕ → Type 0
+CopiesWords h said buffer after before size =
+    ((may_write h ≡ true) × Copies (Some (told h.words)) said buffer after before size)
+    ⊎ ((may_write h ≡ false) × ((said ≡ Err Unsynced) × ((after ≡ buffer) × (size ≡ before))))
+
 abbrev pub CopiesWritten : Option Hosting → Said → List ℕ → List ℕ → ℕ → ℕ → Type 0
-CopiesWritten node said buffer after before size =
-    Settled node ((after ≡ buffer) × (size ≡ before)) (λ s out. Copies (option_map written_of s) out buffer after before size) said
+CopiesWritten None said buffer after before size = Copies None said buffer after before size
+CopiesWritten (Some h) said buffer after before size = CopiesWords h said buffer after before size

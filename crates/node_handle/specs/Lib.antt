@@ -2,7 +2,10 @@ pub mod Erased
 pub mod Numbers
 pub mod Refusals
 pub mod Saying
+pub mod Waiting
+pub mod Marks
 pub mod Hosting
+pub mod InOrder
 pub mod Calls
 pub mod Texts
 pub mod Messages

@@ -1,6 +1,6 @@
 //! The handle of a node.
 
-ghost use Rattle.std.specs.Prelude.{◌≡◌, IfOk, IfErr, IsSome, is_some};
+ghost use Rattle.std.specs.Prelude.{◌≡◌, drop, IfOk, IfErr, IsSome, is_some};
 ghost use Rattle.std.specs.declared.option.Option.TheVariants.{None, Some};
 ghost use Rattle.world_setup.specs.Seen.{node_seen};
 ghost use Rattle.schedule.specs.Nodes.{node_in};
@@ -10,7 +10,7 @@ ghost use Rattle.world_setup.specs.declared.node.Node.{Node};
 ghost use Rattle.node_handle.specs.declared.refusal.Refusal.TheVariants.{OutOfMemory};
 ghost use Rattle.node_handle.specs.Refusals.{refusal_of, place_in};
 ghost use Rattle.node_handle.specs.Hosting.{just_opened};
-ghost use Rattle.node_handle.specs.Calls.{Opens, RefusesNode, Serves, Caps, Clears, Counts, CopiesRecords, CopiesWritten, Keeps};
+ghost use Rattle.node_handle.specs.Calls.{Opens, RefusesNode, Serves, Caps, Clears, Counts, CopiesRecords, CopiesRecordsAfter, CopiesWritten, Keeps};
 
 use crate::hosted::Hosted;
 use crate::loose::Loose;
@@ -143,10 +143,10 @@ impl NodeHandle {
         kept
     }
 
-    /// Forgets what was written.
+    /// Forgets what may be written, which is what `written` copies.
     ///
     /// # Errors
-    /// `Closed` where there is no node, `Unsynced` where not all is on disk. Then nothing changes.
+    /// `Closed` where there is no node, `Unsynced` where nothing may be written. Then nothing changes.
     pub fn clear(&mut self, alloc: Global) -> Result<(), Refusal>
         ensures { Clears self.old.part.node result self.new.part.node }
     {
@@ -215,10 +215,36 @@ impl NodeHandle {
         copied
     }
 
-    /// Copies what is to be written.
+    /// Copies what comes after so many bytes of that: a host that has appended them, and does not know yet whether they are on
+    /// disk, appends these meanwhile.
     ///
     /// # Errors
-    /// `Closed` where there is no node, `Unsynced` where not all is on disk, `ShortBuffer`. Then the buffer is as it was.
+    /// `Closed` where there is no node, `ShortBuffer`. Then the buffer is as it was.
+    pub fn records_after(
+        &mut self,
+        alloc: Global,
+        passed: usize,
+        buffer: &mut [u8],
+        size: &mut usize,
+    ) -> Result<(), Refusal>
+        ensures kept { self.new.part.node ≡ self.old.part.node }
+        ensures copied { CopiesRecordsAfter passed self.old.part.node result buffer.old buffer.new size.old size.new }
+    {
+        if !self.held {
+            return Err(Refusal::Closed);
+        }
+        let node = self.take(alloc);
+        let copied = copy_out(after(node.records(), passed), buffer, size);
+        self.put(node);
+        copied
+    }
+
+    /// Copies what may be written: the words of the calls, from the first on, of which the host has said that all records are
+    /// on disk, and those of the calls before them; of no other call.
+    ///
+    /// # Errors
+    /// `Closed` where there is no node; `Unsynced` where what the node was opened from is not known to be on disk, or where there
+    /// are records that are not, and each call waits for some; `ShortBuffer`. Then the buffer is as it was.
     pub fn written(
         &mut self,
         alloc: Global,
@@ -264,13 +290,23 @@ fn tell_most(node: &Hosted, most: &mut u64) -> Result<(), Refusal>
     }
 }
 
-/// Copies what a node has written, where all is on disk.
+/// Copies what a node may write.
 fn give_written(node: &Hosted, buffer: &mut [u8], size: &mut usize) -> Result<(), Refusal>
     ensures { CopiesWritten (Some node.now) result buffer.old buffer.new size.old size.new }
 {
-    match node.settled() {
-        Ok(service) => copy_out(service.written(), buffer, size),
+    match node.written() {
+        Ok(words) => copy_out(words, buffer, size),
         Err(why) => Err(why),
+    }
+}
+
+/// The bytes after so many of them.
+fn after(bytes: &[u8], passed: usize) -> &[u8]
+    ensures { result.now ≡ drop passed bytes.now }
+{
+    match bytes.get(passed..) {
+        Some(more) => more,
+        None => &[],
     }
 }
 
@@ -306,7 +342,10 @@ fn boxed(
     ensures boxed { IfOk result (λ o. (o.value ≡ just_opened service) × (kept.new ≡ stay)) }
     ensures refused { IfErr result (λ why. (why ≡ OutOfMemory) × (kept.new ≡ kept.old)) }
 {
-    match Box::new(alloc, Hosted::of(service)) {
+    let Ok(node) = Hosted::of(alloc, service) else {
+        return Err(Refusal::OutOfMemory);
+    };
+    match Box::new(alloc, node) {
         Ok(node) => {
             *kept = stay;
             Ok(node)

@@ -19,11 +19,12 @@ mod reading;
 mod refusal;
 mod seed;
 mod typed;
+mod waiting;
 
 pub use auditing::audit;
 pub use describing::describe;
 pub use handle::NodeHandle;
-pub use hosted::Hosted;
+pub use hosted::{Hosted, words_wait_for_records};
 pub use making::{billing, reversal};
 pub use message_making::{PlainBilling, PlainReversal};
 pub use message_words::Style;

@@ -8,3 +8,4 @@ pub mod Refusals
 pub mod OpenEntries
 pub mod Pages
 pub mod Words
+pub mod Serials

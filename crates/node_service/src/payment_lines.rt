@@ -2,11 +2,14 @@
 
 ghost use Rattle.std.specs.Prelude.{◌≡◌, ◌++◌, OnOk};
 ghost use Rattle.std.specs.List.{flat_map};
-ghost use Rattle.node_service.specs.Payments.{amounts_behind, fill_behind, number_behind, payment_line, payment_lines, reversed_behind, text_behind, word_byte, word_of};
+ghost use Rattle.bin_routes.specs.Table.{RouteMaps};
+ghost use Rattle.claim_model.specs.Bytes.{bytes_with};
+ghost use Rattle.node_service.specs.Payments.{amounts_behind, book_payments, fill_behind, number_behind, page, payment_line, payment_lines, reversed_behind, text_behind, word_byte, word_of};
 
-use crate::payments::NodePayment;
+use crate::payments::{NodePayment, payment_after};
 use claim_profile::{Amounts, Fill};
 use input_text::{put_decimal, put_printed};
+use payer_book::Book;
 use std::alloc::AllocError;
 
 /// Appends a line for each payment.
@@ -16,6 +19,26 @@ pub(crate) fn put_payments(out: &mut Vec<u8>, payments: &[NodePayment]) -> Resul
 {
     for payment in payments {
         put_payment(out, payment)?;
+    }
+    Ok(())
+}
+
+/// Appends a line for each payment of a book, this many at most from the one of a number on; they are numbered from 1.
+pub(crate) fn put_book_page(
+    out: &mut Vec<u8>,
+    book: &Book,
+    number: u64,
+    count: u64,
+) -> Result<(), AllocError>
+    ensures { (routes : RouteMaps) → OnOk result (out.new.items
+        ≡ out.old.items ++ payment_lines (page number count (book_payments (bytes_with routes) book.now))) }
+{
+    let passed = number.saturating_sub(1);
+    for more in 0..count {
+        let Some(payment) = payment_after(book, passed, more) else {
+            return Ok(());
+        };
+        put_payment(out, &payment)?;
     }
     Ok(())
 }

@@ -1,17 +1,18 @@
 //! The payments of a node, as one list: those that a pharmacy counts, or those of a payer's book.
 
-ghost use Rattle.std.specs.Prelude.{◌≡◌, ◌++◌, ◌-◌, map, take, drop, None, Some, IfOk, OnOk};
+ghost use Rattle.std.specs.Prelude.{◌≡◌, ◌++◌, ◌+◌, ◌-◌, ◌<◌, ◌≤◌, map, take, drop, slice_get, None, Some, IfOk, OnOk, MatchOption};
 ghost use Rattle.std.specs.List.{flat_map};
 ghost use Rattle.std.specs.Option.{option_map, option_to_list};
 ghost use Rattle.bin_routes.specs.Table.{RouteMaps};
 ghost use Rattle.claim_model.specs.Bytes.{bytes_with};
+ghost use Rattle.claim_profile.specs.Authorization.{largest_serial};
 ghost use Rattle.node_state.specs.Nodes.{book_of, journal_of};
 ghost use Rattle.node_service.specs.Payments.{book_payments, booked_payment, counted_payment, journal_payments, number_by, page, payments_by, payments_of, pharmacy_by, row_payments, ruling_payment};
 
 use claim_profile::{Amounts, Auth, Fill, Ruling};
 use envelope::TxnId;
 use node_state::{JournalReading, NodeState};
-use payer_book::{Book, PaymentView, Row};
+use payer_book::{Book, BookSettings, PayerNo, PaymentView, Row, kept_rows_follow_rules};
 use pharmacy_journal::CountedPayment;
 use std::alloc::{AllocError, Global};
 
@@ -68,6 +69,54 @@ fn front(list: &[NodePayment], count: u64) -> &[NodePayment]
     }
 }
 
+/// The payment of a book after so many, and so many more, in the order in which they were made: it has the serial of that place.
+pub(crate) fn payment_after(book: &Book, passed: u64, more: u64) -> Option<NodePayment>
+    ensures { (routes : RouteMaps)
+        → result ≡ slice_get (book_payments (bytes_with routes) book.now) (passed + more) }
+{
+    kept_rows_follow_rules();
+    let _made = book.rows();
+    match auth_after(book.payer(), book.settings(), passed, more) {
+        Some(auth) => found_payment(auth, book.payment(auth)),
+        None => None,
+    }
+}
+
+/// The authorization after so many, and so many more, of those that a payer gives from its first serial on; none where no serial is
+/// so large.
+fn auth_after(payer: PayerNo, settings: BookSettings, passed: u64, more: u64) -> Option<Auth>
+    ensures { MatchOption result (largest_serial < settings.serial + (passed + more))
+        (λ auth. auth ≡ record { payer = payer; serial = settings.serial + (passed + more) }) }
+{
+    let serial = settings.serial();
+    match passed.checked_add(more) {
+        Some(place) => auth_of_serial(payer, serial, place),
+        None => None,
+    }
+}
+
+/// The authorization of a payer with a serial and so many more.
+fn auth_of_serial(payer: PayerNo, serial: u64, place: u64) -> Option<Auth>
+    requires { 1 ≤ serial }
+    ensures { MatchOption result (largest_serial < serial + place)
+        (λ auth. auth ≡ record { payer = payer; serial = serial + place }) }
+{
+    match serial.checked_add(place) {
+        Some(serial) => Auth::new(payer.get(), serial),
+        None => None,
+    }
+}
+
+/// A payment of a book, where there is one.
+fn found_payment(auth: Auth, found: Option<PaymentView>) -> Option<NodePayment>
+    ensures { result ≡ option_map (booked_payment auth) found }
+{
+    match found {
+        Some(view) => Some(booked_payment(auth, &view)),
+        None => None,
+    }
+}
+
 /// The payments of a node that is no pharmacy.
 fn other_payments(alloc: Global, state: &NodeState) -> Result<Vec<NodePayment>, AllocError>
     ensures { (routes : RouteMaps)
@@ -80,7 +129,7 @@ fn other_payments(alloc: Global, state: &NodeState) -> Result<Vec<NodePayment>, 
 }
 
 /// The payments that a pharmacy counts.
-fn journal_payments(
+pub(crate) fn journal_payments(
     alloc: Global,
     journal: &JournalReading<'_>,
 ) -> Result<Vec<NodePayment>, AllocError>

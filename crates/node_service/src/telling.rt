@@ -1,24 +1,25 @@
 //! What is written of calls that were made, and of questions.
 
-ghost use Rattle.std.specs.Prelude.{◌≡◌, ◌++◌, OnOk};
+ghost use Rattle.std.specs.Prelude.{◌≡◌, ◌++◌, None, OnOk};
 ghost use Rattle.bin_routes.specs.Table.{RouteMaps};
 ghost use Rattle.claim_model.specs.Bytes.{bytes_with};
 ghost use Rattle.claim_model.specs.Node.{Pharmacy};
 ghost use Rattle.world_setup.specs.Seen.{call_seen, node_seen};
 ghost use Rattle.node_service.specs.BookRow.{row_text};
 ghost use Rattle.node_service.specs.Listing.{open_text};
-ghost use Rattle.node_service.specs.Payments.{payments_text};
+ghost use Rattle.node_service.specs.Payments.{journal_payments, page, payment_lines, payments_by, payments_text};
+ghost use Rattle.node_state.specs.Nodes.{book_of};
 ghost use Rattle.node_service.specs.Serving.{answer_of, answer_text, last_line, made_lines, told_of};
 
 use crate::answering::{put_answer, put_done, put_number, put_sent};
 use crate::asking::Question;
 use crate::book_row::put_row_in;
 use crate::listing::{put_count, put_end, put_open};
-use crate::payment_lines::put_payments;
-use crate::payments::{page, payments_of};
+use crate::payment_lines::{put_book_page, put_payments};
+use crate::payments::{journal_payments, page};
 use envelope::TxnId;
 use node_log::Record;
-use node_state::NodeState;
+use node_state::{JournalReading, NodeState};
 use octets::Octets;
 use std::alloc::{AllocError, Global};
 use world_setup::{Call, Node};
@@ -119,9 +120,43 @@ fn put_payments_of(
     ensures { (routes : RouteMaps) → OnOk result (out.new.items
         ≡ out.old.items ++ payments_text (bytes_with routes) number count state.now) }
 {
-    let list = payments_of(alloc, state)?;
-    put_payments(out, page(list.as_slice(), number, count))?;
+    match state.journal(alloc)? {
+        Some(journal) => put_counted(alloc, out, &journal, number, count)?,
+        None => put_booked(alloc, out, state, number, count)?,
+    }
     put_end(out)
+}
+
+/// Appends the payments that a pharmacy counts, this many at most from the one of a number on. All entries are read for them.
+fn put_counted(
+    alloc: Global,
+    out: &mut Vec<u8>,
+    journal: &JournalReading<'_>,
+    number: u64,
+    count: u64,
+) -> Result<(), AllocError>
+    ensures { (routes : RouteMaps) → OnOk result (out.new.items
+        ≡ out.old.items ++ payment_lines (page number count (journal_payments (bytes_with routes) journal.now))) }
+{
+    let list = journal_payments(alloc, journal)?;
+    put_payments(out, page(list.as_slice(), number, count))
+}
+
+/// Appends the payments of a payer's book, this many at most from the one of a number on; a switch has none.
+fn put_booked(
+    alloc: Global,
+    out: &mut Vec<u8>,
+    state: &NodeState,
+    number: u64,
+    count: u64,
+) -> Result<(), AllocError>
+    ensures { (routes : RouteMaps) → OnOk result (out.new.items
+        ≡ out.old.items ++ payment_lines (page number count (payments_by (bytes_with routes) None (book_of state.now)))) }
+{
+    match state.book(alloc)? {
+        Some(reading) => put_book_page(out, reading.book(), number, count),
+        None => put_payments(out, &[]),
+    }
 }
 
 /// Appends the answer to a number of this pharmacy; of another node there is none.

@@ -8,7 +8,7 @@
 ghost use Rattle.std.specs.Prelude.{◌≡◌};
 ghost use Rattle.std.specs.declared.option.Option.TheVariants.{None};
 ghost use Rattle.node_handle.specs.Numbers.{Says};
-ghost use Rattle.node_handle.specs.Calls.{Caps, Clears, CopiesRecords, CopiesWritten, Counts, Keeps, Opens, Serves};
+ghost use Rattle.node_handle.specs.Calls.{Caps, Clears, CopiesRecords, CopiesRecordsAfter, CopiesWritten, Counts, Keeps, Opens, Serves};
 ghost use Rattle.node_handle.specs.Texts.{Prints, Unprints};
 ghost use Rattle.node_handle.specs.Messages.{Describes, Makes};
 ghost use Rattle.claim_profile.specs.Building.{billing_text, reversal_text};
@@ -113,7 +113,23 @@ pub extern "C" fn vogrilas_records(
     number_of(node.records(alloc, buffer, size))
 }
 
-/// Copies what came of the lines, once the host has said that all is on disk.
+/// Copies what comes after so many bytes of that.
+#[unsafe(no_mangle)]
+pub extern "C" fn vogrilas_records_after(
+    alloc: Global,
+    node: &mut NodeHandle,
+    passed: usize,
+    buffer: &mut [u8],
+    size: &mut usize,
+) -> u32
+    ensures kept { node.new.part.node ≡ node.old.part.node }
+    ensures copied { Says result (λ said.
+        CopiesRecordsAfter passed node.old.part.node said buffer.old buffer.new size.old size.new) }
+{
+    number_of(node.records_after(alloc, passed, buffer, size))
+}
+
+/// Copies what came of the lines: the words of the calls of which the host has said that all records are on disk.
 #[unsafe(no_mangle)]
 pub extern "C" fn vogrilas_written(
     alloc: Global,
