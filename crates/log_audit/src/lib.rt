@@ -14,6 +14,7 @@ mod lone_object;
 mod lone_report;
 mod lone_tables;
 mod missing;
+mod naming;
 mod noted;
 mod object;
 mod outgoing;
@@ -32,7 +33,7 @@ mod writer_sink;
 mod wrongs;
 
 pub use calls::calls_table;
-pub use fault::AuditFault;
+pub use fault::{AuditFault, ReferenceFault};
 pub use judging::{Verdict, judge};
 pub use lone_report::{LoneForm, put_alone, put_lone_prices};
 pub use lone_tables::LoneTable;
