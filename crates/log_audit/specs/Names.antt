@@ -15,8 +15,8 @@ use Rattle.log_audit.specs.declared.fault.AuditFault.{AuditFault}
 use Rattle.log_audit.specs.declared.fault.AuditFault.TheVariants as audit
 use Rattle.log_audit.specs.declared.fault.ReferenceFault.{ReferenceFault}
 use Rattle.log_audit.specs.declared.fault.ReferenceFault.TheVariants.{NoSubmission, TooLong, Reused}
-use Rattle.log_audit.specs.declared.naming.Misnamed.{Misnamed}
-use Rattle.log_audit.specs.declared.naming.MisnamedLog.{MisnamedLog}
+use Rattle.log_audit.specs.declared.referring.Misnamed.{Misnamed}
+use Rattle.log_audit.specs.declared.referring.MisnamedLog.{MisnamedLog}
 
 abbrev pub is_submission : Call → Bool
 is_submission (Submit text) = true

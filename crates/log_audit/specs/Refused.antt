@@ -1,5 +1,5 @@
 -- Why nothing is judged: each cause is true, and those before it in the order do not stand.
-use Rattle.std.specs.Prelude.{◌≡◌, ◌≢◌, ⊤, ℕ, List, ◌∷◌, ◌++◌, length, Some, None, Result, Err}
+use Rattle.std.specs.Prelude.{◌≡◌, ◌≢◌, ⊤, ℕ, List, ◌∷◌, ◌++◌, length, Option, Some, None, Result, Err}
 use Rattle.claim_model.specs.Logs.{NodeLog}
 use Rattle.world_setup.specs.Taken.{world_fault}
 use Rattle.world_setup.specs.declared.settings.WorldSettings.{WorldSettings}
@@ -13,7 +13,7 @@ use Rattle.log_audit.specs.declared.fault.AuditFault.{AuditFault}
 use Rattle.log_audit.specs.declared.fault.AuditFault.TheVariants.{OutOfMemory, Settings, World, Log, Reference, NoLine}
 use Rattle.log_audit.specs.Given.{AreLogs, Given, read_behind, read_by}
 use Rattle.log_audit.specs.Names.{misnamed_given, misnamed_log}
-use Rattle.log_audit.specs.declared.naming.MisnamedLog.{MisnamedLog}
+use Rattle.log_audit.specs.declared.referring.MisnamedLog.{MisnamedLog}
 
 -- a text spells settings that no world takes, for this cause
 pub record SpellsNoWorld (text : List ℕ) (why : WorldFault) : Type 0 where

@@ -13,7 +13,7 @@ ghost use Rattle.log_audit.specs.Names.{misnamed_given, misnamed_log};
 ghost use Rattle.log_audit.specs.Refused.{AreNoLogs, IsNoLog, IsRefused, IsRefusedAlone, SpellsNone, TakesNone};
 
 use crate::fault::AuditFault;
-use crate::naming::{check_given, check_logs};
+use crate::referring::{check_given, check_logs};
 use kept_logs::{LogFault, ReadLog, SettingsDigest, read_log};
 use node_log::NodeLog;
 use settings_digest::Digests;

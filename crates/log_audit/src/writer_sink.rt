@@ -28,10 +28,11 @@ impl<W: Write + Drop> Model for WriterSink<W> {
     ghost Value = { Passed };
 
     ghost view = { λ s. record {
-        handed = s.handed.bytes;
-        written = s.written.bytes;
-        contents = W.contents s.writer;
-        failed = is_some s.failure } };
+      handed = s.handed.bytes;
+      written = s.written.bytes;
+      contents = W.contents s.writer;
+      failed = is_some s.failure;
+    } };
 
     // What the writer took is a beginning of what was handed in, and all of it as long as no call failed.
     ghost invariant = { λ s. Begins s.written.bytes s.handed.bytes

@@ -5,3 +5,4 @@ pub mod Lines
 pub mod Pieces
 pub mod Rooms
 pub mod Hostings
+mod Judging
