@@ -53,7 +53,9 @@ def references(folder):
         data = open(log, "rb").read()
         bodies = [data[begin + 16 : end - 8] for begin, end in records(data)]
         submitted = [place for place, body in enumerate(bodies) if body[0] == SUBMISSION]
-        kept = [noted(body, named(place) if place in submitted else b"", place + 1) for place, body in enumerate(bodies)]
+        kept = [
+            noted(body, named(place) if place in submitted else b"", place + 1) for place, body in enumerate(bodies)
+        ]
         told = spoiled(folder, log, made_anew(data, kept))
         expect("references", told == audit(folder, logs_of(folder)), f"{log}: {told}")
         for place in submitted:
