@@ -114,7 +114,8 @@ fn several_behind(
     node: Node,
     files: &[LogFile],
 ) -> Result<LogBehind, WholeFault>
-    ensures rest { IfOk result (λ behind. option_map (λ v. v.items) behind.rest ≡ (part_in (first_in (bytes_in files.now))).rest) }
+    ensures rest { IfOk result (λ behind. option_map (λ v. v.items) behind.rest
+        ≡ (part_in (first_in (bytes_in files.now))).rest) }
     ensures log { IfOk result (λ behind. IsWhole text.now (node_seen node) (part_in (first_in (bytes_in files.now))).rest
         (parts_in (bytes_in files.now)) behind.log.items) }
     ensures refused { IfErr result (λ why. IsUnwhole text.now (node_seen node) (part_in (first_in (bytes_in files.now))).rest
