@@ -453,7 +453,8 @@ vogrilas_code vogrilas_make_reversal(const vogrilas_reversal *fields, void *buff
 ** means; the reasons for which a request is rejected; the rulings of an answer. A request, an answer, an envelope or a record
 ** of a journal or a book is told by its first two bytes. `json` is 0 for lines for people, and anything else for one object of
 ** JSON, whose members docs/FORMATS.md has. VOGRILAS_OK and VOGRILAS_SHORT_BUFFER are as of vogrilas_records(); VOGRILAS_NO_MEMORY:
-** buffer and *size are as they were. What the description says is tested, and so is that it is the same each time.
+** buffer and *size are as they were. It is proved that what is copied is that text: one function of `json` and of the message, the
+** one of which claimdecode's own texts are proved to be, of a message on line 1.
 */
 vogrilas_code vogrilas_describe(const void *message, size_t message_size, uint32_t json, void *buffer, size_t room,
                                 size_t *size);
@@ -470,9 +471,12 @@ vogrilas_code vogrilas_describe(const void *message, size_t message_size, uint32
 ** stands: VOGRILAS_NOT_A_LOG: the sizes do not add up to `logs_size`, and *size is `count`. VOGRILAS_SETTINGS: the settings are
 ** none, or open no world; *size is as it was. VOGRILAS_NOT_A_LOG, VOGRILAS_LOG_VERSION, VOGRILAS_DAMAGED_HEAD, VOGRILAS_NO_KIND,
 ** VOGRILAS_OTHER_SETTINGS, VOGRILAS_DAMAGED or VOGRILAS_BAD_RECORD (a record is no call): the first log that is none under these
-** settings, by its first fault, and *size is which one, from 0. VOGRILAS_NO_MEMORY, *size as it was, may stand in place of any.
+** settings, by its first fault, and *size is which one, from 0. Before these VOGRILAS_BAD_RECORD stands for the first log with a
+** reference that no node keeps: of a call that is no submission, of more than 64 bytes, or of an earlier submission too.
+** VOGRILAS_NO_MEMORY, *size as it was, may stand in place of any.
 **
-** All of this is proved, of the settings that the text spells and the logs that the bytes are. What is told of a run is tested.
+** All of this is proved, of the settings that the text spells and the logs that the bytes are; and so is that what is told is the
+** text that claimaudit is proved to tell of them, in these two forms.
 */
 vogrilas_code vogrilas_audit(const void *settings, size_t settings_size, const void *logs, size_t logs_size,
                              const size_t *sizes, size_t count, uint32_t json, void *buffer, size_t room, size_t *size);

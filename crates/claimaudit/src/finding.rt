@@ -2,7 +2,7 @@
 
 use claim_reports::ReportFault;
 use kept_logs::LogFault;
-use log_audit::AuditFault;
+use log_audit::{AuditFault, ReferenceFault};
 use log_turning::{JoinFault, RestFault};
 use thiserror::Error;
 
@@ -15,6 +15,12 @@ pub(crate) enum Finding {
     /// The file of this name is no log under the settings.
     #[error("{0}: {1}")]
     Log(String, LogFault),
+    /// The call of this number in the log of this name has a reference that no node keeps.
+    #[error("{0}: call {1}: {2}")]
+    Reference(String, u64, ReferenceFault),
+    /// A submission before the log of this name has one.
+    #[error("{0}: before its first call: {1}")]
+    ReferenceBefore(String, ReferenceFault),
     /// The log of this name does not go on where the one before it ends, or is none.
     #[error("{0}: {1}")]
     Joining(String, JoinFault),

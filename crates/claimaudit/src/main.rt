@@ -15,8 +15,8 @@ use claim_reports::{
 };
 use command_line::{End, given_words, read_file, read_settings_file};
 use log_audit::{
-    AuditFault, Audited, Form, GivenLog, LoneForm, Outgoing, WriterSink, calls_table, put_alone,
-    put_lone_prices, put_report, read_alone, read_audited,
+    AuditFault, Audited, Form, GivenLog, LoneForm, Outgoing, ReferenceFault, WriterSink,
+    calls_table, put_alone, put_lone_prices, put_report, read_alone, read_audited,
 };
 use log_turning::{JoinFault, LogBehind, WholeFault, log_behind, whole_log};
 use std::alloc::Global;
@@ -278,13 +278,31 @@ fn judged_alone(
 fn named(alloc: Global, words: &Words<'_>, fault: AuditFault) -> Unjudged {
     match fault {
         AuditFault::OutOfMemory => End::OutOfMemory,
-        AuditFault::Log { place, fault } => match words.logs.get(place) {
-            Some(name) => match String::from_str(alloc, name) {
-                Ok(name) => End::Own(Finding::Log(name, fault)),
-                Err(_) => End::OutOfMemory,
-            },
-            None => End::Own(Finding::Usage),
+        AuditFault::Log { place, fault } => match name_at(alloc, words, place) {
+            Ok(name) => End::Own(Finding::Log(name, fault)),
+            Err(end) => end,
+        },
+        AuditFault::Reference { place, call, fault } => match name_at(alloc, words, place) {
+            Ok(name) => End::Own(misnamed(name, call, fault)),
+            Err(end) => end,
         },
         fault => End::Own(Finding::Fault(fault)),
+    }
+}
+
+/// What is wrong with the reference of a call of the log of this name, or of one before it.
+fn misnamed(name: String, call: u64, fault: ReferenceFault) -> Finding {
+    if call == 0 {
+        Finding::ReferenceBefore(name, fault)
+    } else {
+        Finding::Reference(name, call, fault)
+    }
+}
+
+/// The name of the log at a place.
+fn name_at(alloc: Global, words: &Words<'_>, place: usize) -> Result<String, Unjudged> {
+    match words.logs.get(place) {
+        Some(name) => Ok(String::from_str(alloc, name)?),
+        None => Err(End::Own(Finding::Usage)),
     }
 }

@@ -14,7 +14,7 @@ use Rattle.table_text.specs.Members.{Row}
 use Rattle.table_text.specs.Rows.{row_text, rows_text, head_text}
 use Rattle.table_text.specs.declared.layout.Style.TheVariants.{Csv}
 use Rattle.log_audit.specs.declared.fault.AuditFault.{AuditFault}
-use Rattle.log_audit.specs.declared.fault.AuditFault.TheVariants.{OutOfMemory, Settings, World, Log, NoLine}
+use Rattle.log_audit.specs.declared.fault.AuditFault.TheVariants.{OutOfMemory, Settings, World, Log, Reference, NoLine}
 use Rattle.log_audit.specs.Given.{IsLog, AreLogs, bytes_of, read_by}
 use Rattle.log_audit.specs.Refused.{AreNoLogs}
 use Rattle.log_audit.specs.Calls.{IsKept, AreKept, IsNotKept, TellsLog, TellsLogs, call_names, call_row, call_rows, calls_csv, log_rows, logs_rows, submissions_in}
@@ -79,6 +79,7 @@ no_log_told digest xs x more all old new place (Log here fault) is at told (same
   known = known;
   fails = fails_alone (digest x.items) x.items fault fails;
 }
+no_log_told digest xs x more all old new place (Reference here call fault) is at told none = absurd none
 no_log_told digest xs x more all old new place NoLine is at told none = absurd none
 
 -- a record more, and then those that are left

@@ -18,6 +18,7 @@ pub mod Taking
 pub mod Passing
 pub mod ReadingAlike
 pub mod LoneNodes
+mod Lookups
 mod LastReason
 mod Pricing
 mod Ends

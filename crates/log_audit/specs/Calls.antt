@@ -13,7 +13,7 @@ use Rattle.table_text.specs.Rows.{head_text, rows_text}
 use Rattle.table_text.specs.declared.layout.Style.TheVariants.{Csv}
 use Rattle.kept_logs.specs.declared.fault.LogFault.TheVariants as log_fault
 use Rattle.log_audit.specs.declared.fault.AuditFault.{AuditFault}
-use Rattle.log_audit.specs.declared.fault.AuditFault.TheVariants.{OutOfMemory, Settings, World, Log, NoLine}
+use Rattle.log_audit.specs.declared.fault.AuditFault.TheVariants.{OutOfMemory, Settings, World, Log, Reference, NoLine}
 use Rattle.log_audit.specs.Kinds.{number_member, text_member, optional_member, node_member, number_of}
 use Rattle.log_audit.specs.Packets.{Load, load_of}
 
@@ -133,6 +133,7 @@ IsNotKept digest bytes place OutOfMemory = ⊤
 IsNotKept digest bytes place Settings = ⊥
 IsNotKept digest bytes place (World why) = ⊥
 IsNotKept digest bytes place (Log at fault) = (at ≡ place) × ((fault ≢ log_fault.OutOfMemory) × (kept_in (digest bytes) bytes ≡ Err fault))
+IsNotKept digest bytes place (Reference at call fault) = ⊥
 IsNotKept digest bytes place NoLine = ⊥
 
 -- bytes are a log, and its rows come after what was there

@@ -19,6 +19,8 @@ pub mod Tabled
 pub mod Texts
 pub mod Ledger
 pub mod Given
+pub mod Names
+pub mod NamesSeen
 pub mod Refused
 pub mod Lacks
 pub mod Wrongs

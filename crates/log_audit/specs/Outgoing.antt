@@ -8,10 +8,11 @@ use Rattle.table_text.specs.Members.{Row}
 use Rattle.table_text.specs.Rows.{rows_text}
 use Rattle.table_text.specs.declared.layout.Style.{Style}
 
--- what a writer was handed, what it took of that, and whether a call of it failed
+-- what a writer was handed, what it took of that, what it has now, where that is known, and whether a call of it failed
 pub record Passed : Type 0 where
   pub handed : List ℕ
   pub written : List ℕ
+  pub contents : Option (List ℕ)
   pub failed : Bool
 
 -- bytes are the beginning of others

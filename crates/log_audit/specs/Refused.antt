@@ -1,5 +1,5 @@
 -- Why nothing is judged: each cause is true, and those before it in the order do not stand.
-use Rattle.std.specs.Prelude.{◌≡◌, ◌≢◌, ⊤, ℕ, List, ◌∷◌, ◌++◌, length, Some, None, Result, Err}
+use Rattle.std.specs.Prelude.{◌≡◌, ◌≢◌, ⊤, ℕ, List, ◌∷◌, ◌++◌, length, Option, Some, None, Result, Err}
 use Rattle.claim_model.specs.Logs.{NodeLog}
 use Rattle.world_setup.specs.Taken.{world_fault}
 use Rattle.world_setup.specs.declared.settings.WorldSettings.{WorldSettings}
@@ -10,8 +10,10 @@ use Rattle.settings_digest.specs.Digests.{digest_under}
 use Rattle.kept_logs.specs.declared.fault.LogFault.{LogFault}
 use Rattle.kept_logs.specs.declared.fault.LogFault.TheVariants as log_fault
 use Rattle.log_audit.specs.declared.fault.AuditFault.{AuditFault}
-use Rattle.log_audit.specs.declared.fault.AuditFault.TheVariants.{OutOfMemory, Settings, World, Log, NoLine}
+use Rattle.log_audit.specs.declared.fault.AuditFault.TheVariants.{OutOfMemory, Settings, World, Log, Reference, NoLine}
 use Rattle.log_audit.specs.Given.{AreLogs, Given, read_behind, read_by}
+use Rattle.log_audit.specs.Names.{misnamed_given, misnamed_log}
+use Rattle.log_audit.specs.declared.referring.MisnamedLog.{MisnamedLog}
 
 -- a text spells settings that no world takes, for this cause
 pub record SpellsNoWorld (text : List ℕ) (why : WorldFault) : Type 0 where
@@ -38,21 +40,33 @@ pub record RefusesLog {A : Type 0} (text : List ℕ) (read : A → Result Readin
   pub taken : world_fault settings ≡ None
   pub first : IsFirstNoLog read given place fault
 
--- nothing is judged for this cause, and for none before it, of what is read so
-abbrev pub IsUnread : {A : Type 0} → List ℕ → (A → Result Reading LogFault) → List A → AuditFault → Type 0
-IsUnread text read given OutOfMemory = ⊤
-IsUnread text read given Settings = living_in text ≡ None
-IsUnread text read given (World why) = SpellsNoWorld text why
-IsUnread text read given (Log place fault) = RefusesLog text read given place fault
-IsUnread text read given NoLine = ⊥
+-- a text spells settings that a world takes, and this is the first log with a reference that no node keeps, and what is wrong with it
+pub record RefusesReference (text : List ℕ) (wrong : Option MisnamedLog) (found : MisnamedLog) : Type 0 where
+  pub settings : WorldSettings
+  pub spelled : living_in text ≡ Some (document_seen settings)
+  pub taken : world_fault settings ≡ None
+  pub first : wrong ≡ Some found
+
+-- nothing is judged for this cause, and for none before it, of what is read so, where this log is the first with such a reference
+abbrev pub IsUnread : {A : Type 0} → List ℕ → (A → Result Reading LogFault) → List A → Option MisnamedLog → AuditFault → Type 0
+IsUnread text read given wrong OutOfMemory = ⊤
+IsUnread text read given wrong Settings = living_in text ≡ None
+IsUnread text read given wrong (World why) = SpellsNoWorld text why
+IsUnread text read given wrong (Log place fault) = (wrong ≡ None) × RefusesLog text read given place fault
+IsUnread text read given wrong (Reference place call fault) = RefusesReference text wrong (record { place = place; call = call; fault = fault })
+IsUnread text read given wrong NoLine = ⊥
 
 -- of bytes, each of which is to be a log that begins with the opening of its node
 abbrev pub IsRefused : List ℕ → List (List ℕ) → AuditFault → Type 0
-IsRefused text bytes why = IsUnread text (read_by (digest_under text)) bytes why
+IsRefused text bytes why = IsUnread text (read_by (digest_under text)) bytes (misnamed_log (digest_under text) bytes) why
 
 -- of logs, each with what it begins with
 abbrev pub IsRefusedAlone : List ℕ → List Given → AuditFault → Type 0
-IsRefusedAlone text given why = IsUnread text (read_behind text) given why
+IsRefusedAlone text given why = IsUnread text (read_behind text) given (misnamed_given text given) why
+
+-- where no reference is judged
+abbrev pub IsUntabled : List ℕ → List (List ℕ) → AuditFault → Type 0
+IsUntabled text bytes why = IsUnread text (read_by (digest_under text)) bytes None why
 
 -- ---- on the way
 
@@ -62,6 +76,7 @@ SpellsNone text OutOfMemory = ⊤
 SpellsNone text Settings = living_in text ≡ None
 SpellsNone text (World why) = ⊥
 SpellsNone text (Log place fault) = ⊥
+SpellsNone text (Reference place call fault) = ⊥
 SpellsNone text NoLine = ⊥
 
 -- no world takes settings
@@ -70,6 +85,7 @@ TakesNone settings OutOfMemory = ⊤
 TakesNone settings Settings = ⊥
 TakesNone settings (World why) = world_fault settings ≡ Some why
 TakesNone settings (Log place fault) = ⊥
+TakesNone settings (Reference place call fault) = ⊥
 TakesNone settings NoLine = ⊥
 
 -- what was read at a place is no log
@@ -78,6 +94,7 @@ IsNoLog read place OutOfMemory = ⊤
 IsNoLog read place Settings = ⊥
 IsNoLog read place (World why) = ⊥
 IsNoLog read place (Log at fault) = (at ≡ place) × ((fault ≢ log_fault.OutOfMemory) × (read ≡ Err fault))
+IsNoLog read place (Reference at call fault) = ⊥
 IsNoLog read place NoLine = ⊥
 
 -- something of what is handed in is no log
@@ -86,4 +103,5 @@ AreNoLogs read given OutOfMemory = ⊤
 AreNoLogs read given Settings = ⊥
 AreNoLogs read given (World why) = ⊥
 AreNoLogs read given (Log place fault) = IsFirstNoLog read given place fault
+AreNoLogs read given (Reference place call fault) = ⊥
 AreNoLogs read given NoLine = ⊥

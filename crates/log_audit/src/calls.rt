@@ -14,7 +14,7 @@ ghost use Rattle.table_text.specs.declared.layout.Style.TheVariants.{Csv};
 ghost use Rattle.log_audit.specs.Adding.{TellsRow, TellsRows};
 ghost use Rattle.log_audit.specs.Given.{bytes_of, read_by};
 ghost use Rattle.log_audit.specs.Packets.{carried_seen};
-ghost use Rattle.log_audit.specs.Refused.{AreNoLogs, IsRefused};
+ghost use Rattle.log_audit.specs.Refused.{AreNoLogs, IsUntabled};
 ghost use Rattle.log_audit.specs.Calls.{IsCallsTable, IsNotKept, TellsLog, TellsLogs, call_load, call_names, call_row, call_rows, call_word, noted_row, sender_member, submissions_in, time_said};
 
 use crate::fault::AuditFault;
@@ -37,7 +37,7 @@ pub fn calls_table(alloc: Global, text: &[u8], logs: Vec<Vec<u8>>) -> Result<Vec
     // What is told is what the bytes are under the settings that the text spells.
     ensures given { IfOk result (λ out. IsCallsTable text.now (bytes_of logs.items) out.items) }
     // The cause is true, and those before it do not stand.
-    ensures refused { IfErr result (λ why. IsRefused text.now (bytes_of logs.items) why) }
+    ensures refused { IfErr result (λ why. IsUntabled text.now (bytes_of logs.items) why) }
 {
     let settings = checked(alloc, settings_of(alloc, text)?)?;
     let digests = Digests::of(alloc, settings.settings(), text)?;

@@ -8,6 +8,20 @@ use std::alloc::{AllocError, AllocFailed};
 use thiserror::Error;
 use world_setup::WorldFault;
 
+/// What is wrong with what a caller calls a call.
+#[derive(Clone, Copy, Debug, PartialEq, Eq, Error)]
+pub enum ReferenceFault {
+    /// The call is no submission.
+    #[error("no submission, and it has a reference")]
+    NoSubmission,
+    /// It has more than 64 bytes.
+    #[error("its reference has more than 64 bytes")]
+    TooLong,
+    /// An earlier submission has it.
+    #[error("an earlier submission has its reference")]
+    Reused,
+}
+
 /// Why there is nothing to be judged.
 #[derive(Clone, Copy, Debug, PartialEq, Eq, Error)]
 pub enum AuditFault {
@@ -27,6 +41,16 @@ pub enum AuditFault {
         place: usize,
         /// What is wrong with it.
         fault: LogFault,
+    },
+    /// The log at this place, from 0, has a reference that no node keeps.
+    #[error("call {call}: {fault}")]
+    Reference {
+        /// The place of the log among those handed in.
+        place: usize,
+        /// The number of the call that has it, from 1; 0 where it stands in what the log begins with.
+        call: u64,
+        /// What is wrong with it.
+        fault: ReferenceFault,
     },
     /// The run has no schedule: an event has no line in one, or a line of the settings would divide it.
     #[error("the run has no schedule")]

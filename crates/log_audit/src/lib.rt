@@ -21,6 +21,7 @@ mod paid;
 mod prices;
 mod reading;
 mod reasons;
+mod referring;
 mod report;
 mod scheduling;
 mod sentences;
@@ -32,7 +33,7 @@ mod writer_sink;
 mod wrongs;
 
 pub use calls::calls_table;
-pub use fault::AuditFault;
+pub use fault::{AuditFault, ReferenceFault};
 pub use judging::{Verdict, judge};
 pub use lone_report::{LoneForm, put_alone, put_lone_prices};
 pub use lone_tables::LoneTable;

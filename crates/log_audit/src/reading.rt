@@ -9,9 +9,11 @@ ghost use Rattle.kept_logs.specs.Logs.{log_in};
 ghost use Rattle.kept_logs.specs.LogSeen.{reading_seen};
 ghost use Rattle.settings_digest.specs.Digests.{digest_under, under};
 ghost use Rattle.log_audit.specs.Given.{AreLogs, Given, IsRead, IsReadAlone, ReadsOne, bytes_of, given_of, read_by, read_turned, rests_seen, torn_ends, torn_turned};
+ghost use Rattle.log_audit.specs.Names.{misnamed_given, misnamed_log};
 ghost use Rattle.log_audit.specs.Refused.{AreNoLogs, IsNoLog, IsRefused, IsRefusedAlone, SpellsNone, TakesNone};
 
 use crate::fault::AuditFault;
+use crate::referring::{check_given, check_logs};
 use kept_logs::{LogFault, ReadLog, SettingsDigest, read_log};
 use node_log::NodeLog;
 use settings_digest::Digests;
@@ -32,8 +34,8 @@ pub struct Audited {
 /// The bytes of a log are let go once it is read.
 ///
 /// # Errors
-/// The first that stands: `Settings`, `World`, `Log` for the first log that is none under these settings. `OutOfMemory` may
-/// stand in place of any answer.
+/// The first that stands: `Settings`, `World`, `Reference` for the first log that has a reference which no node keeps, `Log` for
+/// the first log that is none under these settings. `OutOfMemory` may stand in place of any answer.
 pub fn read_audited(alloc: Global, text: Vec<u8>, logs: Vec<Vec<u8>>) -> Result<Audited, AuditFault>
     // What is judged is what the text spells and the bytes are.
     ensures given { IfOk result (λ audited.
@@ -42,6 +44,8 @@ pub fn read_audited(alloc: Global, text: Vec<u8>, logs: Vec<Vec<u8>>) -> Result<
     ensures taken { IfOk result (λ audited. world_fault audited.settings ≡ None) }
     // The cause is true, and those before it do not stand.
     ensures refused { IfErr result (λ why. IsRefused text.items (bytes_of logs.items) why) }
+    // Nothing but submissions has references, of at most 64 bytes, and no two have the same one.
+    ensures named { OnOk result (misnamed_log (digest_under text.items) (bytes_of logs.items) ≡ None) }
     // The torn ends are what stands after the records that stand whole.
     ensures torn { IfOk result (λ audited. audited.torn.items ≡ torn_ends (digest_under text.items) (bytes_of logs.items)) }
     // A schedule begins with the very text.
@@ -49,6 +53,7 @@ pub fn read_audited(alloc: Global, text: Vec<u8>, logs: Vec<Vec<u8>>) -> Result<
 {
     let settings = checked(alloc, settings_of(alloc, text.as_slice())?)?;
     let digests = Digests::of(alloc, settings.settings(), text.as_slice())?;
+    check_logs(alloc, &digests, logs.as_slice())?;
     let ReadLogs { logs, torn } = read_logs(alloc, &digests, logs)?;
     Ok(Audited {
         text,
@@ -133,11 +138,14 @@ pub fn read_alone(
         (logs_seen a.logs.items) (rests_seen a.rests.items) a.torn.items) }
     // A world takes the settings.
     ensures taken { IfOk result (λ a. world_fault a.settings ≡ None) }
+    // References are as above, with those before the log.
+    ensures named { OnOk result (misnamed_given text.now (given_of logs.items) ≡ None) }
     // The cause is true, and those before it do not stand.
     ensures refused { IfErr result (λ why. IsRefusedAlone text.now (given_of logs.items) why) }
 {
     let settings = checked(alloc, settings_of(alloc, text)?)?;
     let digests = Digests::of(alloc, settings.settings(), text)?;
+    check_given(alloc, &digests, logs.as_slice())?;
     let (read, rests) = read_each(alloc, &digests, logs)?;
     let ReadLogs { logs, torn } = read;
     Ok(AuditedAlone {

@@ -27,7 +27,12 @@ impl<W: Write + Drop> Model for WriterSink<W> {
 
     ghost Value = { Passed };
 
-    ghost view = { λ s. record { handed = s.handed.bytes; written = s.written.bytes; failed = is_some s.failure } };
+    ghost view = { λ s. record {
+      handed = s.handed.bytes;
+      written = s.written.bytes;
+      contents = W.contents s.writer;
+      failed = is_some s.failure;
+    } };
 
     // What the writer took is a beginning of what was handed in, and all of it as long as no call failed.
     ghost invariant = { λ s. Begins s.written.bytes s.handed.bytes
@@ -37,7 +42,8 @@ impl<W: Write + Drop> Model for WriterSink<W> {
 impl<W: Write + Drop> WriterSink<W> {
     /// Over a writer that was not called yet.
     pub fn new(writer: W) -> WriterSink<W>
-        ensures { result.handed ≡ [] }
+        ensures nothing { result.handed ≡ [] }
+        ensures had { result.contents ≡ W.contents writer }
     {
         WriterSink {
             writer,
@@ -71,7 +77,11 @@ impl<W: Write + Drop> WriterSink<W> {
 impl<W: Write + Drop> TextSink for WriterSink<W> {
     ghost handed = { λ s. s.handed };
 
-    fn take(&mut self, piece: &[u8]) -> Result<(), AllocError> {
+    fn take(&mut self, piece: &[u8]) -> Result<(), AllocError>
+        ensures handed { OnOk result (self.new.handed ≡ self.old.handed ++ piece.now) }
+        // The writer has then what it had, and after that the bytes of the piece that it took.
+        ensures took { TookSome self.old.contents self.new.contents self.old.written self.new.written piece.now }
+    {
         pass_piece(
             &mut self.writer,
             &mut self.written,
@@ -90,7 +100,9 @@ fn pass_piece<W: Write>(
     failure: &mut Option<io::Error>,
     piece: &[u8],
 )
-    ensures { Passes (is_some failure.old) (is_some failure.new) written.old.bytes written.new.bytes piece.now }
+    ensures passes { Passes (is_some failure.old) (is_some failure.new) written.old.bytes written.new.bytes piece.now }
+    // What is noted is what the writer took, and a beginning of the piece.
+    ensures took { TookSome (W.contents writer.old) (W.contents writer.new) written.old.bytes written.new.bytes piece.now }
 {
     if failure.is_some() {
         return;

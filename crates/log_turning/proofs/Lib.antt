@@ -4,3 +4,4 @@ pub mod GoingOn
 pub mod Parts
 pub mod Compared
 pub mod FilesBack
+mod Older

@@ -4,3 +4,4 @@ pub mod Joined
 pub mod Unjoined
 pub mod Left
 pub mod Files
+pub mod Whole

@@ -2,6 +2,7 @@
 //! logs joined, as if none had been closed.
 #![tactic(auto)]
 
+mod beside;
 mod fault;
 mod files;
 mod joining;
@@ -10,13 +11,11 @@ mod leaving;
 mod turning;
 mod whole;
 
+pub use beside::{check_regular, closed_name, log_behind, log_files, whole_log};
 pub use fault::{JoinFault, RestFault, TurnFault};
 pub use files::{BEFORE_REST, part_of, rest_size, write_file};
 pub use joining::{Part, join_logs};
 pub use laws::{files_have_their_parts, turned_logs_go_on};
 pub use leaving::check_rests;
 pub use turning::{Turned, turn_log};
-pub use whole::{
-    LogBehind, LogFile, WholeFault, check_regular, closed_name, join_files, log_behind, log_files,
-    whole_log,
-};
+pub use whole::{LogBehind, LogFile, WholeFault, behind_of, join_files, whole_of};

@@ -1,18 +1,26 @@
-//! All logs of a node from their files, as one: the newest, and those that were closed before it, which stand beside it.
+//! All logs of a node as one, from what their files have.
+
+ghost use Rattle.std.specs.Prelude.{◌≡◌, ◌↔◌, ◌++◌, ◌∷◌, [], ℕ, List, Option, None, map, IfErr, IfOk, IsTrue, OnOk};
+ghost use Rattle.std.specs.Option.{option_copied, option_map};
+ghost use Rattle.claim_model.specs.Node as model;
+ghost use Rattle.world_setup.specs.Seen.{node_seen};
+ghost use Rattle.log_turning.specs.Files.{part_in};
+ghost use Rattle.log_turning.specs.Joined as parted;
+ghost use Rattle.log_turning.specs.Joined.{part_seen};
+ghost use Rattle.log_turning.specs.Left.{IsUnleft};
+ghost use Rattle.log_turning.specs.Unjoined.{IsUnjoined};
+ghost use Rattle.log_turning.specs.Whole.{IsAll, IsBehind, IsNotAll, IsNotBehind, IsUnwhole, IsWhole, bytes_in, first_in, owner_behind, owner_in, owner_of, parts_in};
+ghost use Rattle.log_turning.specs.declared.fault.JoinFault.TheVariants as JoinFault;
 
 use crate::fault::{JoinFault, RestFault};
 use crate::files::part_of;
 use crate::joining::{Part, join_logs};
 use crate::leaving::check_rests;
-use kept_logs::{Rest, read_rest};
+use kept_logs::read_rest;
 use std::alloc::{AllocError, Global};
-use std::io::ErrorKind;
-use std::{fs, io};
+use std::io;
 use thiserror::Error;
 use world_setup::Node;
-
-/// The most logs of one node.
-const MOST_LOGS: usize = 1_000_000;
 
 /// The file of a log, with its name.
 #[derive(Drop)]
@@ -46,21 +54,18 @@ impl From<AllocError> for WholeFault {
     }
 }
 
-/// The name of a log that was closed, when its node had made this many calls in all.
-pub fn closed_name(alloc: Global, path: &str, calls: u64) -> Result<String, AllocError> {
-    format!(in alloc; "{path}.{calls}")
-}
-
-/// The log in a file, where it begins with the opening of its node; else all calls of the node as one log, under the settings that
-/// the text spells.
+/// All calls of a node whose logs these files have, the newest first: its only log, or all as one.
 ///
 /// # Errors
-/// A file could not be read, or the logs do not go on one after another, or with what their node left.
-pub fn whole_log(rt: &HostRuntime, text: &[u8], path: &str) -> Result<Vec<u8>, WholeFault> {
-    let mut files = log_files(rt, path)?;
-    match node_of(rt.alloc(), files.as_slice())? {
-        Some(node) => join_files(rt.alloc(), text, node, files.as_slice()),
-        None => Ok(last_bytes(rt.alloc(), &mut files)),
+/// `Logs` with the first that is refused, or `Rest`.
+pub fn whole_of(alloc: Global, text: &[u8], files: Vec<LogFile>) -> Result<Vec<u8>, WholeFault>
+    ensures all { IfOk result (λ log. IsAll text.now (bytes_in files.items) log.items) }
+    ensures refused { IfErr result (λ why. IsNotAll text.now (bytes_in files.items) why) }
+{
+    match node_of(alloc, files.as_slice()) {
+        Ok(Some(node)) => join_files(alloc, text, node, files.as_slice()),
+        Ok(None) => Ok(first_bytes(alloc, files)),
+        Err(_) => Err(WholeFault::OutOfMemory),
     }
 }
 
@@ -73,94 +78,76 @@ pub struct LogBehind {
     pub log: Vec<u8>,
 }
 
-/// The log in a file, and those that were closed before it as far back as they stand beside it, as one log, under the settings
-/// that the text spells; and what the first of them begins with.
+/// The logs that these files have, the newest first, as one; and what the first of them begins with.
 ///
 /// # Errors
-/// A file could not be read, or the logs do not go on one after another, or with what their node left.
-pub fn log_behind(rt: &HostRuntime, text: &[u8], path: &str) -> Result<LogBehind, WholeFault> {
-    let alloc = rt.alloc();
-    let mut files = files_back(rt, path, Reach::There)?;
-    let rest = first_rest(alloc, files.as_slice())?;
-    let node = if files.len() > 1 {
-        node_of(alloc, files.as_slice())?
+/// Those of `whole_of`.
+pub fn behind_of(alloc: Global, text: &[u8], files: &[LogFile]) -> Result<LogBehind, WholeFault>
+    ensures behind { IfOk result (λ behind. IsBehind text.now (bytes_in files.now) behind) }
+    ensures refused { IfErr result (λ why. IsNotBehind text.now (bytes_in files.now) why) }
+{
+    match node_behind(alloc, files) {
+        Ok(Some(node)) => several_behind(alloc, text, node, files),
+        Ok(None) => match one_behind(alloc, first_part(files)) {
+            Ok(behind) => Ok(behind),
+            Err(_) => Err(WholeFault::OutOfMemory),
+        },
+        Err(_) => Err(WholeFault::OutOfMemory),
+    }
+}
+
+/// The node of several logs.
+fn node_behind(alloc: Global, files: &[LogFile]) -> Result<Option<Node>, AllocError>
+    ensures { IfOk result (λ node. option_map node_seen node ≡ owner_behind (bytes_in files.now)) }
+{
+    if files.len() > 1 {
+        node_of(alloc, files)
     } else {
-        None
-    };
-    let log = match node {
-        Some(node) => join_behind(alloc, text, node, rest.as_deref(), files.as_slice())?,
-        None => last_log(alloc, &mut files)?,
-    };
+        Ok(None)
+    }
+}
+
+/// Several logs of a node as one, and what the first begins with.
+fn several_behind(
+    alloc: Global,
+    text: &[u8],
+    node: Node,
+    files: &[LogFile],
+) -> Result<LogBehind, WholeFault>
+    ensures rest { IfOk result (λ behind. option_map (λ v. v.items) behind.rest
+        ≡ (part_in (first_in (bytes_in files.now))).rest) }
+    ensures log { IfOk result (λ behind. IsWhole text.now (node_seen node) (part_in (first_in (bytes_in files.now))).rest
+        (parts_in (bytes_in files.now)) behind.log.items) }
+    ensures refused { IfErr result (λ why. IsUnwhole text.now (node_seen node) (part_in (first_in (bytes_in files.now))).rest
+        (parts_in (bytes_in files.now)) why) }
+{
+    let begins = first_part(files).rest;
+    match join_behind(alloc, text, node, begins, files) {
+        Ok(log) => match copy_of(alloc, begins) {
+            Ok(rest) => Ok(LogBehind { rest, log }),
+            Err(_) => Err(WholeFault::OutOfMemory),
+        },
+        Err(fault) => Err(fault),
+    }
+}
+
+/// A log by itself, and what it begins with.
+fn one_behind(alloc: Global, part: Part<'_>) -> Result<LogBehind, AllocError>
+    ensures rest { IfOk result (λ behind. option_map (λ v. v.items) behind.rest ≡ (part_seen part.entry).rest) }
+    ensures log { IfOk result (λ behind. behind.log.items ≡ (part_seen part.entry).log) }
+{
+    let rest = copy_of(alloc, part.rest)?;
+    let log = Vec::from_slice(alloc, part.log)?;
     Ok(LogBehind { rest, log })
 }
 
-/// The files of a node's logs, the newest first: each but the last begins with what the one after it was closed with.
-///
-/// # Errors
-/// A file could not be read.
-pub fn log_files(rt: &HostRuntime, path: &str) -> Result<Vec<LogFile>, WholeFault> {
-    files_back(rt, path, Reach::All)
-}
-
-/// How far back the logs of a node are read.
-#[derive(Clone, Copy, PartialEq, Eq)]
-enum Reach {
-    /// To the first.
-    All,
-    /// As far as their files are there.
-    There,
-}
-
-/// The files of a node's logs, the newest first, so far back. Each was closed with fewer calls than the next one, so that a log
-/// which names itself, or a newer one, as the one before it is refused, and not read again.
-fn files_back(rt: &HostRuntime, path: &str, reach: Reach) -> Result<Vec<LogFile>, WholeFault> {
-    let alloc = rt.alloc();
-    let mut files = Vec::new(alloc);
-    let mut wanted = Some(format!(in alloc; "{path}")?);
-    let mut least = u64::MAX;
-    for _ in 0..MOST_LOGS {
-        let Some(name) = wanted else {
-            return Ok(files);
-        };
-        let bytes = read_log_file(rt, name.as_str())?;
-        wanted = match calls_in(alloc, bytes.as_slice())? {
-            Some(calls) => {
-                if calls >= least {
-                    return Err(WholeFault::Logs(name, JoinFault::NotNext(files.len())));
-                }
-                least = calls;
-                file_before(rt, path, calls, reach)?
-            }
-            None => None,
-        };
-        put(&mut files, LogFile { name, bytes })?;
-    }
-    Ok(files)
-}
-
-/// How many calls were made before the log in a file, where it goes on after closed ones.
-fn calls_in(alloc: Global, bytes: &[u8]) -> Result<Option<u64>, AllocError> {
-    match rest_of(alloc, bytes)? {
-        Some(rest) => Ok(Some(rest.calls)),
+/// A copy of what a log begins with.
+fn copy_of(alloc: Global, rest: Option<&[u8]>) -> Result<Option<Vec<u8>>, AllocError>
+    ensures { IfOk result (λ copy. option_map (λ v. v.items) copy ≡ option_copied rest.entry) }
+{
+    match rest {
+        Some(rest) => Ok(Some(Vec::from_slice(alloc, rest)?)),
         None => Ok(None),
-    }
-}
-
-/// The file of the log that was closed with this many calls, where it is read.
-fn file_before(
-    rt: &HostRuntime,
-    path: &str,
-    calls: u64,
-    reach: Reach,
-) -> Result<Option<String>, WholeFault> {
-    let name = closed_name(rt.alloc(), path, calls)?;
-    if reach == Reach::All {
-        return Ok(Some(name));
-    }
-    match fs::exists(rt, name.as_str()) {
-        Ok(true) => Ok(Some(name)),
-        Ok(false) => Ok(None),
-        Err(error) => Err(WholeFault::File(name, error)),
     }
 }
 
@@ -173,7 +160,13 @@ pub fn join_files(
     text: &[u8],
     node: Node,
     files: &[LogFile],
-) -> Result<Vec<u8>, WholeFault> {
+) -> Result<Vec<u8>, WholeFault>
+    ensures whole { IfOk result (λ joined.
+        IsWhole text.now (node_seen node) None (parts_in (bytes_in files.now)) joined.items) }
+    // The cause is true.
+    ensures refused { IfErr result (λ why.
+        IsUnwhole text.now (node_seen node) None (parts_in (bytes_in files.now)) why) }
+{
     join_behind(alloc, text, node, None, files)
 }
 
@@ -184,73 +177,126 @@ fn join_behind(
     node: Node,
     begins: Option<&[u8]>,
     files: &[LogFile],
-) -> Result<Vec<u8>, WholeFault> {
-    let mut parts: Vec<Part<'_>> = Vec::new(alloc);
-    for file in files.iter().rev() {
-        put(&mut parts, part_of(file.bytes.as_slice()))?;
-    }
-    match join_logs(alloc, text, node, begins, parts.as_slice()) {
-        Ok(joined) => {
-            compare_rests(alloc, text, node, files, parts.as_slice())?;
-            Ok(joined)
-        }
-        Err(JoinFault::OutOfMemory) => Err(WholeFault::OutOfMemory),
-        Err(fault) => Err(WholeFault::Logs(name_of(alloc, files, fault)?, fault)),
+) -> Result<Vec<u8>, WholeFault>
+    ensures whole { IfOk result (λ joined.
+        IsWhole text.now (node_seen node) (option_copied begins.entry) (parts_in (bytes_in files.now)) joined.items) }
+    ensures refused { IfErr result (λ why.
+        IsUnwhole text.now (node_seen node) (option_copied begins.entry) (parts_in (bytes_in files.now)) why) }
+{
+    match parts_of(alloc, files) {
+        Ok(parts) => join_parts(alloc, text, node, begins, files, parts.as_slice()),
+        Err(_) => Err(WholeFault::OutOfMemory),
     }
 }
 
-/// Compares what each log of a node begins with, whose logs were joined, with what the one before it left.
-fn compare_rests(
+/// The same of the logs in these files.
+fn join_parts(
     alloc: Global,
     text: &[u8],
     node: Node,
+    begins: Option<&[u8]>,
     files: &[LogFile],
     parts: &[Part<'_>],
-) -> Result<(), WholeFault> {
-    match check_rests(alloc, text, node, parts) {
-        Ok(()) => Ok(()),
-        Err(RestFault::OutOfMemory) => Err(WholeFault::OutOfMemory),
-        Err(RestFault::Other(place)) => Err(WholeFault::Rest(
-            name_at(alloc, files, place)?,
-            RestFault::Other(place),
-        )),
+) -> Result<Vec<u8>, WholeFault>
+    ensures whole { IfOk result (λ joined.
+        IsWhole text.now (node_seen node) (option_copied begins.entry) (map part_seen parts.now) joined.items) }
+    ensures refused { IfErr result (λ why.
+        IsUnwhole text.now (node_seen node) (option_copied begins.entry) (map part_seen parts.now) why) }
+{
+    match join_logs(alloc, text, node, begins, parts) {
+        Ok(joined) => match check_rests(alloc, text, node, parts) {
+            Ok(()) => Ok(joined),
+            Err(fault) => Err(rest_fault(alloc, files, fault)),
+        },
+        Err(fault) => Err(join_fault(alloc, files, fault)),
     }
 }
 
-/// A copy of what the last of these files begins with.
-fn first_rest(alloc: Global, files: &[LogFile]) -> Result<Option<Vec<u8>>, AllocError> {
-    let Some(file) = files.last() else {
-        return Ok(None);
+/// Why logs are not joined, with the name of the file.
+fn join_fault(alloc: Global, files: &[LogFile], fault: JoinFault) -> WholeFault
+    ensures { (text : List ℕ) (node : model.Node) (begins : Option (List ℕ)) (parts : List parted.Part)
+        → IsUnjoined text node begins parts fault → IsUnwhole text node begins parts result }
+{
+    if is_memory(fault) {
+        return WholeFault::OutOfMemory;
+    }
+    match name_of(alloc, files, fault) {
+        Ok(name) => WholeFault::Logs(name, fault),
+        Err(_) => WholeFault::OutOfMemory,
+    }
+}
+
+/// Whether memory was refused.
+fn is_memory(fault: JoinFault) -> bool
+    ensures { IsTrue result ↔ (fault ≡ JoinFault.OutOfMemory) }
+{
+    matches!(fault, JoinFault::OutOfMemory)
+}
+
+/// Why a log begins with another rest than was left, with the name of its file.
+fn rest_fault(alloc: Global, files: &[LogFile], fault: RestFault) -> WholeFault
+    ensures { (text : List ℕ) (node : model.Node) (begins : Option (List ℕ)) (parts : List parted.Part)
+        → IsUnleft text node parts fault → IsUnwhole text node begins parts result }
+{
+    let RestFault::Other(place) = fault else {
+        return WholeFault::OutOfMemory;
     };
-    match part_of(file.bytes.as_slice()).rest {
-        Some(rest) => Ok(Some(Vec::from_slice(alloc, rest)?)),
-        None => Ok(None),
+    match name_at(alloc, files, place) {
+        Ok(name) => WholeFault::Rest(name, RestFault::Other(place)),
+        Err(_) => WholeFault::OutOfMemory,
     }
 }
 
-/// The log in the last of these files, whose bytes are taken.
-fn last_log(alloc: Global, files: &mut Vec<LogFile>) -> Result<Vec<u8>, AllocError> {
-    let bytes = last_bytes(alloc, files);
-    let part = part_of(bytes.as_slice());
-    if part.rest.is_none() {
-        return Ok(bytes);
+/// The logs in files, of which the newest stands first, in the order in which they were made.
+fn parts_of<'a>(alloc: Global, files: &'a [LogFile]) -> Result<Vec<Part<'a>>, AllocError>
+    ensures { IfOk result (λ parts. map part_seen parts.items ≡ parts_in (bytes_in files.now)) }
+{
+    let mut parts: Vec<Part<'_>> = Vec::new(alloc);
+    for passed in 0..files.len() {
+        let file = &files[files.len() - 1 - passed];
+        put(&mut parts, part_of(file.bytes.as_slice()))?;
     }
-    Ok(Vec::from_slice(alloc, part.log)?)
+    Ok(parts)
+}
+
+/// The first log, in the last of these files.
+fn first_part(files: &[LogFile]) -> Part<'_>
+    ensures { part_seen result ≡ part_in (first_in (bytes_in files.now)) }
+{
+    match files {
+        [.., file] => part_of(file.bytes.as_slice()),
+        [] => part_of(b""),
+    }
 }
 
 /// The node that the first of these files names, where the log in it goes on after closed ones.
-fn node_of(alloc: Global, files: &[LogFile]) -> Result<Option<Node>, AllocError> {
-    let Some(first) = files.first() else {
+fn node_of(alloc: Global, files: &[LogFile]) -> Result<Option<Node>, AllocError>
+    ensures { IfOk result (λ node. option_map node_seen node ≡ owner_in (bytes_in files.now)) }
+{
+    match files {
+        [newest, ..] => owner_of(alloc, part_of(newest.bytes.as_slice()).rest),
+        [] => Ok(None),
+    }
+}
+
+/// Whose rest it is.
+fn owner_of(alloc: Global, rest: Option<&[u8]>) -> Result<Option<Node>, AllocError>
+    ensures { IfOk result (λ node. option_map node_seen node ≡ owner_of (option_copied rest.entry)) }
+{
+    let Some(rest) = rest else {
         return Ok(None);
     };
-    match rest_of(alloc, first.bytes.as_slice())? {
-        Some(rest) => Ok(Some(rest.node)),
+    match read_rest(alloc, rest)? {
+        Some(read) => Ok(Some(read.node)),
         None => Ok(None),
     }
 }
 
-/// Takes the bytes of the last of these files.
-fn last_bytes(alloc: Global, files: &mut Vec<LogFile>) -> Vec<u8> {
+/// The bytes of the last of these files, which are taken.
+fn first_bytes(alloc: Global, files: Vec<LogFile>) -> Vec<u8>
+    ensures { result.items ≡ first_in (bytes_in files.items) }
+{
+    let mut files = files;
     match files.pop() {
         Some(file) => file.bytes,
         None => Vec::new(alloc),
@@ -258,7 +304,9 @@ fn last_bytes(alloc: Global, files: &mut Vec<LogFile>) -> Vec<u8> {
 }
 
 /// Puts one more after a list.
-fn put<T: Drop>(list: &mut Vec<T>, one: T) -> Result<(), AllocError> {
+pub(crate) fn put<T: Drop>(list: &mut Vec<T>, one: T) -> Result<(), AllocError>
+    ensures { OnOk result (list.new.items ≡ list.old.items ++ one ∷ []) }
+{
     Ok(list.push(one)?)
 }
 
@@ -282,48 +330,5 @@ fn name_at(alloc: Global, files: &[LogFile], place: usize) -> Result<String, All
             format!(in alloc; "{name}")
         }
         None => Ok(String::new(alloc)),
-    }
-}
-
-/// What the log in a file begins with, where it goes on after closed ones.
-fn rest_of(alloc: Global, bytes: &[u8]) -> Result<Option<Rest<'_>>, AllocError> {
-    match part_of(bytes).rest {
-        Some(rest) => read_rest(alloc, rest),
-        None => Ok(None),
-    }
-}
-
-/// The bytes of a regular file.
-fn read_log_file(rt: &HostRuntime, name: &str) -> Result<Vec<u8>, WholeFault> {
-    match read_regular(rt, name) {
-        Ok(bytes) => Ok(bytes),
-        Err(error) => Err(WholeFault::File(format!(in rt.alloc(); "{name}")?, error)),
-    }
-}
-
-/// The bytes of a regular file: what else has a name may have no end, or wait for ever.
-fn read_regular(rt: &HostRuntime, name: &str) -> io::Result<Vec<u8>> {
-    check_regular(rt, name)?;
-    fs::read(rt, name)
-}
-
-/// Refuses a name that is there and is no regular file's.
-///
-/// # Errors
-/// It is a folder, a pipe, a device; or the system does not tell what it is.
-pub fn check_regular(rt: &HostRuntime, name: &str) -> io::Result<()> {
-    match fs::metadata(rt, name) {
-        Ok(found) => {
-            if found.is_file() {
-                return Ok(());
-            }
-            Err(io::Error::new(ErrorKind::InvalidInput, "not a regular file"))
-        }
-        Err(error) => {
-            if error.kind() == ErrorKind::NotFound {
-                return Ok(());
-            }
-            Err(error)
-        }
     }
 }

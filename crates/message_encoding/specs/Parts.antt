@@ -1,6 +1,7 @@
 -- The message that a description in JSON tells by its parts.
-use Rattle.std.specs.Prelude.{◌≡◌, ℕ, ◌+◌, ◌==◌, ◌&&◌, Bool, List, [], ◌∷◌, ◌++◌, length, drop, slice_index, codes, bytes_eq, Option, Some, None, is_some, option_map, if◌then◌else◌}
+use Rattle.std.specs.Prelude.{◌≡◌, ℕ, ◌+◌, ◌==◌, ◌&&◌, Bool, List, [], ◌∷◌, ◌++◌, length, drop, slice_index, codes, bytes_eq, Option, Some, None, is_some, option_map, cond, if◌then◌else◌}
 use Rattle.std.specs.List.{list_any}
+use Rattle.std.specs.Option.{option_eq}
 use Rattle.std.specs.Result.{result_ok}
 use Rattle.input_text.specs.Options.{◌>>=◌}
 use Rattle.input_text.specs.Printing.{unprinted}
@@ -119,3 +120,25 @@ abbrev pub DescribesAlike : Option Items → Option Items → Type 0
 DescribesAlike (Some parts) (Some others) = AreAlike parts others
 DescribesAlike (Some parts) None = ⊥
 DescribesAlike None others = ⊥
+
+-- two texts are one, or neither is there
+abbrev pub same_text : Option (List ℕ) → Option (List ℕ) → Bool
+same_text text other = option_eq bytes_eq text other
+
+-- the same of two parts, as a test
+abbrev pub is_alike : Data → Data → Bool
+is_alike part other =
+    same_text (text_at (codes "name") part) (text_at (codes "name") other)
+    && (same_text (text_at (codes "field") part) (text_at (codes "field") other) && same_text (part_bytes part) (part_bytes other))
+
+-- the first place, where this is the place of the first parts, at which one list has no part or another one than the other list
+abbrev pub first_unlike : ℕ → Items → Items → Option ℕ
+first_unlike place no_items no_items = None
+first_unlike place no_items (item other others) = Some place
+first_unlike place (item part parts) no_items = Some place
+first_unlike place (item part parts) (item other others) = cond (is_alike part other) (first_unlike (place + 1) parts others) (Some place)
+
+abbrev pub unlike_in : Option Items → Option Items → Option ℕ
+unlike_in (Some parts) (Some others) = first_unlike 0 parts others
+unlike_in (Some parts) None = None
+unlike_in None others = None

@@ -5,7 +5,7 @@ ghost use Rattle.std.specs.Option.{option_map};
 ghost use Rattle.serde_json.specs.Find.{get_item};
 ghost use Rattle.serde_json.specs.Read.{read};
 ghost use Rattle.serde_json.specs.View.{items_view, view};
-ghost use Rattle.message_encoding.specs.Parts.{AreAlike, DescribesAlike, IsAlike, joined, part_bytes, parts_in, seen, text_at, text_in_part};
+ghost use Rattle.message_encoding.specs.Parts.{AreAlike, DescribesAlike, IsAlike, first_unlike, is_alike, joined, part_bytes, parts_in, same_text, seen, text_at, text_in_part, unlike_in};
 ghost use Rattle.message_encoding.specs.Refused.{GivesAll, GivesMessage, RefusedFor};
 
 use crate::fault::{Misfit, PartFault, ReadFault};
@@ -72,7 +72,9 @@ impl Described {
     /// # Errors
     /// What is wrong with a part; `OutOfMemory`.
     pub fn first_other(&self, alloc: Global, again: &Described) -> Result<Option<usize>, Misfit>
-        ensures { IfOk result (λ place. place ≡ None
+        ensures first { IfOk result (λ place. place ≡ unlike_in (parts_in (seen self.now)) (parts_in (seen again.now))) }
+        // Where there is none each part has the same name, number and bytes.
+        ensures alike { IfOk result (λ place. place ≡ None
             → DescribesAlike (parts_in (seen self.now)) (parts_in (seen again.now))) }
     {
         let (Some(parts), Some(others)) = (self.parts(), again.parts()) else {
@@ -133,7 +135,8 @@ fn put_part(alloc: Global, bytes: &mut Vec<u8>, part: &Value) -> Result<(), Part
 
 /// The place of the first part that is told otherwise.
 fn first_other(alloc: Global, parts: &[Value], others: &[Value]) -> Result<Option<usize>, Misfit>
-    ensures { IfOk result (λ place. place ≡ None → AreAlike (items_view parts.now) (items_view others.now)) }
+    ensures first { IfOk result (λ place. place ≡ first_unlike 0 (items_view parts.now) (items_view others.now)) }
+    ensures alike { IfOk result (λ place. place ≡ None → AreAlike (items_view parts.now) (items_view others.now)) }
 {
     for (place, part) in parts.iter().enumerate() {
         let Some(other) = others.get(place) else {
@@ -154,7 +157,8 @@ fn first_other(alloc: Global, parts: &[Value], others: &[Value]) -> Result<Optio
 
 /// Whether two parts have one name and one number, and stand for the same bytes.
 fn is_alike(alloc: Global, part: &Value, other: &Value) -> Result<bool, PartFault>
-    ensures { IfOk result (λ same. IsTrue same → IsAlike (view part.now) (view other.now)) }
+    ensures is { IfOk result (λ same. same ≡ is_alike (view part.now) (view other.now)) }
+    ensures alike { IfOk result (λ same. IsTrue same → IsAlike (view part.now) (view other.now)) }
 {
     if !is_same_text(text_at(part, "name"), text_at(other, "name")) {
         return Ok(false);
@@ -169,7 +173,8 @@ fn is_alike(alloc: Global, part: &Value, other: &Value) -> Result<bool, PartFaul
 
 /// Whether two texts are one, or neither is there.
 fn is_same_text(text: Option<&str>, other: Option<&str>) -> bool
-    ensures { IsTrue result → option_map (λ t. t.now) text.entry ≡ option_map (λ t. t.now) other.entry }
+    ensures is { result ≡ same_text (option_map (λ t. t.now) text.entry) (option_map (λ t. t.now) other.entry) }
+    ensures same { IsTrue result → option_map (λ t. t.now) text.entry ≡ option_map (λ t. t.now) other.entry }
 {
     match (text, other) {
         (Some(text), Some(other)) => text == other,

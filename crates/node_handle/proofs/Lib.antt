@@ -7,3 +7,4 @@ pub mod Rooms
 pub mod Marks
 pub mod Hostings
 pub mod InOrder
+mod Judging

@@ -1,5 +1,9 @@
 -- Messages that are made in a buffer of a caller, or told of there.
-use Rattle.std.specs.Prelude.{◌≡◌, ◌⊎◌, ℕ, List, Ok, Err, Option, Some, None}
+use Rattle.std.specs.Prelude.{◌≡◌, ◌⊎◌, ℕ, zero, suc, false, List, Ok, Err, Option, Some, None}
+use Rattle.message_words.specs.Described.{description}
+use Rattle.message_words.specs.Naming.{kind_of}
+use Rattle.message_words.specs.declared.page.Style.{Style}
+use Rattle.message_words.specs.declared.page.Style.TheVariants.{Lines, Json}
 use Rattle.message_making.specs.declared.judging.WrongField.{WrongField}
 use Rattle.node_handle.specs.declared.refusal.Refusal.{Refusal}
 use Rattle.node_handle.specs.declared.refusal.Refusal.TheVariants.{OutOfMemory, ShortBuffer}
@@ -19,7 +23,13 @@ Makes wrong text (Err why) buffer after before size number told =
     ((why ≡ ShortBuffer) × ((wrong ≡ None) × (Lacks text buffer after size × (told ≡ number))))
     ⊎ (((after ≡ buffer) × (size ≡ before)) × TellsWrong wrong why number told)
 
--- a page is copied into a buffer, whatever it says
-abbrev pub Describes : Said → List ℕ → List ℕ → ℕ → ℕ → Type 0
-Describes said buffer after before size =
-    ((said ≡ Err OutOfMemory) × ((after ≡ buffer) × (size ≡ before))) ⊎ ((page : List ℕ) × Copies (Some page) said buffer after before size)
+-- the style that a number asks for
+abbrev pub style_of : ℕ → Style
+style_of zero = Lines
+style_of (suc json) = Json
+
+-- the description of a message is copied into a buffer, as it stands on the first line of an input and no byte around it was dropped
+abbrev pub Describes : Style → List ℕ → Said → List ℕ → List ℕ → ℕ → ℕ → Type 0
+Describes style message said buffer after before size =
+    ((said ≡ Err OutOfMemory) × ((after ≡ buffer) × (size ≡ before)))
+    ⊎ Copies (Some (description style (false, false) 1 (kind_of message) message)) said buffer after before size

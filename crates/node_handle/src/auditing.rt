@@ -1,12 +1,15 @@
 //! Whether logs are those of one legal run, as claimaudit tells it.
 
-ghost use Rattle.std.specs.Prelude.{◌≡◌, ℕ, List, true, false, IfOk, IfErr, OnOk};
+ghost use Rattle.std.specs.Prelude.{◌≡◌, ℕ, List, None, true, false, IfOk, IfErr, OnOk};
+ghost use Rattle.settings_digest.specs.Digests.{digest_under};
 ghost use Rattle.node_log.specs.LogSeen.{logs_seen};
-ghost use Rattle.log_audit.specs.Given.{IsRead};
+ghost use Rattle.log_audit.specs.Given.{IsRead, torn_ends};
+ghost use Rattle.log_audit.specs.Names.{misnamed_log};
+ghost use Rattle.log_audit.specs.Telling.{IsWritten};
 ghost use Rattle.log_audit.specs.Refused.{IsRefused};
 ghost use Rattle.log_audit.specs.Judged.{IsTold};
 ghost use Rattle.node_handle.specs.declared.refusal.Refusal.TheVariants.{NoRun, OutOfMemory};
-ghost use Rattle.node_handle.specs.Audits.{Audits, bytes_of, IsJudged, IsReported, IsUnjudged, RefusesRead, Reports};
+ghost use Rattle.node_handle.specs.Audits.{Audits, bytes_of, form_of, IsJudged, IsReported, IsUnjudged, RefusesRead, Reports};
 
 use crate::cutting::pieces_of;
 use crate::reading::copy_out;
@@ -21,8 +24,8 @@ use std::alloc::Global;
 /// # Errors
 /// `NoRun` where they are those of no legal run; what is told of them was copied then too. Else the buffer is as it was, and
 /// the first that stands is told: `NotALog`, with the count of sizes in `size`, where they are not those of all bytes;
-/// `Settings`; the first fault of the first log that is none, with its place, from 0, in `size`; `ShortBuffer`. Memory that
-/// was refused may stand in place of any.
+/// `Settings`; `BadRecord` for the first log with a reference that no node keeps, and then the first fault of the first log that
+/// is none, each with its place, from 0, in `size`; `ShortBuffer`. Memory that was refused may stand in place of any.
 pub fn audit(
     alloc: Global,
     style: Style,
@@ -32,7 +35,7 @@ pub fn audit(
     buffer: &mut [u8],
     size: &mut usize,
 ) -> Result<(), Refusal>
-    ensures { Audits settings.now logs.now sizes.now result buffer.old buffer.new size.old size.new }
+    ensures { Audits settings.now logs.now sizes.now style result buffer.old buffer.new size.old size.new }
 {
     match report_of(alloc, style, settings, logs, sizes, size) {
         Ok(report) => give(&report, buffer, size),
@@ -67,7 +70,8 @@ fn report_of(
     sizes: &[usize],
     place: &mut usize,
 ) -> Result<Report, Refusal>
-    ensures judged { IfOk result (λ report. IsJudged settings.now logs.now sizes.now report.legal) }
+    ensures judged { IfOk result (λ report.
+        IsJudged settings.now logs.now sizes.now style report.text.items report.legal) }
     ensures refused { IfErr result (λ why. IsUnjudged settings.now logs.now sizes.now why place.old place.new) }
 {
     match pieces_of(alloc, logs, sizes) {
@@ -88,7 +92,8 @@ fn report_on_pieces(
     logs: Vec<Vec<u8>>,
     place: &mut usize,
 ) -> Result<Report, Refusal>
-    ensures judged { IfOk result (λ report. IsReported settings.now (bytes_of logs.items) report.legal) }
+    ensures judged { IfOk result (λ report.
+        IsReported settings.now (bytes_of logs.items) style report.text.items report.legal) }
     ensures refused { IfErr result (λ why.
         RefusesRead settings.now (bytes_of logs.items) why place.old place.new) }
 {
@@ -101,6 +106,7 @@ fn report_on_pieces(
 /// What is told of logs that were read. Only memory can be wanting by now.
 fn reported(alloc: Global, style: Style, audited: Audited) -> Result<Report, Refusal>
     ensures judged { IfOk result (λ report. IsTold audited.settings (logs_seen audited.logs.items) report.legal) }
+    ensures text { IfOk result (λ report. IsWritten audited (form_of style) report.legal report.text.items) }
     ensures refused { IfErr result (λ why. why ≡ OutOfMemory) }
 {
     match report_on(alloc, audited, form_of(style)) {
@@ -112,6 +118,8 @@ fn reported(alloc: Global, style: Style, audited: Audited) -> Result<Report, Ref
 /// The settings and the logs that bytes are.
 fn audited(alloc: Global, settings: &[u8], logs: Vec<Vec<u8>>) -> Result<Audited, AuditFault>
     ensures read { IfOk result (λ a. IsRead settings.now (bytes_of logs.items) a.settings (logs_seen a.logs.items)) }
+    ensures torn { IfOk result (λ a. a.torn.items ≡ torn_ends (digest_under settings.now) (bytes_of logs.items)) }
+    ensures named { OnOk result (misnamed_log (digest_under settings.now) (bytes_of logs.items) ≡ None) }
     ensures refused { IfErr result (λ why. IsRefused settings.now (bytes_of logs.items) why) }
 {
     match Vec::from_slice(alloc, settings) {
@@ -121,7 +129,9 @@ fn audited(alloc: Global, settings: &[u8], logs: Vec<Vec<u8>>) -> Result<Audited
 }
 
 /// The form in which logs are told of.
-fn form_of(style: Style) -> Form {
+fn form_of(style: Style) -> Form
+    ensures { result ≡ form_of style }
+{
     match style {
         Style::Lines => Form::Lines,
         Style::Json => Form::Json,
@@ -140,6 +150,10 @@ fn told(fault: AuditFault, place: &mut usize) -> Refusal
         AuditFault::Log { place: log, fault } => {
             *place = log;
             refusal_of_log(fault)
+        }
+        AuditFault::Reference { place: log, .. } => {
+            *place = log;
+            Refusal::BadRecord
         }
         // No line of a schedule is asked for.
         AuditFault::NoLine => Refusal::OutOfMemory,

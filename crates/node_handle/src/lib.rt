@@ -22,12 +22,11 @@ mod typed;
 mod waiting;
 
 pub use auditing::audit;
-pub use describing::describe;
+pub use describing::{describe, style_of};
 pub use handle::NodeHandle;
 pub use hosted::{Hosted, words_wait_for_records};
 pub use making::{billing, reversal};
 pub use message_making::{PlainBilling, PlainReversal};
-pub use message_words::Style;
 pub use part::Part;
 pub use payments::PlainPayment;
 pub use reading::{print, texts_have_room, unprint};

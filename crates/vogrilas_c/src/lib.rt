@@ -10,7 +10,7 @@ ghost use Rattle.std.specs.declared.option.Option.TheVariants.{None};
 ghost use Rattle.node_handle.specs.Numbers.{Says};
 ghost use Rattle.node_handle.specs.Calls.{Caps, Clears, CopiesRecords, CopiesRecordsAfter, CopiesWritten, Counts, Keeps, Opens, Serves};
 ghost use Rattle.node_handle.specs.Texts.{Prints, Unprints};
-ghost use Rattle.node_handle.specs.Messages.{Describes, Makes};
+ghost use Rattle.node_handle.specs.Messages.{Describes, Makes, style_of};
 ghost use Rattle.claim_profile.specs.Building.{billing_text, reversal_text};
 ghost use Rattle.message_making.specs.Judged.{wrong_in_billing, wrong_in_reversal};
 ghost use Rattle.message_making.specs.Made.{billing_said, reversal_said};
@@ -21,8 +21,8 @@ ghost use Rattle.node_handle.specs.Payments.{ListsPayments};
 ghost use Rattle.node_handle.specs.Audits.{Audits};
 
 use node_handle::{
-    NodeHandle, PlainBilling, PlainPayment, PlainReversal, Style, audit, billing, describe,
-    number_of, print, reversal, unprint,
+    NodeHandle, PlainBilling, PlainPayment, PlainReversal, audit, billing, describe, number_of,
+    print, reversal, style_of, unprint,
 };
 use std::alloc::Global;
 
@@ -325,10 +325,9 @@ pub extern "C" fn vogrilas_describe(
     buffer: &mut [u8],
     size: &mut usize,
 ) -> u32
-    ensures { Says result (λ said. Describes said buffer.old buffer.new size.old size.new) }
+    ensures { Says result (λ said. Describes (style_of json) message.now said buffer.old buffer.new size.old size.new) }
 {
-    let style = if json == 0 { Style::Lines } else { Style::Json };
-    number_of(describe(alloc, style, message, buffer, size))
+    number_of(describe(alloc, style_of(json), message, buffer, size))
 }
 
 /// Judges whether logs are those of one legal run, and copies what claimaudit tells of them: an object of JSON where `json` is
@@ -344,8 +343,7 @@ pub extern "C" fn vogrilas_audit(
     size: &mut usize,
 ) -> u32
     ensures { Says result (λ said.
-        Audits settings.now logs.now sizes.now said buffer.old buffer.new size.old size.new) }
+        Audits settings.now logs.now sizes.now (style_of json) said buffer.old buffer.new size.old size.new) }
 {
-    let style = if json == 0 { Style::Lines } else { Style::Json };
-    number_of(audit(alloc, style, settings, logs, sizes, buffer, size))
+    number_of(audit(alloc, style_of(json), settings, logs, sizes, buffer, size))
 }
