@@ -1,7 +1,6 @@
 """How much memory processes take while a network is soaked in faults, for tests/soak-all."""
 
 import collections
-import pathlib
 import sys
 import time
 
