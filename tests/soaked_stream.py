@@ -126,7 +126,7 @@ class Stream:
             print(f"soak-all: no drift: {fault}", file=sys.stderr, flush=True)
             return False
         strange.start(private.url)
-        end = time.monotonic() + END_SECONDS / 2
+        end = time.monotonic() + END_SECONDS
         while not strange.is_ready() and time.monotonic() < end:
             time.sleep(0.1)
         is_made = strange.is_ready()
