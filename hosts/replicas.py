@@ -137,7 +137,8 @@ async def compare(log: Log, connection: nats.Connection, user: str) -> Compared:
                 short[replica.server] = replica.last
         for sequence in range(begin, end + 1):
             of = {it.server: it.kept.pop(sequence, None) for it in replicas if sequence <= short.get(it.server, last)}
-            if len(set(of.values())) > 1:
+            # A log never forgets a message: what no copy has is lost.
+            if len(set(of.values())) > 1 or None in of.values():
                 differ[sequence] = of
     lacking += [f"{server} has {had} of {last} messages" for server, had in short.items()]
     return Compared(servers, last, differ, lacking)

@@ -226,7 +226,7 @@ class Caller:
         path += f"?wait={wait}" if wait is not None else ""
         return self.call("POST", path, status or (200 if wait else 202), body, **headers)
 
-    def send(self, message, key, wait):
+    def send(self, message, key, wait, pharmacy="ph1"):
         """The same, whatever becomes of it; None where the front is not there."""
         try:
             connection = self._connected()
@@ -235,7 +235,7 @@ class Caller:
                 "Content-Type": "application/vnd.ncpdp",
                 "Idempotency-Key": key,
             }
-            connection.request("POST", f"/pharmacies/ph1/claims?wait={wait}", message, headers)
+            connection.request("POST", f"/pharmacies/{pharmacy}/claims?wait={wait}", message, headers)
             answer = connection.getresponse()
             return Answer(answer.status, answer.headers, answer.read())
         except (OSError, http.client.HTTPException):

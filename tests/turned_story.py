@@ -55,6 +55,12 @@ def run(*words):
     return ran.returncode, ran.stdout, ran.stderr
 
 
+def backup(*words):
+    """How hosts/backup ends."""
+    words = [sys.executable, TOP / "hosts" / "backup", *words]
+    return subprocess.run(list(map(str, words)), capture_output=True, text=True, check=False)
+
+
 class Given(NamedTuple):
     """Which node's turning is killed, which one of its turns, and at which stop."""
 
@@ -134,9 +140,7 @@ class Story:
         """Copies all logs, and sees that they go on where their copies end."""
         kept = self.folder / "kept"
         for words in ([self.folder, kept], ["--compare", kept, self.folder]):
-            ran = subprocess.run(
-                [sys.executable, TOP / "hosts" / "backup", *words], capture_output=True, text=True, check=False
-            )
+            ran = backup(*words)
             expect(ran.returncode == 0, f"hosts/backup: {ran.stdout}{ran.stderr}")
 
     def joined(self, node):
@@ -192,6 +196,19 @@ class Story:
             served.end()
 
 
+def begun(node, rest, calls):
+    """The file of a log that begins with a rest, with the head that it has behind that, and goes on with these records."""
+    said = hashlib.sha256(said_of(SETTINGS.encode("ascii"))).digest()
+    head = headed(2, node, said + rest[:BODY])
+    return b"PT\1" + len(rest).to_bytes(8, "big") + rest + head + calls
+
+
+def parts_of(octets):
+    """The rest, the head and the records of the file of a log that goes on."""
+    size = FILE + int.from_bytes(octets[3:FILE], "big")
+    return octets[FILE:size], octets[size : size + HEAD], octets[size + HEAD :]
+
+
 def audited(*words):
     """How claimaudit ends, and what it says."""
     ran = subprocess.run(
@@ -215,18 +232,14 @@ class Paid:
         expect(ran[0] == 0, f"the log of a payer is not closed: {ran[2]}")
         with Served(str(self.settings), "pr1", str(payer)) as served:
             served.take(sender, packet)
-        octets = payer.read_bytes()
-        size = FILE + int.from_bytes(octets[3:FILE], "big")
-        self.rest, self.calls = octets[FILE:size], octets[size + HEAD :]
+        self.rest, _, self.calls = parts_of(payer.read_bytes())
 
     def log(self, node):
         return self.folder / f"{node}.log"
 
     def begin(self, rest, calls):
         """Has the log of the payer begin with a rest, with the head that it has behind that."""
-        said = hashlib.sha256(said_of(SETTINGS.encode("ascii"))).digest()
-        head = headed(2, "pr1", said + rest[:BODY])
-        self.log("pr1").write_bytes(b"PT\1" + len(rest).to_bytes(8, "big") + rest + head + calls)
+        self.log("pr1").write_bytes(begun("pr1", rest, calls))
 
     def judged(self, *words):
         """How claimaudit ends over these words and logs, and what it says."""

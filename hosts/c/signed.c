@@ -55,13 +55,15 @@ static bool holds(const struct host *host, const struct message *one, const char
     return keys_hold(host->keys, text, node, packet, size);
 }
 
-/* Of a request, whose pharmacy signs it, and which a payer takes where a route leads to it. */
-static enum why fault_of_request(const struct host *host, const struct message *one, const struct head *head) {
+/* Of a request, whose pharmacy signs it: a switch takes it from that pharmacy alone, and a payer from switches, where a route leads to it. */
+static enum why fault_of_request(const struct host *host, const struct message *one, const struct head *head, const char *sender) {
     char pharmacy[9], payer[9];
     const unsigned char *request;
+    bool is_payer = begins(host->given.name, 2, "pr");
     snprintf(pharmacy, sizeof pharmacy, "ph%u", head->pharmacy);
+    if (is_payer ? !begins(sender, 2, "sw") : strcmp(sender, pharmacy) != 0) return FORGED;
     if (!holds(host, one, pharmacy)) return FORGED;
-    if (!begins(host->given.name, 2, "pr")) return WHYS;
+    if (!is_payer) return WHYS;
     size_t size = payload_of(one, &request);
     snprintf(payer, sizeof payer, "pr%u", keys_route(host->keys, request, size) % 100000);
     return strcmp(payer, host->given.name) == 0 ? WHYS : WRONG_PAYER;
@@ -90,9 +92,9 @@ static enum why fault_of(struct host *host, const struct message *one) {
     if (signed_text(one->text) == NULL) return UNSIGNED;
     if (!head_of(natsMsg_GetData(one->text), (size_t)natsMsg_GetDataLength(one->text), &head)) return FORGED;
     if (!sender_of(host->given.name, natsMsg_GetSubject(one->text), sender)) return FORGED;
-    if (head.kind == REQUEST) return fault_of_request(host, one, &head);
+    if (head.kind == REQUEST) return fault_of_request(host, one, &head, sender);
     if (begins(host->given.name, 2, "ph")) return fault_of_answer(host, one, &head, sender);
-    return holds(host, one, sender) ? WHYS : FORGED;
+    return begins(sender, 2, "pr") && holds(host, one, sender) ? WHYS : FORGED;
 }
 
 void signed_mark(struct host *host, struct message *batch) {
