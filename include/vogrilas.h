@@ -332,14 +332,14 @@ vogrilas_code vogrilas_request(vogrilas_node *node, uint64_t number, void *buffe
 vogrilas_code vogrilas_answer(vogrilas_node *node, uint16_t pharmacy, uint64_t number, void *buffer, size_t room, size_t *size);
 
 /*
-** Copies the answer of a pharmacy's own entry that a payer gave, which is one whose request has a route by the node's settings, also while
-** the records of it are not on disk: where they are lost, the payer gives the same bytes again, and no other answer is ever held under that
-** number. So who waits for an answer need not wait for the disk. An answer to a request without a route is a switch's, which a later route
-** may take back: that one is told by vogrilas_answer() alone. Where routes have grown a host takes no late rejection of a request that has
-** one now, which is an answer whose sixth byte is R (501-F1) to an entry of which this call says VOGRILAS_UNANSWERED: no payer gives it.
+** Copies the answer of a pharmacy's own entry that a payer gave, also while the records of it are not on disk: where they are lost, the
+** payer gives the same bytes again, and no other answer is ever held under that number. So who waits for an answer need not wait for the
+** disk. An answer to a request that has no route by the node's settings, and one with the status R (501-F1, its sixth byte), which no payer
+** gives, is a switch's, which a later route may take back: that one is told by vogrilas_answer() alone. Where routes have grown a host takes
+** no late rejection of a request that has one now: one with the status R to an entry of which this call says VOGRILAS_UNANSWERED.
 **
-** VOGRILAS_OK and VOGRILAS_SHORT_BUFFER are as of vogrilas_records(). VOGRILAS_UNSYNCED: the request has no route; ask
-** vogrilas_answer() once all is on disk. VOGRILAS_UNANSWERED: it is an open entry. VOGRILAS_NOT_FOUND: the node has no such entry, or is
+** VOGRILAS_OK and VOGRILAS_SHORT_BUFFER are as of vogrilas_records(). VOGRILAS_UNSYNCED: the request has no route, or the answer is a
+** rejection by a switch; ask vogrilas_answer() once all is on disk. VOGRILAS_UNANSWERED: it is an open entry. VOGRILAS_NOT_FOUND: the node has no such entry, or is
 ** another. VOGRILAS_CLOSED, VOGRILAS_NO_MEMORY. Buffer and *size are as they were at these five, and the node at each code.
 */
 vogrilas_code vogrilas_heard(vogrilas_node *node, uint16_t pharmacy, uint64_t number, void *buffer, size_t room, size_t *size);

@@ -1,15 +1,14 @@
 //! The repair of a damaged log: what stands after the damage is told, and is cut off where its place is typed back.
 
-use crate::file::{Opened, open_found};
+use crate::file::{Purpose, take};
 use crate::finding::Finding;
 use crate::undamaged::{Run, runs_from};
 use crate::words::Words;
 use command_line::End;
-use kept_logs::{LogFault, LogVersion, behind_record};
-use node_process::{keep_end, sync_folder};
-use node_service::{Service, ServiceFault};
-use payer_book::HashKeys;
-use std::io::Read;
+use kept_logs::{LogVersion, behind_record};
+use log_folder::{Condition, CutOff, MendFault, Mended, mend_log};
+use log_turning::part_of;
+use node_service::ServiceFault;
 
 /// How many bytes the head of a log has.
 const HEAD: usize = 46;
@@ -24,32 +23,21 @@ pub(crate) fn repair(
     log: &str,
     text: &[u8],
 ) -> Result<(), End<Finding>> {
-    let mut opened = open_found(rt, log)?;
-    let mut bytes = Vec::new(rt.alloc());
-    opened.file.read_to_end(&mut bytes)?;
-    match Service::open(
-        rt.alloc(),
-        &HashKeys::fixed(),
-        text,
-        words.node,
-        opened.rest(),
-        bytes.as_slice(),
-    ) {
-        Ok((service, whole)) => sound(rt, words, service.calls(), whole, bytes.len()),
-        Err(fault) => match place_of(fault) {
-            Some(place) => damaged(rt, words, log, &opened, bytes.as_slice(), fault, place),
-            None => Err(End::Own(Finding::Service(fault))),
-        },
-    }
-}
-
-/// The place of a damage; none of another fault.
-fn place_of(fault: ServiceFault) -> Option<usize> {
-    match fault {
-        ServiceFault::Log(LogFault::Damaged(place)) => Some(place),
-        ServiceFault::Log(LogFault::BadRecord(place)) => Some(place),
-        ServiceFault::NotMade(place) => Some(place),
-        _ => None,
+    let mut disk = take(rt, log, Purpose::Mend)?;
+    let mended = match mend_log(rt.alloc(), text, words.node, words.cut_at, &mut disk) {
+        Ok(mended) => mended,
+        Err(MendFault::Io(error)) => return Err(End::Io(error)),
+        Err(MendFault::Refused(fault)) => return Err(End::Own(Finding::Service(fault))),
+    };
+    let Mended {
+        bytes,
+        condition,
+        cut,
+    } = mended;
+    let log = part_of(bytes.as_slice()).log;
+    match condition {
+        Condition::Sound(calls, whole) => sound(rt, words, calls, whole, log.len()),
+        Condition::Damaged(place, fault) => damaged(rt, log, fault, place, cut),
     }
 }
 
@@ -72,26 +60,22 @@ fn sound(
     }
 }
 
-/// Tells of a damage, and cuts it off where its place was typed back.
+/// Tells of a damage, and what was cut off.
 fn damaged(
     rt: &HostRuntime,
-    words: &Words<'_>,
-    log: &str,
-    opened: &Opened,
-    bytes: &[u8],
+    log: &[u8],
     fault: ServiceFault,
     place: usize,
+    cut: CutOff,
 ) -> Result<(), End<Finding>> {
-    let calls = calls_before(bytes, place);
-    let runs = runs_from(rt.alloc(), bytes, place, calls.saturating_add(1))?;
-    tell(rt, bytes.len(), calls, fault, place, runs.as_slice())?;
-    match words.cut_at {
-        None => Err(End::Own(Finding::Damaged(place))),
-        Some(typed) => {
-            if typed != place as u64 {
-                return Err(End::Own(Finding::OtherPlace(place)));
-            }
-            cut(rt, log, opened, place)?;
+    let calls = calls_before(log, place);
+    let runs = runs_from(rt.alloc(), log, place, calls.saturating_add(1))?;
+    tell(rt, log.len(), calls, fault, place, runs.as_slice())?;
+    match cut {
+        CutOff::NotAsked => Err(End::Own(Finding::Damaged(place))),
+        CutOff::Elsewhere => Err(End::Own(Finding::OtherPlace(place))),
+        CutOff::Failed(error) => Err(End::Io(error)),
+        CutOff::Done => {
             println!(rt; "cut at byte {place}: {calls} calls are left")?;
             Ok(())
         }
@@ -133,15 +117,5 @@ fn tell(
         let (first, last, from, to) = (run.first, run.last, run.from, run.to);
         println!(rt; "undamaged records {first} to {last}, from byte {from} to byte {to}")?;
     }
-    Ok(())
-}
-
-/// Cuts a log off after this many bytes, once what stands there is kept beside it, and has all that on disk.
-fn cut(rt: &HostRuntime, path: &str, opened: &Opened, size: usize) -> Result<(), End<Finding>> {
-    let behind = opened.front.saturating_add(size as u64);
-    keep_end(rt, path, behind)?;
-    opened.file.set_len(behind)?;
-    opened.file.sync_all()?;
-    sync_folder(rt, path)?;
     Ok(())
 }

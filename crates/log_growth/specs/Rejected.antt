@@ -1,5 +1,5 @@
 -- Answers that a pharmacy has of a switch, to requests that had no route.
-use Rattle.std.specs.Prelude.{◌≡◌, ℕ, zero, suc, ◌+◌, ◌==◌, ◌&&◌, nat_lt, Bool, true, false, not, List, slice_get, Option, Some, None, MatchOption}
+use Rattle.std.specs.Prelude.{◌≡◌, ℕ, zero, suc, ◌+◌, ◌&&◌, nat_lt, Bool, true, false, not, List, Option, Some, None, MatchOption}
 use Rattle.claim_model.specs.Words.{TxnId}
 use Rattle.claim_model.specs.Context.{Context}
 use Rattle.claim_model.specs.Node.{Node, Pharmacy, Switch, Payer}
@@ -7,15 +7,7 @@ use Rattle.node_state.specs.Nodes.{entries_of, request_of, held_of}
 use Rattle.node_logged.specs.Setting.{context_of}
 use Rattle.node_service.specs.Serving.{Serving}
 use Rattle.node_service.specs.Opened.{IsOpened}
-use Rattle.request_route.specs.Routed.{is_routed}
-
-abbrev pub is_status : Option ℕ → Bool
-is_status (Some byte) = byte == 82
-is_status None = false
-
--- an answer has the status R (501-F1, its sixth byte): a switch's rejection, where a payer's answer has A
-abbrev pub is_rejected : List ℕ → Bool
-is_rejected answer = is_status (slice_get answer 5)
+use Rattle.request_route.specs.Routed.{is_rejected, is_routed}
 
 abbrev pub rerouted_by : Context → Option (List ℕ) → Option (List ℕ) → Bool
 rerouted_by ctx (Some answer) (Some request) = is_rejected answer && is_routed ctx request

@@ -2,13 +2,13 @@
 
 ghost use Rattle.std.specs.Prelude.{◌≡◌, IfOk};
 ghost use Rattle.world_setup.specs.Seen.{node_seen};
-ghost use Rattle.log_growth.specs.Rejected.{IsReroutedIn, TellsRerouted, TellsReroutedOf, is_rejected, is_rerouted};
+ghost use Rattle.log_growth.specs.Rejected.{IsReroutedIn, TellsRerouted, TellsReroutedOf, is_rerouted};
 
 use crate::over::OverFault;
 use envelope::TxnId;
 use node_service::{Service, ServiceFault};
 use payer_book::HashKeys;
-use request_route::is_routed;
+use request_route::{is_rejected, is_routed};
 use std::alloc::{AllocError, Global};
 use world_setup::Node;
 
@@ -83,15 +83,5 @@ fn is_rerouted(
     match service.state().request(alloc, number)? {
         Some(request) => Ok(is_routed(service.settings().routes(), request.as_slice())),
         None => Ok(false),
-    }
-}
-
-/// Whether an answer has the status of a rejection (501-F1, the sixth byte): that of each payer is another.
-fn is_rejected(answer: &[u8]) -> bool
-    ensures { result ≡ is_rejected answer.now }
-{
-    match answer.get(5) {
-        Some(status) => *status == b'R',
-        None => false,
     }
 }

@@ -1,5 +1,5 @@
 -- An answer that is told before it is on disk.
-use Rattle.std.specs.Prelude.{ℕ, List, Result, Err, Option, Some, None, if◌then◌else◌}
+use Rattle.std.specs.Prelude.{ℕ, List, Result, Ok, Err, Option, Some, None, if◌then◌else◌}
 use Rattle.std.specs.Option.{option_map}
 use Rattle.node_state.specs.Nodes.{request_of}
 use Rattle.node_logged.specs.Setting.{context_of}
@@ -8,14 +8,19 @@ use Rattle.node_handle.specs.declared.refusal.Refusal.{Refusal}
 use Rattle.node_handle.specs.declared.refusal.Refusal.TheVariants.{Unsynced, NotFound}
 use Rattle.node_handle.specs.Saying.{Said}
 use Rattle.node_handle.specs.Hosting.{Hosting}
-use Rattle.request_route.specs.Routed.{is_routed}
+use Rattle.request_route.specs.Routed.{is_rejected, is_routed}
 use Rattle.node_handle.specs.Asked.{Gives, answer_in}
 
+-- an answer of a payer; a switch's rejection is not told before it is on disk
+abbrev pub of_payer : Result (List ℕ) Refusal → Result (List ℕ) Refusal
+of_payer (Ok answer) = if is_rejected answer then Err Unsynced else Ok answer
+of_payer (Err why) = Err why
+
 abbrev pub heard_by : Serving → ℕ → ℕ → Option (List ℕ) → Result (List ℕ) Refusal
-heard_by s pharmacy number (Some request) = if is_routed (context_of s.settings) request then answer_in pharmacy number s else Err Unsynced
+heard_by s pharmacy number (Some request) = if is_routed (context_of s.settings) request then of_payer (answer_in pharmacy number s) else Err Unsynced
 heard_by s pharmacy number None = Err NotFound
 
--- the answer that a pharmacy has under a number, where a payer gave it; nothing is asked of the disk
+-- the answer that a pharmacy has under a number, where a payer gave it, which its request has a route to; nothing is asked of the disk
 abbrev pub heard_in : ℕ → ℕ → Serving → Result (List ℕ) Refusal
 heard_in pharmacy number s = heard_by s pharmacy number (request_of s.state number)
 

@@ -193,14 +193,14 @@ fn give_answer_for(
 }
 
 /// The answer that a node holds for an id.
-fn held(alloc: Global, node: &Service, id: TxnId) -> Result<Option<Octets>, AllocError>
+pub(crate) fn held(alloc: Global, node: &Service, id: TxnId) -> Result<Option<Octets>, AllocError>
     ensures { IfOk result (λ held. held ≡ held_of (context_of node.now.settings) node.now.state id) }
 {
     node.state().held(alloc, id)
 }
 
 /// Why a node has no answer for an id.
-fn lacking(alloc: Global, node: &Service, id: TxnId) -> Refusal
+pub(crate) fn lacking(alloc: Global, node: &Service, id: TxnId) -> Refusal
     ensures { (result ≡ OutOfMemory) ⊎ (result ≡ lacking_in id node.now) }
 {
     if !is_pharmacy(node.own_name(), id.pharmacy()) {

@@ -1,5 +1,5 @@
 -- Acts as they are noted: a kind, whether it was done, a number, and bytes.
-use Rattle.std.specs.Prelude.{ℕ, zero, suc, cond, ◌==◌, List, slice_index}
+use Rattle.std.specs.Prelude.{ℕ, zero, suc, cond, ◌==◌, List, map, slice_index}
 use Rattle.node_process.specs.Acts.{Act, Found, Unread, Cut, Append, Sync, Say, Hear, Unheard}
 
 abbrev pub act_of_kind : ℕ → List ℕ → List ℕ → Act
@@ -10,6 +10,13 @@ act_of_kind (suc (suc (suc zero))) numbers bytes = Sync (slice_index numbers 1 =
 act_of_kind (suc (suc (suc (suc zero)))) numbers bytes = Say bytes (slice_index numbers 1 == 1)
 act_of_kind (suc (suc (suc (suc (suc kind))))) numbers bytes = cond (slice_index numbers 1 == 1) (Hear bytes) Unheard
 
--- the act that these numbers and bytes note
-abbrev pub act_of : List ℕ → List ℕ → Act
-act_of numbers bytes = act_of_kind (slice_index numbers 0) numbers bytes
+-- numbers and bytes, as they are noted of a call
+abbrev pub Note : Type 0
+Note = List ℕ × List ℕ
+
+-- the act that a note says
+abbrev pub act_of : Note → Act
+act_of note = act_of_kind (slice_index note.0 0) note.0 note.1
+
+abbrev pub acts_of : List Note → List Act
+acts_of notes = map act_of notes

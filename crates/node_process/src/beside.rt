@@ -90,7 +90,7 @@ pub fn mark_of_failed_sync(alloc: Global, path: &str) -> io::Result<String> {
 }
 
 /// Leaves the mark of a log whose sync failed.
-pub(crate) fn leave_mark(rt: &HostRuntime, path: &str) -> io::Result<()> {
+pub fn leave_mark(rt: &HostRuntime, path: &str) -> io::Result<()> {
     let name = mark_of_failed_sync(rt.alloc(), path)?;
     let mut file = private_file()
         .write(true)

@@ -1,6 +1,7 @@
 //! The system of a switch that keeps nothing.
 
 ghost use Rattle.std.specs.Prelude.{◌≡◌, []};
+ghost use Rattle.node_process.specs.Noting.{acts_of};
 
 use crate::machine::Machine;
 use crate::noted::{APPENDED, CUT, FOUND, HEARD, Noted, SAID, SYNCED};
@@ -22,7 +23,7 @@ pub struct Diskless<I: Read + Drop, O: Write + Drop> {
 impl<I: Read + Drop, O: Write + Drop> Diskless<I, O> {
     /// Over an input and an output.
     pub fn new(input: I, output: O) -> Diskless<I, O>
-        ensures { result.noted.acts ≡ [] }
+        ensures { result.noted.notes ≡ [] }
     {
         Diskless {
             input,
@@ -33,7 +34,7 @@ impl<I: Read + Drop, O: Write + Drop> Diskless<I, O> {
 }
 
 impl<I: Read + Drop, O: Write + Drop> Machine for Diskless<I, O> {
-    ghost acts = { λ host. host.noted.acts };
+    ghost acts = { λ host. acts_of host.noted.notes };
 
     ghost coming = { λ host. I.remaining host.input };
 

@@ -1,6 +1,7 @@
 //! The system over a real file. Each method makes its call, and then notes it with its answer.
 
 ghost use Rattle.std.specs.Prelude.{◌≡◌, []};
+ghost use Rattle.node_process.specs.Noting.{acts_of};
 
 use crate::beside::{keep_all, keep_end, leave_mark};
 use crate::machine::Machine;
@@ -37,7 +38,7 @@ impl<'a, I: Read + Drop, O: Write + Drop> Host<'a, I, O> {
         input: I,
         output: O,
     ) -> Host<'a, I, O>
-        ensures { result.noted.acts ≡ [] }
+        ensures { result.noted.notes ≡ [] }
     {
         Host {
             rt,
@@ -52,7 +53,7 @@ impl<'a, I: Read + Drop, O: Write + Drop> Host<'a, I, O> {
 }
 
 impl<'a, I: Read + Drop, O: Write + Drop> Machine for Host<'a, I, O> {
-    ghost acts = { λ host. host.noted.acts };
+    ghost acts = { λ host. acts_of host.noted.notes };
 
     ghost coming = { λ host. I.remaining host.input };
 

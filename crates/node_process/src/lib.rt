@@ -19,11 +19,12 @@ mod serving;
 mod streams;
 mod unserved;
 
-pub use beside::{keep_end, mark_of_failed_sync, sync_folder};
+pub use beside::{keep_end, leave_mark, mark_of_failed_sync, sync_folder};
 pub use diskless::Diskless;
 pub use host::Host;
 pub use laws::{files_are_processes, processes_follow_one_another};
 pub use machine::Machine;
+pub use noted::Noted;
 pub use opening::Owner;
 pub use serving::serve_all;
 pub use unserved::Unserved;

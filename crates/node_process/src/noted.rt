@@ -1,9 +1,8 @@
-//! A list of acts that clauses alone read: it has no bytes in memory.
+//! A list of notes that clauses alone read: it has no bytes in memory.
 
 ghost use Rattle.std.specs.Prelude.{◌≡◌, List, [], ◌∷◌};
 ghost use Rattle.std.specs.Borrow.{ftrue};
-ghost use Rattle.node_process.specs.Acts.{Act};
-ghost use Rattle.node_process.specs.Noting.{act_of};
+ghost use Rattle.node_process.specs.Noting.{Note};
 
 use std::marker::{Model, PhantomData};
 
@@ -20,11 +19,11 @@ pub(crate) const SAID: u64 = 4;
 
 pub(crate) const HEARD: u64 = 5;
 
-/// The acts of a machine so far, the newest first.
+/// What was asked of a system so far, the newest first: of each call some numbers, and bytes.
 #[derive(Drop)]
 pub struct Noted {
     marker: PhantomData<u8>,
-    pub ghost acts: { List Act },
+    pub ghost notes: { List Note },
 }
 
 impl Model for Noted {
@@ -33,16 +32,16 @@ impl Model for Noted {
 
 impl Noted {
     /// Nothing yet.
-    pub(crate) fn new() -> Noted
-        ensures { result.acts ≡ [] }
+    pub fn new() -> Noted
+        ensures { result.notes ≡ [] }
     {
         Noted {
             marker: PhantomData,
         }
     }
 
-    /// Notes one more act: its kind, 1 where it was done, and a number; and its bytes.
-    pub(crate) fn note(&mut self, _numbers: &[u64], _bytes: &[u8])
-        ensures { self.new.acts ≡ act_of _numbers.now _bytes.now ∷ self.old.acts }
+    /// Notes one more call: its numbers, as its kind, 1 where it was done, and a size; and its bytes.
+    pub fn note(&mut self, _numbers: &[u64], _bytes: &[u8])
+        ensures { self.new.notes ≡ (_numbers.now, _bytes.now) ∷ self.old.notes }
     {}
 }

@@ -1,4 +1,4 @@
--- Nothing is done: the list that is lent is given back with one act more.
+-- Nothing is done: the list that is lent is given back with one note more.
 use Rattle.std.proofs.Common.{ℕ, List, [], ◌∷◌, refl, MutBor}
 use seplogic.Ra.Ura.{Ura}
 use mir.Syntax.{named}
@@ -26,7 +26,6 @@ use denote.Triple.Spec.{Meets, triple_of}
 use denote.Triple.Table.{entered}
 use denote.Triple.Walked.{says, Stays, stay_ref, walk_of, AllGo, Goes-ref, Walks, ends_at, walked, walk_Meets}
 use Rattle.node_process.specs.declared.noted.Noted.{Noted}
-use Rattle.node_process.specs.Noting.{act_of}
 use Rattle.node_process.specs.contracts.noted.Noted as T
 use Rattle.node_process.specs.contracts.noted.Noted.note.Key.{name as #it}
 use Rattle.node_process.specs.contracts.noted.Noted.note as it
@@ -52,7 +51,7 @@ module _ {M : Type 1} {𝓤 : Ura M} (𝓛 : Logic 𝓤) (at_mem : Memory → SP
   x = (record { ref_ptr = (b, o); ghost_name = γ; now = h }, (k, (s, tt)))
 
   abbrev h' : Noted
-  h' = record { marker = h.marker; acts = act_of k.now s.now ∷ h.acts }
+  h' = record { marker = h.marker; notes = (k.now, s.now) ∷ h.notes }
 
   abbrev at : List Val × (List Val × (List Val × Unit {0}))
   at = (vptr b o ∷ [], (slice_val k.ref_ptr (length k.now) ∷ [], (slice_val s.ref_ptr (length s.now) ∷ [], tt)))

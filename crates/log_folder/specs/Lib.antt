@@ -1,0 +1,6 @@
+-- In the order in which one explains them.
+pub mod Deeds
+pub mod Noting
+pub mod Plans
+pub mod Deaths
+pub mod Mending
