@@ -1,0 +1,6 @@
+-- One thing after another, each at its node.
+use Rattle.node_process.proofs.Joining.{keep_promises}
+use Rattle.node_process.proofs.laws.files_keep_promises.Goals as goal
+
+pub returns : goal.returns
+returns c = keep_promises
