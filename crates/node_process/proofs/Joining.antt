@@ -6,12 +6,13 @@ use Rattle.std.proofs.lemmas.List.{take_all}
 use Rattle.claim_model.specs.Context.{Context}
 use Rattle.claim_model.specs.Laws.{Laws}
 use Rattle.claim_model.specs.Numbered.{numbered}
-use Rattle.claim_model.specs.Node.{Node, Pharmacy, Switch, Payer, Call, Submit, Tick, Take, Stop, Start, Reprice, Adjudicate, Outcome, Done, Refused}
+use Rattle.claim_model.specs.Node.{Node, Pharmacy, Switch, Payer, Call, Submit, Tick, Take, Stop, Start, Reprice, Adjudicate, Power, Up, AtRest, Outcome, Done, Refused, pharmacy_step, switch_step, payer_step}
 use Rattle.claim_model.specs.World.{World, Packet, Event, Submission, Ticking, Delivery, Stopping, Starting, PlanChange, Adjudication}
 use Rattle.claim_model.specs.Settings.{WorldSettings, Accepts, opening}
-use Rattle.claim_model.specs.Nodes.{AnyNode, node_step, node_at, same_node, Asked, asked, taking, adjudicating}
-use Rattle.claim_model.specs.Logs.{Logged, NodeLog, posted_by}
+use Rattle.claim_model.specs.Nodes.{AnyNode, OfPharmacy, OfSwitch, OfPayer, as_node, node_step, node_at, same_node, Asked, asked, taking, adjudicating}
+use Rattle.claim_model.specs.Logs.{Logged, NodeLog, node_after, replay, posted_by}
 use Rattle.claim_model.proofs.Lists.{all_append, all_weaker, numbered_append}
+use Rattle.claim_model.proofs.Options.{map_some, same_some}
 use Rattle.claim_model.proofs.Names.{told_apart, same_self}
 use Rattle.crash_safety.specs.Network.{Process, Network, Move, replayed, calls, after_call, one_synced, beginning, after, network}
 use Rattle.crash_safety.specs.Network.{file as model_file}
@@ -36,9 +37,10 @@ use Rattle.kept_logs.specs.Rests.{begins}
 use Rattle.kept_logs.proofs.LogsBack.{reads_short, reads_whole}
 use Rattle.node_service.specs.Asking.{Noted, Calls, asked_of}
 use Rattle.node_service.specs.Opened.{Spells}
+use Rattle.node_process.specs.Acts.{Act}
 use Rattle.node_process.specs.Safe.{Whose}
 use Rattle.node_process.specs.Histories.{Happening, acts_of, file_of, on_disk, digest_of, CanBegin, IsHistory, HasCalls, ReadsCalls, IsAlive, IsAskedIn, AreAskedIn, lines_at, lines_of}
-use Rattle.node_process.specs.Joined.{Turn, own, Owners, WasSent, IsPharmacy, IsPayer, CanBeAsked, CanAllBeAsked, AsksWhatCanBe, IsNetwork, BeginsAtRest, AreNodesOf, disks_of, files_of, Keeps, KeepPromises}
+use Rattle.node_process.specs.Joined.{Turn, own, Owners, WasSent, IsOfPacket, AreOfPackets, TakesWhatWasSent, IsNetwork, BeginsAtRest, AreNodesOf, disks_of, files_of, Keeps, KeepPromises}
 use Rattle.node_process.proofs.Bare.{bare_has, bare_reads, reading_alone}
 use Rattle.node_process.proofs.Left.{torn_fits, torn_reads, front_fits}
 use Rattle.node_process.proofs.Histories.{IsInner, GoesOn, HasBase, base, idle_calls, digest_length, recorded, next_step, asked_in_all, earlier}
@@ -71,6 +73,152 @@ has_reads digest node bytes calls d (inl text) =
           ∙ ap (λ (log : NodeLog). let r : Reading = record { log = log; whole = whole } in Ok r) text.of,
     )
 
+-- ---- calls of another kind of node
+
+-- a node is of the kind of its name
+abbrev IsKind : Node → AnyNode → Type 0
+IsKind (Pharmacy n) (OfPharmacy a) = ⊤
+IsKind (Pharmacy n) (OfSwitch a) = ⊥
+IsKind (Pharmacy n) (OfPayer a) = ⊥
+IsKind (Switch n) (OfPharmacy a) = ⊥
+IsKind (Switch n) (OfSwitch a) = ⊤
+IsKind (Switch n) (OfPayer a) = ⊥
+IsKind (Payer n) (OfPharmacy a) = ⊥
+IsKind (Payer n) (OfSwitch a) = ⊥
+IsKind (Payer n) (OfPayer a) = ⊤
+
+kind_opens : (w : World) (node : Node) (x : AnyNode) → node_at w node ≡ Some x → IsKind node x
+kind_opens w (Pharmacy n) x e = let m = map_some OfPharmacy (numbered w.pharmacies n) x e in subst (IsKind (Pharmacy n)) m.2 tt
+kind_opens w (Switch n) x e = let m = map_some OfSwitch (numbered w.switches n) x e in subst (IsKind (Switch n)) m.2 tt
+kind_opens w (Payer n) x e = let m = map_some OfPayer (numbered w.payers n) x e in subst (IsKind (Payer n)) m.2 tt
+
+kind_of : {A : Type 0} (kind : A → AnyNode) (node : Node) (x : AnyNode) (o : Outcome A) → ((a : A) → IsKind node (kind a)) → IsKind node x → IsKind node (node_after x (as_node kind o))
+kind_of kind node x (Done a sent) all k = all a
+kind_of kind node x (Refused why) all k = k
+
+kind_after : (ctx : Context) (node : Node) (x : AnyNode) (call : Call) → IsKind node x → IsKind node (node_after x (node_step ctx x call))
+kind_after ctx (Pharmacy n) (OfPharmacy a) call k = kind_of OfPharmacy (Pharmacy n) (OfPharmacy a) (pharmacy_step ctx a call) (λ b. tt) k
+kind_after ctx (Pharmacy n) (OfSwitch a) call k = absurd k
+kind_after ctx (Pharmacy n) (OfPayer a) call k = absurd k
+kind_after ctx (Switch n) (OfPharmacy a) call k = absurd k
+kind_after ctx (Switch n) (OfSwitch a) call k = kind_of OfSwitch (Switch n) (OfSwitch a) (switch_step ctx a call) (λ b. tt) k
+kind_after ctx (Switch n) (OfPayer a) call k = absurd k
+kind_after ctx (Payer n) (OfPharmacy a) call k = absurd k
+kind_after ctx (Payer n) (OfSwitch a) call k = absurd k
+kind_after ctx (Payer n) (OfPayer a) call k = kind_of OfPayer (Payer n) (OfPayer a) (payer_step ctx a call) (λ b. tt) k
+
+kind_replay : (ctx : Context) (node : Node) (x : AnyNode) (log : List Logged) → IsKind node x → IsKind node (replay ctx x log)
+kind_replay ctx node x [] k = k
+kind_replay ctx node x (l ∷ log) k = kind_replay ctx node (node_after x (node_step ctx x l.call)) log (kind_after ctx node x l.call k)
+
+-- so is whatever there is
+abbrev AreKind : Node → Option AnyNode → Type 0
+AreKind node o = (x : AnyNode) → o ≡ Some x → IsKind node x
+
+kind_replayed : (ctx : Context) (node : Node) (first : Option AnyNode) (log : List Logged) → AreKind node first → AreKind node (replayed_from ctx first log)
+kind_replayed ctx node first log k x e =
+    let m = map_some (λ (before : AnyNode). replay ctx before log) first x e in
+    subst (IsKind node) m.2 (kind_replay ctx node m.0 log (k m.0 m.1))
+
+none_kind : (node : Node) → AreKind node None
+none_kind node x e = absurd (let wrong : ◌≡◌ {A = Option AnyNode} None (Some x) = e in cc)
+
+same_kind : (node : Node) (a b : Option AnyNode) → a ≡ b → AreKind node b → AreKind node a
+same_kind node a b e k = subst (AreKind node) (sym e) k
+
+kind_called : (ctx : Context) (node : Node) (p : Process) (call : Call) (m : Option AnyNode) → p.memory ≡ m → AreKind node m → AreKind node (calls ctx p call m).memory
+kind_called ctx node p call None e k = same_kind node p.memory None e k
+kind_called ctx node p call (Some m) e k = by_outcome (node_step ctx m call) refl
+  where
+    by_outcome : (o : Outcome AnyNode) → node_step ctx m call ≡ o → AreKind node (after_call p call o).memory
+    by_outcome (Refused why) is = same_kind node p.memory (Some m) e k
+    by_outcome (Done next sent) is = λ x s.
+        let here : next ≡ x = same_some next x s in
+        subst (IsKind node) (ap (node_after m) is ∙ here) (kind_after ctx node m call (k m refl))
+
+kind_synced : (node : Node) (p : Process) (log : List Logged) → AreKind node p.memory → AreKind node (one_synced p log).memory
+kind_synced node p [] k = k
+kind_synced node p (l ∷ more) k = k
+
+kind_step : (ctx : Context) (node : Node) (first : Option AnyNode) (p : Process) (one : Step) → AreKind node first → AreKind node p.memory → AreKind node (step ctx first p one).memory
+kind_step ctx node first p (Makes call) f k = kind_called ctx node p call p.memory refl k
+kind_step ctx node first p Syncs f k = kind_synced node p p.unsynced k
+kind_step ctx node first p (Crashes left) f k = none_kind node
+kind_step ctx node first p Restarts f k = kind_replayed ctx node first (model_file p) f
+
+-- a call that nodes of this kind make
+abbrev is_own : Node → Call → Bool
+is_own (Pharmacy n) (Submit text) = true
+is_own (Switch n) (Submit text) = false
+is_own (Payer n) (Submit text) = false
+is_own (Pharmacy n) Tick = true
+is_own (Switch n) Tick = false
+is_own (Payer n) Tick = false
+is_own (Pharmacy n) (Reprice product price) = false
+is_own (Switch n) (Reprice product price) = false
+is_own (Payer n) (Reprice product price) = true
+is_own node (Take from bytes) = true
+is_own node Stop = true
+is_own node Start = true
+is_own node (Adjudicate from bytes advice) = true
+
+-- another is refused
+foreign : (ctx : Context) (node : Node) (p : Process) (m : AnyNode) (call : Call) → IsKind node m → is_own node call ≡ false → after_call p call (node_step ctx m call) ≡ p
+foreign ctx (Switch n) p (OfSwitch (Up t)) (Submit text) k e = refl
+foreign ctx (Switch n) p (OfSwitch (AtRest t)) (Submit text) k e = refl
+foreign ctx (Payer n) p (OfPayer (Up b)) (Submit text) k e = refl
+foreign ctx (Payer n) p (OfPayer (AtRest b)) (Submit text) k e = refl
+foreign ctx (Switch n) p (OfSwitch (Up t)) Tick k e = refl
+foreign ctx (Switch n) p (OfSwitch (AtRest t)) Tick k e = refl
+foreign ctx (Payer n) p (OfPayer (Up b)) Tick k e = refl
+foreign ctx (Payer n) p (OfPayer (AtRest b)) Tick k e = refl
+foreign ctx (Pharmacy n) p (OfPharmacy (Up j)) (Reprice product price) k e = refl
+foreign ctx (Pharmacy n) p (OfPharmacy (AtRest j)) (Reprice product price) k e = refl
+foreign ctx (Switch n) p (OfSwitch (Up t)) (Reprice product price) k e = refl
+foreign ctx (Switch n) p (OfSwitch (AtRest t)) (Reprice product price) k e = refl
+foreign ctx (Pharmacy n) p (OfSwitch a) call k e = absurd k
+foreign ctx (Pharmacy n) p (OfPayer a) call k e = absurd k
+foreign ctx (Switch n) p (OfPharmacy a) call k e = absurd k
+foreign ctx (Switch n) p (OfPayer a) call k e = absurd k
+foreign ctx (Payer n) p (OfPharmacy a) call k e = absurd k
+foreign ctx (Payer n) p (OfSwitch a) call k e = absurd k
+foreign ctx (Pharmacy n) p m (Submit text) k e = absurd cc
+foreign ctx (Pharmacy n) p m Tick k e = absurd cc
+foreign ctx (Payer n) p m (Reprice product price) k e = absurd cc
+foreign ctx node p m (Take from bytes) k e = absurd cc
+foreign ctx node p m Stop k e = absurd cc
+foreign ctx node p m Start k e = absurd cc
+foreign ctx node p m (Adjudicate from bytes advice) k e = absurd cc
+
+foreign_step : (ctx : Context) (node : Node) (p : Process) (call : Call) (m : Option AnyNode) → AreKind node m → is_own node call ≡ false → calls ctx p call m ≡ p
+foreign_step ctx node p call None k e = refl
+foreign_step ctx node p call (Some m) k e = foreign ctx node p m call (k m refl) e
+
+-- steps without such calls
+abbrev kept_if : Bool → Step → List Step → List Step
+kept_if true one more = one ∷ more
+kept_if false one more = more
+
+abbrev own_steps : Node → List Step → List Step
+own_steps node [] = []
+own_steps node (Makes call ∷ more) = kept_if (is_own node call) (Makes call) (own_steps node more)
+own_steps node (Syncs ∷ more) = Syncs ∷ own_steps node more
+own_steps node (Crashes left ∷ more) = Crashes left ∷ own_steps node more
+own_steps node (Restarts ∷ more) = Restarts ∷ own_steps node more
+
+-- lead to the same
+own_lead : (ctx : Context) (node : Node) (first : Option AnyNode) (p : Process) (steps : List Step) → AreKind node first → AreKind node p.memory → steps_from ctx first p (own_steps node steps) ≡ steps_from ctx first p steps
+own_lead ctx node first p [] f k = refl
+own_lead ctx node first p (Makes call ∷ more) f k = by_kind (own_lead ctx node first (step ctx first p (Makes call)) more f (kind_step ctx node first p (Makes call) f k)) (is_own node call) refl
+  where
+    by_kind : steps_from ctx first (step ctx first p (Makes call)) (own_steps node more) ≡ steps_from ctx first (step ctx first p (Makes call)) more → (own : Bool) → is_own node call ≡ own
+        → steps_from ctx first p (kept_if own (Makes call) (own_steps node more)) ≡ steps_from ctx first (step ctx first p (Makes call)) more
+    by_kind rest true e = rest
+    by_kind rest false e = ap (λ (x : Process). steps_from ctx first x (own_steps node more)) (sym (foreign_step ctx node p call p.memory k e)) ∙ rest
+own_lead ctx node first p (Syncs ∷ more) f k = own_lead ctx node first (step ctx first p Syncs) more f (kind_step ctx node first p Syncs f k)
+own_lead ctx node first p (Crashes left ∷ more) f k = own_lead ctx node first (step ctx first p (Crashes left)) more f (kind_step ctx node first p (Crashes left) f k)
+own_lead ctx node first p (Restarts ∷ more) f k = own_lead ctx node first (step ctx first p Restarts) more f (kind_step ctx node first p Restarts f k)
+
 -- ---- packets
 
 among_front : (xs ys : List Packet) (p : Packet) → IsAmong xs p → IsAmong (xs ++ ys) p
@@ -85,11 +233,11 @@ sent_still node log more p a = subst (λ (ps : List Packet). IsAmong ps p) (sym 
 -- a call can come, where what it takes was sent
 abbrev CanAsk : Network → Node → Call → Type 0
 CanAsk n node (Take from bytes) = IsAmong (posted_by from (n.at from).synced) (record { from = from; to = node; bytes = bytes })
-CanAsk n node (Submit text) = IsPharmacy node
-CanAsk n node Tick = IsPharmacy node
+CanAsk n node (Submit text) = is_own node (Submit text) ≡ true
+CanAsk n node Tick = is_own node Tick ≡ true
 CanAsk n node Stop = ⊤
 CanAsk n node Start = ⊤
-CanAsk n node (Reprice product price) = IsPayer node
+CanAsk n node (Reprice product price) = is_own node (Reprice product price) ≡ true
 CanAsk n node (Adjudicate from bytes advice) = IsAmong (posted_by from (n.at from).synced) (record { from = from; to = node; bytes = bytes })
 
 abbrev CanAskAll : Network → Node → List Step → Type 0
@@ -165,14 +313,14 @@ module _ (ctx : Context) (s : WorldSettings) where
   says n node (Makes (Adjudicate from bytes advice) ∷ more) a =
       taken n node (Adjudicate from bytes advice) more (record { from = from; to = node; bytes = bytes }) a.0 (λ wire there. comes_advised wire node from bytes advice there) (λ m same. says m node more (asks_there n m node more same a.1))
   says n (Pharmacy k) (Makes (Submit text) ∷ more) a = freely n (Pharmacy k) (Submit text) more (λ wire. (Submission k text, refl)) (says n (Pharmacy k) more a.1)
-  says n (Switch k) (Makes (Submit text) ∷ more) a = absurd a.0
-  says n (Payer k) (Makes (Submit text) ∷ more) a = absurd a.0
+  says n (Switch k) (Makes (Submit text) ∷ more) a = absurd (let wrong : false ≡ true = a.0 in cc)
+  says n (Payer k) (Makes (Submit text) ∷ more) a = absurd (let wrong : false ≡ true = a.0 in cc)
   says n (Pharmacy k) (Makes Tick ∷ more) a = freely n (Pharmacy k) Tick more (λ wire. (Ticking k, refl)) (says n (Pharmacy k) more a.1)
-  says n (Switch k) (Makes Tick ∷ more) a = absurd a.0
-  says n (Payer k) (Makes Tick ∷ more) a = absurd a.0
+  says n (Switch k) (Makes Tick ∷ more) a = absurd (let wrong : false ≡ true = a.0 in cc)
+  says n (Payer k) (Makes Tick ∷ more) a = absurd (let wrong : false ≡ true = a.0 in cc)
   says n (Payer k) (Makes (Reprice product price) ∷ more) a = freely n (Payer k) (Reprice product price) more (λ wire. (PlanChange k product price, refl)) (says n (Payer k) more a.1)
-  says n (Pharmacy k) (Makes (Reprice product price) ∷ more) a = absurd a.0
-  says n (Switch k) (Makes (Reprice product price) ∷ more) a = absurd a.0
+  says n (Pharmacy k) (Makes (Reprice product price) ∷ more) a = absurd (let wrong : false ≡ true = a.0 in cc)
+  says n (Switch k) (Makes (Reprice product price) ∷ more) a = absurd (let wrong : false ≡ true = a.0 in cc)
   says n node (Makes Stop ∷ more) a = freely n node Stop more (λ wire. (Stopping node, refl)) (says n node more a.1)
   says n node (Makes Start ∷ more) a = freely n node Start more (λ wire. (Starting node, refl)) (says n node more a.1)
   says n node (Syncs ∷ more) a = let r = says n node more a in record { moves = r.moves; same = r.same; more = r.more; wire = r.wire; can = r.can }
@@ -280,7 +428,7 @@ steps_grow ctx first p (one ∷ steps) =
 sent_later : (owners : Owners) (t : Turn) (all : List Turn) (p : Packet) → WasSent owners all p → WasSent owners (t ∷ all) p
 sent_later owners t all p w = record { later = t ∷ w.later; earlier = w.earlier; is = ap (λ (x : List Turn). t ∷ x) w.is; calls = w.calls; has = w.has; sent = w.sent }
 
-asked_later_too : (owners : Owners) (t : Turn) (all : List Turn) (node : Node) (call : Call) → CanBeAsked owners all node call → CanBeAsked owners (t ∷ all) node call
+asked_later_too : (owners : Owners) (t : Turn) (all : List Turn) (node : Node) (call : Call) → IsOfPacket owners all node call → IsOfPacket owners (t ∷ all) node call
 asked_later_too owners t all node (Take from bytes) c = sent_later owners t all (record { from = from; to = node; bytes = bytes }) c
 asked_later_too owners t all node (Submit text) c = c
 asked_later_too owners t all node Tick c = c
@@ -296,7 +444,7 @@ other_turn : (t : Turn) (all : List Turn) (node : Node) → same_node t.node nod
 other_turn t all node e = ap (λ b. cond b (t.happens ∷ own node all) (own node all)) e
 
 abbrev Tied : Owners → List Turn → Node → List (List ℕ) → Type 0
-Tied owners all node lines = CanAllBeAsked owners all node lines
+Tied owners all node lines = AreOfPackets owners all node lines
 
 tied_later : (owners : Owners) (t : Turn) (all : List Turn) (node : Node) (lines : List (List ℕ)) → Tied owners all node lines → Tied owners (t ∷ all) node lines
 tied_later owners t all node [] c = tt
@@ -306,7 +454,7 @@ tied_append : (owners : Owners) (all : List Turn) (node : Node) (lines more : Li
 tied_append owners all node [] more a b = b
 tied_append owners all node (line ∷ lines) more a b = (a.0, tied_append owners all node lines more a.1 b)
 
-tied : (owners : Owners) (all : List Turn) (node : Node) → AsksWhatCanBe owners all → Tied owners all node (lines_of (own node all))
+tied : (owners : Owners) (all : List Turn) (node : Node) → TakesWhatWasSent owners all → Tied owners all node (lines_of (own node all))
 tied owners [] node c = tt
 tied owners (t ∷ all) node c =
     elim (told_apart t.node node) [
@@ -319,13 +467,13 @@ tied owners (t ∷ all) node c =
     ]
 
 -- of the line that asks for a call
-tied_line : (owners : Owners) (all : List Turn) (node : Node) (before : List (List ℕ)) (line : List ℕ) (after : List (List ℕ)) → Tied owners all node (before ++ line ∷ after) → (n : Noted) → asked_of line ≡ Some (Calls n) → CanBeAsked owners all node (call_seen n.call)
+tied_line : (owners : Owners) (all : List Turn) (node : Node) (before : List (List ℕ)) (line : List ℕ) (after : List (List ℕ)) → Tied owners all node (before ++ line ∷ after) → (n : Noted) → asked_of line ≡ Some (Calls n) → IsOfPacket owners all node (call_seen n.call)
 tied_line owners all node [] line after c n e = c.0 n e
 tied_line owners all node (x ∷ before) line after c n e = tied_line owners all node before line after c.1 n e
 
-can_be_asked : (owners : Owners) (all : List Turn) (node : Node) (lines : List (List ℕ)) (call : Call) → Tied owners all node lines → IsAskedIn lines call → CanBeAsked owners all node call
+can_be_asked : (owners : Owners) (all : List Turn) (node : Node) (lines : List (List ℕ)) (call : Call) → Tied owners all node lines → IsAskedIn lines call → IsOfPacket owners all node call
 can_be_asked owners all node lines call c a =
-    subst (CanBeAsked owners all node) a.call_is (tied_line owners all node a.before a.line a.after (subst (Tied owners all node) a.is c) a.noted a.asks)
+    subst (IsOfPacket owners all node) a.call_is (tied_line owners all node a.before a.line a.after (subst (Tied owners all node) a.is c) a.noted a.asks)
 
 -- ---- the network
 
@@ -342,21 +490,31 @@ Kept n owners all =
     → HasCalls (digest_of (owners.whose from) (owners.begun from)) (owners.whose from).node (on_disk (owners.begun from) (own from earlier)) calls → IsAmong (posted_by from calls) p
     → IsAmong (posted_by from (n.at from).synced) p
 
-can_ask : (n : Network) (owners : Owners) (all : List Turn) (node : Node) (call : Call) → Kept n owners all → CanBeAsked owners all node call → CanAsk n node call
-can_ask n owners all node (Take from bytes) keeps w = keeps w.later w.earlier w.is from w.calls (record { from = from; to = node; bytes = bytes }) w.has w.sent
-can_ask n owners all node (Submit text) keeps w = w
-can_ask n owners all node Tick keeps w = w
-can_ask n owners all node Stop keeps w = w
-can_ask n owners all node Start keeps w = w
-can_ask n owners all node (Reprice product price) keeps w = w
-can_ask n owners all node (Adjudicate from bytes advice) keeps w = keeps w.later w.earlier w.is from w.calls (record { from = from; to = node; bytes = bytes }) w.has w.sent
+can_ask : (n : Network) (owners : Owners) (all : List Turn) (node : Node) (call : Call) → Kept n owners all → is_own node call ≡ true → IsOfPacket owners all node call → CanAsk n node call
+can_ask n owners all node (Take from bytes) keeps own w = keeps w.later w.earlier w.is from w.calls (record { from = from; to = node; bytes = bytes }) w.has w.sent
+can_ask n owners all node (Submit text) keeps own w = own
+can_ask n owners all node Tick keeps own w = own
+can_ask n owners all node Stop keeps own w = tt
+can_ask n owners all node Start keeps own w = tt
+can_ask n owners all node (Reprice product price) keeps own w = own
+can_ask n owners all node (Adjudicate from bytes advice) keeps own w = keeps w.later w.earlier w.is from w.calls (record { from = from; to = node; bytes = bytes }) w.has w.sent
 
-can_ask_all : (n : Network) (owners : Owners) (all : List Turn) (node : Node) (lines : List (List ℕ)) (steps : List Step) → Kept n owners all → Tied owners all node lines → AreAskedIn lines steps → CanAskAll n node steps
+can_ask_all : (n : Network) (owners : Owners) (all : List Turn) (node : Node) (lines : List (List ℕ)) (steps : List Step) → Kept n owners all → Tied owners all node lines → AreAskedIn lines steps → CanAskAll n node (own_steps node steps)
 can_ask_all n owners all node lines [] keeps ties a = tt
-can_ask_all n owners all node lines (Makes call ∷ more) keeps ties a = (can_ask n owners all node call keeps (can_be_asked owners all node lines call ties a.0), can_ask_all n owners all node lines more keeps ties a.1)
+can_ask_all n owners all node lines (Makes call ∷ more) keeps ties a = by_kind (can_ask_all n owners all node lines more keeps ties a.1) (is_own node call) refl
+  where
+    by_kind : CanAskAll n node (own_steps node more) → (own : Bool) → is_own node call ≡ own → CanAskAll n node (kept_if own (Makes call) (own_steps node more))
+    by_kind rest true e = (can_ask n owners all node call keeps e (can_be_asked owners all node lines call ties a.0), rest)
+    by_kind rest false e = rest
 can_ask_all n owners all node lines (Syncs ∷ more) keeps ties a = can_ask_all n owners all node lines more keeps ties a
 can_ask_all n owners all node lines (Crashes left ∷ more) keeps ties a = can_ask_all n owners all node lines more keeps ties a
 can_ask_all n owners all node lines (Restarts ∷ more) keeps ties a = can_ask_all n owners all node lines more keeps ties a
+
+-- what lives in a process is what its log makes of the node that it begins with
+alive_kind : (ctx : Context) (node : Node) (first : Option AnyNode) (acts : List Act) (p : Process) → AreKind node first → IsAlive ctx first acts p → AreKind node p.memory
+alive_kind ctx node first [] p f a = same_kind node p.memory None a (none_kind node)
+alive_kind ctx node first (act ∷ []) p f a = same_kind node p.memory None a (none_kind node)
+alive_kind ctx node first (act ∷ one ∷ acts) p f a = same_kind node p.memory (replayed_from ctx first (model_file p)) a (kind_replayed ctx node first (model_file p) f)
 
 same_tail : (t u : Turn) (a b : List Turn) → t ∷ a ≡ u ∷ b → a ≡ b
 same_tail t u a b e = cc
@@ -407,7 +565,7 @@ module _ (settings : Settings) (owners : Owners) (rest : BeginsAtRest settings o
         alive = subst (λ (h : List Happening). IsAlive ctx (begin_of node) (acts_of h) p) (sym none) refl;
       }
 
-  one_more : (t : Turn) (all : List Turn) → Joined settings owners rest all → FitsNode (owners.whose t.node).node → IsHistory (owners.whose t.node) (owners.begun t.node) (own t.node (t ∷ all)) → AsksWhatCanBe owners (t ∷ all) → Joined settings owners rest (t ∷ all)
+  one_more : (t : Turn) (all : List Turn) → Joined settings owners rest all → FitsNode (owners.whose t.node).node → IsHistory (owners.whose t.node) (owners.begun t.node) (own t.node (t ∷ all)) → TakesWhatWasSent owners (t ∷ all) → Joined settings owners rest (t ∷ all)
   one_more t all j fits history asks =
       let node = t.node in
       let whose = owners.whose node in
@@ -420,17 +578,21 @@ module _ (settings : Settings) (owners : Owners) (rest : BeginsAtRest settings o
       let g = next_step whose begun settings (spells node) fits h now.p now.inner now.alive t.happens is in
       let ties = tied_append owners all node (lines_of h) (lines_at (t.happens ∷ h)) (tied owners all node asks.1) asks.0 in
       let wanted = can_ask_all n owners all node (lines_of (t.happens ∷ h)) g.steps j.keeps ties (asked_in_all (t.happens ∷ h) g.steps g.asked) in
-      let said = says ctx s n node g.steps wanted in
+      let steps = own_steps node g.steps in
+      let said = says ctx s n node steps wanted in
       let m = after ctx s n said.moves in
-      let made = are_moves ctx s m node g.steps said.can in
+      let made = are_moves ctx s m node steps said.can in
       let last = after ctx s m made.moves in
       let moves = j.moves ++ (said.moves ++ made.moves) in
       let leads : network ctx s moves ≡ last = after_append ctx s beginning j.moves (said.moves ++ made.moves) ∙ after_append ctx s n said.moves made.moves in
       let q = steps_from ctx (begin_of node) now.p g.steps in
+      let first_kind : AreKind node (begin_of node) = same_kind node (begin_of node) (replayed_from ctx (node_at (opening s) node) (rest.closed node)) (rest.rests node) (kind_replayed ctx node (node_at (opening s) node) (rest.closed node) (kind_opens (opening s) node)) in
+      let same_steps = own_lead ctx node (begin_of node) now.p g.steps first_kind (alive_kind ctx node (begin_of node) (acts_of h) now.p first_kind now.alive) in
       let own_at : last.at node ≡ in_front (rest.closed node) q =
       made.own
-      ∙ (ap (λ (x : Process). steps_from ctx (node_at (opening s) node) x g.steps) (said.same node ∙ now.at)
-      ∙ (steps_in_front ctx (node_at (opening s) node) (rest.closed node) now.p g.steps ∙ ap (λ (x : Option AnyNode). in_front (rest.closed node) (steps_from ctx x now.p g.steps)) (sym (rest.rests node)))) in
+      ∙ (ap (λ (x : Process). steps_from ctx (node_at (opening s) node) x steps) (said.same node ∙ now.at)
+      ∙ (steps_in_front ctx (node_at (opening s) node) (rest.closed node) now.p steps
+      ∙ (ap (λ (x : Option AnyNode). in_front (rest.closed node) (steps_from ctx x now.p steps)) (sym (rest.rests node)) ∙ ap (in_front (rest.closed node)) same_steps))) in
       let others : (other : Node) → same_node node other ≡ false → last.at other ≡ n.at other = λ other d. made.others other d ∙ said.same other in
       let live : Stands settings owners rest (t ∷ all) last node =
       Live q own_at (subst (λ (x : List Happening). IsInner whose begun x q) (sym mine) g.inner) (subst (λ (x : List Happening). IsAlive ctx (begin_of node) (acts_of x) q) (sym mine) g.alive) in
@@ -441,7 +603,7 @@ module _ (settings : Settings) (owners : Owners) (rest : BeginsAtRest settings o
       ] in
       let grows : (x : Node) → Grown (n.at x).synced (last.at x).synced =
       λ x. elim (told_apart node x) [
-        | inl e ↦ subst (λ (y : Node). Grown (n.at y).synced (last.at y).synced) e.1 (grown_here ctx (node_at (opening s) node) (n.at node) (m.at node) (last.at node) g.steps (said.same node) made.own)
+        | inl e ↦ subst (λ (y : Node). Grown (n.at y).synced (last.at y).synced) e.1 (grown_here ctx (node_at (opening s) node) (n.at node) (m.at node) (last.at node) steps (said.same node) made.own)
         | inr e ↦ same_grown (n.at x).synced (last.at x).synced (ap (λ (p : Process). p.synced) (others x e.0))
       ] in
       let keeps : Kept last owners (t ∷ all) = kept_on t all n last at grows j.keeps in
@@ -469,7 +631,7 @@ module _ (settings : Settings) (owners : Owners) (rest : BeginsAtRest settings o
           subst (λ (log : List Logged). IsAmong (posted_by from log) p) (sym g.is)
           (sent_still from (n.at from).synced g.more p (keeps later earlier (same_tail t u all (later ++ earlier) e) from calls p has a))
 
-  joined : (all : List Turn) → AllByRecursion (λ (t : Turn). FitsNode (owners.whose t.node).node) all → ((node : Node) → IsHistory (owners.whose node) (owners.begun node) (own node all)) → AsksWhatCanBe owners all → Joined settings owners rest all
+  joined : (all : List Turn) → AllByRecursion (λ (t : Turn). FitsNode (owners.whose t.node).node) all → ((node : Node) → IsHistory (owners.whose node) (owners.begun node) (own node all)) → TakesWhatWasSent owners all → Joined settings owners rest all
   joined [] known each asks = first
   joined (t ∷ all) known each asks = one_more t all (joined all known.1 before asks.1) known.0 (each t.node) asks
     where
@@ -531,9 +693,33 @@ module _ (settings : Settings) (owners : Owners) (rest : BeginsAtRest settings o
 pub keep_promises : (text : List ℕ) (settings : Settings) (owners : Owners) (all : List Turn) → Spells text settings → Laws (context_of settings) → Accepts (context_of settings) (settings_seen settings) → IsNetwork text owners all → BeginsAtRest settings owners → KeepPromises settings owners all
 keep_promises text settings owners all spells laws accepts is rest =
     let spelled : (node : Node) → Spells (owners.whose node).settings settings = λ node. subst (λ (x : List ℕ). Spells x settings) (sym (is.settings node)) spells in
-    let j = joined settings owners rest spelled is.can all (known all is.known) is.each is.asked in
+    let j = joined settings owners rest spelled is.can all (known all is.known) is.each is.packets in
     record { disks = kept_disks settings owners rest spelled is.can laws accepts all j; files = kept_files settings owners rest spelled is.can laws accepts all j }
   where
     known : (all : List Turn) → AllByRecursion (λ (t : Turn). FitsNode t.node) all → AllByRecursion (λ (t : Turn). FitsNode (owners.whose t.node).node) all
     known [] k = tt
     known (t ∷ all) k = (subst FitsNode (sym (is.named t.node)) k.0, known all k.1)
+
+-- empty files are those of the empty network
+pub empty_rest : (settings : Settings) (owners : Owners) → ((node : Node) → (owners.whose node).node ≡ node) → ((node : Node) → (owners.whose node).rest ≡ None) → ((node : Node) → owners.begun node ≡ []) → BeginsAtRest settings owners
+empty_rest settings owners named no_rest empty =
+    record {
+      moves = [];
+      closed = λ node. [];
+      rests = λ node.
+          ap (begins settings (owners.whose node).node) (no_rest node)
+          ∙ (ap (λ (x : Node). node_at (opening (settings_seen settings)) x) (named node) ∙ sym (nothing_made (context_of settings) (node_at (opening (settings_seen settings)) node)));
+      at = λ node calls has. ap (λ (log : List Logged). let p : Process = record { memory = None; synced = log; unsynced = [] } in p) (sym (no_calls node calls has));
+    }
+  where
+    nothing_made : (ctx : Context) (o : Option AnyNode) → replayed_from ctx o [] ≡ o
+    nothing_made ctx None = refl
+    nothing_made ctx (Some x) = refl
+
+    no_calls : (node : Node) (calls : List Logged) → HasCalls (digest_of (owners.whose node) (owners.begun node)) (owners.whose node).node (owners.begun node) calls → calls ≡ []
+    no_calls node calls has =
+        let whose = owners.whose node in
+        let begun = owners.begun node in
+        let digest = digest_of whose begun in
+        let d = digest_length whose.settings whose.rest begun in
+        one_reading digest whose.node begun calls [] (has_reads digest whose.node begun calls d has) (has_reads digest whose.node begun [] d (inr (empty node, refl)))

@@ -3,7 +3,7 @@ use Rattle.std.specs.Prelude.{◌≡◌, ⊤, ℕ, cond, List, [], ◌∷◌, �
 use Rattle.std.specs.List.{AllByRecursion}
 use Rattle.claim_model.specs.Context.{Context}
 use Rattle.claim_model.specs.Laws.{Laws}
-use Rattle.claim_model.specs.Node.{Node, Pharmacy, Switch, Payer, Call, Submit, Tick, Take, Stop, Start, Reprice, Adjudicate}
+use Rattle.claim_model.specs.Node.{Node, Call, Submit, Tick, Take, Stop, Start, Reprice, Adjudicate}
 use Rattle.claim_model.specs.World.{World, Packet}
 use Rattle.claim_model.specs.Settings.{Accepts, opening}
 use Rattle.claim_model.specs.Nodes.{node_at, same_node}
@@ -39,16 +39,6 @@ pub record Owners : Type 0 where
 
 -- ---- what is taken was sent
 
-abbrev pub IsPharmacy : Node → Type 0
-IsPharmacy (Pharmacy n) = ⊤
-IsPharmacy (Switch n) = ⊥
-IsPharmacy (Payer n) = ⊥
-
-abbrev pub IsPayer : Node → Type 0
-IsPayer (Pharmacy n) = ⊥
-IsPayer (Switch n) = ⊥
-IsPayer (Payer n) = ⊤
-
 -- at an earlier moment the log on its disk had a call that sent this packet. A process says no packet that is not such a one (`told` of `files_are_processes`)
 pub record WasSent (owners : Owners) (all : List Turn) (p : Packet) : Type 0 where
   pub later : List Turn
@@ -58,24 +48,24 @@ pub record WasSent (owners : Owners) (all : List Turn) (p : Packet) : Type 0 whe
   pub has : HasCalls (digest_of (owners.whose p.from) (owners.begun p.from)) (owners.whose p.from).node (on_disk (owners.begun p.from) (own p.from earlier)) calls
   pub sent : IsAmong (posted_by p.from calls) p
 
--- the packet that a call takes was sent; submissions and ticks are asked of pharmacies, and prices of payers
-abbrev pub CanBeAsked : Owners → List Turn → Node → Call → Type 0
-CanBeAsked owners all node (Take from bytes) = WasSent owners all (record { from = from; to = node; bytes = bytes })
-CanBeAsked owners all node (Submit text) = IsPharmacy node
-CanBeAsked owners all node Tick = IsPharmacy node
-CanBeAsked owners all node Stop = ⊤
-CanBeAsked owners all node Start = ⊤
-CanBeAsked owners all node (Reprice product price) = IsPayer node
-CanBeAsked owners all node (Adjudicate from bytes advice) = WasSent owners all (record { from = from; to = node; bytes = bytes })
+-- the packet that a call takes was sent; of other calls nothing is asked
+abbrev pub IsOfPacket : Owners → List Turn → Node → Call → Type 0
+IsOfPacket owners all node (Take from bytes) = WasSent owners all (record { from = from; to = node; bytes = bytes })
+IsOfPacket owners all node (Submit text) = ⊤
+IsOfPacket owners all node Tick = ⊤
+IsOfPacket owners all node Stop = ⊤
+IsOfPacket owners all node Start = ⊤
+IsOfPacket owners all node (Reprice product price) = ⊤
+IsOfPacket owners all node (Adjudicate from bytes advice) = WasSent owners all (record { from = from; to = node; bytes = bytes })
 
 -- of each of these lines that asks for a call
-abbrev pub CanAllBeAsked : Owners → List Turn → Node → List (List ℕ) → Type 0
-CanAllBeAsked owners all node lines = AllByRecursion (λ (line : List ℕ). (n : Noted) → asked_of line ≡ Some (Calls n) → CanBeAsked owners all node (call_seen n.call)) lines
+abbrev pub AreOfPackets : Owners → List Turn → Node → List (List ℕ) → Type 0
+AreOfPackets owners all node lines = AllByRecursion (λ (line : List ℕ). (n : Noted) → asked_of line ≡ Some (Calls n) → IsOfPacket owners all node (call_seen n.call)) lines
 
--- so of whatever lines a node has heard whole, by what was sent before
-abbrev pub AsksWhatCanBe : Owners → List Turn → Type 0
-AsksWhatCanBe owners [] = ⊤
-AsksWhatCanBe owners (t ∷ before) = CanAllBeAsked owners before t.node (lines_at (t.happens ∷ own t.node before)) × AsksWhatCanBe owners before
+-- whatever lines a node has heard whole, each packet that they have it take was sent before, by the node that they name
+abbrev pub TakesWhatWasSent : Owners → List Turn → Type 0
+TakesWhatWasSent owners [] = ⊤
+TakesWhatWasSent owners (t ∷ before) = AreOfPackets owners before t.node (lines_at (t.happens ∷ own t.node before)) × TakesWhatWasSent owners before
 
 -- ---- the whole
 
@@ -86,7 +76,7 @@ pub record IsNetwork (text : List ℕ) (owners : Owners) (all : List Turn) : Typ
   pub can : (node : Node) → CanBegin (owners.whose node) (owners.begun node)
   pub known : AllByRecursion (λ (t : Turn). FitsNode t.node) all
   pub each : (node : Node) → IsHistory (owners.whose node) (owners.begun node) (own node all)
-  pub asked : AsksWhatCanBe owners all
+  pub packets : TakesWhatWasSent owners all
 
 -- the files with which all begin are those of a network at rest, each with the calls of closed logs before its own: the empty one, where there is no log yet; or any that a network
 -- has left
