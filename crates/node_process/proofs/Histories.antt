@@ -1155,7 +1155,7 @@ idle_calls whose begun (inr o) = by_begun o.opened.begun
 
 -- ---- all that happens
 
-earlier : (whose : Whose) (begun : List ℕ) (one : Happening) (h : List Happening) → IsHistory whose begun (one ∷ h) → IsHistory whose begun h
+pub earlier : (whose : Whose) (begun : List ℕ) (one : Happening) (h : List Happening) → IsHistory whose begun (one ∷ h) → IsHistory whose begun h
 earlier whose begun (Does act) h is = is.0
 earlier whose begun (Dies left) h is = is.0
 

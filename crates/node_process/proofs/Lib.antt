@@ -12,3 +12,4 @@ pub mod Spoken
 pub mod Stepping
 pub mod Histories
 pub mod Following
+pub mod Joining

@@ -5,3 +5,4 @@ pub mod Heard
 pub mod Safe
 pub mod Ends
 pub mod Histories
+pub mod Joined

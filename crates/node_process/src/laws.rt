@@ -1,12 +1,18 @@
 //! What holds of every process over bytes, as facts that a caller cites by a call.
 
-ghost use Rattle.std.specs.Prelude.{◌≡◌, ◌⊎◌, ℕ, List, [], ◌++◌};
+ghost use Rattle.std.specs.Prelude.{◌≡◌, ◌⊎◌, ℕ, List, [], ◌++◌, None};
+ghost use Rattle.claim_model.specs.Laws.{Laws};
+ghost use Rattle.claim_model.specs.Node.{Node};
+ghost use Rattle.claim_model.specs.Settings.{Accepts};
+ghost use Rattle.world_setup.specs.Seen.{settings_seen};
 ghost use Rattle.world_setup.specs.declared.settings.WorldSettings.{WorldSettings as Settings};
+ghost use Rattle.node_logged.specs.Setting.{context_of};
 ghost use Rattle.kept_logs.specs.Fits.{FitsNode};
 ghost use Rattle.node_service.specs.Opened.{Spells};
 ghost use Rattle.node_process.specs.Acts.{Act};
 ghost use Rattle.node_process.specs.Safe.{IsRun, IsUnopened, Whose};
 ghost use Rattle.node_process.specs.Histories.{BeginsWith, CanBegin, Happening, IsCourse, IsHistory, acts_of, happenings, left_of};
+ghost use Rattle.node_process.specs.Joined.{BeginsAtRest, IsNetwork, KeepPromises, Owners, Turn};
 
 /// What `serve_all` asks of the system, at each moment of it, goes on from what the process before it left: over a log that
 /// begins with the settings, and over one that goes on after closed logs and begins with their rest.
@@ -26,4 +32,18 @@ pub fn files_are_processes()
     ensures { (whose : Whose) (begun : List ℕ) (settings : Settings) (later before : List Happening)
         → Spells whose.settings settings → FitsNode whose.node → CanBegin whose begun → IsHistory whose begun (later ++ before)
         → IsCourse whose begun settings before (later ++ before) }
+{}
+
+/// Of all nodes together, each a process over its own file, whatever dies and is heard: of the bytes that the disks have for
+/// certain, and of the files as they lie, no fill has two standing payments, counted payments stand, and no number has two
+/// answers. What ties the nodes is that each packet that a line has a node take was sent by a call which its sender had on its
+/// disk before; a process says no other (`files_are_processes`). The files with which all begin are those of some network at
+/// rest; empty ones are.
+pub fn files_keep_promises()
+    ensures promises { (text : List ℕ) (settings : Settings) (owners : Owners) (all : List Turn) → Spells text settings
+        → Laws (context_of settings) → Accepts (context_of settings) (settings_seen settings) → IsNetwork text owners all
+        → BeginsAtRest settings owners → KeepPromises settings owners all }
+    ensures empty { (settings : Settings) (owners : Owners) → ((node : Node) → (owners.whose node).node ≡ node)
+        → ((node : Node) → (owners.whose node).rest ≡ None) → ((node : Node) → owners.begun node ≡ [])
+        → BeginsAtRest settings owners }
 {}

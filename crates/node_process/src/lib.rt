@@ -22,7 +22,7 @@ mod unserved;
 pub use beside::{keep_end, leave_mark, mark_of_failed_sync, sync_folder};
 pub use diskless::Diskless;
 pub use host::Host;
-pub use laws::{files_are_processes, processes_follow_one_another};
+pub use laws::{files_are_processes, files_keep_promises, processes_follow_one_another};
 pub use machine::Machine;
 pub use noted::Noted;
 pub use opening::Owner;
