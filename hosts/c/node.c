@@ -15,7 +15,8 @@
 ** caller's `wait NUMBER` is replied to as `answer NUMBER` is, but not before the entry has its answer. Each call has the
 ** time of day in its record.
 **
-** A turn serves all that waits, appends the records to the log, syncs it once, and only then sends and replies; but who waits for an answer that
+** A turn serves all that waits and appends the records to the log. A thread of its own syncs it, one sync at a time, and what a call says is sent
+** and replied once a sync that began behind its records has ended; meanwhile other turns are served and appended. Who waits for an answer that
 ** came from a payer is replied to before, since the payer gives it again (vogrilas_heard). A host that
 ** dies before the sync has told nobody; one that dies behind it is started again and sends again what is due. SIGTERM drains. URL is as
 ** nats://host:4222 or tls://host:4222, and without --nats that of NATS_URL, which may have user and password; --login is a file with

@@ -55,9 +55,9 @@ goes_on kept marks bytes place rest m lt is le s =
     let at : drop place marks ≡ m ∷ more_marks = there marks place m lt is in
     let behind : List ℕ = drop m.size rest in
     let now : told_at kept (drop place marks) rest ≡ take m.size rest ++ told_at kept more_marks behind =
-      ap (λ (ms : List Mark). told_at kept ms rest) at ∙ ap (λ (t : Bool). if t then take m.size rest ++ told_at kept more_marks behind else []) (passes kept m le) in
+    ap (λ (ms : List Mark). told_at kept ms rest) at ∙ ap (λ (t : Bool). if t then take m.size rest ++ told_at kept more_marks behind else []) (passes kept m le) in
     let then_left : untold_at kept (drop place marks) rest ≡ untold_at kept more_marks behind =
-      ap (λ (ms : List Mark). untold_at kept ms rest) at ∙ ap (λ (t : Bool). if t then untold_at kept more_marks behind else (record { mark = m.upto - kept; text = take m.size rest } ∷ all_lowered kept (pieces more_marks behind))) (passes kept m le) in
+    ap (λ (ms : List Mark). untold_at kept ms rest) at ∙ ap (λ (t : Bool). if t then untold_at kept more_marks behind else (record { mark = m.upto - kept; text = take m.size rest } ∷ all_lowered kept (pieces more_marks behind))) (passes kept m le) in
     let sum : sizes (m ∷ more_marks) ≡ length rest = sym (ap sizes at) ∙ s.sizes in
     record {
       told = λ more e. s.told more (ap (λ (xs : List ℕ). xs ++ more) now ∙ (append_assoc (take m.size rest) (told_at kept more_marks behind) more ∙ (ap (λ (xs : List ℕ). take m.size rest ++ xs) e ∙ take-append-drop m.size rest)));
@@ -73,11 +73,11 @@ stops kept marks bytes place rest m lt is over s =
     let at : drop place marks ≡ m ∷ more_marks = there marks place m lt is in
     let behind : List ℕ = drop m.size rest in
     let none : told_at kept (drop place marks) rest ≡ [] =
-      ap (λ (ms : List Mark). told_at kept ms rest) at ∙ ap (λ (t : Bool). if t then take m.size rest ++ told_at kept more_marks behind else []) (waits kept m over) in
+    ap (λ (ms : List Mark). told_at kept ms rest) at ∙ ap (λ (t : Bool). if t then take m.size rest ++ told_at kept more_marks behind else []) (waits kept m over) in
     let all : untold_at kept (drop place marks) rest ≡ all_lowered kept (pieces (drop place marks) rest) =
-      ap (λ (ms : List Mark). untold_at kept ms rest) at
-      ∙ (ap (λ (t : Bool). if t then untold_at kept more_marks behind else (record { mark = m.upto - kept; text = take m.size rest } ∷ all_lowered kept (pieces more_marks behind))) (waits kept m over)
-      ∙ sym (ap (λ (ms : List Mark). all_lowered kept (pieces ms rest)) at)) in
+    ap (λ (ms : List Mark). untold_at kept ms rest) at
+    ∙ (ap (λ (t : Bool). if t then untold_at kept more_marks behind else (record { mark = m.upto - kept; text = take m.size rest } ∷ all_lowered kept (pieces more_marks behind))) (waits kept m over)
+    ∙ sym (ap (λ (ms : List Mark). all_lowered kept (pieces ms rest)) at)) in
     record { told = s.told rest (ap (λ (xs : List ℕ). xs ++ rest) none); untold = s.untold ∙ all; sizes = s.sizes; within = omega arith }
 
 -- no call is left

@@ -55,7 +55,10 @@ impl WaitingWords {
     {
         self.marks.reserve(1)?;
         self.bytes.extend_from_slice(text)?;
-        self.marks.push_reserved(Mark { upto, size: text.len() });
+        self.marks.push_reserved(Mark {
+            upto,
+            size: text.len(),
+        });
         Ok(())
     }
 

@@ -173,9 +173,9 @@ good_more payer first rs rulings more others g h =
       count = g.count + h.count;
       paid = count_of rs more ∙ omega (arith, g.paid, h.paid);
       own = flat_map-append auth_by rulings others ∙ (ap (λ (auths : List Auth). auths ++ flat_map auth_by others) g.own
-        ∙ (ap (λ (auths : List Auth). serials payer first g.count ++ auths) (h.own ∙ ap (λ (k : ℕ). serials payer k h.count) next) ∙ sym joined));
+          ∙ (ap (λ (auths : List Auth). serials payer first g.count ++ auths) (h.own ∙ ap (λ (k : ℕ). serials payer k h.count) next) ∙ sym joined));
       same = flat_map-append paid_of rs more ∙ (ap (λ (auths : List Auth). auths ++ flat_map paid_of more) g.same
-        ∙ (ap (λ (auths : List Auth). serials payer first g.count ++ auths) (h.same ∙ ap (λ (k : ℕ). serials payer k h.count) next) ∙ sym joined));
+          ∙ (ap (λ (auths : List Auth). serials payer first g.count ++ auths) (h.same ∙ ap (λ (k : ℕ). serials payer k h.count) next) ∙ sym joined));
       fit = subst (AllByRecursion Fits) (sym (flat_map-append auth_by rulings others)) (all_of_both (flat_map auth_by rulings) (flat_map auth_by others) g.fit h.fit);
     }
 
@@ -193,12 +193,12 @@ one_more : (b : Book) (id : TxnId) (request answer : List ℕ) (after : Book) �
 one_more b id request answer after s g =
     let row : Row = record { id = id; request = request; rulings = s.rulings } in
     let own : Good b.payer (b.settings.serial + count_paid (ruled_rows reading b.rows)) (ruled_row reading row) s.rulings =
-      row_good b (ruled_rows reading b.rows) id 1 (reading.orders request) s.rulings (b.settings.serial + count_paid (ruled_rows reading b.rows)) refl s.fit s.follow in
+    row_good b (ruled_rows reading b.rows) id 1 (reading.orders request) s.rulings (b.settings.serial + count_paid (ruled_rows reading b.rows)) refl s.fit s.follow in
     let all = good_more b.payer b.settings.serial (ruled_rows reading b.rows) (flat_map rulings_of b.rows) (ruled_row reading row) s.rulings g own in
     let rs : ruled_rows reading b.rows ++ ruled_row reading row ≡ ruled_rows reading (b.rows ++ row ∷ []) =
-      sym (flat_map-append (ruled_row reading) b.rows (row ∷ []) ∙ ap (λ (xs : List Ruled). ruled_rows reading b.rows ++ xs) (none_behind (ruled_row reading row))) in
+    sym (flat_map-append (ruled_row reading) b.rows (row ∷ []) ∙ ap (λ (xs : List Ruled). ruled_rows reading b.rows ++ xs) (none_behind (ruled_row reading row))) in
     let xs : flat_map rulings_of b.rows ++ s.rulings ≡ flat_map rulings_of (b.rows ++ row ∷ []) =
-      sym (flat_map-append rulings_of b.rows (row ∷ []) ∙ ap (λ (ys : List Ruling). flat_map rulings_of b.rows ++ ys) (none_behind s.rulings)) in
+    sym (flat_map-append rulings_of b.rows (row ∷ []) ∙ ap (λ (ys : List Ruling). flat_map rulings_of b.rows ++ ys) (none_behind s.rulings)) in
     subst IsGood (sym s.book) (subst (λ (ys : List Ruling). Good b.payer b.settings.serial (ruled_rows reading (b.rows ++ row ∷ [])) ys) xs
     (subst (λ (ys : List Ruled). Good b.payer b.settings.serial ys (flat_map rulings_of b.rows ++ s.rulings)) rs all))
   where
@@ -324,7 +324,7 @@ module _ (ctx : Context) (b : Book) where
       let one : payment_in ctx b (auth_at payer first) ≡ Some (payment_view p) = ap (λ (s : ℕ). payment_in ctx b (auth_at payer s)) (sym here) ∙ each 0 in
       let rest : AreAt payer (first + 1) n ps = cc in
       let shifted : (k : ℕ) → payment_in ctx b (auth_at payer (first + 1 + k)) ≡ option_map payment_view (slice_get ps k) =
-        λ k. let same : first + 1 + k ≡ first + suc k = omega arith in ap (λ (s : ℕ). payment_in ctx b (auth_at payer s)) same ∙ each (suc k) in
+      λ k. let same : first + 1 + k ≡ first + suc k = omega arith in ap (λ (s : ℕ). payment_in ctx b (auth_at payer s)) same ∙ each (suc k) in
       ap (λ (o : Option PaymentView). option_to_list (option_map (booked_payment (auth_at payer first)) o) ++ flat_map look (serials payer (first + 1) n)) one
       ∙ (ap (λ (a : Auth). booked_payment a (payment_view p) ∷ flat_map look (serials payer (first + 1) n)) (sym at.1.1.0)
       ∙ ap (λ (xs : List NodePayment). booked p ∷ xs) (looked payer (first + 1) n ps rest shifted))

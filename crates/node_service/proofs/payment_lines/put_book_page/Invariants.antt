@@ -10,4 +10,4 @@ use Rattle.node_service.proofs.payment_lines.put_book_page.Given as goal
 abbrev pub invariant-loop-more : goal.invariant-loop-more
 invariant-loop-more l =
     (routes : RouteMaps) → PagedBefore (flat_map payment_line) l.out.items (l.fn.out.items ++ flat_map payment_line (page l.number l.count (book_payments (bytes_with routes) l.book))) (book_payments (bytes_with routes) l.book)
-        l.passed l.more l.count
+    l.passed l.more l.count
