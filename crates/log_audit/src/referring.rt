@@ -146,7 +146,8 @@ fn misnamed_behind(
     rest: Option<&[u8]>,
     calls: &[KeptRecord],
 ) -> Result<Option<Misnamed>, AllocError>
-    ensures { IfOk result (λ found. found ≡ first_misnamed [] (uses_before (references_before (option_copied rest.entry)) ++ uses_from 1 calls.now)) }
+    ensures { IfOk result (λ found. found ≡ first_misnamed []
+        (uses_before (references_before (option_copied rest.entry)) ++ uses_from 1 calls.now)) }
 {
     let mut known = BTreeSet::new(alloc);
     let references = references_in(alloc, rest)?;
