@@ -1,7 +1,4 @@
-use Rattle.std.proofs.Common.{◌×◌, map}
-use Rattle.std.specs.Prelude.{Result, Ok, Err, IfOk}
-use Rattle.log_audit.specs.declared.report.Report.{Report}
-use Rattle.node_handle.specs.declared.refusal.Refusal.{Refusal}
+use Rattle.std.proofs.Common.{map}
 use Rattle.node_handle.proofs.Judging.{reported}
 use Rattle.node_handle.proofs.auditing.report_on_pieces.Goals as goal
 
