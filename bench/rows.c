@@ -1,6 +1,6 @@
 /*
 ** Fills the book of a payer in libvogrilas with so many claims, each of a prescription and a number of its own, and says at each step what a
-** row takes, what a claim costs there and how long the longest one took: `rows SETTINGS CLAIM ROWS`. SETTINGS is a file with a payer whose
+** row takes, what a claim costs there, how long the longest one took, and how long it takes to tell the last hundred payments: `rows SETTINGS CLAIM ROWS`. SETTINGS is a file with a payer whose
 ** cap has room; CLAIM a billing in printed bytes whose prescription is 123456. The log is kept nowhere: what is measured is the node.
 */
 #include <stdint.h>
@@ -57,6 +57,23 @@ static size_t packet(char *to, const char *request, size_t size, size_t at, uint
     return HEAD + whole;
 }
 
+/* How long the node takes to tell a hundred payments, from this one on. */
+static double listed(vogrilas_node *node, uint64_t from) {
+    static char line[64], buffer[1 << 16];
+    size_t size = 0;
+    int length = snprintf(line, sizeof line, "payments %llu 100", (unsigned long long)from);
+    double start = now();
+    check(vogrilas_serve(node, line, (size_t)length));
+    check(vogrilas_written(node, buffer, sizeof buffer, &size));
+    double took = now() - start;
+    if (memcmp(buffer, "payment ", 8) != 0 || size < 4 || memcmp(buffer + size - 4, "end\n", 4) != 0) {
+        fprintf(stderr, "rows: %.*s\n", (int)(size < 80 ? size : 80), buffer);
+        exit(1);
+    }
+    check(vogrilas_clear(node));
+    return took;
+}
+
 /* Appends what the call recorded to nowhere, and reads what it said. */
 static void keep(vogrilas_node *node) {
     static char buffer[1 << 16];
@@ -85,7 +102,7 @@ int main(int count, char **word) {
     check(vogrilas_kept(&node, kept));
     check(vogrilas_clear(&node));
     double empty = memory(), longest = 0, pauses = 0, last = now();
-    printf("%12s %14s %16s %16s %14s\n", "rows", "bytes a row", "a claim, us", "longest, ms", "over 10 ms");
+    printf("%12s %14s %16s %16s %14s %16s\n", "rows", "bytes a row", "a claim, us", "longest, ms", "over 10 ms", "100 payments, us");
     for (uint64_t number = 1; number <= rows; number++) {
         if (number % step == step - LAST + 1 || (number > step && number == rows - LAST + 1)) last = now();
         size_t whole = packet(bytes, request, size, (size_t)(found - request) + 2, number);
@@ -96,8 +113,9 @@ int main(int count, char **word) {
         if (took > longest) longest = took;
         pauses += took > 0.01;
         if (number == step || number == rows) {
-            printf("%12llu %14.0f %16.2f %16.2f %14.0f\n", (unsigned long long)number, (memory() - empty) / (double)number,
-                   (now() - last) / LAST * 1e6, longest * 1e3, pauses);
+            double bytes_a_row = (memory() - empty) / (double)number, a_claim = (now() - last) / LAST * 1e6;
+            printf("%12llu %14.0f %16.2f %16.2f %14.0f %16.0f\n", (unsigned long long)number, bytes_a_row, a_claim, longest * 1e3, pauses,
+                   listed(&node, number - 99) * 1e6);
             fflush(stdout);
             longest = pauses = 0;
             step *= 2;

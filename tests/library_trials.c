@@ -88,22 +88,28 @@ static bool is_closed(vogrilas_node *node) {
            vogrilas_clear(node) == VOGRILAS_CLOSED && size == 77 && calls == 77 && byte == 'x' && !node->held;
 }
 
-/* Whether no call tells of a node, and none writes anything: not all is on disk. The records are told, so many bytes. */
-static bool is_unsynced(vogrilas_node *node, size_t records) {
+/* Whether no call tells of a node, since not all is on disk, but for what was written where `writes`; and none writes anything. The records are
+   told, so many bytes. */
+static bool is_silent_of(vogrilas_node *node, size_t records, bool writes) {
     size_t size = 77;
     uint64_t calls = 77;
     char byte = 'x';
     vogrilas_payment payment;
     memset(&payment, 'x', sizeof payment);
-    bool is_silent = vogrilas_written(node, &byte, 1, &size) == VOGRILAS_UNSYNCED && vogrilas_calls(node, &calls) == VOGRILAS_UNSYNCED &&
+    bool is_silent = (writes || (vogrilas_written(node, &byte, 1, &size) == VOGRILAS_UNSYNCED && vogrilas_clear(node) == VOGRILAS_UNSYNCED)) &&
+           vogrilas_calls(node, &calls) == VOGRILAS_UNSYNCED &&
            vogrilas_count(node, &calls) == VOGRILAS_UNSYNCED && vogrilas_most(node, &calls) == VOGRILAS_UNSYNCED &&
            vogrilas_request(node, 1, &byte, 1, &size) == VOGRILAS_UNSYNCED &&
            vogrilas_answer(node, 1, 1, &byte, 1, &size) == VOGRILAS_UNSYNCED && vogrilas_answer(node, 0, 0, &byte, 1, &size) == VOGRILAS_UNSYNCED &&
            vogrilas_payments(node, &payment, 1, &size) == VOGRILAS_UNSYNCED && payment.fill_number == 'x' &&
-           vogrilas_clear(node) == VOGRILAS_UNSYNCED && vogrilas_kept(node, records + 1) == VOGRILAS_TOO_MANY &&
+           vogrilas_kept(node, records + 1) == VOGRILAS_TOO_MANY &&
            vogrilas_kept(node, SIZE_MAX) == VOGRILAS_TOO_MANY && size == 77 && calls == 77 && byte == 'x';
     vogrilas_code code = vogrilas_records(node, &byte, 0, &size);
     return is_silent && size == records && code == (records == 0 ? VOGRILAS_OK : VOGRILAS_SHORT_BUFFER);
+}
+
+static bool is_unsynced(vogrilas_node *node, size_t records) {
+    return is_silent_of(node, records, false);
 }
 
 /* Takes what is handed out, appends the records to the log, says so, and clears. */
@@ -167,7 +173,36 @@ static void try_buffers(void) {
     vogrilas_close(&node);
 }
 
-/* Records are kept byte by byte: what is left is told, and nothing else until none is. Further lines make them more. */
+/* Whether what may be written is this. */
+static bool has_written(vogrilas_node *node, const char *text) {
+    size_t size = 0;
+    return vogrilas_written(node, said, MOST, &size) == VOGRILAS_OK && size == strlen(text) && memcmp(said, text, size) == 0;
+}
+
+/* Calls are served while the records of others are on their way to the disk: each is told once its own are there, and not before. */
+static void try_on_the_way(void) {
+    vogrilas_node node = VOGRILAS_NODE_INIT;
+    static char all[MOST], rest[MOST];
+    size_t kept, first = 0, both = 0, more = 77;
+    check(open_as(&node, "ph1", log_bytes, log_size, &kept) == VOGRILAS_OK && vogrilas_kept(&node, 0) == VOGRILAS_OK, "a log that goes on");
+    check(vogrilas_serve(&node, "stop", 4) == VOGRILAS_OK && vogrilas_records(&node, all, MOST, &first) == VOGRILAS_OK, "a call");
+    check(vogrilas_records_after(&node, first, rest, MOST, &more) == VOGRILAS_OK && more == 0, "no record comes after it");
+    check(vogrilas_serve(&node, "stop", 4) == VOGRILAS_OK && is_unsynced(&node, first), "a call that is refused has no record, and waits");
+    check(vogrilas_serve(&node, "start", 5) == VOGRILAS_OK && vogrilas_records(&node, all, MOST, &both) == VOGRILAS_OK, "another call");
+    check(vogrilas_records_after(&node, first, rest, 0, &more) == VOGRILAS_SHORT_BUFFER && more == both - first, "its record comes after");
+    check(vogrilas_records_after(&node, first, rest, MOST, &more) == VOGRILAS_OK && memcmp(rest, all + first, more) == 0, "and is copied");
+    check(vogrilas_records_after(&node, both + 1, rest, MOST, &more) == VOGRILAS_OK && more == 0, "nothing comes after what is not there");
+    check(is_unsynced(&node, both) && vogrilas_kept(&node, first - 1) == VOGRILAS_OK && is_unsynced(&node, both - first + 1), "all wait");
+    check(vogrilas_kept(&node, 1) == VOGRILAS_OK && is_silent_of(&node, both - first, true), "the first is on disk");
+    check(has_written(&node, "ok\nrefused Down\n"), "its words and those behind it are told, and no others");
+    check(vogrilas_clear(&node) == VOGRILAS_OK && is_unsynced(&node, both - first), "they go, and the others wait");
+    check(vogrilas_kept(&node, both - first) == VOGRILAS_OK && has_written(&node, "ok\n"), "the other is on disk");
+    check(vogrilas_clear(&node) == VOGRILAS_OK && has_written(&node, ""), "nothing is left");
+    vogrilas_close(&node);
+    check(vogrilas_records_after(&node, 0, rest, MOST, &more) == VOGRILAS_CLOSED && more == 0, "there is no node");
+}
+
+/* Records are kept byte by byte: what is left is told, and of the calls those whose records are kept. Further lines make them more. */
 static void try_kept(void) {
     vogrilas_node node = VOGRILAS_NODE_INIT;
     static char all[MOST], rest[MOST];
@@ -183,10 +218,11 @@ static void try_kept(void) {
     check(vogrilas_records(&node, rest, MOST, &again) == VOGRILAS_OK && again == size - 2 && memcmp(rest, all + 2, again) == 0, "what is left");
     check(vogrilas_serve(&node, "tick", 4) == VOGRILAS_OK, "another call");
     check(vogrilas_records(&node, rest, MOST, &more) == VOGRILAS_OK && more > again && memcmp(rest, all + 2, again) == 0, "both records");
-    for (size_t left = more; left > 0; left--) check(is_unsynced(&node, left) && vogrilas_kept(&node, 1) == VOGRILAS_OK, "byte by byte");
+    for (size_t left = more; left > 0; left--)
+        check(is_silent_of(&node, left, left <= more - again) && vogrilas_kept(&node, 1) == VOGRILAS_OK, "byte by byte");
     check(vogrilas_calls(&node, &calls) == VOGRILAS_OK && calls == 3, "both calls are told of");
     check(vogrilas_written(&node, said, MOST, &size) == VOGRILAS_OK && memmem_text(said, size, "ok\n"), "so is what was written");
-    check(vogrilas_serve(&node, "tick", 4) == VOGRILAS_OK && vogrilas_written(&node, said, MOST, &again) == VOGRILAS_UNSYNCED, "not behind a call");
+    check(vogrilas_serve(&node, "tick", 4) == VOGRILAS_OK && vogrilas_written(&node, said, MOST, &again) == VOGRILAS_OK && again == size, "no more behind a call");
     check(vogrilas_records(&node, rest, MOST, &more) == VOGRILAS_OK && vogrilas_kept(&node, more) == VOGRILAS_OK, "its record is on disk");
     check(vogrilas_written(&node, said, MOST, &again) == VOGRILAS_OK && again > size, "words stay until they are cleared");
     check(vogrilas_clear(&node) == VOGRILAS_OK && vogrilas_written(&node, said, MOST, &again) == VOGRILAS_OK && again == 0, "and then go");
@@ -854,6 +890,7 @@ int main(int count, char **words) {
     try_handles();
     try_buffers();
     try_kept();
+    try_on_the_way();
     try_logs();
     try_texts();
     try_numbers();

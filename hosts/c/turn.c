@@ -64,14 +64,15 @@ static void append(struct host *host, bool is_lazy) {
 }
 
 /* Where a sync has ended, notes what it was for: that is on disk, and nothing that was appended since. */
-static void note_synced(struct host *host, bool waits) {
-    if (host->syncing == 0 || !syncs_ended(host->syncs, waits)) return;
+static bool note_synced(struct host *host, bool waits) {
+    if (host->syncing == 0 || !syncs_ended(host->syncs, waits)) return false;
 #ifdef WRONG_KEPT_EARLY
     host->syncing = host->appended;
 #endif
     node_kept(&host->node, host->syncing);
     host->appended -= host->syncing;
     host->syncing = 0;
+    return true;
 }
 
 void host_settle(struct host *host) {
@@ -103,10 +104,18 @@ static size_t keep(struct host *host, bool speaks, bool is_lazy) {
 #endif
 }
 
+/* Where a sync has ended, begins the next one, where there is one to begin, and tells what may be told: before more is served. */
+static size_t tell_synced(struct host *host) {
+    if (!note_synced(host, false)) return 0;
+    append(host, true);
+    size_t told = host_tell(host);
+    send_few(host->carrier);
+    return told;
+}
+
 void turn(struct host *host, struct message *batch, bool is_tick) {
-    size_t waiting = 0;
+    size_t waiting = 0, told = tell_synced(host);
     bool speaks = false, lazy = !is_tick;
-    note_synced(host, false);
     signed_mark(host, batch);
     reserve_mark(host, batch);
     for (struct message *one = batch; one != NULL; one = one->next, waiting++) {
@@ -121,7 +130,7 @@ void turn(struct host *host, struct message *batch, bool is_tick) {
 #ifdef WRONG_UNFENCED
     speaks = false;
 #endif
-    size_t told = keep(host, speaks, lazy);
+    told += keep(host, speaks, lazy);
     if (told > 0) torment(host->carrier->connection);
     send_few(host->carrier);
     torment_late(host->carrier->connection);

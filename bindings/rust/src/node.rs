@@ -130,10 +130,10 @@ impl Node {
         Error::of(code, 0)
     }
 
-    /// What came of the lines.
+    /// What came of the lines, from the first on, whose records and those before them are on disk: of all of them where all is.
     ///
     /// # Errors
-    /// `Unsynced` until all is on disk; `Closed`.
+    /// `Unsynced` where nothing may be told yet; `Closed`.
     pub fn written(&self) -> Result<Vec<u8>, Error> {
         // SAFETY: `copied` lends as many bytes as it says.
         copied(0, |at, room, size| unsafe { sys::vogrilas_written(self.handle.get(), at, room, size) })
@@ -234,7 +234,7 @@ impl Node {
     /// Notes that what was written was used.
     ///
     /// # Errors
-    /// `Unsynced` until all is on disk; `Closed`. Nothing has changed.
+    /// `Unsynced` where nothing may be told yet; `Closed`. Nothing has changed.
     pub fn clear(&mut self) -> Result<(), Error> {
         // SAFETY: the handle is lent whole.
         let code = unsafe { sys::vogrilas_clear(self.handle.get()) };

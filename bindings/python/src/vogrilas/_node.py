@@ -298,12 +298,13 @@ class Node:
             check_code(LIBRARY.vogrilas_kept(ctypes.byref(self._handle), size))
 
     def written(self) -> bytes:
-        """What came of the lines. Raises VogrilasError with UNSYNCED until all is on disk, as do `clear` and all that is read."""
+        """What came of the lines, from the first on, whose records and those before them are on disk: of all of them where all is. Raises
+        VogrilasError with UNSYNCED where nothing may be told yet, as does `clear`; all that is read raises it until all is on disk."""
         with self._lock:
             return _copied(LIBRARY.vogrilas_written, ctypes.byref(self._handle))
 
     def clear(self) -> None:
-        """Notes that what was written was used."""
+        """Notes that what `written` gives was used."""
         with self._lock:
             check_code(LIBRARY.vogrilas_clear(ctypes.byref(self._handle)))
 
