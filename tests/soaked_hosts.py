@@ -110,4 +110,5 @@ class Host:
                 self.world.faults.append(f"{self.id} does not end")
                 self.process.kill()
                 self.process.wait()
-        self._ended = 0
+        # How it ended is looked at no more.
+        self.process, self._ended = None, 0

@@ -1,6 +1,7 @@
 """How much memory processes take while a network is soaked in faults, for tests/soak-all."""
 
 import collections
+import contextlib
 import sys
 import time
 
@@ -47,12 +48,11 @@ class Memory:
 
     def watch(self):
         while not self._world.calm.wait(EVERY_SECONDS):
-            for name, pid, log in self._processes():
-                try:
+            # Who ends meanwhile is not looked at.
+            with contextlib.suppress(OSError, AttributeError):
+                for name, pid, log in self._processes():
                     size = log.stat().st_size if log is not None and log.exists() else 0
                     self.looks[name, pid].append((time.monotonic(), memory_of(pid)[1], size))
-                except (OSError, AttributeError):
-                    continue
 
     def judge(self):
         """What the longest life of each name has grown by; what is no server may not grow but by its rows."""

@@ -184,6 +184,9 @@ class Stream:
             return reply is not None and b'"success":true' in reply
 
         wait_for(is_removed, f"{old} is removed", END_SECONDS)
+        # It knows of no stream until it has what the servers have agreed on, and may lead them all the same.
+        with contextlib.suppress(SystemExit):
+            self.servers.wait_current()
 
     def restore(self):
         """The servers have lost the end of the log, and each host says so and ends: the longest file of a machine restores it."""
