@@ -173,7 +173,7 @@ impl<'a> Disk<'a> {
     /// Notes that a call which only looks or asks has failed.
     fn failed<T: Drop>(&mut self, error: io::Error) -> io::Result<T>
         ensures noted { deeds_of self.new.noted.notes ≡ Failed ∷ deeds_of self.old.noted.notes }
-        ensures { is_ok result ≡ false }
+        ensures refused { is_ok result ≡ false }
     {
         self.noted.note(&[FAILED, 0, 0], &[]);
         Err(error)
