@@ -87,7 +87,9 @@ impl<'a> Disk<'a> {
     }
 
     /// Opens the file, where its name is a regular file's, or nobody's and it is to be made.
-    fn open_by(&mut self, options: &OpenOptions) -> io::Result<()> {
+    fn open_by(&mut self, options: &OpenOptions) -> io::Result<()>
+        ensures { self.new.noted ≡ self.old.noted }
+    {
         check_regular(self.rt, self.path)?;
         self.file = Some(options.open(self.rt, self.path)?);
         Ok(())
