@@ -1,0 +1,29 @@
+-- What begins other bytes, and what stands after a common beginning.
+use Rattle.std.proofs.Common.{◌≡◌, ℕ, zero, suc, ◌+◌, ◌-◌, ◌≤◌, List, [], ◌∷◌, ◌++◌, length, take, refl, sym, ap, ◌∙◌, arith, append_assoc, append-nil}
+use Rattle.std.specs.List.{AllByRecursion}
+use Rattle.std.proofs.Math.Seq.{take-append-add}
+use Rattle.node_process.specs.Safe.{IsStartOf}
+
+pub all_of : (bytes : List ℕ) → IsStartOf bytes bytes
+all_of bytes = record { rest = []; is = append-nil bytes }
+
+pub start_with : (front bytes more : List ℕ) → IsStartOf front bytes → IsStartOf front (bytes ++ more)
+start_with front bytes more s = record { rest = s.rest ++ more; is = sym (append_assoc front s.rest more) ∙ ap (λ (x : List ℕ). x ++ more) s.is }
+
+pub start_taken : (front bytes : List ℕ) (n : ℕ) → IsStartOf front bytes → length front ≤ n → IsStartOf front (take n bytes)
+start_taken front bytes n s le =
+    let m = n - length front in
+    let e : n ≡ length front + m = omega (arith, le) in
+    record { rest = take m s.rest; is = sym (ap (take n) (sym s.is) ∙ (ap (λ k. take k (front ++ s.rest)) e ∙ take-append-add front s.rest m)) }
+
+pub take_none : (n : ℕ) → take {A = ℕ} n [] ≡ []
+take_none zero = refl
+take_none (suc n) = refl
+
+pub same_behind : {A : Type 0} (xs ys zs : List A) → xs ++ ys ≡ xs ++ zs → ys ≡ zs
+same_behind [] ys zs e = e
+same_behind (x ∷ xs) ys zs e = same_behind xs ys zs cc
+
+pub all_behind : {A : Type 0} (P : A → Type 0) (xs ys : List A) → AllByRecursion P (xs ++ ys) → AllByRecursion P ys
+all_behind P [] ys a = a
+all_behind P (x ∷ xs) ys a = all_behind P xs ys a.1

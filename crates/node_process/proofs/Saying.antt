@@ -1,0 +1,152 @@
+-- What is said is told by calls on the disk; and words come in.
+use Rattle.std.proofs.Common.{◌≡◌, ◌⊎◌, inl, inr, ℕ, Bool, List, [], ◌∷◌, ◌++◌, length, take, Option, refl, sym, ap, ◌∙◌, subst, arith}
+use Rattle.claim_model.specs.Node.{Node}
+use Rattle.claim_model.specs.Nodes.{AnyNode}
+use Rattle.claim_model.specs.Logs.{Logged}
+use Rattle.crash_safety.specs.Network.{Process}
+use Rattle.world_setup.specs.declared.settings.WorldSettings.{WorldSettings as Settings}
+use Rattle.node_logged.specs.Setting.{context_of}
+use Rattle.kept_logs.specs.Stamps.{Stamped, bare_calls}
+use Rattle.kept_logs.specs.Logs.{kept_text}
+use Rattle.kept_logs.specs.Fits.{FitsKept}
+use Rattle.kept_logs.specs.Cuts.{calls_within}
+use Rattle.kept_logs.specs.Rests.{begins}
+use Rattle.kept_logs.proofs.LogsBack.{log_length}
+use Rattle.node_service.specs.Serving.{Serving}
+use Rattle.node_service.specs.Lines.{lines_calls, lines_kept}
+use Rattle.node_service.specs.Opened.{Spells, IsOpened}
+use Rattle.settings_digest.specs.Digests.{turned_under}
+use Rattle.node_service.proofs.Lines.{bare_append, lines_bare}
+use Rattle.node_process.specs.Acts.{Act, Say, Hear, Unheard, found, kept, said}
+use Rattle.node_process.specs.Heard.{whole_lines}
+use Rattle.node_process.specs.Safe.{IsStartOf, closed_calls, log_of, IsCovered, GoesWell, Whose}
+use Rattle.node_process.specs.Histories.{Happening, Does, acts_of, on_disk, digest_of, IsToldBy}
+use Rattle.node_process.proofs.Bare.{HasKept, bare_take}
+use Rattle.node_process.proofs.Left.{IsTornOf, first_of, start_length, begins_with}
+use Rattle.node_process.proofs.Spoken.{told_by, told_nothing}
+use Rattle.node_process.proofs.Texts.{IsMadeText, input_text}
+use Rattle.node_process.proofs.Waking.{Lives}
+use Rattle.node_process.proofs.Between.{IsInner, file_there, RunsOn}
+
+-- what was said is told by calls whose records are on the disk
+pub covered_told : (whose : Whose) (digest : List ℕ) (settings : Settings) (acts : List Act) (disk : List ℕ) (start : Serving) (whole : ℕ) (synced : List Stamped) → Spells whose.settings settings → turned_under whose.settings whose.rest (found acts) ≡ digest → (o : IsOpened whose.settings whose.node whose.rest (found acts) whole start)
+    → FitsKept (record { node = whose.node; calls = synced }) → HasKept digest whose.node disk synced → length digest ≡ 33 → (kept acts ≡ []) ⊎ (kept acts ≡ disk) → (said acts ≡ []) ⊎ IsCovered (closed_calls whose) start (take whole (found acts)) acts → IsToldBy whose.node (bare_calls synced) (said acts)
+covered_told whose digest settings acts disk start whole synced spells second o fits has d keeps (inl silent) = told_nothing whose.node (bare_calls synced) (said acts) silent
+covered_told whose digest settings acts disk start whole synced spells second o fits has d keeps (inr c) = by_disk has keeps
+  where
+    calls : List Stamped
+    calls = o.log.calls ++ lines_kept start (whole_lines c.input)
+
+    text : IsMadeText whose digest settings (log_of start (take whole (found acts)) c.input) calls
+    text = input_text whose digest settings (found acts) whole start c.input spells second o c.fits
+
+    no_less : (bytes : List ℕ) → kept acts ≡ bytes → bytes ≡ [] → ⊥
+    no_less bytes e none =
+        let long = log_length digest (record { node = whose.node; calls = calls }) d in
+        let a = ap length text.text in
+        let b = start_length _ (kept acts) c.logged in
+        let n = ap length (e ∙ none) in
+        omega (arith, long, a, b, n)
+
+    by_disk : HasKept digest whose.node disk synced → (kept acts ≡ []) ⊎ (kept acts ≡ disk) → IsToldBy whose.node (bare_calls synced) (said acts)
+    by_disk has (inl none) = absurd (no_less [] none refl)
+    by_disk (inr none) (inr same) = absurd (no_less disk same none.0)
+    by_disk (inl is) (inr same) =
+        let own = kept_text digest (record { node = whose.node; calls = calls }) in
+        let start_of : IsStartOf own (kept_text digest (record { node = whose.node; calls = synced })) = subst (IsStartOf own) (same ∙ is) (subst (λ (x : List ℕ). IsStartOf x (kept acts)) text.text c.logged) in
+        let k = calls_within digest (length own) (record { node = whose.node; calls = synced }) in
+        let first : calls ≡ take k synced = begins_with digest whose.node calls synced (length own) d text.fits fits refl (first_of own _ start_of) in
+        let bare_are : bare_calls calls ≡ bare_calls o.log.calls ++ lines_calls start (whole_lines c.input) =
+        bare_append o.log.calls (lines_kept start (whole_lines c.input)) ∙ ap (λ (x : List Logged). bare_calls o.log.calls ++ x) (lines_bare start (whole_lines c.input)) in
+        told_by whose.node (closed_calls whose) start c.input (said acts) (bare_calls o.log.calls) (bare_calls synced) k o.silent (sym bare_are ∙ (ap bare_calls first ∙ bare_take k synced)) c.sent
+
+module _ (whose : Whose) (begun : List ℕ) (settings : Settings) (h : List Happening) (p : Process) (i : IsInner whose begun h p) where
+  abbrev digest : List ℕ
+  digest = digest_of whose begun
+
+  abbrev node : Node
+  node = whose.node
+
+  -- what the log begins with
+  abbrev first_node : Option AnyNode
+  first_node = begins settings whose.node whose.rest
+
+  abbrev t : List Act
+  t = acts_of h
+
+  -- all records that the file has
+  abbrev all_kept : List Stamped
+  all_kept = i.synced ++ i.unsynced
+
+  -- words that are on the disk are said
+  pub say_step : Lives (context_of settings) first_node p → (bytes : List ℕ) (done : Bool) → GoesWell t → IsToldBy node p.synced (said t ++ bytes) → RunsOn whose begun settings (Does (Say bytes done) ∷ h) p
+  say_step lives bytes done well told = record {
+    steps = [];
+    inner = record {
+      synced = i.synced;
+      unsynced = i.unsynced;
+      synced_are = i.synced_are;
+      unsynced_are = i.unsynced_are;
+      disk = i.disk;
+      under = subst (IsStartOf (on_disk begun h)) (file_there begun h well) i.under;
+      lies = subst (λ (b : List ℕ). IsTornOf digest node b all_kept) (file_there begun h well) i.lies;
+      first = i.first;
+      more = i.more;
+      goes = i.goes;
+      was = i.was;
+      keeps = i.keeps;
+      told = told;
+      second = i.second;
+      stands = i.stands;
+    };
+    lives = lives;
+    asked = tt;
+  }
+
+  pub hear_step : Lives (context_of settings) first_node p → (bytes : List ℕ) → GoesWell t → RunsOn whose begun settings (Does (Hear bytes) ∷ h) p
+  hear_step lives bytes well = record {
+    steps = [];
+    inner = record {
+      synced = i.synced;
+      unsynced = i.unsynced;
+      synced_are = i.synced_are;
+      unsynced_are = i.unsynced_are;
+      disk = i.disk;
+      under = subst (IsStartOf (on_disk begun h)) (file_there begun h well) i.under;
+      lies = subst (λ (b : List ℕ). IsTornOf digest node b all_kept) (file_there begun h well) i.lies;
+      first = i.first;
+      more = i.more;
+      goes = i.goes;
+      was = i.was;
+      keeps = i.keeps;
+      told = i.told;
+      second = i.second;
+      stands = i.stands;
+    };
+    lives = lives;
+    asked = tt;
+  }
+
+  pub unheard_step : Lives (context_of settings) first_node p → GoesWell t → RunsOn whose begun settings (Does Unheard ∷ h) p
+  unheard_step lives well = record {
+    steps = [];
+    inner = record {
+      synced = i.synced;
+      unsynced = i.unsynced;
+      synced_are = i.synced_are;
+      unsynced_are = i.unsynced_are;
+      disk = i.disk;
+      under = subst (IsStartOf (on_disk begun h)) (file_there begun h well) i.under;
+      lies = subst (λ (b : List ℕ). IsTornOf digest node b all_kept) (file_there begun h well) i.lies;
+      first = i.first;
+      more = i.more;
+      goes = i.goes;
+      was = i.was;
+      keeps = i.keeps;
+      told = i.told;
+      second = i.second;
+      stands = i.stands;
+    };
+    lives = lives;
+    asked = tt;
+  }
