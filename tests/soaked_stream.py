@@ -34,6 +34,12 @@ def odd_server(told):
     return groups[1][0] if is_odd else None
 
 
+def longest_of(hosts):
+    """The longest file of machines, which has all that was said."""
+    longest = max((it.log.read_bytes() for it in hosts if it.log.exists()), key=len)
+    return longest[: logs.whole_size(longest)]
+
+
 class Stream:
     """The stream, as an operator handles it."""
 
@@ -42,24 +48,35 @@ class Stream:
 
     def over(self, hosts, how, new):
         """A log in a stream goes over as a file: the stream is made anew, and each machine has the file."""
-        with self.world.servers_lock:
-            self.current()
+        self.mend()
         with self.world.servers_lock, self.world.held(hosts, how):
-            self.current()
             log = self.world.folder / f"{STREAMED}.over"
-            log.unlink(missing_ok=True)
-            self.world.vogctl("log", "export", STREAMED, log)
+            log.write_bytes(longest_of(hosts))
             told = surely(programs.program("claimgrow"), hosts[0].settings, new, log, what=f"{STREAMED} goes over")
             expect(told.endswith(" goes over\n"), f"claimgrow of {STREAMED}: {told}")
             for host in hosts:
                 host.settings = new
-            self._make_anew(hosts, log.read_bytes())
+            self._put(hosts, log.read_bytes())
         self.world.count("streams made anew")
 
-    def _make_anew(self, hosts, data):
+    def _put(self, hosts, data):
+        """The stream has this log, made anew; where the servers come to nothing they all begin anew before."""
+        try:
+            self._make_anew(hosts, data)
+        except network.Failed as fault:
+            print(f"soak-all: servers begin anew: {fault}", file=sys.stderr, flush=True)
+            self.world.count("servers that began anew")
+            self._kill_servers()
+            for place in range(self.servers.count):
+                self.servers.wipe(place)
+            self._start_servers()
+            self._make_anew(hosts, data, False)
+
+    def _make_anew(self, hosts, data, is_there=True):
         """The stream and all machines have this log; what machines have seen is forgotten."""
-        reply = self.world.request("admin", f"$JS.API.STREAM.DELETE.LOG_{STREAMED}", b"", 30)
-        expect(reply is not None and b'"success":true' in reply, f"the stream is not deleted: {reply}")
+        if is_there:
+            reply = self.world.request("admin", f"$JS.API.STREAM.DELETE.LOG_{STREAMED}", b"", 30)
+            expect(reply is not None and b'"success":true' in reply, f"the stream is not deleted: {reply}")
         self.world.vogctl("log", "make", STREAMED)
         log = self.world.folder / f"{STREAMED}.anew"
         log.write_bytes(data)
@@ -149,6 +166,14 @@ class Stream:
             self.servers.wait_current()
 
     def mend(self):
+        """An operator mends the stream; where its servers come to nothing they begin anew, with what the longest file has."""
+        try:
+            self._mend()
+        except network.Failed as fault:
+            print(f"soak-all: copies are not mended: {fault}", file=sys.stderr, flush=True)
+            self.restore()
+
+    def _mend(self):
         """An operator compares the copies, gives a server that differs a new disk under a new name, and machines that have read of it the log anew."""
         with self.world.servers_lock:
             for _ in range(MOST_MENDS):
@@ -157,10 +182,9 @@ class Stream:
                 if done.returncode == 0 and "alike on" in done.stdout:
                     break
                 self.world.count("copies that differed")
-                if odd := odd_server(done.stderr):
-                    self._new_disk(self.servers.names.index(odd))
-                else:
-                    self._restore()
+                odd = odd_server(done.stderr)
+                expect(odd is not None, f"no copy is that of most: {done.stderr}")
+                self._new_disk(self.servers.names.index(odd))
             else:
                 raise network.Failed(f"copies differ still: {done.stdout}{done.stderr}")
         for host in self.world.of(STREAMED):
@@ -189,16 +213,10 @@ class Stream:
             self.servers.wait_current()
 
     def restore(self):
-        """The servers have lost the end of the log, and each host says so and ends: the longest file of a machine restores it."""
-        with self.world.servers_lock:
-            self._restore()
-
-    def _restore(self):
+        """The servers have lost something of the log: the longest file of a machine restores it."""
         hosts = self.world.of(STREAMED)
-        with self.world.held(hosts):
-            self.current()
-            longest = max((it.log.read_bytes() for it in hosts if it.log.exists()), key=len)
-            self._make_anew(hosts, longest[: logs.whole_size(longest)])
+        with self.world.servers_lock, self.world.held(hosts):
+            self._put(hosts, longest_of(hosts))
             for host in hosts:
                 host.is_refused = False
         self.world.count("streams restored")
