@@ -499,6 +499,7 @@ class Trials(unittest.TestCase):
                 node.synced(wrong)
         node.synced(len(head) - 1)
         self.assertEqual(node.records(), head[-1:])
+        self.assertEqual([node.records_after(it) for it in (0, 1, 1 << 64)], [head[-1:], b"", b""])
         silent()
         node.synced(1)
         self.assertEqual((node.written(), node.calls), (b"", 0))

@@ -119,6 +119,17 @@ impl Node {
         copied(0, |at, room, size| unsafe { sys::vogrilas_records(self.handle.get(), at, room, size) })
     }
 
+    /// What comes after the first `passed` bytes of that: for a host that has appended those, and waits for their sync.
+    ///
+    /// # Errors
+    /// `Closed`.
+    pub fn records_after(&self, passed: usize) -> Result<Vec<u8>, Error> {
+        // SAFETY: `copied` lends as many bytes as it says.
+        copied(0, |at, room, size| unsafe {
+            sys::vogrilas_records_after(self.handle.get(), passed, at, room, size)
+        })
+    }
+
     /// Says that so many bytes of the records, the first, are on disk: appended, and synced with all that stands in the file before
     /// them.
     ///

@@ -106,6 +106,13 @@ extern "C" {
         advice_size: usize,
     ) -> u32;
     pub(crate) fn vogrilas_records(node: *mut Handle, buffer: *mut u8, room: usize, size: &mut usize) -> u32;
+    pub(crate) fn vogrilas_records_after(
+        node: *mut Handle,
+        passed: usize,
+        buffer: *mut u8,
+        room: usize,
+        size: &mut usize,
+    ) -> u32;
     pub(crate) fn vogrilas_kept(node: *mut Handle, size: usize) -> u32;
     pub(crate) fn vogrilas_written(node: *mut Handle, buffer: *mut u8, room: usize, size: &mut usize) -> u32;
     pub(crate) fn vogrilas_calls(node: *mut Handle, calls: &mut u64) -> u32;

@@ -136,6 +136,8 @@ fn nothing_is_told_before_it_is_synced() {
     assert_eq!((node.synced(head.len() + 1), node.synced(usize::MAX)), (Err(too_many), Err(too_many)));
     node.synced(head.len() - 1).unwrap();
     assert_eq!(node.records().unwrap(), head[head.len() - 1..]);
+    assert_eq!(node.records_after(0).unwrap(), head[head.len() - 1..]);
+    assert!(node.records_after(1).unwrap().is_empty());
     silent(&mut node);
     node.synced(1).unwrap();
     assert_eq!((node.written(), node.calls()), (Ok(Vec::new()), Ok(0)));

@@ -91,6 +91,7 @@ _CALLS = {
     "take": [_NODE, *_BYTES, *_BYTES],
     "adjudicate": [_NODE, *_BYTES, *_BYTES, *_BYTES],
     "records": [_NODE, *_BUFFER],
+    "records_after": [_NODE, ctypes.c_size_t, *_BUFFER],
     "kept": [_NODE, ctypes.c_size_t],
     "written": [_NODE, *_BUFFER],
     "calls": [_NODE, ctypes.POINTER(ctypes.c_uint64)],

@@ -143,6 +143,13 @@ def _copied(call: Callable[..., int], *given: Any, room: int = 0) -> bytes:
         room = size.value
 
 
+def _as_size(size: int) -> int:
+    """A size; another type is refused."""
+    if not isinstance(size, int) or isinstance(size, bool):
+        raise TypeError(f"a size has to be an int, not {type(size).__name__}")
+    return size
+
+
 def printed(data: bytes) -> bytes:
     """The text that spells bytes in lines."""
     data = as_bytes(data, "a message")
@@ -346,12 +353,19 @@ class Node:
         with self._lock:
             return _copied(LIBRARY.vogrilas_records, ctypes.byref(self._handle))
 
+    def records_after(self, passed: int) -> bytes:
+        """What comes after the first `passed` bytes of that: for a host that has appended those, and waits for their sync."""
+        if not 0 <= _as_size(passed) < 1 << 64:
+            return b""
+        with self._lock:
+            return _copied(
+                LIBRARY.vogrilas_records_after, ctypes.byref(self._handle), passed
+            )
+
     def synced(self, size: int) -> None:
         """Says that so many bytes of the records, the first, are on disk: appended, and synced with all that stands in the file
         before them. Raises VogrilasError with TOO_MANY where the records are fewer."""
-        if not isinstance(size, int) or isinstance(size, bool):
-            raise TypeError(f"a size has to be an int, not {type(size).__name__}")
-        if not 0 <= size < 1 << 64:
+        if not 0 <= _as_size(size) < 1 << 64:
             raise VogrilasError(Code.TOO_MANY)
         with self._lock:
             check_code(LIBRARY.vogrilas_kept(ctypes.byref(self._handle), size))
