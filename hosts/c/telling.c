@@ -53,24 +53,28 @@ static void answer(struct host *host, struct message *one, const char *line, siz
     if (!is_owed && one->text != NULL) reply(host->carrier, one->text, line, size);
 }
 
-/* Tells what a message comes to; the next message that was served. */
+/* Whether all is said of a message that is to be said. */
+static bool is_done(const struct message *one) {
+    return !one->is_served || one->is_told;
+}
+
+/* The first of these messages of which something is to be said yet. */
+static struct message *first_untold(struct message *one) {
+    while (one != NULL && is_done(one)) one = one->next;
+    return one;
+}
+
+/* Tells what a message comes to; the next one of which something is to be said. */
 static struct message *answered(struct host *host, struct message *one, const char *line, size_t size, bool has_sent) {
     if (one->is_tick) ticked(host, line, size);
     else answer(host, one, line, size, has_sent);
     one->is_told = true;
-    do one = one->next;
-    while (one != NULL && !one->is_served);
-    return one;
+    return first_untold(one);
 }
 
 /* Whether a line is one of a list, behind which its end comes: an entry, a payment, or a transaction of a row, which begins with its id. */
 static bool is_of_list(const char *line, size_t size) {
     return begins(line, size, "entry ") || begins(line, size, "payment ") || (size > 0 && line[0] >= '0' && line[0] <= '9');
-}
-
-/* Whether all is said of a message that is to be said. */
-static bool is_done(const struct message *one) {
-    return !one->is_served || one->is_told;
 }
 
 /* Lets the messages go of which all is said: those before the first whose words wait. */
@@ -100,11 +104,10 @@ void host_let_go(struct host *host) {
 size_t host_tell(struct host *host) {
     struct bytes written = node_written(&host->node);
     char *line = written.at, *end = written.at + written.size, *list = NULL;
-    struct message *one = host->first;
+    struct message *one = first_untold(host->first);
     bool has_sent = false;
     size_t told = 0;
     uint64_t again = 0;
-    while (one != NULL && !one->is_served) one = one->next;
     while (line < end) {
         char *stop_at = memchr(line, '\n', (size_t)(end - line));
         if (stop_at == NULL) fail("the node has a line without an end", NULL);

@@ -28,13 +28,15 @@ static void fuzz_reply(const char *line, size_t size) {
 }
 
 #define node_written(node) fuzz_written(node)
+#define node_clear(node) ((void)(node))
 #define reply(carrier, to, line, size) ((void)(carrier), fuzz_reply(line, size))
 #define signed_send(host, one, to, to_size, text, size) ((void)(host), fuzz_send(to, to_size, text, size))
 #define later_add(later, to, to_size, text, size) ((void)(later), fuzz_send(to, to_size, text, size))
 #define waits_settled(carrier, number) ((void)(number))
 /* It has room for each entry up to the last number, which the node gives one after the other. */
 #define counts_entered(number) ((void)(number))
-#include "../../hosts/c/turn.c"
+#include "../../hosts/c/serving.c"
+#include "../../hosts/c/telling.c"
 
 static const char *const names[] = { "ph1", "sw1", "pr1" };
 
@@ -80,49 +82,46 @@ static void try_line(struct input *input) {
     free(who.at);
 }
 
-/* Whether each line of what a node writes has its end, and each packet a node and a text. `is_mixed`: a packet stands within a list, where no node
-   has one. */
-static bool is_of_node(bool *is_mixed) {
+/* Whether each line of what a node writes has its end, and each packet a node and a text; and each is of one of so many messages, of which each has
+   one line or list that is its last. `is_mixed`: a packet stands within a list, where no node has one. */
+static bool is_of_node(size_t served, bool *is_mixed) {
     bool is_listing = false;
+    size_t told = 0;
     *is_mixed = false;
     if (written.size > 0 && written.at[written.size - 1] != '\n') return false;
     for (size_t at = 0, size; at < written.size; at += size + 1) {
         size = (size_t)((char *)memchr(written.at + at, '\n', written.size - at) - written.at) - at;
-        bool is_packet = begins(written.at + at, size, "send ");
-        if (is_packet && memchr(written.at + at + 5, ' ', size - 5) == NULL) return false;
+        bool is_packet = begins(written.at + at, size, "send "), is_item = is_of_list(written.at + at, size);
+        if (told == served || (is_packet && memchr(written.at + at + 5, ' ', size - 5) == NULL)) return false;
         *is_mixed = *is_mixed || (is_packet && is_listing);
-        is_listing = is_of_list(written.at + at, size) || (is_packet && is_listing);
+        is_listing = is_item || (is_packet && is_listing);
+        told += !is_packet && !is_item;
     }
     return true;
 }
 
-/* A host and the messages of one turn of it. */
-struct telling {
-    struct host *host;
-    struct message *batch;
-};
-
 static void tell_all(void *closure) {
-    const struct telling *telling = closure;
-    tell(telling->host, telling->batch);
+    host_tell(closure);
 }
 
 /* What a node writes for some messages. */
 static void try_tell(struct input *input) {
     struct host host = { .given = { .name = names[next_byte(input) % 3] } };
     struct message all[8] = { { .next = NULL } };
-    size_t count = 1 + next_byte(input) % 8;
+    size_t count = 1 + next_byte(input) % 8, served = 0;
     struct bytes packet = next_line(input);
     for (size_t at = 0; at < count; at++) {
         unsigned how = next_byte(input);
         all[at] = (struct message){ .next = at + 1 < count ? &all[at + 1] : NULL, .is_served = (how & 1) != 0, .from = (enum sender)(how / 2 % 3) };
         all[at].text = message_of("claims.ph1.from.sw1", NULL, packet.at, packet.size);
+        served += all[at].is_served;
     }
+    host.first = all;
+    host.last = &all[count - 1].next;
     written = the_rest(input);
     gone.size = 0;
-    bool is_mixed, has_gone = goes_on(tell_all, &(struct telling){ &host, all });
-    expect(has_gone == is_of_node(&is_mixed));
-    /* A message that came last has the lines of what is said to it; those of more messages than there are, and of a tick, are nobody's. */
+    bool is_mixed, has_gone = goes_on(tell_all, &host);
+    expect(has_gone == is_of_node(served, &is_mixed));
     has_gone = has_gone && !is_mixed;
     expect(!has_gone || gone.size <= written.size);
     size_t from = 0;
