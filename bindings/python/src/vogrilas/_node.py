@@ -57,9 +57,7 @@ class VogrilasError(Exception):
     """A call on the library that was not made. `code` says why, and `place` where, of a damaged log or a bad text; of an audit
     `log` is which of the logs it is, from 0."""
 
-    def __init__(
-        self, code: Code, place: Optional[int] = None, log: Optional[int] = None
-    ) -> None:
+    def __init__(self, code: Code, place: Optional[int] = None, log: Optional[int] = None) -> None:
         words = code.name.lower().replace("_", " ")
         words += "" if place is None else f" at byte {place}"
         super().__init__(words if log is None else f"{words}, log {log}")
@@ -95,8 +93,7 @@ class Said:
 @dataclass(frozen=True)
 class Payment:
     """A payment, in cents: its authorization by the payer and its serial there, what it was paid for, and the request that
-    reversed it, by its pharmacy and its number there; None where it stands. Texts have spaces at their ends.
-    """
+    reversed it, by its pharmacy and its number there; None where it stands. Texts have spaces at their ends."""
 
     payer: int
     serial: int
@@ -125,9 +122,7 @@ def check_code(code: int, place: Optional[int] = None) -> None:
     if code:
         known = Code(code)
         if known is Code.NO_MEMORY:
-            raise MemoryError(
-                "vogrilas: the node is closed; open it again from its log"
-            )
+            raise MemoryError("vogrilas: the node is closed; open it again from its log")
         raise VogrilasError(known, place if known in _PLACED else None)
 
 
@@ -195,9 +190,7 @@ def audited_tables(settings: bytes, logs: Sequence[bytes]) -> dict[str, Any]:
 
 
 def _audited(settings: bytes, logs: Sequence[bytes], style: int) -> Audit:
-    settings, logs = as_bytes(settings, "settings"), [
-        as_bytes(log, "a log") for log in logs
-    ]
+    settings, logs = as_bytes(settings, "settings"), [as_bytes(log, "a log") for log in logs]
     joined = b"".join(logs)
     sizes = (ctypes.c_size_t * max(len(logs), 1))(*map(len, logs))
     given = (settings, len(settings), joined, len(joined), sizes, len(logs), style)
@@ -207,23 +200,17 @@ def _audited(settings: bytes, logs: Sequence[bytes], style: int) -> Audit:
         buffer = ctypes.create_string_buffer(room)
         code = LIBRARY.vogrilas_audit(*given, buffer, room, ctypes.byref(size))
         if code in (Code.OK, Code.NO_RUN):
-            return Audit(
-                code == Code.OK, ctypes.string_at(buffer, size.value).decode("ascii")
-            )
+            return Audit(code == Code.OK, ctypes.string_at(buffer, size.value).decode("ascii"))
         if code == Code.NO_MEMORY:
             raise MemoryError("vogrilas: no memory for an audit")
         if code != Code.SHORT_BUFFER:
-            raise VogrilasError(
-                Code(code), log=None if code == Code.SETTINGS else size.value
-            )
+            raise VogrilasError(Code(code), log=None if code == Code.SETTINGS else size.value)
         room = size.value
 
 
 def _described(message: bytes, style: int) -> bytes:
     message = as_bytes(message, "a message")
-    return _copied(
-        LIBRARY.vogrilas_describe, message, len(message), style, room=1 << 14
-    )
+    return _copied(LIBRARY.vogrilas_describe, message, len(message), style, room=1 << 14)
 
 
 def as_bytes(given: Any, what: str) -> bytes:
@@ -238,9 +225,7 @@ def as_bytes(given: Any, what: str) -> bytes:
 def as_name(given: Any) -> bytes:
     """The name of a node, in the same way. One that no node has is for the library to refuse."""
     if not isinstance(given, str):
-        raise TypeError(
-            f"the name of a node has to be a str, not {type(given).__name__}"
-        )
+        raise TypeError(f"the name of a node has to be a str, not {type(given).__name__}")
     return given.encode("utf-8", "replace")
 
 
@@ -252,24 +237,10 @@ def _expect_id(number: int, pharmacy: int = 1) -> None:
 
 def _payment(raw: RawPayment) -> Payment:
     """A payment of a list that the library has written."""
-    texts: dict[str, Any] = {
-        name: bytes(getattr(raw, name))
-        for name in ("bin", "pcn", "qualifier", "provider")
-    }
-    numbers = (
-        "payer",
-        "serial",
-        "prescription",
-        "fill_number",
-        "cost",
-        "fee",
-        "copay",
-        "total",
-    )
+    texts: dict[str, Any] = {name: bytes(getattr(raw, name)) for name in ("bin", "pcn", "qualifier", "provider")}
+    numbers = ("payer", "serial", "prescription", "fill_number", "cost", "fee", "copay", "total")
     by = (raw.reversed_pharmacy, raw.reversed_number) if raw.reversed_number else None
-    return Payment(
-        **texts, **{name: getattr(raw, name) for name in numbers}, reversed_by=by
-    )
+    return Payment(**texts, **{name: getattr(raw, name) for name in numbers}, reversed_by=by)
 
 
 class Node:
@@ -284,25 +255,10 @@ class Node:
         self._handle = Handle()
         self._lock = threading.Lock()
         kept = ctypes.c_size_t()
-        settings, word, log = (
-            as_bytes(settings, "settings"),
-            as_name(name),
-            as_bytes(log, "a log"),
-        )
+        settings, word, log = as_bytes(settings, "settings"), as_name(name), as_bytes(log, "a log")
         seed = os.urandom(16)
-        given = (
-            settings,
-            len(settings),
-            word,
-            len(word),
-            log,
-            len(log),
-            seed,
-            len(seed),
-        )
-        code = LIBRARY.vogrilas_open(
-            ctypes.byref(self._handle), *given, ctypes.byref(kept)
-        )
+        given = (settings, len(settings), word, len(word), log, len(log), seed, len(seed))
+        code = LIBRARY.vogrilas_open(ctypes.byref(self._handle), *given, ctypes.byref(kept))
         check_code(code, kept.value)
         self.name = name
         self.kept: int = kept.value
@@ -311,39 +267,24 @@ class Node:
         """Does what a line asks. After a MemoryError the node is closed, and has to be opened again from its log."""
         line = as_bytes(line, "a line")
         with self._lock:
-            check_code(
-                LIBRARY.vogrilas_serve(ctypes.byref(self._handle), line, len(line))
-            )
+            check_code(LIBRARY.vogrilas_serve(ctypes.byref(self._handle), line, len(line)))
 
     def submit(self, request: Union[bytes, Message]) -> None:
         """Enters a request, of a pharmacy: the line `submit` with the text of these bytes, or of a message's."""
         request = as_bytes(request, "a request")
         with self._lock:
-            check_code(
-                LIBRARY.vogrilas_submit(
-                    ctypes.byref(self._handle), request, len(request)
-                )
-            )
+            check_code(LIBRARY.vogrilas_submit(ctypes.byref(self._handle), request, len(request)))
 
     def take(self, sender: str, packet: bytes) -> None:
         """Takes a packet that has come from this node: the line `take` with the text of these bytes."""
         name, packet = as_name(sender), as_bytes(packet, "a packet")
         with self._lock:
-            check_code(
-                LIBRARY.vogrilas_take(
-                    ctypes.byref(self._handle), name, len(name), packet, len(packet)
-                )
-            )
+            check_code(LIBRARY.vogrilas_take(ctypes.byref(self._handle), name, len(name), packet, len(packet)))
 
     def adjudicate(self, sender: str, packet: bytes, advice: bytes) -> None:
         """Takes a packet that has come from this node together with an advice, the answer that the payer's own system has given to the
-        request in it: the line `adjudicate` with the texts of these bytes. The payer's settings have to ask.
-        """
-        name, packet, advice = (
-            as_name(sender),
-            as_bytes(packet, "a packet"),
-            as_bytes(advice, "an advice"),
-        )
+        request in it: the line `adjudicate` with the texts of these bytes. The payer's settings have to ask."""
+        name, packet, advice = as_name(sender), as_bytes(packet, "a packet"), as_bytes(advice, "an advice")
         given = (name, len(name), packet, len(packet), advice, len(advice))
         with self._lock:
             check_code(LIBRARY.vogrilas_adjudicate(ctypes.byref(self._handle), *given))
@@ -358,9 +299,7 @@ class Node:
         if not 0 <= _as_size(passed) < 1 << 64:
             return b""
         with self._lock:
-            return _copied(
-                LIBRARY.vogrilas_records_after, ctypes.byref(self._handle), passed
-            )
+            return _copied(LIBRARY.vogrilas_records_after, ctypes.byref(self._handle), passed)
 
     def synced(self, size: int) -> None:
         """Says that so many bytes of the records, the first, are on disk: appended, and synced with all that stands in the file
@@ -408,12 +347,7 @@ class Node:
         """The request of a pharmacy's entry, by its number from 1. Raises VogrilasError with NOT_FOUND where there is none."""
         _expect_id(number)
         with self._lock:
-            return _copied(
-                LIBRARY.vogrilas_request,
-                ctypes.byref(self._handle),
-                number,
-                room=1 << 10,
-            )
+            return _copied(LIBRARY.vogrilas_request, ctypes.byref(self._handle), number, room=1 << 10)
 
     def answer(self, pharmacy: int, number: int) -> Optional[bytes]:
         """The answer that the node holds for a request, by its pharmacy and its number there: a pharmacy those to its own
@@ -427,16 +361,12 @@ class Node:
         that once all is on disk), and with NOT_FOUND where there is no such entry."""
         return self._answer(LIBRARY.vogrilas_heard, pharmacy, number)
 
-    def _answer(
-        self, gives: Callable[..., int], pharmacy: int, number: int
-    ) -> Optional[bytes]:
+    def _answer(self, gives: Callable[..., int], pharmacy: int, number: int) -> Optional[bytes]:
         """The answer that a call of the library gives; none where the entry is open."""
         _expect_id(number, pharmacy)
         try:
             with self._lock:
-                return _copied(
-                    gives, ctypes.byref(self._handle), pharmacy, number, room=1 << 10
-                )
+                return _copied(gives, ctypes.byref(self._handle), pharmacy, number, room=1 << 10)
         except VogrilasError as refused:
             if refused.code is Code.UNANSWERED:
                 return None
@@ -450,9 +380,7 @@ class Node:
         with self._lock:
             while True:
                 raw = (RawPayment * max(room, 1))()
-                code = LIBRARY.vogrilas_payments(
-                    ctypes.byref(self._handle), raw, room, ctypes.byref(count)
-                )
+                code = LIBRARY.vogrilas_payments(ctypes.byref(self._handle), raw, room, ctypes.byref(count))
                 if code != Code.SHORT_BUFFER:
                     check_code(code)
                     return [_payment(one) for one in raw[: count.value]]
