@@ -85,8 +85,7 @@ fn serve<M: Machine>(
 ) -> Result<(), End<Finding>>
     requires { M.acts machine.old ≡ [] }
 {
-    let mut memory = None;
-    match serve_all(rt.alloc(), &hash_keys(rt), owner, machine, &mut memory) {
+    match serve_alone(rt, owner, machine) {
         Ok(()) => Ok(()),
         Err(Unserved::OutOfMemory) => Err(End::OutOfMemory),
         Err(Unserved::Refused(fault)) => Err(End::Own(Finding::Service(fault))),
@@ -95,6 +94,18 @@ fn serve<M: Machine>(
         Err(Unserved::TooManyTurns) => Err(End::Own(Finding::TooManyTurns)),
         Err(Unserved::Io(error)) => Err(End::Io(error)),
     }
+}
+
+/// The same; the node that it leaves in memory goes.
+fn serve_alone<M: Machine>(
+    rt: &HostRuntime,
+    owner: &Owner<'_>,
+    machine: &mut M,
+) -> Result<(), Unserved>
+    requires { M.acts machine.old ≡ [] }
+{
+    let mut memory = None;
+    serve_all(rt.alloc(), &hash_keys(rt), owner, machine, &mut memory)
 }
 
 /// Whose process it is: of the node that the command line names, whose log begins with this rest, where it has one.
