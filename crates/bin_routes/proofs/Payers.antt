@@ -1,8 +1,8 @@
 -- The payers of rows without a fault are within the number of payers.
-use Rattle.std.proofs.Common.{◌≡◌, ℕ, ◌≤◌, Bool, true, false, not, ◌&&◌, cond, leb, List, [], ◌∷◌, ◌++◌, map, filter, length, Option, Some, None, IfSome, is_none, option_map, refl, ap, ◌∙◌, append-nil}
+use Rattle.std.proofs.Common.{◌≡◌, ℕ, ◌≤◌, Bool, true, false, not, ◌&&◌, cond, leb, nat_le, List, [], ◌∷◌, ◌++◌, map, filter, length, Option, Some, None, IfSome, is_some, is_none, option_map, refl, ap, ◌∙◌, append-nil}
 use Rattle.std.specs.declared.cmp.Ordering.{Ordering}
 use Rattle.std.specs.Ordering.{eq_by_cmp}
-use Rattle.std.specs.Option.{option_or}
+use Rattle.std.specs.Option.{option_or, option_map_or}
 use Rattle.std.specs.Prelude.{find as first}
 use Rattle.std.specs.Str.{bytes_eq}
 use Rattle.std.specs.List.{filter_map, cons_option, AllByRecursion}
@@ -10,13 +10,13 @@ use Rattle.std.proofs.lemmas.List.{map-append}
 use Rattle.std.proofs.lemmas.List.Elements.{filter_map-append, filter-append}
 use Rattle.bin_routes.specs.Key.{RouteKey}
 use Rattle.bin_routes.specs.Providers.{has_provider}
-use Rattle.std.specs.FinMap.{find, get, from_entries, get-from_entries}
+use Rattle.std.specs.FinMap.{FinMap, find, get, from_entries, get-from_entries}
 use Rattle.std.proofs.lemmas.Bool.{and_parts, leb-true}
 use Rattle.bin_routes.specs.declared.fault.RoutesFault.{RoutesFault}
 use Rattle.bin_routes.specs.declared.fault.RoutesFault.TheVariants.{BadBin, NoSuchPayer, BadPcn}
-use Rattle.bin_routes.specs.Row.{Row, is_bin, has_pcn, filled_row, same_pcn}
-use Rattle.bin_routes.specs.Fault.{is_payer, text_fault, row_fault, is_taken, fault_behind, first_fault}
-use Rattle.bin_routes.specs.Table.{RouteMaps, bin_cmp, processor_cmp, is_ranged, exact_entry, other_entry, routes_of, payer_at, fits, ranged_payer, payer_of, IsForOthers}
+use Rattle.bin_routes.specs.Row.{Row, leads, leading, is_bin, has_pcn, filled_row, same_pcn}
+use Rattle.bin_routes.specs.Fault.{is_payer, has_end, text_fault, row_fault, is_taken, fault_behind, first_fault}
+use Rattle.bin_routes.specs.Table.{RouteMaps, bin_cmp, processor_cmp, is_ranged, exact_entry, other_entry, key_text, rejected_key, entry_by, rejected_entry, routes_of, payer_at, fits, ranged_payer, payer_of, stays_rejected, payer_under, IsForOthers}
 use Rattle.bin_routes.proofs.Maps.{processors_total, bins_total}
 
 abbrev pub IsAmong : ℕ → ℕ → Type 0
@@ -40,22 +40,31 @@ test_passed : (t : Bool) (f : RoutesFault) (next : Option RoutesFault) → cond 
 test_passed true f next e = (refl, e)
 test_passed false f next e = absurd cc
 
-payer_passed : (payers place : ℕ) (row : Row) → text_fault payers place row ≡ None → IsAmong payers row.payer
+chosen : (b x y : Bool) → cond b x y ≡ true → b ≡ true → x ≡ true
+chosen true x y e is = e
+chosen false x y e is = absurd cc
+
+payer_passed : (payers place : ℕ) (row : Row) → text_fault payers place row ≡ None → leads row ≡ true → IsAmong payers row.payer
 unfolding text_fault
-payer_passed payers place row e =
+payer_passed payers place row e leading_is =
     let a = test_passed (is_bin row.bin) (BadBin place) _ e in
     let b = test_passed (has_pcn row.pcn) (BadPcn place) _ a.1 in
-    let c = test_passed (is_payer payers row.payer) (NoSuchPayer place) _ b.1 in
-    let low = and_parts (leb 1 row.payer) (leb row.payer payers && leb row.payer 9999) c.0 in
+    let c = test_passed (has_end payers row) (NoSuchPayer place) _ b.1 in
+    let payer = chosen (leads row) (is_payer payers row.payer) (is_some row.pcn && is_some row.providers) c.0 leading_is in
+    let low = and_parts (leb 1 row.payer) (leb row.payer payers && leb row.payer 9999) payer in
     let high = and_parts (leb row.payer payers) (leb row.payer 9999) low.1 in
     (leb-true 1 row.payer low.0, leb-true row.payer payers high.0)
 
-pub have_payers : (payers : ℕ) (earlier rows : List Row) → fault_behind payers earlier rows ≡ None → HavePayers payers rows
+put_leading : (payers : ℕ) (b : Bool) (row : Row) (rest : List Row) → (b ≡ true → IsAmong payers row.payer) → HavePayers payers rest → HavePayers payers (cond b (row ∷ rest) rest)
+put_leading payers true row rest h g = (h refl, g)
+put_leading payers false row rest h g = g
+
+pub have_payers : (payers : ℕ) (earlier rows : List Row) → fault_behind payers earlier rows ≡ None → HavePayers payers (leading rows)
 have_payers payers earlier [] e = tt
 have_payers payers earlier (row ∷ rows) e =
     let here = first_none (row_fault payers (length earlier) row (is_taken earlier row)) (fault_behind payers (earlier ++ row ∷ []) rows) e in
     let text = first_none (text_fault payers (length earlier) row) _ here.0 in
-    (payer_passed payers (length earlier) row text.0, have_payers payers (earlier ++ row ∷ []) rows here.1)
+    put_leading payers (leads row) row (leading rows) (payer_passed payers (length earlier) row text.0) (have_payers payers (earlier ++ row ∷ []) rows here.1)
 
 exact_put : (payers : ℕ) (bin : List ℕ) (payer : ℕ) (pcn : Option (List ℕ)) (ranged : Bool) (rest : List ((List ℕ × List ℕ) × ℕ)) → IsAmong payers payer → LeadTo payers rest → LeadTo payers (cons_option (cond ranged None (option_map (λ p. ((bin, p), payer)) pcn)) rest)
 exact_put payers bin payer pcn true rest h g = g
@@ -115,9 +124,9 @@ pub ranged_within : (payers : ℕ) (rows : List Row) (key : RouteKey) → first_
 unfolding first_fault payer_of routes_of
 ranged_within payers rows key none =
     let have = have_payers payers [] rows none in
-    either payers (ranged_payer (filter is_ranged (map filled_row rows)) (Some key.pcn) key) _ (ranged_leads payers (fits (Some key.pcn) key) rows have)
-    (either payers (get (from_entries {R = processor_cmp} (filter_map exact_entry (map filled_row rows))) (key.bin, key.pcn)) _ (exact_leads payers rows key.bin key.pcn have)
-    (either payers (ranged_payer (filter is_ranged (map filled_row rows)) None key) _ (ranged_leads payers (fits None key) rows have) (other_leads payers rows key.bin have)))
+    either payers (ranged_payer (filter is_ranged (map filled_row (leading rows))) (Some key.pcn) key) _ (ranged_leads payers (fits (Some key.pcn) key) (leading rows) have)
+    (either payers (get (from_entries {R = processor_cmp} (filter_map exact_entry (map filled_row (leading rows)))) (key.bin, key.pcn)) _ (exact_leads payers (leading rows) key.bin key.pcn have)
+    (either payers (ranged_payer (filter is_ranged (map filled_row (leading rows))) None key) _ (ranged_leads payers (fits None key) (leading rows) have) (other_leads payers (leading rows) key.bin have)))
 
 pub ranged_without : (maps : RouteMaps) (key : RouteKey) → maps.ranged ≡ [] → payer_of maps key ≡ payer_at maps key.bin key.pcn
 unfolding payer_of payer_at
@@ -154,9 +163,19 @@ no_other qualifier provider [] all = refl
 no_other qualifier provider (r ∷ more) all =
     ap (λ (b : Bool). cons_option (cond b None (cond (is_none (filled_row r).pcn) (Some (r.bin, r.payer)) None)) (filter_map other_entry (map filled_row more))) all.0.ranged ∙ no_other qualifier provider more all.1
 
-pub ranged_added : (rows more : List Row) (key : RouteKey) → AllByRecursion (λ (row : Row). IsForOthers row key.qualifier key.provider) more → payer_of (routes_of (rows ++ more)) key ≡ payer_of (routes_of rows) key
-unfolding payer_of routes_of
-ranged_added rows more key all =
+-- the maps of rows that lead to payers
+abbrev maps_of : FinMap bin_cmp ℕ → List Row → RouteMaps
+maps_of rejected rows = record {
+  exact = from_entries (filter_map exact_entry (map filled_row rows));
+  others = from_entries (filter_map other_entry (map filled_row rows));
+  ranged = filter is_ranged (map filled_row rows);
+  rejected = rejected;
+}
+
+leading_added : (r : FinMap bin_cmp ℕ) (rows more : List Row) (key : RouteKey) → AllByRecursion (λ (row : Row). IsForOthers row key.qualifier key.provider) more
+    → payer_of (maps_of r (rows ++ more)) key ≡ payer_of (maps_of r rows) key
+unfolding payer_of
+leading_added r rows more key all =
     let filled : map filled_row (rows ++ more) ≡ map filled_row rows ++ map filled_row more = map-append filled_row rows more in
     let exact : filter_map exact_entry (map filled_row (rows ++ more)) ≡ filter_map exact_entry (map filled_row rows) =
     ap (filter_map exact_entry) filled ∙ (filter_map-append exact_entry (map filled_row rows) (map filled_row more)
@@ -170,9 +189,61 @@ ranged_added rows more key all =
     λ pcn. ap (option_map (λ (row : Row). row.payer)) (ap (first (fits pcn key)) ranged ∙ first_behind (fits pcn key) (filter is_ranged (map filled_row rows)) (filter is_ranged (map filled_row more)) (none_fit pcn key more all)) in
     rw (exact, others, asked (Some key.pcn), asked None) refl
 
+all_lead : (qualifier provider : List ℕ) (more : List Row) → AllByRecursion (λ (row : Row). IsForOthers row qualifier provider) more → AllByRecursion (λ (row : Row). leads row ≡ true) more
+all_lead qualifier provider [] all = tt
+all_lead qualifier provider (r ∷ more) all = (all.0.leading, all_lead qualifier provider more all.1)
+
+all_leading : (rows : List Row) → AllByRecursion (λ (row : Row). leads row ≡ true) rows → leading rows ≡ rows
+all_leading [] all = refl
+all_leading (r ∷ rows) all = ap (λ (b : Bool). cond b (r ∷ leading rows) (leading rows)) all.0 ∙ ap (λ (rs : List Row). r ∷ rs) (all_leading rows all.1)
+
+no_entry : (o : Option ℕ) (key : Option (List ℕ)) → is_none o ≡ true → entry_by o key ≡ None
+no_entry None key e = refl
+no_entry (Some last) key e = absurd cc
+
+no_rejected : (rows : List Row) → AllByRecursion (λ (row : Row). leads row ≡ true) rows → filter_map rejected_entry (map filled_row rows) ≡ []
+no_rejected [] all = refl
+no_rejected (r ∷ rows) all =
+    ap (λ (e : Option (List ℕ × ℕ)). cons_option e (filter_map rejected_entry (map filled_row rows))) (no_entry r.rejected (rejected_key (filled_row r)) all.0) ∙ no_rejected rows all.1
+
+-- the payer of a key under a number, by the payer of the key and by what stays rejected
+abbrev under : FinMap bin_cmp ℕ → Option ℕ → ℕ → RouteKey → Option ℕ
+under rejected payer number key = cond (option_map_or (λ last. nat_le number last) (get rejected (key_text key)) false) None payer
+
+pub ranged_added : (rows more : List Row) (number : ℕ) (key : RouteKey) → AllByRecursion (λ (row : Row). IsForOthers row key.qualifier key.provider) more
+    → payer_under (routes_of (rows ++ more)) number key ≡ payer_under (routes_of rows) number key
+unfolding payer_under routes_of
+ranged_added rows more number key all =
+    let lead = all_lead key.qualifier key.provider more all in
+    let r : FinMap bin_cmp ℕ = from_entries (filter_map rejected_entry (map filled_row rows)) in
+    let led : leading (rows ++ more) ≡ leading rows ++ more = filter-append leads rows more ∙ ap (λ (rs : List Row). leading rows ++ rs) (all_leading more lead) in
+    let entries : filter_map rejected_entry (map filled_row (rows ++ more)) ≡ filter_map rejected_entry (map filled_row rows) =
+    ap (filter_map rejected_entry) (map-append filled_row rows more) ∙ (filter_map-append rejected_entry (map filled_row rows) (map filled_row more)
+    ∙ (ap (λ (es : List (List ℕ × ℕ)). filter_map rejected_entry (map filled_row rows) ++ es) (no_rejected more lead) ∙ append-nil (filter_map rejected_entry (map filled_row rows)))) in
+    ap (λ (es : List (List ℕ × ℕ)). under (from_entries es) (payer_of (maps_of (from_entries es) (leading (rows ++ more))) key) number key) entries
+    ∙ (ap (λ (rs : List Row). under r (payer_of (maps_of r rs) key) number key) led
+    ∙ ap (λ (o : Option ℕ). under r o number key) (leading_added r (leading rows) more key all))
+
+led_by : (b : Bool) (o : Option ℕ) (payer : ℕ) → cond b None o ≡ Some payer → o ≡ Some payer
+led_by true o payer e = absurd cc
+led_by false o payer e = e
+
+pub number_led : (maps : RouteMaps) (number : ℕ) (key : RouteKey) (payer : ℕ) → payer_under maps number key ≡ Some payer → payer_of maps key ≡ Some payer
+unfolding payer_under
+number_led maps number key payer e = led_by (stays_rejected maps number key) (payer_of maps key) payer e
+
+nothing_there : (es : List (List ℕ × ℕ)) (key : List ℕ) → es ≡ [] → get (from_entries {R = bin_cmp} es) key ≡ None
+nothing_there es key e = get-from_entries bins_total es key ∙ ap (find bin_cmp key) e
+
+pub number_without : (rows : List Row) (number : ℕ) (key : RouteKey) → AllByRecursion (λ (row : Row). leads row ≡ true) rows → payer_under (routes_of rows) number key ≡ payer_of (routes_of rows) key
+unfolding payer_under routes_of
+number_without rows number key all =
+    ap (λ (o : Option ℕ). cond (option_map_or (λ last. nat_le number last) o false) None (payer_of (routes_of rows) key))
+    (nothing_there (filter_map rejected_entry (map filled_row rows)) (key_text key) (no_rejected rows all))
+
 pub routed_payer : (payers : ℕ) (rows : List Row) (bin pcn : List ℕ) → first_fault payers rows ≡ None → IfSome (payer_at (routes_of rows) bin pcn) (IsAmong payers)
 unfolding first_fault payer_at routes_of
 routed_payer payers rows bin pcn none =
     let have = have_payers payers [] rows none in
-    either payers (get (from_entries {R = processor_cmp} (filter_map exact_entry (map filled_row rows))) (bin, pcn)) (get (from_entries {R = bin_cmp} (filter_map other_entry (map filled_row rows))) bin)
-    (exact_leads payers rows bin pcn have) (other_leads payers rows bin have)
+    either payers (get (from_entries {R = processor_cmp} (filter_map exact_entry (map filled_row (leading rows)))) (bin, pcn)) (get (from_entries {R = bin_cmp} (filter_map other_entry (map filled_row (leading rows)))) bin)
+    (exact_leads payers (leading rows) bin pcn have) (other_leads payers (leading rows) bin have)

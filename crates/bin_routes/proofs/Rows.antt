@@ -1,21 +1,21 @@
 -- The maps of rows have the keys of the rows, and a further row is one further entry.
 use Rattle.std.proofs.Common.{◌≡◌, ℕ, suc, ◌+◌, ◌<◌, Bool, true, false, ◌&&◌, ◌||◌, cond, List, [], ◌∷◌, ◌++◌, map, filter, length, get_or, take, drop, Option, Some, None, is_some, is_none, option_map, refl, sym, ap, ◌∙◌, arith, append-nil}
-use Rattle.std.specs.Option.{option_or}
+use Rattle.std.specs.Option.{option_or, option_map_or}
 use Rattle.std.specs.List.{list_any, filter_map, cons_option}
 use Rattle.std.specs.Str.{bytes_eq}
 use Rattle.std.specs.Ordering.{nat_cmp, eq_by_cmp}
 use Rattle.std.specs.Cmp.{both_tied}
 use Rattle.std.specs.Cmp.Lexicographic.{slice_cmp, texts_ties}
-use Rattle.std.specs.FinMap.{FinMap, find, from_entries, from_entries_push, get-from_entries}
+use Rattle.std.specs.FinMap.{FinMap, find, contains_key, insert, from_entries, from_entries_push, get-from_entries}
 use Rattle.std.proofs.lemmas.List.{map-append, take_more, length-take}
 use Rattle.std.proofs.lemmas.List.Elements.{filter_map-append, filter-append}
 use Rattle.std.proofs.Math.Seq.{drop-cons}
 use Rattle.bin_routes.specs.declared.fault.RoutesFault.{RoutesFault}
 use Rattle.bin_routes.specs.declared.fault.RoutesFault.TheVariants.{SameRow}
 use Rattle.bin_routes.specs.Providers.{Providers, meet}
-use Rattle.bin_routes.specs.Row.{Row, filled_row, same_pcn, same_key}
-use Rattle.bin_routes.specs.Fault.{row_fault, text_fault, is_taken, fault_behind}
-use Rattle.bin_routes.specs.Table.{RouteMaps, bin_cmp, processor_cmp, is_ranged, exact_entry, other_entry, routes_of, has_key, with_row}
+use Rattle.bin_routes.specs.Row.{Row, leads, leading, filled, filled_row, same_pcn, same_key}
+use Rattle.bin_routes.specs.Fault.{row_fault, text_fault, is_among, is_taken, fault_behind}
+use Rattle.bin_routes.specs.Table.{RouteMaps, bin_cmp, processor_cmp, is_ranged, exact_entry, other_entry, key_by, entry_by, rejected_entry, routes_of, has_leading, has_rejected, has_key, with_leading, with_entry, with_row}
 use Rattle.bin_routes.proofs.Maps.{processors_total, exact_processors, bins_total, exact_bins}
 
 bin_tied : (a b : List ℕ) → bytes_eq a b ≡ eq_by_cmp bin_cmp a b
@@ -44,7 +44,7 @@ other_step bin other payer None None rest any e =
 other_step bin other payer (Some pcn) None rest any e = e ∙ sym (ap (λ (b : Bool). b || any) (always (bytes_eq bin other && false) ∙ never (bytes_eq bin other)))
 other_step bin other payer pcn (Some p) rest any e = e ∙ sym (ap (λ (b : Bool). b || any) (never (bytes_eq bin other && same_pcn None pcn)))
 
-other_found : (bin : List ℕ) (payer : ℕ) (rows : List Row) → is_some (find bin_cmp bin (filter_map other_entry rows)) ≡ list_any (same_key (record { bin = bin; pcn = None; providers = None; payer = payer })) rows
+other_found : (bin : List ℕ) (payer : ℕ) (rows : List Row) → is_some (find bin_cmp bin (filter_map other_entry rows)) ≡ list_any (same_key (record { bin = bin; pcn = None; providers = None; payer = payer; rejected = None })) rows
 other_found bin payer [] = refl
 other_found bin payer (r ∷ rs) = other_step bin r.bin r.payer r.pcn r.providers (filter_map other_entry rs) _ (other_found bin payer rs)
 
@@ -56,7 +56,7 @@ exact_step bin other key payer (Some pcn) None rest any e =
     found_first (eq_by_cmp processor_cmp (bin, key) (other, pcn)) ((bytes_eq bin other && bytes_eq key pcn) && true) payer (find processor_cmp (bin, key) rest) any (always (bytes_eq bin other && bytes_eq key pcn) ∙ processor_tied (bin, key) (other, pcn)) e
 exact_step bin other key payer pcn (Some p) rest any e = e ∙ sym (ap (λ (b : Bool). b || any) (never (bytes_eq bin other && same_pcn (Some key) pcn)))
 
-exact_found : (bin key : List ℕ) (payer : ℕ) (rows : List Row) → is_some (find processor_cmp (bin, key) (filter_map exact_entry rows)) ≡ list_any (same_key (record { bin = bin; pcn = Some key; providers = None; payer = payer })) rows
+exact_found : (bin key : List ℕ) (payer : ℕ) (rows : List Row) → is_some (find processor_cmp (bin, key) (filter_map exact_entry rows)) ≡ list_any (same_key (record { bin = bin; pcn = Some key; providers = None; payer = payer; rejected = None })) rows
 exact_found bin key payer [] = refl
 exact_found bin key payer (r ∷ rs) = exact_step bin r.bin key r.payer r.pcn r.providers (filter_map exact_entry rs) _ (exact_found bin key payer rs)
 
@@ -73,53 +73,103 @@ ranged_found row providers (r ∷ rs) is =
     ∙ ranged_step (bytes_eq row.bin r.bin && same_pcn row.pcn r.pcn) providers r rs (same_key row) r.providers refl (list_any (same_key row) (filter is_ranged rs)) refl
     (ap (λ (o : Option Providers). (bytes_eq row.bin r.bin && same_pcn row.pcn r.pcn) && meet o r.providers) is)
 
-key_is : (bin : List ℕ) (pcn : Option (List ℕ)) (providers : Option Providers) (payer : ℕ) (earlier : List Row) → list_any (same_key (record { bin = bin; pcn = pcn; providers = providers; payer = payer })) (map filled_row earlier) ≡ has_key (routes_of earlier) (record { bin = bin; pcn = pcn; providers = providers; payer = payer })
+key_is : (bin : List ℕ) (pcn : Option (List ℕ)) (providers : Option Providers) (payer : ℕ) (earlier : List Row)
+    → list_any (same_key (record { bin = bin; pcn = pcn; providers = providers; payer = payer; rejected = None })) (map filled_row (leading earlier))
+    ≡ has_leading (routes_of earlier) (record { bin = bin; pcn = pcn; providers = providers; payer = payer; rejected = None })
 unfolding routes_of
-key_is bin pcn (Some p) payer earlier = ranged_found (record { bin = bin; pcn = pcn; providers = Some p; payer = payer }) p (map filled_row earlier) refl
+key_is bin pcn (Some p) payer earlier = ranged_found (record { bin = bin; pcn = pcn; providers = Some p; payer = payer; rejected = None }) p (map filled_row (leading earlier)) refl
 key_is bin None None payer earlier =
-    sym (ap is_some (get-from_entries bins_total (filter_map other_entry (map filled_row earlier)) bin) ∙ other_found bin payer (map filled_row earlier))
+    sym (ap is_some (get-from_entries bins_total (filter_map other_entry (map filled_row (leading earlier))) bin) ∙ other_found bin payer (map filled_row (leading earlier)))
 key_is bin (Some pcn) None payer earlier =
-    sym (ap is_some (get-from_entries processors_total (filter_map exact_entry (map filled_row earlier)) (bin, pcn)) ∙ exact_found bin pcn payer (map filled_row earlier))
+    sym (ap is_some (get-from_entries processors_total (filter_map exact_entry (map filled_row (leading earlier))) (bin, pcn)) ∙ exact_found bin pcn payer (map filled_row (leading earlier)))
+
+-- an entry has a key where the map of the entries has it
+any_found : (key : List ℕ) (es : List (List ℕ × ℕ)) → is_some (find bin_cmp key es) ≡ list_any (λ (e : List ℕ × ℕ). bytes_eq key e.0) es
+any_found key [] = refl
+any_found key (e ∷ es) = found_first (eq_by_cmp bin_cmp key e.0) (bytes_eq key e.0) e.1 (find bin_cmp key es) (list_any (λ (f : List ℕ × ℕ). bytes_eq key f.0) es) (bin_tied key e.0) (any_found key es)
+
+among_is : (es : List (List ℕ × ℕ)) (key : Option (List ℕ)) → is_among es key ≡ option_map_or (contains_key (from_entries {R = bin_cmp} es)) key false
+among_is es None = refl
+among_is es (Some key) = sym (ap is_some (get-from_entries bins_total es key) ∙ any_found key es)
+
+taken_by : (earlier : List Row) (bin : List ℕ) (pcn : Option (List ℕ)) (providers : Option Providers) (payer : ℕ) (rejected : Option ℕ)
+    → is_taken earlier (record { bin = bin; pcn = pcn; providers = providers; payer = payer; rejected = rejected })
+    ≡ has_key (routes_of earlier) (filled_row (record { bin = bin; pcn = pcn; providers = providers; payer = payer; rejected = rejected }))
+unfolding routes_of
+taken_by earlier bin pcn providers payer None = key_is bin (option_map filled pcn) providers payer earlier
+taken_by earlier bin pcn providers payer (Some last) = among_is (filter_map rejected_entry (map filled_row earlier)) (key_by bin (option_map filled pcn) providers)
 
 -- the maps of the earlier rows have the key of a row where an earlier row has it
 pub taken_is : (earlier : List Row) (row : Row) → is_taken earlier row ≡ has_key (routes_of earlier) (filled_row row)
-taken_is earlier row = key_is (filled_row row).bin (filled_row row).pcn (filled_row row).providers (filled_row row).payer earlier
+taken_is earlier row = taken_by earlier row.bin row.pcn row.providers row.payer row.rejected
 
 none_of : (o : Option ℕ) → is_some o ≡ false → o ≡ None
 none_of None e = refl
 none_of (Some x) e = absurd cc
 
-abbrev maps : FinMap processor_cmp ℕ → FinMap bin_cmp ℕ → List Row → RouteMaps
-maps exact others ranged = record { exact = exact; others = others; ranged = ranged }
+abbrev maps : FinMap bin_cmp ℕ → FinMap processor_cmp ℕ → FinMap bin_cmp ℕ → List Row → RouteMaps
+maps rejected exact others ranged = record { exact = exact; others = others; ranged = ranged; rejected = rejected }
 
 rows_more : (earlier : List Row) (row : Row) → map filled_row (earlier ++ row ∷ []) ≡ map filled_row earlier ++ filled_row row ∷ []
 rows_more earlier row = map-append filled_row earlier (row ∷ [])
 
--- the maps of filled rows
-abbrev maps_of : List Row → RouteMaps
-maps_of rows = maps (from_entries (filter_map exact_entry rows)) (from_entries (filter_map other_entry rows)) (filter is_ranged rows)
+-- the maps of filled rows that lead to payers
+abbrev maps_of : FinMap bin_cmp ℕ → List Row → RouteMaps
+maps_of rejected rows = maps rejected (from_entries (filter_map exact_entry rows)) (from_entries (filter_map other_entry rows)) (filter is_ranged rows)
 
-pushed : (bin : List ℕ) (pcn : Option (List ℕ)) (providers : Option Providers) (payer : ℕ) (rows : List Row) → has_key (maps_of rows) (record { bin = bin; pcn = pcn; providers = providers; payer = payer }) ≡ false
-    → with_row (maps_of rows) (record { bin = bin; pcn = pcn; providers = providers; payer = payer }) ≡ maps_of (rows ++ record { bin = bin; pcn = pcn; providers = providers; payer = payer } ∷ [])
-pushed bin pcn (Some p) payer rows free =
-    let row : Row = record { bin = bin; pcn = pcn; providers = Some p; payer = payer } in
+pushed : (r : FinMap bin_cmp ℕ) (bin : List ℕ) (pcn : Option (List ℕ)) (providers : Option Providers) (payer : ℕ) (rows : List Row)
+    → has_leading (maps_of r rows) (record { bin = bin; pcn = pcn; providers = providers; payer = payer; rejected = None }) ≡ false
+    → with_leading (maps_of r rows) (record { bin = bin; pcn = pcn; providers = providers; payer = payer; rejected = None })
+    ≡ maps_of r (rows ++ record { bin = bin; pcn = pcn; providers = providers; payer = payer; rejected = None } ∷ [])
+pushed r bin pcn (Some p) payer rows free =
+    let row : Row = record { bin = bin; pcn = pcn; providers = Some p; payer = payer; rejected = None } in
     rw (filter_map-append exact_entry rows (row ∷ []), filter_map-append other_entry rows (row ∷ []), filter-append is_ranged rows (row ∷ []), append-nil (filter_map exact_entry rows), append-nil (filter_map other_entry rows)) refl
-pushed bin None None payer rows free =
-    let row : Row = record { bin = bin; pcn = None; providers = None; payer = payer } in
+pushed r bin None None payer rows free =
+    let row : Row = record { bin = bin; pcn = None; providers = None; payer = payer; rejected = None } in
     let absent : find bin_cmp bin (filter_map other_entry rows) ≡ None = none_of _ (ap is_some (sym (get-from_entries bins_total (filter_map other_entry rows) bin)) ∙ free) in
     rw (filter_map-append exact_entry rows (row ∷ []), filter_map-append other_entry rows (row ∷ []), filter-append is_ranged rows (row ∷ []), append-nil (filter_map exact_entry rows), append-nil (filter is_ranged rows))
-    (ap (λ (m : FinMap bin_cmp ℕ). maps (from_entries (filter_map exact_entry rows)) m (filter is_ranged rows)) (sym (from_entries_push bins_total exact_bins (filter_map other_entry rows) bin payer absent)))
-pushed bin (Some pcn) None payer rows free =
-    let row : Row = record { bin = bin; pcn = Some pcn; providers = None; payer = payer } in
+    (ap (λ (m : FinMap bin_cmp ℕ). maps r (from_entries (filter_map exact_entry rows)) m (filter is_ranged rows)) (sym (from_entries_push bins_total exact_bins (filter_map other_entry rows) bin payer absent)))
+pushed r bin (Some pcn) None payer rows free =
+    let row : Row = record { bin = bin; pcn = Some pcn; providers = None; payer = payer; rejected = None } in
     let absent : find processor_cmp (bin, pcn) (filter_map exact_entry rows) ≡ None = none_of _ (ap is_some (sym (get-from_entries processors_total (filter_map exact_entry rows) (bin, pcn))) ∙ free) in
     rw (filter_map-append exact_entry rows (row ∷ []), filter_map-append other_entry rows (row ∷ []), filter-append is_ranged rows (row ∷ []), append-nil (filter_map other_entry rows), append-nil (filter is_ranged rows))
-    (ap (λ (m : FinMap processor_cmp ℕ). maps m (from_entries (filter_map other_entry rows)) (filter is_ranged rows)) (sym (from_entries_push processors_total exact_processors (filter_map exact_entry rows) (bin, pcn) payer absent)))
+    (ap (λ (m : FinMap processor_cmp ℕ). maps r m (from_entries (filter_map other_entry rows)) (filter is_ranged rows)) (sym (from_entries_push processors_total exact_processors (filter_map exact_entry rows) (bin, pcn) payer absent)))
+
+-- the entries of those that stay rejected, with one row more
+entries_more : (earlier : List Row) (row : Row)
+    → filter_map rejected_entry (map filled_row (earlier ++ row ∷ [])) ≡ filter_map rejected_entry (map filled_row earlier) ++ filter_map rejected_entry (filled_row row ∷ [])
+entries_more earlier row = ap (filter_map rejected_entry) (rows_more earlier row) ∙ filter_map-append rejected_entry (map filled_row earlier) (filled_row row ∷ [])
+
+-- of a key that is free, or of none
+entered : (old : RouteMaps) (es : List (List ℕ × ℕ)) (key : Option (List ℕ)) (last : ℕ) → old.rejected ≡ from_entries es → has_rejected old key ≡ false
+    → with_entry old (entry_by (Some last) key) ≡ maps (from_entries (es ++ cons_option (entry_by (Some last) key) [])) old.exact old.others old.ranged
+entered old es None last is free = ap (λ (m : FinMap bin_cmp ℕ). maps m old.exact old.others old.ranged) (is ∙ ap from_entries (sym (append-nil es)))
+entered old es (Some key) last is free =
+    let absent : find bin_cmp key es ≡ None = none_of _ (ap is_some (sym (get-from_entries bins_total es key)) ∙ (ap (λ (m : FinMap bin_cmp ℕ). contains_key m key) (sym is) ∙ free)) in
+    ap (λ (m : FinMap bin_cmp ℕ). maps m old.exact old.others old.ranged) (ap (λ (m : FinMap bin_cmp ℕ). insert m key last) is ∙ sym (from_entries_push bins_total exact_bins es key last absent))
+
+added_by : (earlier : List Row) (bin : List ℕ) (pcn : Option (List ℕ)) (providers : Option Providers) (payer : ℕ) (rejected : Option ℕ)
+    → has_key (routes_of earlier) (filled_row (record { bin = bin; pcn = pcn; providers = providers; payer = payer; rejected = rejected })) ≡ false
+    → with_row (routes_of earlier) (filled_row (record { bin = bin; pcn = pcn; providers = providers; payer = payer; rejected = rejected }))
+    ≡ routes_of (earlier ++ record { bin = bin; pcn = pcn; providers = providers; payer = payer; rejected = rejected } ∷ [])
+unfolding routes_of
+added_by earlier bin pcn providers payer None free =
+    let row : Row = record { bin = bin; pcn = pcn; providers = providers; payer = payer; rejected = None } in
+    let r : FinMap bin_cmp ℕ = from_entries (filter_map rejected_entry (map filled_row earlier)) in
+    pushed r bin (option_map filled pcn) providers payer (map filled_row (leading earlier)) free
+    ∙ (ap (maps_of r) (sym (rows_more (leading earlier) row))
+    ∙ (ap (λ (rows : List Row). maps_of r (map filled_row rows)) (sym (filter-append leads earlier (row ∷ [])))
+    ∙ ap (λ (es : List (List ℕ × ℕ)). maps_of (from_entries es) (map filled_row (leading (earlier ++ row ∷ [])))) (sym (entries_more earlier row ∙ append-nil (filter_map rejected_entry (map filled_row earlier))))))
+added_by earlier bin pcn providers payer (Some last) free =
+    let row : Row = record { bin = bin; pcn = pcn; providers = providers; payer = payer; rejected = Some last } in
+    let es : List (List ℕ × ℕ) = filter_map rejected_entry (map filled_row earlier) in
+    entered (maps_of (from_entries es) (map filled_row (leading earlier))) es (key_by bin (option_map filled pcn) providers) last refl free
+    ∙ (ap (λ (fs : List (List ℕ × ℕ)). maps_of (from_entries fs) (map filled_row (leading earlier))) (sym (entries_more earlier row))
+    ∙ ap (λ (rows : List Row). maps_of (from_entries (filter_map rejected_entry (map filled_row (earlier ++ row ∷ [])))) (map filled_row rows)) (sym (filter-append leads earlier (row ∷ []) ∙ append-nil (leading earlier))))
 
 -- a row whose key is free is one further entry
 pub row_added : (earlier : List Row) (row : Row) → has_key (routes_of earlier) (filled_row row) ≡ false → with_row (routes_of earlier) (filled_row row) ≡ routes_of (earlier ++ row ∷ [])
-unfolding routes_of
-row_added earlier row free =
-    pushed (filled_row row).bin (filled_row row).pcn (filled_row row).providers (filled_row row).payer (map filled_row earlier) free ∙ ap maps_of (sym (rows_more earlier row))
+row_added earlier row free = added_by earlier row.bin row.pcn row.providers row.payer row.rejected free
 
 abbrev fault_if : Bool → ℕ → Option RoutesFault
 fault_if same place = cond same (Some (SameRow place)) None

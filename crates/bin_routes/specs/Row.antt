@@ -1,16 +1,26 @@
 -- The rows of a table of routes, and the tests of their texts.
-use Rattle.std.specs.Prelude.{ℕ, ◌-◌, Bool, true, false, not, ◌&&◌, ◌==◌, nat_le, List, ◌++◌, length, slice_index, replicate, Option, Some, None}
+use Rattle.std.specs.Prelude.{ℕ, ◌-◌, Bool, true, false, not, ◌&&◌, ◌==◌, nat_le, List, ◌++◌, length, slice_index, replicate, filter, Option, Some, None, is_none}
 use Rattle.std.specs.Option.{option_map}
 use Rattle.std.specs.List.{list_all}
 use Rattle.std.specs.Str.{bytes_eq}
 use Rattle.bin_routes.specs.Providers.{Providers, meet}
 
--- the texts of a row, the providers that it is for, where it is not for all, and the number of its payer
+-- the texts of a row, the providers that it is for, where it is not for all, and the number of its payer. A row that leads to no payer says
+-- how many of a provider's first requests stay rejected: they were, before there was a route
 pub record Row : Type 0 where
   pub bin : List ℕ
   pub pcn : Option (List ℕ)
   pub providers : Option Providers
   pub payer : ℕ
+  pub rejected : Option ℕ
+
+-- the row leads to a payer
+abbrev pub leads : Row → Bool
+leads row = is_none row.rejected
+
+-- the rows that do
+abbrev pub leading : List Row → List Row
+leading rows = filter leads rows
 
 -- an ASCII digit
 abbrev pub is_digit : ℕ → Bool
@@ -43,7 +53,7 @@ filled text = text ++ replicate (10 - length text) 32
 
 -- the row with its processor control number as a header has it
 abbrev pub filled_row : Row → Row
-filled_row row = record { bin = row.bin; pcn = option_map filled row.pcn; providers = row.providers; payer = row.payer }
+filled_row row = record { bin = row.bin; pcn = option_map filled row.pcn; providers = row.providers; payer = row.payer; rejected = row.rejected }
 
 -- whether the two have the same processor control number, or both have none
 abbrev pub same_pcn : Option (List ℕ) → Option (List ℕ) → Bool

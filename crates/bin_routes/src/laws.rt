@@ -1,16 +1,25 @@
 //! What is true of every table, for the proofs of the crates above.
 
-ghost use Rattle.std.specs.Prelude.{◌≡◌, ◌≤◌, ℕ, List, [], ◌++◌, None, IfSome};
+ghost use Rattle.std.specs.Prelude.{◌≡◌, ◌≤◌, ℕ, List, [], ◌++◌, None, Some, IfSome, true};
 ghost use Rattle.std.specs.List.{AllByRecursion};
 ghost use Rattle.bin_routes.specs.Key.{RouteKey};
-ghost use Rattle.bin_routes.specs.Row.{Row};
+ghost use Rattle.bin_routes.specs.Row.{Row, leads};
 ghost use Rattle.bin_routes.specs.Fault.{first_fault};
-ghost use Rattle.bin_routes.specs.Table.{RouteMaps, routes_of, payer_at, payer_of, IsForOthers};
+ghost use Rattle.bin_routes.specs.Table.{RouteMaps, routes_of, payer_at, payer_of, payer_under, IsForOthers};
 
 /// Where rows have no fault, each payer that they route to is one of the payers.
 pub fn route_laws()
     ensures { (payers : ℕ) (rows : List Row) (bin pcn : List ℕ) → first_fault payers rows ≡ None
         → IfSome (payer_at (routes_of rows) bin pcn) (λ payer. (1 ≤ payer) × (payer ≤ payers)) }
+{}
+
+/// A request has the payer of its fields or none: those of one key that have one have the same, whatever their numbers are.
+/// Where no row says what stays rejected each has it.
+pub fn number_laws()
+    ensures led { (maps : RouteMaps) (number : ℕ) (key : RouteKey) (payer : ℕ)
+        → payer_under maps number key ≡ Some payer → payer_of maps key ≡ Some payer }
+    ensures without { (rows : List Row) (number : ℕ) (key : RouteKey) → AllByRecursion (λ row. leads row ≡ true) rows
+        → payer_under (routes_of rows) number key ≡ payer_of (routes_of rows) key }
 {}
 
 /// Where rows have no fault, each payer that they route a header to is one of the payers. Where no row is for some providers
@@ -21,7 +30,7 @@ pub fn range_laws()
         → IfSome (payer_of (routes_of rows) key) (λ payer. (1 ≤ payer) × (payer ≤ payers)) }
     ensures without { (maps : RouteMaps) (key : RouteKey) → maps.ranged ≡ []
         → payer_of maps key ≡ payer_at maps key.bin key.pcn }
-    ensures added { (rows more : List Row) (key : RouteKey)
+    ensures added { (rows more : List Row) (number : ℕ) (key : RouteKey)
         → AllByRecursion (λ row. IsForOthers row key.qualifier key.provider) more
-        → payer_of (routes_of (rows ++ more)) key ≡ payer_of (routes_of rows) key }
+        → payer_under (routes_of (rows ++ more)) number key ≡ payer_under (routes_of rows) number key }
 {}

@@ -19,7 +19,7 @@ pub type Bin = [u8; 6];
 /// A processor control number (104-A4) as a header has it: filled with spaces.
 pub type Pcn = [u8; 10];
 
-/// A row whose texts passed, as a header has them.
+/// A row that leads to a payer and whose texts passed, as a header has them.
 #[derive(Clone, Copy)]
 pub struct Route {
     pub bin: Bin,
@@ -29,19 +29,21 @@ pub struct Route {
 }
 
 impl Model for Route {
+    ghost use Rattle.std.specs.Prelude.{None};
     ghost use Rattle.bin_routes.specs.Row.{Row};
 
     ghost Value = { Row };
 
-    ghost view = { λ a. record { bin = a.bin; pcn = a.pcn; providers = a.providers; payer = a.payer } };
+    ghost view = { λ a. record { bin = a.bin; pcn = a.pcn; providers = a.providers; payer = a.payer; rejected = None } };
 
     ghost inverse = { λ a. record { bin = a.bin; pcn = a.pcn; providers = a.providers; payer = a.payer } };
 }
 
 impl Route {
-    /// The route of the row at a place, for payers numbered from 1 to `payers`.
+    /// The route of the row at a place, which leads to a payer, for payers numbered from 1 to `payers`.
     #[tactic(auto, unfolding(crate::specs::Fault::text_fault))]
     pub fn of_row(place: usize, row: &RouteRow, payers: u16) -> Result<Route, RoutesFault>
+        requires { row.now.rejected ≡ None }
         ensures ok { IfOk result (λ route. (route ≡ filled_row row.now) × (text_fault payers place row.now ≡ None)) }
         ensures fault { IfErr result (λ fault. text_fault payers place row.now ≡ Some fault) }
     {
@@ -127,7 +129,7 @@ pub(crate) fn payer_among(routes: &[Route], pcn: &Option<Pcn>, key: &RouteKey) -
 
 /// The BIN number that a text is.
 #[tactic(auto, unfolding(crate::specs::Row::is_bin))]
-fn bin_of(text: &[u8]) -> Option<Bin>
+pub(crate) fn bin_of(text: &[u8]) -> Option<Bin>
     ensures { result ≡ (if is_bin text.now then Some text.now else None) }
 {
     if text.len() != 6 || !are_digits(text) {
@@ -140,7 +142,7 @@ fn bin_of(text: &[u8]) -> Option<Bin>
 
 /// The processor control number that a text is without its padding.
 #[tactic(auto, unfolding(crate::specs::Row::is_pcn))]
-fn pcn_of(text: &[u8]) -> Option<Pcn>
+pub(crate) fn pcn_of(text: &[u8]) -> Option<Pcn>
     ensures { result ≡ (if is_pcn text.now then Some (filled text.now) else None) }
 {
     if text.len() > 10 || !are_plain(text) || has_padding(text) {

@@ -16,6 +16,7 @@ pub struct RouteRow {
     pcn: Option<Octets>,
     providers: Option<Providers>,
     payer: u16,
+    rejected: Option<u64>,
 }
 
 impl Model for RouteRow {
@@ -23,9 +24,9 @@ impl Model for RouteRow {
 
     ghost Value = { Row };
 
-    ghost view = { λ a. record { bin = a.bin; pcn = a.pcn; providers = a.providers; payer = a.payer } };
+    ghost view = { λ a. record { bin = a.bin; pcn = a.pcn; providers = a.providers; payer = a.payer; rejected = a.rejected } };
 
-    ghost inverse = { λ a. record { bin = a.bin; pcn = a.pcn; providers = a.providers; payer = a.payer } };
+    ghost inverse = { λ a. record { bin = a.bin; pcn = a.pcn; providers = a.providers; payer = a.payer; rejected = a.rejected } };
 }
 
 impl RouteRow {
@@ -33,24 +34,26 @@ impl RouteRow {
     /// padding, and the payer's number. Without a processor control number the row is for every one that no other
     /// row of the BIN names; an empty one is a field of ten spaces.
     pub fn new(bin: Octets, pcn: Option<Octets>, payer: u16) -> RouteRow
-        ensures { result ≡ record { bin = bin; pcn = pcn; providers = None; payer = payer } }
+        ensures { result ≡ record { bin = bin; pcn = pcn; providers = None; payer = payer; rejected = None } }
     {
         RouteRow {
             bin,
             pcn,
             providers: None,
             payer,
+            rejected: None,
         }
     }
 
     /// The same row for these providers alone.
     pub fn for_providers(self, providers: Providers) -> RouteRow
-        ensures { result ≡ record { bin = self.bin; pcn = self.pcn; providers = Some providers; payer = self.payer } }
+        ensures { result ≡ record { bin = self.bin; pcn = self.pcn; providers = Some providers; payer = self.payer; rejected = self.rejected } }
     {
         let RouteRow {
             bin,
             pcn,
             payer,
+            rejected,
             ..
         } = self;
         RouteRow {
@@ -58,6 +61,29 @@ impl RouteRow {
             pcn,
             providers: Some(providers),
             payer,
+            rejected,
+        }
+    }
+
+    /// The same row as one that leads to no payer: under its BIN number and processor control number the requests of its one
+    /// provider up to this number stay rejected. They were, before the row that leads there; requests after it have that row's
+    /// payer. Such a row wants a processor control number and a provider, and its payer's number says nothing.
+    pub fn rejecting(self, last: u64) -> RouteRow
+        ensures { result ≡ record { bin = self.bin; pcn = self.pcn; providers = self.providers; payer = self.payer; rejected = Some last } }
+    {
+        let RouteRow {
+            bin,
+            pcn,
+            providers,
+            payer,
+            ..
+        } = self;
+        RouteRow {
+            bin,
+            pcn,
+            providers,
+            payer,
+            rejected: Some(last),
         }
     }
 
@@ -85,6 +111,13 @@ impl RouteRow {
         self.providers
     }
 
+    /// The last number that stays rejected, where the row leads to no payer.
+    pub fn rejected(&self) -> Option<u64>
+        ensures { result ≡ self.now.rejected }
+    {
+        self.rejected
+    }
+
     /// The payer's number.
     pub fn payer(&self) -> u16
         ensures { result ≡ self.now.payer }
@@ -106,6 +139,7 @@ impl RouteRow {
             pcn,
             providers: self.providers,
             payer: self.payer,
+            rejected: self.rejected,
         })
     }
 }

@@ -2,14 +2,15 @@
 
 ghost use Rattle.std.specs.Prelude.{◌≡◌, ◌⊎◌, [], None, Some, IfOk, IfErr, OnOk};
 ghost use Rattle.bin_routes.specs.declared.fault.RoutesFault.TheVariants.{OutOfMemory};
-ghost use Rattle.std.specs.FinMap.{get};
+ghost use Rattle.std.specs.FinMap.{get, contains_key};
 ghost use Rattle.bin_routes.specs.Row.{filled_row};
 ghost use Rattle.bin_routes.specs.Fault.{first_fault, fault_beside};
-ghost use Rattle.bin_routes.specs.Table.{RouteMaps, routes_of, payer_at, payer_of, has_key, has_for_all, with_row, with_row_for_all};
+ghost use Rattle.bin_routes.specs.Table.{RouteMaps, routes_of, payer_at, payer_of, stays_rejected, payer_under, has_leading, has_for_all, with_leading, with_row, with_row_for_all, with_rejected, key_text};
 
 use crate::fault::RoutesFault;
 use crate::key::RouteKey;
 use crate::payer::PayerNo;
+use crate::rejected::{KeyText, rejected_of, text_of};
 use crate::route::{Bin, Pcn, Route, is_among, payer_among};
 use crate::row::RouteRow;
 use std::alloc::Global;
@@ -22,6 +23,7 @@ pub struct Routes {
     exact: BTreeMap<(Bin, Pcn), PayerNo>,
     others: BTreeMap<Bin, PayerNo>,
     ranged: Vec<Route>,
+    rejected: BTreeMap<KeyText, u64>,
 }
 
 impl Model for Routes {
@@ -32,7 +34,7 @@ impl Model for Routes {
 
     ghost coded = { coded_maps };
 
-    ghost view = { λ a. record { exact = from_entries a.exact.entries; others = from_entries a.others.entries; ranged = a.ranged.items } };
+    ghost view = { λ a. record { exact = from_entries a.exact.entries; others = from_entries a.others.entries; ranged = a.ranged.items; rejected = from_entries a.rejected.entries } };
 }
 
 impl Routes {
@@ -74,6 +76,35 @@ impl Routes {
         self.payer_by_range(key)
     }
 
+    /// The payer of the fields of a request's header and its number: that of the fields, and none where the request is one of
+    /// those that stay rejected. One number's payer is the other's, as long as both have one.
+    #[tactic(auto, unfolding(crate::specs::Table::payer_under))]
+    pub fn payer_under(&self, number: u64, key: &RouteKey) -> Option<PayerNo>
+        ensures { result ≡ payer_under self.now number key.now }
+    {
+        if self.stays_rejected(number, key) {
+            return None;
+        }
+        self.payer(key)
+    }
+
+    /// Whether a request of these fields and this number is one of those that stay rejected.
+    fn stays_rejected(&self, number: u64, key: &RouteKey) -> bool
+        ensures { result ≡ stays_rejected self.now number key.now }
+    {
+        match self.last_rejected(key) {
+            Some(last) => number <= last,
+            None => false,
+        }
+    }
+
+    /// The last number of these fields that stays rejected.
+    fn last_rejected(&self, key: &RouteKey) -> Option<u64>
+        ensures { result ≡ get self.now.rejected (key_text key.now) }
+    {
+        self.rejected.get(&text_of(key)).copied()
+    }
+
     /// The same, where some rows are.
     #[tactic(auto, unfolding(crate::specs::Table::payer_of))]
     fn payer_by_range(&self, key: &RouteKey) -> Option<PayerNo>
@@ -113,11 +144,25 @@ impl Routes {
             exact: BTreeMap::new(alloc),
             others: BTreeMap::new(alloc),
             ranged: Vec::new(alloc),
+            rejected: BTreeMap::new(alloc),
         }
     }
 
     /// Adds the row at a place.
     fn add(&mut self, place: usize, row: &RouteRow, payers: u16) -> Result<(), RoutesFault>
+        ensures ok { OnOk result ((self.new ≡ with_row self.old (filled_row row.now))
+            × (fault_beside self.old payers place row.now ≡ None)) }
+        ensures fault { IfErr result (λ e. (e ≡ OutOfMemory) ⊎ (fault_beside self.old payers place row.now ≡ Some e)) }
+    {
+        match row.rejected() {
+            None => self.add_leading(place, row, payers),
+            Some(last) => self.add_rejecting(place, row, payers, last),
+        }
+    }
+
+    /// Adds the row at a place, which leads to a payer.
+    fn add_leading(&mut self, place: usize, row: &RouteRow, payers: u16) -> Result<(), RoutesFault>
+        requires { row.now.rejected ≡ None }
         ensures ok { OnOk result ((self.new ≡ with_row self.old (filled_row row.now))
             × (fault_beside self.old payers place row.now ≡ None)) }
         ensures fault { IfErr result (λ e. (e ≡ OutOfMemory) ⊎ (fault_beside self.old payers place row.now ≡ Some e)) }
@@ -129,9 +174,45 @@ impl Routes {
         self.put(route)
     }
 
+    /// Adds the row at a place, which says that requests up to the last stay rejected.
+    fn add_rejecting(
+        &mut self,
+        place: usize,
+        row: &RouteRow,
+        payers: u16,
+        last: u64,
+    ) -> Result<(), RoutesFault>
+        requires { row.now.rejected ≡ Some last }
+        ensures ok { OnOk result ((self.new ≡ with_row self.old (filled_row row.now))
+            × (fault_beside self.old payers place row.now ≡ None)) }
+        ensures fault { IfErr result (λ e. (e ≡ OutOfMemory) ⊎ (fault_beside self.old payers place row.now ≡ Some e)) }
+    {
+        let text = rejected_of(place, row, payers)?;
+        if self.has_rejected(&text) {
+            return Err(RoutesFault::SameRow(place));
+        }
+        self.put_rejected(text, last)
+    }
+
+    /// Whether requests of a key stay rejected.
+    fn has_rejected(&self, text: &KeyText) -> bool
+        ensures { result ≡ contains_key self.now.rejected text.now }
+    {
+        self.rejected.contains_key(text)
+    }
+
+    /// Lets the requests of a key up to the last stay rejected.
+    fn put_rejected(&mut self, text: KeyText, last: u64) -> Result<(), RoutesFault>
+        ensures ok { OnOk result (self.new ≡ with_rejected self.old text last) }
+        ensures fault { IfErr result (λ fault. fault ≡ OutOfMemory) }
+    {
+        self.rejected.insert(text, last)?;
+        Ok(())
+    }
+
     /// Whether there is a route for the same BIN number and processor control number.
     fn has(&self, route: &Route) -> bool
-        ensures { result ≡ has_key self.now route.now }
+        ensures { result ≡ has_leading self.now route.now }
     {
         if route.providers.is_some() {
             return is_among(&self.ranged, route);
@@ -151,7 +232,7 @@ impl Routes {
 
     /// Adds a route.
     fn put(&mut self, route: Route) -> Result<(), RoutesFault>
-        ensures ok { OnOk result (self.new ≡ with_row self.old route) }
+        ensures ok { OnOk result (self.new ≡ with_leading self.old route) }
         ensures fault { IfErr result (λ fault. fault ≡ OutOfMemory) }
     {
         if route.providers.is_some() {
