@@ -36,7 +36,7 @@ pub record RoutedTo (ctx : Context) (n : ℕ) (e : Envelope) : Type 0 where
   pub is_request_is : is_request e ≡ true
   pub header : RequestHeader
   pub reads : readable ctx e.payload ≡ Some header
-  pub routed : payer_for ctx header ≡ Some n
+  pub routed : payer_for ctx e.id header ≡ Some n
 
 -- an answer to a pharmacy's own id
 pub record AnswerFor (n : ℕ) (e : Envelope) : Type 0 where
@@ -138,7 +138,7 @@ reply_for ctx given w m bytes c a laws x d e r =
     subst (AnswerFor c.envelope.id.pharmacy) same (record { is_answer = refl; own = refl })
 
 routed_for : (ctx : Context) (given : WorldSettings) (w : World) (m : ℕ) (bytes : List ℕ) (c : Carries ctx w bytes) (h : RequestHeader) (o : Option ℕ) → Laws ctx → Sound ctx given w → IsThere m (length given.switches)
-    → is_request c.envelope ≡ true → asked w c.envelope.id ≡ Some c.envelope.payload → readable ctx c.envelope.payload ≡ Some h → payer_for ctx h ≡ o
+    → is_request c.envelope ≡ true → asked w c.envelope.id ≡ Some c.envelope.payload → readable ctx c.envelope.payload ≡ Some h → payer_for ctx c.envelope.id h ≡ o
     → SentWell ctx given (Switch m) (to_payer_or_back (Pharmacy c.envelope.id.pharmacy) (routed_by ctx c.envelope h o))
 routed_for ctx given w m bytes c h None laws x there is asks reads route = reply_for ctx given w m bytes c (rejection ctx h) laws x (decided_unrouted ctx w c.envelope.id c.envelope.payload h asks reads route)
 routed_for ctx given w m bytes c h (Some n) laws x there is asks reads route = λ e r.
@@ -149,7 +149,7 @@ again_for : (ctx : Context) (given : WorldSettings) (w : World) (m : ℕ) (bytes
     → is_request c.envelope ≡ true → asked w c.envelope.id ≡ Some c.envelope.payload → readable ctx c.envelope.payload ≡ Some h → ((a : List ℕ) → o ≡ Some a → decided ctx w c.envelope.id ≡ Some a)
     → SentWell ctx given (Switch m) (to_payer_or_back (Pharmacy c.envelope.id.pharmacy) (requested_again ctx t c.envelope h o).routed)
 again_for ctx given w m bytes c t h (Some a) laws x there is asks reads d = reply_for ctx given w m bytes c a laws x (d a refl)
-again_for ctx given w m bytes c t h None laws x there is asks reads d = routed_for ctx given w m bytes c h (payer_for ctx h) laws x there is asks reads refl
+again_for ctx given w m bytes c t h None laws x there is asks reads d = routed_for ctx given w m bytes c h (payer_for ctx c.envelope.id h) laws x there is asks reads refl
 
 abbrev pub RoutedWell : Context → WorldSettings → ℕ → TxnId → Requested → Type 0
 RoutedWell ctx given m id r = SentWell ctx given (Switch m) (to_payer_or_back (Pharmacy id.pharmacy) r.routed)
@@ -158,7 +158,7 @@ slot_for : (ctx : Context) (given : WorldSettings) (w : World) (m : ℕ) (bytes 
     → is_request c.envelope ≡ true → asked w c.envelope.id ≡ Some c.envelope.payload → readable ctx c.envelope.payload ≡ Some h → AllByRecursion (SoundSlot ctx w) t.entries → slot_of c.envelope.id t.entries ≡ o
     → requested_by ctx t c.envelope h o ≡ Ok r → RoutedWell ctx given m c.envelope.id r
 slot_for ctx given w m bytes c t h None r laws x there is asks reads all at e =
-    subst (RoutedWell ctx given m c.envelope.id) (same_ok _ r e) (routed_for ctx given w m bytes c h (payer_for ctx h) laws x there is asks reads refl)
+    subst (RoutedWell ctx given m c.envelope.id) (same_ok _ r e) (routed_for ctx given w m bytes c h (payer_for ctx c.envelope.id h) laws x there is asks reads refl)
 slot_for ctx given w m bytes c t h (Some s) r laws x there is asks reads all at e =
     let p = cond_ok (bytes_eq s.request c.envelope.payload) (Ok (requested_again ctx t c.envelope h s.answer)) Refusal.NumberReused r e in
     let f : SoundSlot ctx w (c.envelope.id, s) = slot_found (SoundSlot ctx w) c.envelope.id t.entries s all at in

@@ -92,7 +92,7 @@ by_row ctx b advice id request h None e =
 by_header : (ctx : Context) (b : Book) (advice : List Ruling) (id : TxnId) (request : List ℕ) (o : Option RequestHeader) → b.settings.asks ≡ false → answered_readable ctx b advice id request o ≡ answered_readable ctx b unadvised id request o
 by_header ctx b advice id request None e = refl
 by_header ctx b advice id request (Some h) e =
-    ap (λ r. cond (Rattle.claim_model.specs.Readable.is_payer b.payer (Rattle.claim_model.specs.Readable.payer_for ctx h)) r (Err Rattle.claim_model.specs.Refusal.NotOurs)) (by_row ctx b advice id request h (row_of id b.rows) e)
+    ap (λ r. cond (Rattle.claim_model.specs.Readable.is_payer b.payer (Rattle.claim_model.specs.Readable.payer_for ctx id h)) r (Err Rattle.claim_model.specs.Refusal.NotOurs)) (by_row ctx b advice id request h (row_of id b.rows) e)
 
 pub asks_nobody : (ctx : Context) (b : Book) (advice : List Ruling) (id : TxnId) (request : List ℕ) → b.settings.asks ≡ false → answered ctx b advice id request ≡ answered ctx b unadvised id request
 unfolding answered

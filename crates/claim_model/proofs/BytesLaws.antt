@@ -15,7 +15,7 @@ use Rattle.d0_segments.specs.Framing.{request_kind, count_fault, after_header, f
 use Rattle.envelope.specs.Txn.{Txn, IsTxn}
 use Rattle.envelope.specs.Envelope.{envelope_text}
 use Rattle.envelope.specs.Opening.{envelope_of}
-use Rattle.bin_routes.specs.Table.{RouteMaps}
+use Rattle.bin_routes.specs.Table.{RouteMaps, payer_of, payer_under}
 use Rattle.claim_profile.specs.declared.reject.Code.TheVariants as code
 use Rattle.claim_profile.specs.Reject.{held, first_five_held}
 use Rattle.claim_profile.specs.Fields.{values_in, texts_in, required, optional}
@@ -27,7 +27,7 @@ use Rattle.claim_profile.specs.Transaction.{transaction_code}
 use Rattle.claim_profile.proofs.TransactionLemmas.{only}
 use Rattle.plan_rules.specs.Prices.{price_of}
 use Rattle.plan_rules.specs.Pricing.{amounts_at, paid, worth}
-use Rattle.claim_model.specs.Words.{Amounts, Claim, Reversal, Bills, Reverses, Code, RequestHeader, Kind, Envelope, Plan, Answer}
+use Rattle.claim_model.specs.Words.{Amounts, Claim, Reversal, Bills, Reverses, Code, RequestHeader, Kind, Envelope, Plan, Answer, RouteKey}
 use Rattle.claim_model.specs.Readable.{readable, billing_code, reversal_code}
 use Rattle.claim_model.specs.Laws.{IsEnvelope, IsPrescription, IsClaimOf, IsReversalOf, IsRejects, IsOrderOf, IsAmounts, AdvisesWell, AnswersReadBack, Laws}
 use Rattle.claim_model.specs.Bytes.{order_in, orders_in, envelope_in, bytes_with}
@@ -259,9 +259,13 @@ prices_fit plan h c amounts of_it e =
     let f = amounts_fit c.fee plan.fee c.cost (worth c.quantity p.0) plan.copay of_it.fee in
     subst IsAmounts p.2 (record { cost = f.0; fee = f.1; copay = f.2; total = f.3; sum = f.4 })
 
+-- a request has the payer of its key, or none
+abbrev pub NumbersAreLed : Type 0
+NumbersAreLed = (routes : RouteMaps) (number : ℕ) (key : RouteKey) (payer : ℕ) → payer_under routes number key ≡ Some payer → payer_of routes key ≡ Some payer
+
 pub bytes_laws : EnvelopesReadBack → NumbersInRange → AmountsInRange → (routes : RouteMaps) → AnswersReadBack (bytes_with routes)
-    → ((bytes : List ℕ) (a : Answer) → (bytes_with routes).read_answer bytes ≡ Some a → AdvisesWell a.rulings) → Laws (bytes_with routes)
-bytes_laws envelopes numbers amounts routes answers sayings =
+    → ((bytes : List ℕ) (a : Answer) → (bytes_with routes).read_answer bytes ≡ Some a → AdvisesWell a.rulings) → NumbersAreLed → Laws (bytes_with routes)
+bytes_laws envelopes numbers amounts routes answers sayings led =
     record {
       envelopes = envelopes_read envelopes routes;
       groups = groups_counted routes;
@@ -269,6 +273,7 @@ bytes_laws envelopes numbers amounts routes answers sayings =
       prices = prices_fit;
       answers = answers;
       sayings = sayings;
+      routes = λ m n key p q at_m at_n. same_some p q (sym (led routes m key p at_m) ∙ led routes n key q at_n);
     }
 
 pub readable_alike : (routes : RouteMaps) (text : List ℕ) → readable (bytes_with routes) text ≡ readable_header text

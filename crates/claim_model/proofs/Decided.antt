@@ -43,8 +43,8 @@ pub record Origin (ctx : Context) (w : World) (id : TxnId) (answer : List ℕ) :
 
 -- an answer is a row's in the book of the routed payer, or the fixed rejection where there is no route
 pub data From (ctx : Context) (w : World) (id : TxnId) (h : RequestHeader) (rulings : List Ruling) : Type 0 where
-  Row_of : (n : ℕ) → (row : Row) → payer_for ctx h ≡ Some n → row_at w n id ≡ Some row → row.rulings ≡ rulings → From ctx w id h rulings
-  Fixed : payer_for ctx h ≡ None → rulings ≡ replicate h.count (Rejected (BadBin ∷ [])) → From ctx w id h rulings
+  Row_of : (n : ℕ) → (row : Row) → payer_for ctx id h ≡ Some n → row_at w n id ≡ Some row → row.rulings ≡ rulings → From ctx w id h rulings
+  Fixed : payer_for ctx id h ≡ None → rulings ≡ replicate h.count (Rejected (BadBin ∷ [])) → From ctx w id h rulings
 
 all_replicate : {A : Type 0} (P : A → Type 0) (n : ℕ) (a : A) → P a → AllByRecursion P (replicate n a)
 all_replicate P ℕ.zero a h = tt
@@ -66,7 +66,7 @@ pub row_spells : (ctx : Context) (text : List ℕ) (h : RequestHeader) (rulings 
 row_spells ctx text h rulings laws r count written = laws.answers text h AcceptedStatus rulings r count written tt
 
 origin_by : (ctx : Context) (given : WorldSettings) (w : World) (id : TxnId) (a : List ℕ) (request : List ℕ) (h : RequestHeader) (o : Option ℕ)
-    → Laws ctx → Sound ctx given w → asked w id ≡ Some request → readable ctx request ≡ Some h → payer_for ctx h ≡ o → decided_by ctx w id h o ≡ Some a
+    → Laws ctx → Sound ctx given w → asked w id ≡ Some request → readable ctx request ≡ Some h → payer_for ctx id h ≡ o → decided_by ctx w id h o ≡ Some a
     → (x : Origin ctx w id a) × From ctx w id x.header x.rulings
 origin_by ctx given w id a request h None laws x asks reads route e =
     let same : rejection ctx h ≡ a = same_some _ a e in (
@@ -98,7 +98,7 @@ origin_for : (ctx : Context) (given : WorldSettings) (w : World) (id : TxnId) (a
     → Laws ctx → Sound ctx given w → asked w id ≡ Some request → readable ctx request ≡ o → decided_for ctx w id o ≡ Some a
     → (x : Origin ctx w id a) × From ctx w id x.header x.rulings
 origin_for ctx given w id a request None laws x asks reads e = absurd cc
-origin_for ctx given w id a request (Some h) laws x asks reads e = origin_by ctx given w id a request h (payer_for ctx h) laws x asks reads refl e
+origin_for ctx given w id a request (Some h) laws x asks reads e = origin_by ctx given w id a request h (payer_for ctx id h) laws x asks reads refl e
 
 origin_asked : (ctx : Context) (given : WorldSettings) (w : World) (id : TxnId) (a : List ℕ) (o : Option (List ℕ))
     → Laws ctx → Sound ctx given w → asked w id ≡ o → decided_for ctx w id (option_and_then (readable ctx) o) ≡ Some a
@@ -113,7 +113,7 @@ unfolding decided
 origin ctx given w id a laws x e = origin_asked ctx given w id a (asked w id) laws x refl e
 
 -- the fixed rejection is decided for a request without a route
-pub decided_unrouted : (ctx : Context) (w : World) (id : TxnId) (request : List ℕ) (h : RequestHeader) → asked w id ≡ Some request → readable ctx request ≡ Some h → payer_for ctx h ≡ None
+pub decided_unrouted : (ctx : Context) (w : World) (id : TxnId) (request : List ℕ) (h : RequestHeader) → asked w id ≡ Some request → readable ctx request ≡ Some h → payer_for ctx id h ≡ None
     → decided ctx w id ≡ Some (rejection ctx h)
 unfolding decided
 decided_unrouted ctx w id request h asks reads route =
@@ -121,7 +121,7 @@ decided_unrouted ctx w id request h asks reads route =
     ∙ (ap (decided_for ctx w id) reads ∙ ap (decided_by ctx w id h) route)
 
 -- a row's answer is decided for a request that is routed to its book
-pub decided_routed : (ctx : Context) (w : World) (id : TxnId) (request : List ℕ) (h : RequestHeader) (n : ℕ) (row : Row) → asked w id ≡ Some request → readable ctx request ≡ Some h → payer_for ctx h ≡ Some n
+pub decided_routed : (ctx : Context) (w : World) (id : TxnId) (request : List ℕ) (h : RequestHeader) (n : ℕ) (row : Row) → asked w id ≡ Some request → readable ctx request ≡ Some h → payer_for ctx id h ≡ Some n
     → row_at w n id ≡ Some row → row.request ≡ request → decided ctx w id ≡ Some (answer_text ctx h row.rulings)
 unfolding decided
 decided_routed ctx w id request h n row asks reads route there same =

@@ -272,10 +272,10 @@ answered_refusal : (ctx : Context) (given : WorldSettings) (w : World) (n : ℕ)
 answered_refusal ctx given w n b advice bytes c None why sb asks r is e = absurd cc
 answered_refusal ctx given w n b advice bytes c (Some h) why sb asks r is e =
     let same : h ≡ r.header = same_some h r.header is in
-    let routed : payer_for ctx h ≡ Some b.payer = ap (payer_for ctx) same ∙ (r.routed ∙ ap (λ (m : ℕ). Some m) (sym sb.payer)) in
-    let test : is_payer b.payer (payer_for ctx h) ≡ true = subst (λ (q : Option ℕ). is_payer b.payer q ≡ true) (sym routed) (payer_self b.payer) in
+    let routed : payer_for ctx c.envelope.id h ≡ Some b.payer = ap (payer_for ctx c.envelope.id) same ∙ (r.routed ∙ ap (λ (m : ℕ). Some m) (sym sb.payer)) in
+    let test : is_payer b.payer (payer_for ctx c.envelope.id h) ≡ true = subst (λ (q : Option ℕ). is_payer b.payer q ≡ true) (sym routed) (payer_self b.payer) in
     by_row_refusal ctx w n b advice bytes c h (row_of c.envelope.id b.rows) why asks sb.rows refl
-    (cond_err (is_payer b.payer (payer_for ctx h)) (answered_by ctx b advice c.envelope.id c.envelope.payload h (row_of c.envelope.id b.rows)) NotOurs why test e)
+    (cond_err (is_payer b.payer (payer_for ctx c.envelope.id h)) (answered_by ctx b advice c.envelope.id c.envelope.payload h (row_of c.envelope.id b.rows)) NotOurs why test e)
 
 after_answer_refused : (ctx : Context) (from : Node) (id : TxnId) (r : Result Answered Refusal) (why : Refusal) → after_answer ctx from id r ≡ Refused why → r ≡ Err why
 after_answer_refused ctx from id (Err f) why e = ap (λ (x : Refusal). Err x) (refused_same f why e)
@@ -356,7 +356,7 @@ node_refusal ctx given w from (Switch m) bytes c why r p f e =
     let s = numbered_exists w.switches m f.above (omega (arith, f.within, p.switches)) in
     inl (on_switch_refusal ctx given w m from bytes c why (numbered w.switches m) s.0 r.laws p.sound refl s.1 e)
 node_refusal ctx given w from (Payer n) bytes c why r p f e =
-    let in' = r.accepts.routes (route_key f.0.header) n f.0.routed in
+    let in' = r.accepts.routes c.envelope.id.number (route_key f.0.header) n f.0.routed in
     let s = numbered_exists w.payers n in'.0 (omega (arith, in'.1, p.payers)) in
     on_payer_refusal ctx given w n from bytes c why (numbered w.payers n) s.0 r.laws p.sound f.0 refl s.1 e
 
@@ -365,7 +365,7 @@ node_advised : (ctx : Context) (given : WorldSettings) (w : World) (from to : No
 node_advised ctx given w from (Pharmacy n) bytes advice c why r p f asks e = absurd (Rattle.std.proofs.lemmas.Bool.false≢true asks)
 node_advised ctx given w from (Switch m) bytes advice c why r p f asks e = absurd (Rattle.std.proofs.lemmas.Bool.false≢true asks)
 node_advised ctx given w from (Payer n) bytes advice c why r p f asks e =
-    let in' = r.accepts.routes (route_key f.0.header) n f.0.routed in
+    let in' = r.accepts.routes c.envelope.id.number (route_key f.0.header) n f.0.routed in
     let s = numbered_exists w.payers n in'.0 (omega (arith, in'.1, p.payers)) in
     on_payer_advised ctx given w n from bytes advice c why (numbered w.payers n) s.0 r.laws p.sound f.0 refl s.1 asks e
 

@@ -67,24 +67,25 @@ ledger_at ctx w n b l e = let p = map_some book_in (numbered w.payers n) b e in 
 
 -- a payment's claim is of a header that is routed to the payer
 pub record ClaimSource (ctx : Context) (n : ℕ) (p : Payment) : Type 0 where
+  pub id : TxnId
   pub header : RequestHeader
-  pub routed : payer_for ctx header ≡ Some n
+  pub routed : payer_for ctx id header ≡ Some n
   pub claim : IsClaimOf header p.claim
 
-claim_source : (ctx : Context) (w : World) (n : ℕ) (rows : List Row) (r : Ruled) (later : List Ruled) (h : RequestHeader) (order : Result Order (List Code)) (given : Ruling)
-    → payer_for ctx h ≡ Some n → IsOrderOf h order → AllByRecursion (ClaimSource ctx n) (payment_by r later order given)
-claim_source ctx w n rows r later h (Ok (Bills c)) (Paid auth m a) routed o = (record { header = h; routed = routed; claim = o }, tt)
-claim_source ctx w n rows r later h (Ok (Bills c)) (Duplicate auth m a) routed o = tt
-claim_source ctx w n rows r later h (Ok (Bills c)) (Reversed auth m) routed o = tt
-claim_source ctx w n rows r later h (Ok (Bills c)) (Rejected codes) routed o = tt
-claim_source ctx w n rows r later h (Ok (Reverses v)) given routed o = tt
-claim_source ctx w n rows r later h (Err codes) given routed o = tt
+claim_source : (ctx : Context) (w : World) (n : ℕ) (rows : List Row) (r : Ruled) (later : List Ruled) (id : TxnId) (h : RequestHeader) (order : Result Order (List Code)) (given : Ruling)
+    → payer_for ctx id h ≡ Some n → IsOrderOf h order → AllByRecursion (ClaimSource ctx n) (payment_by r later order given)
+claim_source ctx w n rows r later id h (Ok (Bills c)) (Paid auth m a) routed o = (record { id = id; header = h; routed = routed; claim = o }, tt)
+claim_source ctx w n rows r later id h (Ok (Bills c)) (Duplicate auth m a) routed o = tt
+claim_source ctx w n rows r later id h (Ok (Bills c)) (Reversed auth m) routed o = tt
+claim_source ctx w n rows r later id h (Ok (Bills c)) (Rejected codes) routed o = tt
+claim_source ctx w n rows r later id h (Ok (Reverses v)) given routed o = tt
+claim_source ctx w n rows r later id h (Err codes) given routed o = tt
 
 claim_sources : (ctx : Context) (w : World) (n : ℕ) (rows : List Row) (rs : List Ruled) → AllByRecursion (Source ctx w n rows) rs → AllByRecursion (ClaimSource ctx n) (payments rs)
 claim_sources ctx w n rows [] s = tt
 claim_sources ctx w n rows (r ∷ rs) s =
     let x : Source ctx w n rows r = s.0 in
-    all_append (ClaimSource ctx n) (payment_at r rs) (payments rs) (claim_source ctx w n rows r rs x.sound.header r.order r.ruling x.sound.routed x.order) (claim_sources ctx w n rows rs s.1)
+    all_append (ClaimSource ctx n) (payment_at r rs) (payments rs) (claim_source ctx w n rows r rs x.row.id x.sound.header r.order r.ruling x.sound.routed x.order) (claim_sources ctx w n rows rs s.1)
 
 -- what a route may look at in a fill
 fill_key : Fill → RouteKey
@@ -98,8 +99,8 @@ same_key h c s =
     ∙ ap₂ (λ (qualifier provider : List ℕ). record { bin = h.bin; pcn = h.pcn; qualifier = qualifier; provider = provider }) s.qualifier s.provider
 
 -- the fill of a payment says which payer it has
-fill_routed : (ctx : Context) (n : ℕ) (p : Payment) → ClaimSource ctx n p → ctx.route (fill_key p.claim.fill) ≡ Some n
-fill_routed ctx n p s = ap ctx.route (same_key s.header p.claim s.claim) ∙ s.routed
+fill_routed : (ctx : Context) (n : ℕ) (p : Payment) (s : ClaimSource ctx n p) → ctx.route s.id.number (fill_key p.claim.fill) ≡ Some n
+fill_routed ctx n p s = ap (ctx.route s.id.number) (same_key s.header p.claim s.claim) ∙ s.routed
 
 pub one_standing : (ctx : Context) (given : WorldSettings) (w : World) → Reached ctx given w → OneStandingPayment ctx w
 one_standing ctx given w r =
@@ -110,9 +111,10 @@ one_standing ctx given w r =
           let claims : (k : ℕ) (d : Book) → book_at w k ≡ Some d → AllByRecursion (ClaimSource ctx k) (standing (ruled_rows ctx d.rows)) =
           λ k d at. all_filter (ClaimSource ctx k) is_standing (payments (ruled_rows ctx d.rows))
           (claim_sources ctx w k d.rows (ruled_rows ctx d.rows) (sources ctx given w k d r.laws (book_sound ctx given w k d x at))) in
-          let to_n = fill_routed ctx n p (all_at (ClaimSource ctx n) (standing (ruled_rows ctx b.rows)) i p (claims n b at_n) e) in
-          let to_m = fill_routed ctx m q (all_at (ClaimSource ctx m) (standing (ruled_rows ctx c.rows)) j q (claims m c at_m) f) in
-          let same : n ≡ m = same_some n m (sym to_n ∙ (ap (λ (y : Fill). ctx.route (fill_key y)) fill ∙ to_m)) in
+          let of_p : ClaimSource ctx n p = all_at (ClaimSource ctx n) (standing (ruled_rows ctx b.rows)) i p (claims n b at_n) e in
+          let of_q : ClaimSource ctx m q = all_at (ClaimSource ctx m) (standing (ruled_rows ctx c.rows)) j q (claims m c at_m) f in
+          let to_m = ap (λ (y : Fill). ctx.route of_q.id.number (fill_key y)) fill ∙ fill_routed ctx m q of_q in
+          let same : n ≡ m = r.laws.routes of_p.id.number of_q.id.number (fill_key p.claim.fill) n m (fill_routed ctx n p of_p) to_m in
           let books : c ≡ b = same_some c b (sym at_m ∙ (ap (book_at w) (sym same) ∙ at_n)) in
           let f' : numbered (standing (ruled_rows ctx b.rows)) j ≡ Some q = subst (λ (y : Book). numbered (standing (ruled_rows ctx y.rows)) j ≡ Some q) books f in
           (same, no_fill_twice_at (standing (ruled_rows ctx b.rows)) i j p q (ledger_at ctx w n b l at_n).fills e f' fill);

@@ -39,7 +39,7 @@ pub data Rows (ctx : Context) (b : Book) (advice : List Ruling) (id : TxnId) (re
 pub record Ruled_on (ctx : Context) (b : Book) (advice : List Ruling) (id : TxnId) (request : List ℕ) (a : Answered) : Type 0 where
   pub header : RequestHeader
   pub reads : readable ctx request ≡ Some header
-  pub routed : payer_for ctx header ≡ Some b.payer
+  pub routed : payer_for ctx id header ≡ Some b.payer
   pub rows : Rows ctx b advice id request header a
 
 entered_rows : (ctx : Context) (b : Book) (advice : List Ruling) (id : TxnId) (request : List ℕ) (h : RequestHeader) (a : Answered) → row_of id b.rows ≡ None
@@ -62,8 +62,8 @@ by_rows ctx b advice id request h a None is e =
 readable_rows : (ctx : Context) (b : Book) (advice : List Ruling) (id : TxnId) (request : List ℕ) (a : Answered) (o : Option RequestHeader) → readable ctx request ≡ o → answered_readable ctx b advice id request o ≡ Ok a → Ruled_on ctx b advice id request a
 readable_rows ctx b advice id request a None is e = absurd cc
 readable_rows ctx b advice id request a (Some h) is e =
-    let p = cond_ok (is_payer b.payer (payer_for ctx h)) (answered_by ctx b advice id request h (row_of id b.rows)) Refusal.NotOurs a e in
-    record { header = h; reads = is; routed = payer_same b.payer (payer_for ctx h) p.0; rows = by_rows ctx b advice id request h a (row_of id b.rows) refl p.1 }
+    let p = cond_ok (is_payer b.payer (payer_for ctx id h)) (answered_by ctx b advice id request h (row_of id b.rows)) Refusal.NotOurs a e in
+    record { header = h; reads = is; routed = payer_same b.payer (payer_for ctx id h) p.0; rows = by_rows ctx b advice id request h a (row_of id b.rows) refl p.1 }
 
 -- what an answered request says of the book
 pub answered_ruled : (ctx : Context) (b : Book) (advice : List Ruling) (id : TxnId) (request : List ℕ) (a : Answered) → answered ctx b advice id request ≡ Ok a → Ruled_on ctx b advice id request a
@@ -164,7 +164,7 @@ answer_step ctx given w n b advice from bytes c a well laws accepts x is asks r 
     let l : Later ctx w v = payer_later ctx w n (Up b) (Up a.book) sent is (subst (RowsStay b) (sym book) (row_stays_there b row)) in
     let written = new_row_written ctx given w n b advice id request r.header well laws accepts sb r.reads fits in
     let found : row_of id (b.rows ++ row ∷ []) ≡ Some row = new_found b row fresh in
-    let routed : payer_for ctx r.header ≡ Some n = r.routed ∙ ap (λ (k : ℕ). Some k) sb.payer in
+    let routed : payer_for ctx id r.header ≡ Some n = r.routed ∙ ap (λ (k : ℕ). Some k) sb.payer in
     let asks_v : asked v id ≡ Some request = l.asks id request asks in
     let new_sound : SoundRow ctx v n (b.rows ++ row ∷ []) row =
     record { asks = asks_v; header = r.header; reads = r.reads; routed = routed; found = found; count = written.0; written = written.1 } in

@@ -64,7 +64,7 @@ forged_rows = refl
 
 -- two route tables: one switch forwards a request, the other one rejects it, and two nodes hold different answers
 abbrev pub without_routes : Context
-without_routes = record small { route = λ key. None }
+without_routes = record small { route = λ number key. None }
 
 abbrev pub split : World
 split = run without_routes (run small one (Submission 1 c1 ∷ Ticking 1 ∷ Delivery 1 ∷ Delivery 3 ∷ Delivery 4 ∷ [])) (Delivery 2 ∷ Delivery 6 ∷ [])
@@ -114,7 +114,7 @@ lost_list_refused = refl
 
 -- a route to a payer that is not there
 abbrev pub lost_route : Context
-lost_route = record small { route = λ key. Some 2 }
+lost_route = record small { route = λ number key. Some 2 }
 
 lost_route_delivery : refusals_by lost_route one (Submission 1 c1 ∷ Delivery 1 ∷ Delivery 2 ∷ []) ≡ None ∷ None ∷ Some NoSuchNode ∷ []
 unfolding one step answered readable transaction_code ruling judged submitted ticked due requested responded heard stopped started counted held refusals_by pharmacy

@@ -127,13 +127,13 @@ abbrev pub small_read_envelope : List ℕ → Result Envelope EnvelopeFault
 small_read_envelope (k ∷ p ∷ n ∷ payload) = Ok (record { kind = cond (k == 1) Request Response; id = record { pharmacy = p; number = n }; payload = payload })
 small_read_envelope _ = Err Short
 
--- BIN 4 leads to payer 1
+-- BIN 4 leads to payer 1, whatever the number of a request
 abbrev pub small : Context
 small =
     record {
       header = small_header;
       orders = small_orders;
-      route = λ key. cond (bytes_eq key.bin (4 ∷ [])) (Some 1) None;
+      route = λ number key. cond (bytes_eq key.bin (4 ∷ [])) (Some 1) None;
       price = λ plan claim. Some all_amounts;
       reprice = λ plan product price. Ok plan;
       answer = small_answer;

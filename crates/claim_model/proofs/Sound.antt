@@ -49,7 +49,7 @@ pub record SoundRow (ctx : Context) (w : World) (n : ℕ) (rows : List Row) (row
   pub asks : asked w row.id ≡ Some row.request
   pub header : RequestHeader
   pub reads : readable ctx row.request ≡ Some header
-  pub routed : payer_for ctx header ≡ Some n
+  pub routed : payer_for ctx row.id header ≡ Some n
   pub found : row_of row.id rows ≡ Some row
   pub count : length row.rulings ≡ header.count
   pub written : AllByRecursion IsRuling row.rulings
@@ -146,7 +146,7 @@ decided_by_later ctx w v id h rows (Some n) a e =
 decided_for_later : (ctx : Context) (w v : World) (id : TxnId) → ((n : ℕ) (row : Row) → row_at w n id ≡ Some row → row_at v n id ≡ Some row)
     → (o : Option RequestHeader) (a : List ℕ) → decided_for ctx w id o ≡ Some a → decided_for ctx v id o ≡ Some a
 decided_for_later ctx w v id rows None a e = absurd cc
-decided_for_later ctx w v id rows (Some h) a e = decided_by_later ctx w v id h rows (payer_for ctx h) a e
+decided_for_later ctx w v id rows (Some h) a e = decided_by_later ctx w v id h rows (payer_for ctx id h) a e
 
 decided_asked : (ctx : Context) (w v : World) (id : TxnId) → ((n : ℕ) (row : Row) → row_at w n id ≡ Some row → row_at v n id ≡ Some row)
     → (o : Option (List ℕ)) (a : List ℕ) → ((r : List ℕ) → o ≡ Some r → asked v id ≡ Some r) → decided_for ctx w id (option_and_then (readable ctx) o) ≡ Some a → decided ctx v id ≡ Some a

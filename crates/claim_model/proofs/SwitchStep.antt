@@ -74,7 +74,7 @@ entered_sound ctx w t e (Some n) asks all =
     (record { asks = asks; answer = λ a h. absurd cc }, tt)
 
 routed_carries : (ctx : Context) (given : WorldSettings) (w : World) (bytes : List ℕ) (c : Carries ctx w bytes) (h : RequestHeader) (o : Option ℕ) → Laws ctx → Sound ctx given w
-    → asked w c.envelope.id ≡ Some c.envelope.payload → readable ctx c.envelope.payload ≡ Some h → payer_for ctx h ≡ o → Carries ctx w (routed_bytes (routed_by ctx c.envelope h o))
+    → asked w c.envelope.id ≡ Some c.envelope.payload → readable ctx c.envelope.payload ≡ Some h → payer_for ctx c.envelope.id h ≡ o → Carries ctx w (routed_bytes (routed_by ctx c.envelope h o))
 routed_carries ctx given w bytes c h None laws x asks reads route = carries_answer ctx given w bytes c (rejection ctx h) laws x (decided_unrouted ctx w c.envelope.id c.envelope.payload h asks reads route)
 routed_carries ctx given w bytes c h (Some n) laws x asks reads route = carries_same ctx w bytes c
 
@@ -82,14 +82,14 @@ again_sound : (ctx : Context) (given : WorldSettings) (w : World) (bytes : List 
     → asked w c.envelope.id ≡ Some c.envelope.payload → readable ctx c.envelope.payload ≡ Some h → AllByRecursion (SoundSlot ctx w) t.entries
     → ((a : List ℕ) → o ≡ Some a → decided ctx w c.envelope.id ≡ Some a) → SoundRequested ctx w (requested_again ctx t c.envelope h o)
 again_sound ctx given w bytes c t h (Some a) laws x asks reads all d = record { table = all; sent = carries_answer ctx given w bytes c a laws x (d a refl) }
-again_sound ctx given w bytes c t h None laws x asks reads all d = record { table = all; sent = routed_carries ctx given w bytes c h (payer_for ctx h) laws x asks reads refl }
+again_sound ctx given w bytes c t h None laws x asks reads all d = record { table = all; sent = routed_carries ctx given w bytes c h (payer_for ctx c.envelope.id h) laws x asks reads refl }
 
 by_slot_sound : (ctx : Context) (given : WorldSettings) (w : World) (bytes : List ℕ) (c : Carries ctx w bytes) (t : Table) (h : RequestHeader) (o : Option Slot) (r : Requested) → Laws ctx → Sound ctx given w
     → asked w c.envelope.id ≡ Some c.envelope.payload → readable ctx c.envelope.payload ≡ Some h → AllByRecursion (SoundSlot ctx w) t.entries → slot_of c.envelope.id t.entries ≡ o
     → requested_by ctx t c.envelope h o ≡ Ok r → SoundRequested ctx w r
 by_slot_sound ctx given w bytes c t h None r laws x asks reads all is e =
     subst (SoundRequested ctx w) (same_ok _ r e)
-    (record { table = entered_sound ctx w t c.envelope (payer_for ctx h) asks all; sent = routed_carries ctx given w bytes c h (payer_for ctx h) laws x asks reads refl })
+    (record { table = entered_sound ctx w t c.envelope (payer_for ctx c.envelope.id h) asks all; sent = routed_carries ctx given w bytes c h (payer_for ctx c.envelope.id h) laws x asks reads refl })
 by_slot_sound ctx given w bytes c t h (Some s) r laws x asks reads all is e =
     let p = cond_ok (bytes_eq s.request c.envelope.payload) (Ok (requested_again ctx t c.envelope h s.answer)) Refusal.NumberReused r e in
     let f : SoundSlot ctx w (c.envelope.id, s) = slot_found (SoundSlot ctx w) c.envelope.id t.entries s all is in

@@ -91,7 +91,7 @@ becomes_same : (t after : Table) → after ≡ t → Keeps t → Becomes t after
 becomes_same t after e k = subst (Becomes t) (sym e) (record { cap = refl; keeps = k })
 
 by_slot : (ctx : Context) (t : Table) (e : Envelope) (h : RequestHeader) (o : Option Slot) (r : Requested) → 0 < t.cap → Keeps t → slot_of e.id t.entries ≡ o → requested_by ctx t e h o ≡ Ok r → Becomes t r.table
-by_slot ctx t e h None r some k is ok = subst (λ (q : Requested). Becomes t q.table) (same_ok _ r ok) (entered_becomes t e (payer_for ctx h) some k is)
+by_slot ctx t e h None r some k is ok = subst (λ (q : Requested). Becomes t q.table) (same_ok _ r ok) (entered_becomes t e (payer_for ctx e.id h) some k is)
 by_slot ctx t e h (Some s) r some k is ok =
     let p = cond_ok (bytes_eq s.request e.payload) (Ok (requested_again ctx t e h s.answer)) Refusal.NumberReused r ok in
     subst (λ (q : Requested). Becomes t q.table) (same_ok _ r p.1) (becomes_same t _ (again_same ctx t e h s.answer) k)

@@ -54,7 +54,7 @@ answered_by ctx b advice id request h None =
 
 abbrev pub answered_readable : Context → Book → List Ruling → TxnId → List ℕ → Option RequestHeader → Result Answered Refusal
 answered_readable ctx b advice id request None = Err Unreadable
-answered_readable ctx b advice id request (Some h) = cond (is_payer b.payer (payer_for ctx h)) (answered_by ctx b advice id request h (row_of id b.rows)) (Err NotOurs)
+answered_readable ctx b advice id request (Some h) = cond (is_payer b.payer (payer_for ctx id h)) (answered_by ctx b advice id request h (row_of id b.rows)) (Err NotOurs)
 
 -- a request at a payer, with the rulings of an advice: Unreadable, NotOurs, NumberReused, the kept answer, BookFull, SerialsUsedUp,
 -- NotAdvised where the payer asks and the advice has no verdict on a claim that is to be priced, or a new row

@@ -4,7 +4,7 @@ use Rattle.d0_segments.specs.Parts.{TransmissionParts}
 use Rattle.d0_segments.specs.Framing.{request_kind, transmission_of}
 use Rattle.envelope.specs.Envelope.{Opened, envelope_text}
 use Rattle.envelope.specs.Opening.{envelope_of}
-use Rattle.bin_routes.specs.Table.{RouteMaps, payer_of}
+use Rattle.bin_routes.specs.Table.{RouteMaps, payer_under}
 use Rattle.claim_profile.specs.declared.order_reading.OrderFault.{OrderFault}
 use Rattle.claim_profile.specs.declared.order_reading.OrderFault.TheVariants.{Rejected as Refuses}
 use Rattle.claim_profile.specs.declared.answer_reading.AnswerFault.{AnswerFault}
@@ -48,7 +48,7 @@ abbrev pub bytes_with : RouteMaps → Context
 bytes_with routes = record {
   header = λ text. header_in (transmission_of request_kind text);
   orders = λ text. orders_in (transmission_of request_kind text);
-  route = λ key. payer_of routes key;
+  route = λ number key. payer_under routes number key;
   price = paid;
   reprice = reprice;
   answer = answer_text;

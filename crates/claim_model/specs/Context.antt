@@ -7,8 +7,8 @@ pub record Context : Type 0 where
   pub header : List ℕ → Option RequestHeader
   -- what each group of such a text asks for, in order: a claim or a reversal, or the codes that reject the group
   pub orders : List ℕ → List (Result Order (List Code))
-  -- the payer of a BIN, a PCN, and a provider with its qualifier, by the one route table
-  pub route : RouteKey → Option ℕ
+  -- the payer of a request, by its number, and by its BIN, its PCN, and its provider with the qualifier, by the one route table
+  pub route : ℕ → RouteKey → Option ℕ
   -- what a plan pays for a claim; none where the product is not on the plan
   pub price : Plan → Claim → Option Amounts
   -- the plan with a new price for a product, or without the product

@@ -49,7 +49,7 @@ decided_by ctx w id h (Some payer) = option_and_then (row_answer ctx) (row_at w 
 
 abbrev pub decided_for : Context → World → TxnId → Option RequestHeader → Option (List ℕ)
 decided_for ctx w id None = None
-decided_for ctx w id (Some h) = decided_by ctx w id h (payer_for ctx h)
+decided_for ctx w id (Some h) = decided_by ctx w id h (payer_for ctx id h)
 
 -- what was decided for an id: the answer of its row in the book of the payer to which its request is routed, or the fixed rejection
 unfoldable pub decided : Context → World → TxnId → Option (List ℕ)

@@ -3,7 +3,7 @@ use Rattle.std.specs.Prelude.{◌≡◌, ℕ, ◌+◌, ◌^◌, ◌<◌, ◌≤�
 use Rattle.std.specs.List.{AllByRecursion}
 use Rattle.claim_profile.specs.Authorization.{largest_serial}
 use Rattle.claim_profile.specs.Money.{largest}
-use Rattle.claim_model.specs.Words.{Auth, Amounts, Claim, Reversal, Order, Bills, Reverses, Code, Ruling, Paid, Duplicate, Reversed, Rejected, RequestHeader, Status, AcceptedStatus, RejectedStatus, Answer, Envelope, Plan}
+use Rattle.claim_model.specs.Words.{Auth, Amounts, Claim, Reversal, Order, Bills, Reverses, Code, Ruling, Paid, Duplicate, Reversed, Rejected, RequestHeader, Status, AcceptedStatus, RejectedStatus, Answer, Envelope, Plan, RouteKey}
 use Rattle.claim_model.specs.Context.{Context}
 use Rattle.claim_model.specs.Numbered.{numbered}
 use Rattle.claim_model.specs.Judgement.{Verdict, Pays, Rejects, verdict_in}
@@ -117,3 +117,5 @@ pub record Laws (ctx : Context) : Type 0 where
   pub answers : AnswersReadBack ctx
   -- what an answer that is read says of a claim can be written again
   pub sayings : (text : List ℕ) (answer : Answer) → ctx.read_answer text ≡ Some answer → AdvisesWell answer.rulings
+  -- requests that are alike in what a route may look at have the same payer, as far as they have one, whatever their numbers are
+  pub routes : (m n : ℕ) (key : RouteKey) (p q : ℕ) → ctx.route m key ≡ Some p → ctx.route n key ≡ Some q → p ≡ q

@@ -40,9 +40,9 @@ readable ctx text = cond (nat_le (length text) longest) (option_and_then if_carr
 abbrev pub route_key : RequestHeader → RouteKey
 route_key h = record { bin = h.bin; pcn = h.pcn; qualifier = h.qualifier; provider = h.provider }
 
--- the payer to which a request is routed
-abbrev pub payer_for : Context → RequestHeader → Option ℕ
-payer_for ctx h = ctx.route (route_key h)
+-- the payer to which the request of an id is routed
+abbrev pub payer_for : Context → TxnId → RequestHeader → Option ℕ
+payer_for ctx id h = ctx.route id.number (route_key h)
 
 abbrev pub is_payer : ℕ → Option ℕ → Bool
 is_payer payer None = false

@@ -69,7 +69,7 @@ pub record Accepts (ctx : Context) (s : WorldSettings) : Type 0 where
   pub pharmacies : AllByRecursion IsPharmacySettings s.pharmacies
   pub books : AllByRecursion (λ p. IsBookSettings p.book) s.payers
   -- a route leads to a payer that is there
-  pub routes : (key : RouteKey) (payer : ℕ) → ctx.route key ≡ Some payer → (0 < payer) × (payer ≤ length s.payers)
+  pub routes : (number : ℕ) (key : RouteKey) (payer : ℕ) → ctx.route number key ≡ Some payer → (0 < payer) × (payer ≤ length s.payers)
 
 abbrev pub pharmacies_from : ℕ → List PharmacySettings → List (Power Journal JournalAtRest)
 pharmacies_from n [] = []

@@ -44,7 +44,7 @@ routed_by ctx e h (Some payer) = Forward payer (ctx.envelope e)
 
 abbrev pub requested_again : Context → Table → Envelope → RequestHeader → Option (List ℕ) → Requested
 requested_again ctx t e h (Some answer) = record { table = t; routed = answer_back ctx e.id answer }
-requested_again ctx t e h None = record { table = t; routed = routed_by ctx e h (payer_for ctx h) }
+requested_again ctx t e h None = record { table = t; routed = routed_by ctx e h (payer_for ctx e.id h) }
 
 abbrev pub entered_where : Table → Envelope → Option ℕ → Table
 entered_where t e None = t
@@ -52,7 +52,7 @@ entered_where t e (Some payer) = entered t e.id (record { request = e.payload; a
 
 abbrev pub requested_by : Context → Table → Envelope → RequestHeader → Option Slot → Result Requested Refusal
 requested_by ctx t e h (Some slot) = cond (bytes_eq slot.request e.payload) (Ok (requested_again ctx t e h slot.answer)) (Err NumberReused)
-requested_by ctx t e h None = Ok (record { table = entered_where t e (payer_for ctx h); routed = routed_by ctx e h (payer_for ctx h) })
+requested_by ctx t e h None = Ok (record { table = entered_where t e (payer_for ctx e.id h); routed = routed_by ctx e h (payer_for ctx e.id h) })
 
 abbrev pub requested_readable : Context → Table → Envelope → Option RequestHeader → Result Requested Refusal
 requested_readable ctx t e None = Err Unreadable

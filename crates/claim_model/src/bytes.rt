@@ -12,7 +12,7 @@ ghost use Rattle.claim_model.specs.Laws.{Laws, IsOrderOf, IsClaimOf, IsAmounts};
 ghost use Rattle.envelope.specs.Opening.{envelope_of};
 ghost use Rattle.claim_model.specs.Bytes.{envelope_in, bytes_with};
 
-use bin_routes::range_laws;
+use bin_routes::{number_laws, range_laws};
 use claim_profile::{answer_laws, readable_laws};
 use envelope::envelope_reads_back;
 use overpunch::{amount_in_range, number_in_range};
@@ -26,14 +26,16 @@ pub fn bytes_keep_laws()
     amount_in_range();
     answer_laws();
     readable_laws();
+    number_laws();
 }
 
 /// Rows without a fault lead to payers that are there.
 pub fn routes_lead_to_payers()
-    ensures { (payers : ℕ) (rows : List Row) (key : RouteKey) (payer : ℕ) → first_fault payers rows ≡ None
-        → (bytes_with (routes_of rows)).route key ≡ Some payer → (0 < payer) × (payer ≤ payers) }
+    ensures { (payers : ℕ) (rows : List Row) (number : ℕ) (key : RouteKey) (payer : ℕ) → first_fault payers rows ≡ None
+        → (bytes_with (routes_of rows)).route number key ≡ Some payer → (0 < payer) × (payer ≤ payers) }
 {
     range_laws();
+    number_laws();
 }
 
 /// The requests that the model takes are those that the reader of the profile takes.

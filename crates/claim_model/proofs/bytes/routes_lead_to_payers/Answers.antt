@@ -9,5 +9,5 @@ at_some payers None payer h e = absurd cc
 at_some payers (Some p) payer h e = subst (λ (x : ℕ). (1 ≤ x) × (x ≤ payers)) (same_some p payer e) h
 
 pub returns : goal.returns
-returns c = λ payers rows key payer fault e.
-    let p = at_some payers _ payer (c.range_laws.ensures.within payers rows key fault) e in (omega (arith, p.0), p.1)
+returns c = λ payers rows number key payer fault e.
+    let p = at_some payers _ payer (c.range_laws.ensures.within payers rows key fault) (c.number_laws.ensures.led _ number key payer e) in (omega (arith, p.0), p.1)
