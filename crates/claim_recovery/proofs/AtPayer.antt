@@ -103,7 +103,7 @@ row_there ctx b advice id request h a (New fresh fits advised book text) =
     let found : row_of id (b.rows ++ row ∷ []) ≡ Some row = find_beyond _ b.rows (row ∷ []) fresh ∙ cond-true (same_id row.id row.id) (Some row) None (id_self row.id) in
     record { row = row; found = subst (λ (q : Book). row_of id q.rows ≡ Some row) (sym book) found; request_is = refl; text = text }
 
-rows_left : (ctx : Context) (b : Book) (advice : List Ruling) (id : TxnId) (request : List ℕ) (p : ℕ) (h : RequestHeader) (a : Answered) → IsRouted ctx request p → Rows ctx b advice id request h a → BookLeft ctx id request p (Some b) (Some a.book)
+rows_left : (ctx : Context) (b : Book) (advice : List Ruling) (id : TxnId) (request : List ℕ) (p : ℕ) (h : RequestHeader) (a : Answered) → IsRouted ctx id request p → Rows ctx b advice id request h a → BookLeft ctx id request p (Some b) (Some a.book)
 rows_left ctx b advice id request p h a routed (Known row found same book text) = AsItWas (ap (λ (q : Book). Some q) book)
 rows_left ctx b advice id request p h a routed (New fresh fits advised book text) = OneRowMore b advice refl fresh routed (ap (λ (q : Book). Some q) book)
 
@@ -117,7 +117,7 @@ handed_over ctx may w p k m id request b (ByAdvice advice asks) a ok advised up 
     path_adjudication ctx may w _ k advice _ (advised advice) (advised_at_payer ctx w p k advice (Switch m) (ctx.envelope (request_envelope id request)) (request_envelope id request) b a asks up stands reads refl answers)
 
 pub payer_replies : (ctx : Context) (given : WorldSettings) (may : Event → Type 0) (w : World) (old : ℕ) (id : TxnId) (request : List ℕ) (m p k : ℕ) (b : Book) (handed : Handed b) (a : Answered) → Reached ctx given w → old ≤ length w.packets → old < k
-    → ((k : ℕ) → old < k → may (Delivery k)) → ((k : ℕ) (advice : List ℕ) → old < k → may (Adjudication k advice)) → (known : IsKnown ctx w id request) → payer_for ctx known.header ≡ Some p → numbered w.payers p ≡ Some (Up b) → answered ctx b (handed_with ctx b handed) id request ≡ Ok a
+    → ((k : ℕ) → old < k → may (Delivery k)) → ((k : ℕ) (advice : List ℕ) → old < k → may (Adjudication k advice)) → (known : IsKnown ctx w id request) → payer_for ctx id known.header ≡ Some p → numbered w.payers p ≡ Some (Up b) → answered ctx b (handed_with ctx b handed) id request ≡ Ok a
     → numbered w.packets k ≡ Some (record { from = Switch m; to = Payer p; bytes = ctx.envelope (request_envelope id request) }) → Replied ctx may w old id request m
 payer_replies ctx given may w old id request m p k b handed a r before fresh ok advised known route up answers stands =
     let sent : List Sent = record { to = Switch m; bytes = ctx.envelope (answer_envelope id a.bytes) } ∷ [] in

@@ -108,7 +108,7 @@ switch_up ctx may w m (AtRest cap) ok is =
 -- the switch answers with what was decided, or passes the request on and keeps it in its table
 pub data Goes (ctx : Context) (w : World) (id : TxnId) (request : List ℕ) (h : RequestHeader) (r : Requested) : Type 0 where
   Replies : (a : List ℕ) → decided ctx w id ≡ Some a → r.routed ≡ Back (ctx.envelope (answer_envelope id a)) → Goes ctx w id request h r
-  Passes : (p : ℕ) → payer_for ctx h ≡ Some p → r.routed ≡ Forward p (ctx.envelope (request_envelope id request)) → (slot : Slot) → slot_of id r.table.entries ≡ Some slot → slot.answer ≡ None → Goes ctx w id request h r
+  Passes : (p : ℕ) → payer_for ctx id h ≡ Some p → r.routed ≡ Forward p (ctx.envelope (request_envelope id request)) → (slot : Slot) → slot_of id r.table.entries ≡ Some slot → slot.answer ≡ None → Goes ctx w id request h r
 
 -- a request that waits in a table
 pub record Waits_in (id : TxnId) (t : Table) : Type 0 where
@@ -116,7 +116,7 @@ pub record Waits_in (id : TxnId) (t : Table) : Type 0 where
   pub stands : slot_of id t.entries ≡ Some slot
   pub waits : slot.answer ≡ None
 
-routed_goes : (ctx : Context) (w : World) (id : TxnId) (request : List ℕ) (h : RequestHeader) (t : Table) (o : Option ℕ) → asked w id ≡ Some request → readable ctx request ≡ Some h → payer_for ctx h ≡ o
+routed_goes : (ctx : Context) (w : World) (id : TxnId) (request : List ℕ) (h : RequestHeader) (t : Table) (o : Option ℕ) → asked w id ≡ Some request → readable ctx request ≡ Some h → payer_for ctx id h ≡ o
     → ((p : ℕ) → o ≡ Some p → Waits_in id t) → Goes ctx w id request h (record { table = t; routed = routed_by ctx (request_envelope id request) h o })
 routed_goes ctx w id request h t None asks reads route there = Replies (rejection ctx h) (decided_unrouted ctx w id request h asks reads route) refl
 routed_goes ctx w id request h t (Some p) asks reads route there = let x = there p refl in Passes p route refl x.slot x.stands x.waits
@@ -126,7 +126,7 @@ fresh_there t id request None none p e = absurd cc
 fresh_there t id request (Some q) none p e =
     let slot : Slot = record { request = request; answer = None } in record { slot = slot; stands = entered_stands t id slot none; waits = refl }
 
-fresh_goes : (ctx : Context) (w : World) (id : TxnId) (request : List ℕ) (h : RequestHeader) (t : Table) (o : Option ℕ) → asked w id ≡ Some request → readable ctx request ≡ Some h → payer_for ctx h ≡ o → slot_of id t.entries ≡ None
+fresh_goes : (ctx : Context) (w : World) (id : TxnId) (request : List ℕ) (h : RequestHeader) (t : Table) (o : Option ℕ) → asked w id ≡ Some request → readable ctx request ≡ Some h → payer_for ctx id h ≡ o → slot_of id t.entries ≡ None
     → Goes ctx w id request h (record { table = entered_where t (request_envelope id request) o; routed = routed_by ctx (request_envelope id request) h o })
 fresh_goes ctx w id request h t o asks reads route none = routed_goes ctx w id request h (entered_where t (request_envelope id request) o) o asks reads route (fresh_there t id request o none)
 
@@ -134,7 +134,7 @@ again_goes : (ctx : Context) (w : World) (id : TxnId) (request : List ℕ) (h : 
     → ((a : List ℕ) → o ≡ Some a → decided ctx w id ≡ Some a) → Goes ctx w id request h (requested_again ctx t (request_envelope id request) h o)
 again_goes ctx w id request h t slot (Some a) asks reads stands is d = Replies a (d a refl) refl
 again_goes ctx w id request h t slot None asks reads stands is d =
-    routed_goes ctx w id request h t (payer_for ctx h) asks reads refl (λ p e. record { slot = slot; stands = stands; waits = is })
+    routed_goes ctx w id request h t (payer_for ctx id h) asks reads refl (λ p e. record { slot = slot; stands = stands; waits = is })
 
 -- what the switch makes of the request
 pub record Handled (ctx : Context) (w : World) (id : TxnId) (request : List ℕ) (h : RequestHeader) (t : Table) : Type 0 where
@@ -145,9 +145,9 @@ pub record Handled (ctx : Context) (w : World) (id : TxnId) (request : List ℕ)
 handled_by : (ctx : Context) (w : World) (id : TxnId) (request : List ℕ) (h : RequestHeader) (t : Table) (o : Option Slot) → asked w id ≡ Some request → readable ctx request ≡ Some h → AllByRecursion (SoundSlot ctx w) t.entries
     → slot_of id t.entries ≡ o → (r : Requested) × (requested_by ctx t (request_envelope id request) h o ≡ Ok r) × Goes ctx w id request h r
 handled_by ctx w id request h t None asks reads sound is = (
-  record { table = entered_where t (request_envelope id request) (payer_for ctx h); routed = routed_by ctx (request_envelope id request) h (payer_for ctx h) },
+  record { table = entered_where t (request_envelope id request) (payer_for ctx id h); routed = routed_by ctx (request_envelope id request) h (payer_for ctx id h) },
   refl,
-  fresh_goes ctx w id request h t (payer_for ctx h) asks reads refl is,
+  fresh_goes ctx w id request h t (payer_for ctx id h) asks reads refl is,
 )
 handled_by ctx w id request h t (Some slot) asks reads sound is =
     let s : SoundSlot ctx w (id, slot) = slot_found (SoundSlot ctx w) id t.entries slot sound is in

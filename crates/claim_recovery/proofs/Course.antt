@@ -148,7 +148,7 @@ arrived_by ctx given may w old id request m t q r before allows up known x answe
     let before_u : old ≤ length u.packets = omega (arith, before, grown_v, grown) in
     let fresh : old < length w.packets + 1 = omega (arith, before) in
     let replied : Replied ctx may u old id request m =
-    payer_replies ctx given may u old id request m p (length w.packets + 1) would.book would.handed would.answer ru before_u fresh allows.delivery allows.adjudication known_u (ap (payer_for ctx) (same_some known_u.header known.header (sym known_u.reads ∙ known.reads)) ∙ route) pay.up would.answers
+    payer_replies ctx given may u old id request m p (length w.packets + 1) would.book would.handed would.answer ru before_u fresh allows.delivery allows.adjudication known_u (ap (payer_for ctx id) (same_some known_u.header known.header (sym known_u.reads ∙ known.reads)) ∙ route) pay.up would.answers
     (pay.packets (length w.packets + 1) _ packet) in
     let up_v : numbered v.switches m ≡ Some (Up q.table) = numbered_put w.switches m (Up t) (Up q.table) up in
     let up_u : numbered u.switches m ≡ Some (Up q.table) = up_on v u m q.table pay.switches up_v in

@@ -99,9 +99,9 @@ row_before ctx w v id request payer x (OneRowMore b advice is fresh routed after
 
 needs_before : (ctx : Context) (w v : World) (id : TxnId) (request : List ℕ) (payer : ℕ) → asked w id ≡ Some request → LeavesOthers ctx w v id request → (x : TxnId) → needs_row ctx v payer x ≡ true → needs_row ctx w payer x ≡ true
 needs_before ctx w v id request payer asks l x h =
-    let p = and_parts (is_payer payer (option_and_then (payer_for ctx) (header_of ctx v x))) (is_none (row_at v payer x)) h in
-    and_from (is_payer payer (option_and_then (payer_for ctx) (header_of ctx w x))) (is_none (row_at w payer x))
-    (ap (λ (o : Option (List ℕ)). is_payer payer (option_and_then (payer_for ctx) (option_and_then (readable ctx) o))) (sym (asked_same ctx w v id request asks l x)) ∙ p.0)
+    let p = and_parts (is_payer payer (option_and_then (payer_for ctx x) (header_of ctx v x))) (is_none (row_at v payer x)) h in
+    and_from (is_payer payer (option_and_then (payer_for ctx x) (header_of ctx w x))) (is_none (row_at w payer x))
+    (ap (λ (o : Option (List ℕ)). is_payer payer (option_and_then (payer_for ctx x) (option_and_then (readable ctx) o))) (sym (asked_same ctx w v id request asks l x)) ∙ p.0)
     (row_before ctx w v id request payer x (l.books payer) p.1)
 
 -- ---- what one request takes
@@ -125,10 +125,10 @@ row_takes ctx b advice id request =
 header_is : (ctx : Context) (w : World) (id : TxnId) (request : List ℕ) (h : RequestHeader) → asked w id ≡ Some request → readable ctx request ≡ Some h → header_of ctx w id ≡ Some h
 header_is ctx w id request h asks reads = ap (option_and_then (readable ctx)) asks ∙ reads
 
-needs_it : (ctx : Context) (w : World) (id : TxnId) (request : List ℕ) (h : RequestHeader) (payer : ℕ) (b : Book) → asked w id ≡ Some request → readable ctx request ≡ Some h → payer_for ctx h ≡ Some payer → book_at w payer ≡ Some b → row_of id b.rows ≡ None → needs_row ctx w payer id ≡ true
+needs_it : (ctx : Context) (w : World) (id : TxnId) (request : List ℕ) (h : RequestHeader) (payer : ℕ) (b : Book) → asked w id ≡ Some request → readable ctx request ≡ Some h → payer_for ctx id h ≡ Some payer → book_at w payer ≡ Some b → row_of id b.rows ≡ None → needs_row ctx w payer id ≡ true
 needs_it ctx w id request h payer b asks reads route is fresh =
-    and_from (is_payer payer (option_and_then (payer_for ctx) (header_of ctx w id))) (is_none (row_at w payer id))
-    (ap (is_payer payer) (ap (option_and_then (payer_for ctx)) (header_is ctx w id request h asks reads) ∙ route) ∙ payer_self payer)
+    and_from (is_payer payer (option_and_then (payer_for ctx id) (header_of ctx w id))) (is_none (row_at w payer id))
+    (ap (is_payer payer) (ap (option_and_then (payer_for ctx id)) (header_is ctx w id request h asks reads) ∙ route) ∙ payer_self payer)
     (ap is_none (ap (option_and_then (λ (q : Book). row_of id q.rows)) is ∙ fresh))
 
 undecided_first : (ctx : Context) (w : World) (payer : ℕ) (id : TxnId) (more : List TxnId) → needs_row ctx w payer id ≡ true → undecided ctx w payer (id ∷ more) ≡ id ∷ undecided ctx w payer more
@@ -139,7 +139,7 @@ undecided_first ctx w payer id more e = Rattle.std.proofs.lemmas.Bool.cond-true 
 -- room for all is room for the first
 pub room_first : (ctx : Context) (given : WorldSettings) (w : World) (id : TxnId) (request : List ℕ) (more : List TxnId) → Reached ctx given w → IsOpen w id request → RoomForAll ctx w (id ∷ more) → Answerable ctx w id request
 room_first ctx given w id request more r o room = λ h payer reads route.
-    let there = book_there ctx given w h payer r route in
+    let there = book_there ctx given w id h payer r route in
     let b : Book = there.0 in
     let is : book_at w payer ≡ Some b = there.1 in
     let asks : asked w id ≡ Some request = open_asked w id request o in

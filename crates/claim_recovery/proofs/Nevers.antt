@@ -102,7 +102,7 @@ holds_on ctx P Q w payer (event ∷ events) k q h = holds_on ctx P Q (world_afte
 
 -- ---- no row, no answer
 
-undecided : (ctx : Context) (w : World) (id : TxnId) (request : List ℕ) (h : RequestHeader) (payer : ℕ) → asked w id ≡ Some request → readable ctx request ≡ Some h → payer_for ctx h ≡ Some payer → row_at w payer id ≡ None → decided ctx w id ≡ None
+undecided : (ctx : Context) (w : World) (id : TxnId) (request : List ℕ) (h : RequestHeader) (payer : ℕ) → asked w id ≡ Some request → readable ctx request ≡ Some h → payer_for ctx id h ≡ Some payer → row_at w payer id ≡ None → decided ctx w id ≡ None
 unfolding decided
 undecided ctx w id request h payer asks reads route none =
     ap (λ (o : Option (List ℕ)). decided_for ctx w id (option_and_then (readable ctx) o)) asks
@@ -141,7 +141,7 @@ room_in ctx b advice id request h None a is e = ltb-true _ _ (cond_ok (nat_lt (l
 
 room_of : (ctx : Context) (b : Book) (advice : List Ruling) (id : TxnId) (request : List ℕ) (o : Option RequestHeader) (a : Answered) → row_of id b.rows ≡ None → answered_readable ctx b advice id request o ≡ Ok a → length b.rows < b.settings.cap
 room_of ctx b advice id request None a none e = absurd cc
-room_of ctx b advice id request (Some h) a none e = room_in ctx b advice id request h (row_of id b.rows) a none (cond_ok (is_payer b.payer (payer_for ctx h)) (answered_by ctx b advice id request h (row_of id b.rows)) Refusal.NotOurs a e).1
+room_of ctx b advice id request (Some h) a none e = room_in ctx b advice id request h (row_of id b.rows) a none (cond_ok (is_payer b.payer (payer_for ctx id h)) (answered_by ctx b advice id request h (row_of id b.rows)) Refusal.NotOurs a e).1
 
 -- a new row needs room
 new_needs_room : (ctx : Context) (b : Book) (advice : List Ruling) (id : TxnId) (request : List ℕ) (a : Answered) → row_of id b.rows ≡ None → answered ctx b advice id request ≡ Ok a → length b.rows < b.settings.cap

@@ -38,20 +38,20 @@ use Rattle.claim_recovery.proofs.Recoveries.{recovered}
 use Rattle.claim_recovery.proofs.Serials.{rulings_fit}
 
 -- what the book answers to a request that is routed to it
-by_route : (ctx : Context) (b : Book) (advice : List Ruling) (id : TxnId) (request : List ℕ) (h : RequestHeader) (o : Option Row) (r : Result Answered Refusal) → readable ctx request ≡ Some h → payer_for ctx h ≡ Some b.payer → row_of id b.rows ≡ o → answered_by ctx b advice id request h o ≡ r
+by_route : (ctx : Context) (b : Book) (advice : List Ruling) (id : TxnId) (request : List ℕ) (h : RequestHeader) (o : Option Row) (r : Result Answered Refusal) → readable ctx request ≡ Some h → payer_for ctx id h ≡ Some b.payer → row_of id b.rows ≡ o → answered_by ctx b advice id request h o ≡ r
     → answered ctx b advice id request ≡ r
 unfolding answered
 by_route ctx b advice id request h o r reads route is e =
-    let test : is_payer b.payer (payer_for ctx h) ≡ true = subst (λ (q : Option ℕ). is_payer b.payer q ≡ true) (sym route) (payer_self b.payer) in
+    let test : is_payer b.payer (payer_for ctx id h) ≡ true = subst (λ (q : Option ℕ). is_payer b.payer q ≡ true) (sym route) (payer_self b.payer) in
     ap (answered_readable ctx b advice id request) reads
-    ∙ (cond-true (is_payer b.payer (payer_for ctx h)) (answered_by ctx b advice id request h (row_of id b.rows)) (Err Refusal.NotOurs) test
+    ∙ (cond-true (is_payer b.payer (payer_for ctx id h)) (answered_by ctx b advice id request h (row_of id b.rows)) (Err Refusal.NotOurs) test
     ∙ (ap (answered_by ctx b advice id request h) is ∙ e))
 
 nat_lt_from : (a b : ℕ) → a < b → nat_lt a b ≡ true
 nat_lt_from a b h = grind (arith, nat_tests)
 
 -- a new request whose rulings fit gets a row
-pub answers_new : (ctx : Context) (b : Book) (advice : List Ruling) (id : TxnId) (request : List ℕ) (h : RequestHeader) → readable ctx request ≡ Some h → payer_for ctx h ≡ Some b.payer → row_of id b.rows ≡ None → length b.rows < b.settings.cap → list_all serial_fits (new_row ctx b advice id request).rulings ≡ true → has_verdicts ctx b advice id request ≡ true
+pub answers_new : (ctx : Context) (b : Book) (advice : List Ruling) (id : TxnId) (request : List ℕ) (h : RequestHeader) → readable ctx request ≡ Some h → payer_for ctx id h ≡ Some b.payer → row_of id b.rows ≡ None → length b.rows < b.settings.cap → list_all serial_fits (new_row ctx b advice id request).rulings ≡ true → has_verdicts ctx b advice id request ≡ true
     → answered ctx b advice id request ≡ Ok (record { book = one_row_more ctx b advice id request; bytes = answer_text ctx h (new_row ctx b advice id request).rulings; kept = false })
 answers_new ctx b advice id request h reads route fresh room fits advised =
     by_route ctx b advice id request h None (Ok (record { book = one_row_more ctx b advice id request; bytes = answer_text ctx h (new_row ctx b advice id request).rulings; kept = false })) reads route fresh
@@ -60,7 +60,7 @@ answers_new ctx b advice id request h reads route fresh room fits advised =
     ∙ cond-true (has_verdicts ctx b advice id request) (Ok (record { book = one_row_more ctx b advice id request; bytes = answer_text ctx h (new_row ctx b advice id request).rulings; kept = false })) (Err Refusal.NotAdvised) advised))
 
 -- a known one gets its row's answer
-answers_known : (ctx : Context) (b : Book) (advice : List Ruling) (id : TxnId) (request : List ℕ) (h : RequestHeader) (row : Row) → readable ctx request ≡ Some h → payer_for ctx h ≡ Some b.payer → row_of id b.rows ≡ Some row → row.request ≡ request
+answers_known : (ctx : Context) (b : Book) (advice : List Ruling) (id : TxnId) (request : List ℕ) (h : RequestHeader) (row : Row) → readable ctx request ≡ Some h → payer_for ctx id h ≡ Some b.payer → row_of id b.rows ≡ Some row → row.request ≡ request
     → answered ctx b advice id request ≡ Ok (record { book = b; bytes = answer_text ctx h row.rulings; kept = true })
 answers_known ctx b advice id request h row reads route found same =
     by_route ctx b advice id request h (Some row) (Ok (record { book = b; bytes = answer_text ctx h row.rulings; kept = true })) reads route found
@@ -175,10 +175,10 @@ advice_answers ctx given w id request advice h payer b r x asks fresh room all =
     (verdicts_by ctx b (advice_in ctx advice) id request asks all)
 
 -- the payer of a route has a book
-pub book_there : (ctx : Context) (given : WorldSettings) (w : World) (h : RequestHeader) (payer : ℕ) → Reached ctx given w → payer_for ctx h ≡ Some payer → (b : Book) × (book_at w payer ≡ Some b)
-book_there ctx given w h payer r route =
+pub book_there : (ctx : Context) (given : WorldSettings) (w : World) (id : TxnId) (h : RequestHeader) (payer : ℕ) → Reached ctx given w → payer_for ctx id h ≡ Some payer → (b : Book) × (book_at w payer ≡ Some b)
+book_there ctx given w id h payer r route =
     let posted : Posted ctx given w = reached_posts ctx given w r in
-    let there = r.accepts.routes (route_key h) payer route in
+    let there = r.accepts.routes id.number (route_key h) payer route in
     let as_many = posted.payers in
     let within = there.1 in
     let s = numbered_exists w.payers payer there.0 (omega (arith, within, as_many)) in
@@ -187,7 +187,7 @@ book_there ctx given w h payer r route =
 -- an open entry for whose request its book has room would be answered
 pub answerable_with_room : (ctx : Context) (given : WorldSettings) (w : World) (id : TxnId) (request : List ℕ) → Reached ctx given w → IsOpen w id request → RoomInBook ctx w id request → Answerable ctx w id request
 answerable_with_room ctx given w id request r o room = λ h payer reads route.
-    let b = book_there ctx given w h payer r route in
+    let b = book_there ctx given w id h payer r route in
     room_answers ctx given w id request h payer b.0 r (record { asks = open_asked w id request o; reads = reads; route = route; book = b.1 }) (λ fresh. room h payer b.0 reads route b.1 fresh)
 
 pub recovered_with_room : (ctx : Context) (given : WorldSettings) (w : World) (id : TxnId) (request : List ℕ) (journal : JournalAtRest) → Reached ctx given w → Timely given → journal_at w id.pharmacy ≡ Some journal → IsOpen w id request → RoomInBook ctx w id request → Recovered ctx w journal id

@@ -173,14 +173,14 @@ rejected_after ctx given w journal id request h payer b product price plan r tim
     let changes : step ctx w (PlanChange payer product price) ≡ Done v [] = changes_plan ctx w payer b product price plan up e in
     let rv : Reached ctx given v = reached_on ctx given w v (PlanChange payer product price ∷ []) r (ap (world_after w) changes) in
     let book : book_at v payer ≡ Some b' = ap (option_map book_in) (numbered_put w.payers payer (Up b) (Up b') up) in
-    let route : payer_for ctx h ≡ Some b'.payer = x.route ∙ ap (λ (k : ℕ). Some k) (sym (book_sound ctx given w payer b (reached_sound ctx given w r) x.book).payer) in
+    let route : payer_for ctx id h ≡ Some b'.payer = x.route ∙ ap (λ (k : ℕ). Some k) (sym (book_sound ctx given w payer b (reached_sound ctx given w r) x.book).payer) in
     let fits : list_all serial_fits (new_row ctx b' unadvised id request).rulings ≡ true = unpriced_fit ctx b' unadvised (ruled_rows ctx b'.rows) id 1 (ctx.orders request) by_plan (none_priced ctx b plan request none) in
     let answer : Answered = record { book = one_row_more ctx b' unadvised id request; bytes = Rattle.claim_model.specs.Readable.answer_text ctx h (new_row ctx b' unadvised id request).rulings; kept = false } in
     let answers : answered ctx b' unadvised id request ≡ Ok answer =
     answers_new ctx b' unadvised id request h x.reads route fresh room fits (unasked_advised ctx b' unadvised (ruled_rows ctx b'.rows) id 1 (ctx.orders request) by_plan) in
     let answerable : Answerable ctx v id request = λ header other reads its_route.
     let same_header : header ≡ h = same_some header h (sym reads ∙ x.reads) in
-    let same : other ≡ payer = same_some other payer (sym its_route ∙ (ap (payer_for ctx) same_header ∙ x.route)) in
+    let same : other ≡ payer = same_some other payer (sym its_route ∙ (ap (payer_for ctx id) same_header ∙ x.route)) in
     record { book = b'; there = ap (book_at v) same ∙ book; handed = ByDelivery; answer = answer; answers = answers } in
     record {
       world = v;

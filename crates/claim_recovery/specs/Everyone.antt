@@ -42,7 +42,7 @@ header_of ctx w id = option_and_then (readable ctx) (asked w id)
 
 -- the request of an id is routed to this payer, whose book has no row of it yet
 abbrev pub needs_row : Context → World → ℕ → TxnId → Bool
-needs_row ctx w payer id = is_payer payer (option_and_then (payer_for ctx) (header_of ctx w id)) && is_none (row_at w payer id)
+needs_row ctx w payer id = is_payer payer (option_and_then (payer_for ctx id) (header_of ctx w id)) && is_none (row_at w payer id)
 
 -- those of some ids that a payer has not decided
 abbrev pub undecided : Context → World → ℕ → List TxnId → List TxnId

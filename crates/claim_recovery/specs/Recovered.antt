@@ -37,7 +37,7 @@ pub record WouldAnswer (ctx : Context) (w : World) (payer : ℕ) (id : TxnId) (r
 
 -- the premise on an entry: where its request has a route, the book of that payer would answer it. A request without a route needs nothing
 abbrev pub Answerable : Context → World → TxnId → List ℕ → Type 0
-Answerable ctx w id request = (header : RequestHeader) (payer : ℕ) → readable ctx request ≡ Some header → payer_for ctx header ≡ Some payer → WouldAnswer ctx w payer id request
+Answerable ctx w id request = (header : RequestHeader) (payer : ℕ) → readable ctx request ≡ Some header → payer_for ctx id header ≡ Some payer → WouldAnswer ctx w payer id request
 
 -- a list of accepted events that help, with at most this many ticks and starts and at most four deliveries, with an advice or without, after which the entry has an answer
 pub record RecoveredBy (ctx : Context) (w : World) (id : TxnId) (may : Event → Type 0) (ticks starts : ℕ) : Type 0 where
@@ -63,15 +63,15 @@ abbrev pub one_row_more : Context → Book → List Ruling → TxnId → List �
 one_row_more ctx b advice id request = record { payer = b.payer; settings = b.settings; plan = b.plan; rows = b.rows ++ new_row ctx b advice id request ∷ [] }
 
 -- the payer of the route of a request
-pub record IsRouted (ctx : Context) (request : List ℕ) (payer : ℕ) : Type 0 where
+pub record IsRouted (ctx : Context) (id : TxnId) (request : List ℕ) (payer : ℕ) : Type 0 where
   pub header : RequestHeader
   pub reads : readable ctx request ≡ Some header
-  pub route : payer_for ctx header ≡ Some payer
+  pub route : payer_for ctx id header ≡ Some payer
 
 -- a book is as it was; or it is of the payer of the route, had no row of the id, and has this one row more
 pub data BookLeft (ctx : Context) (id : TxnId) (request : List ℕ) (payer : ℕ) (before after : Option Book) : Type 0 where
   AsItWas : after ≡ before → BookLeft ctx id request payer before after
-  OneRowMore : (b : Book) → (advice : List Ruling) → before ≡ Some b → row_of id b.rows ≡ None → IsRouted ctx request payer → after ≡ Some (one_row_more ctx b advice id request) → BookLeft ctx id request payer before after
+  OneRowMore : (b : Book) → (advice : List Ruling) → before ≡ Some b → row_of id b.rows ≡ None → IsRouted ctx id request payer → after ≡ Some (one_row_more ctx b advice id request) → BookLeft ctx id request payer before after
 
 -- what a recovery leaves as it was. The tables of switches are not named here: a full one may lose its oldest entry
 pub record LeavesOthers (ctx : Context) (w v : World) (id : TxnId) (request : List ℕ) : Type 0 where

@@ -23,12 +23,12 @@ pub record HasRoom (ctx : Context) (b : Book) (transactions : ℕ) : Type 0 wher
 pub record IsAskedOf (ctx : Context) (w : World) (id : TxnId) (request : List ℕ) (header : RequestHeader) (payer : ℕ) (b : Book) : Type 0 where
   pub asks : asked w id ≡ Some request
   pub reads : readable ctx request ≡ Some header
-  pub route : payer_for ctx header ≡ Some payer
+  pub route : payer_for ctx id header ≡ Some payer
   pub book : book_at w payer ≡ Some b
 
 -- the book of the route of a request has its row, or room for one and serials for its transactions
 abbrev pub RoomInBook : Context → World → TxnId → List ℕ → Type 0
-RoomInBook ctx w id request = (header : RequestHeader) (payer : ℕ) (b : Book) → readable ctx request ≡ Some header → payer_for ctx header ≡ Some payer → book_at w payer ≡ Some b → row_of id b.rows ≡ None → HasRoom ctx b header.count
+RoomInBook ctx w id request = (header : RequestHeader) (payer : ℕ) (b : Book) → readable ctx request ≡ Some header → payer_for ctx id header ≡ Some payer → book_at w payer ≡ Some b → row_of id b.rows ≡ None → HasRoom ctx b header.count
 
 -- no node holds an answer to this id after any list of such events
 abbrev pub Never : Context → World → TxnId → (Event → Type 0) → Type 0

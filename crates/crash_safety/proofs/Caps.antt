@@ -31,7 +31,7 @@ again_cap ctx t e h None = refl
 again_cap ctx t e h (Some answer) = refl
 
 by_slot_cap : (ctx : Context) (t : Table) (e : Envelope) (h : RequestHeader) (o : Option Slot) → RequestedKeeps t.cap (requested_by ctx t e h o)
-by_slot_cap ctx t e h None = entered_cap t e (payer_for ctx h)
+by_slot_cap ctx t e h None = entered_cap t e (payer_for ctx e.id h)
 by_slot_cap ctx t e h (Some slot) = or_refused t.cap (bytes_eq slot.request e.payload) (Ok (requested_again ctx t e h slot.answer)) Refusal.NumberReused (again_cap ctx t e h slot.answer)
 
 readable_cap : (ctx : Context) (t : Table) (e : Envelope) (o : Option RequestHeader) → RequestedKeeps t.cap (requested_readable ctx t e o)

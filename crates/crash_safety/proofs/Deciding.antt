@@ -78,8 +78,8 @@ header_so : (ctx : Context) (packets : List Packet) (n m : ℕ) (bytes request :
     → readable ctx e.payload ≡ o → rejected_by ctx bytes e o ≡ true → Heard ctx packets n m bytes
 header_so ctx packets n m bytes request e None a reads asks readable_is passes = absurd cc
 header_so ctx packets n m bytes request e (Some h) a reads asks readable_is passes =
-    let c = and_parts (is_none (payer_for ctx h)) (bytes_eq bytes (ctx.envelope (answer_envelope e.id (rejection ctx h)))) passes in
-    Heard_rejection request e h a reads asks readable_is (no_route (payer_for ctx h) c.0) (bytes_same bytes (ctx.envelope (answer_envelope e.id (rejection ctx h))) c.1)
+    let c = and_parts (is_none (payer_for ctx e.id h)) (bytes_eq bytes (ctx.envelope (answer_envelope e.id (rejection ctx h)))) passes in
+    Heard_rejection request e h a reads asks readable_is (no_route (payer_for ctx e.id h) c.0) (bytes_same bytes (ctx.envelope (answer_envelope e.id (rejection ctx h))) c.1)
 
 envelope_so : (ctx : Context) (packets : List Packet) (n m : ℕ) (bytes request : List ℕ) (o : Result Envelope EnvelopeFault) → IsAmong packets (packet (Pharmacy n) (Switch m) request) → ctx.read_envelope request ≡ o → rejected_in ctx bytes o ≡ true → Heard ctx packets n m bytes
 envelope_so ctx packets n m bytes request (Err f) a reads passes = absurd cc
@@ -142,12 +142,12 @@ passes_answer m bytes k = and_from (same_node (Switch m) (Switch m)) (bytes_eq b
 passes_asks : (m : ℕ) (bytes : List ℕ) (k : ℕ) → asks_so m bytes (packet (Pharmacy k) (Switch m) bytes) ≡ true
 passes_asks m bytes k = and_from (same_node (Switch m) (Switch m)) (bytes_eq bytes bytes) (same_self (Switch m)) (bytes_self bytes)
 
-passes_rejection : (ctx : Context) (n m : ℕ) (bytes request : List ℕ) (e : Envelope) (h : RequestHeader) → ctx.read_envelope request ≡ Ok e → is_request e ≡ true → readable ctx e.payload ≡ Some h → payer_for ctx h ≡ None
+passes_rejection : (ctx : Context) (n m : ℕ) (bytes request : List ℕ) (e : Envelope) (h : RequestHeader) → ctx.read_envelope request ≡ Ok e → is_request e ≡ true → readable ctx e.payload ≡ Some h → payer_for ctx e.id h ≡ None
     → bytes ≡ ctx.envelope (answer_envelope e.id (rejection ctx h)) → rejected_so ctx n m bytes (packet (Pharmacy n) (Switch m) request) ≡ true
 passes_rejection ctx n m bytes request e h reads asks readable_is route spelled =
     let fixed = ctx.envelope (answer_envelope e.id (rejection ctx h)) in
     let same : bytes_eq bytes fixed ≡ true = ap (λ (b : List ℕ). bytes_eq b fixed) spelled ∙ bytes_self fixed in
-    let by : rejected_by ctx bytes e (Some h) ≡ true = and_from (is_none (payer_for ctx h)) (bytes_eq bytes fixed) (ap is_none route) same in
+    let by : rejected_by ctx bytes e (Some h) ≡ true = and_from (is_none (payer_for ctx e.id h)) (bytes_eq bytes fixed) (ap is_none route) same in
     let into : rejected_in ctx bytes (Ok e) ≡ true = and_from (is_request e) (rejected_by ctx bytes e (readable ctx e.payload)) asks (ap (rejected_by ctx bytes e) readable_is ∙ by) in
     and_from (same_node (Pharmacy n) (Pharmacy n)) (same_node (Switch m) (Switch m) && rejected_in ctx bytes (ctx.read_envelope request)) (same_self (Pharmacy n))
     (and_from (same_node (Switch m) (Switch m)) (rejected_in ctx bytes (ctx.read_envelope request)) (same_self (Switch m)) (ap (rejected_in ctx bytes) reads ∙ into))

@@ -102,7 +102,7 @@ pub record Source (ctx : Context) (packets : List Packet) (m : ℕ) (bytes : Lis
   pub reads : ctx.read_envelope request ≡ Ok envelope
   pub asks : is_request envelope ≡ true
   pub readable_is : readable ctx envelope.payload ≡ Some header
-  pub routed : payer_for ctx header ≡ Some payer
+  pub routed : payer_for ctx envelope.id header ≡ Some payer
   pub same : (r : Envelope) → ctx.read_envelope bytes ≡ Ok r → r.id ≡ envelope.id
 
 source_later : (ctx : Context) (packets more : List Packet) (m : ℕ) (bytes : List ℕ) → Source ctx packets m bytes → Source ctx (packets ++ more) m bytes
@@ -255,7 +255,7 @@ payer_gets ctx s w n from bytes next sent m k r up t same a =
     let e = t.carries.envelope in
     let reads = carries_reads ctx w bytes r.laws t.carries in
     let at = switch_there ctx s w (Pharmacy k) m bytes e r up a reads in
-    let routed : payer_for ctx t.ruled.header ≡ Some n = t.ruled.routed ∙ ap (λ (x : ℕ). Some x) t.payer in
+    let routed : payer_for ctx e.id t.ruled.header ≡ Some n = t.ruled.routed ∙ ap (λ (x : ℕ). Some x) t.payer in
     let f = forwards ctx s w m at.0 (Pharmacy k) bytes e t.ruled.header n r at.1 a reads t.asks t.ruled.reads routed in
     relayed ctx s w m (Payer n) from bytes (packet (Switch m) (Payer n) (ctx.envelope e)) up (relays_of ctx s w m at.0.cap n e f) (ap (packet (Switch m) (Payer n)) (sym t.carries.spells)) same
 

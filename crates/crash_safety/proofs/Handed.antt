@@ -5,7 +5,7 @@ use Rattle.std.specs.List.{AllByRecursion}
 use Rattle.std.proofs.lemmas.List.{append-nil, take-append-drop}
 use Rattle.claim_model.specs.Words.{TxnId, Envelope}
 use Rattle.claim_model.specs.Context.{Context}
-use Rattle.claim_model.specs.Readable.{readable, rejection, is_request, answer_envelope}
+use Rattle.claim_model.specs.Readable.{readable, payer_for, rejection, is_request, answer_envelope}
 use Rattle.claim_model.specs.Held.{decided, held}
 use Rattle.claim_model.specs.Local.{Follows}
 use Rattle.claim_model.specs.Laws.{Laws}
@@ -646,7 +646,7 @@ heard_carries ctx s v packets n m bytes laws x f (Heard_rejection request e h a 
     let same : c.envelope ≡ e = same_ok c.envelope e (sym (carries_reads ctx v request laws c) ∙ reads) in
     let says = request_says ctx v request c (ap is_request same ∙ asks) in
     let reads_c : readable ctx c.envelope.payload ≡ Some h = ap (λ (y : Envelope). readable ctx y.payload) same ∙ readable_is in
-    let d = decided_unrouted ctx v c.envelope.id c.envelope.payload h says reads_c route in
+    let d = decided_unrouted ctx v c.envelope.id c.envelope.payload h says reads_c (ap (λ (y : Envelope). payer_for ctx y.id h) same ∙ route) in
     subst (Carries ctx v) (ap (λ (y : Envelope). ctx.envelope (answer_envelope y.id (rejection ctx h))) same ∙ sym spelled) (carries_answer ctx s v request c (rejection ctx h) laws x d)
 
 sound_explained : (ctx : Context) (s : WorldSettings) (v : World) (packets : List Packet) (n : ℕ) (call : Call) → Laws ctx → Sound ctx s v → ((p : Packet) → IsAmong packets p → IsAmong v.packets p) → IsExplained ctx packets (Pharmacy n) call → SoundCall ctx v call

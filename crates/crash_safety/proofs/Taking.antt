@@ -154,12 +154,12 @@ files_order ctx s moves laws accepts =
 
 -- ---- other routes
 
-heard_over : (ctx : Context) (route : RouteKey → Option ℕ) (packets : List Packet) (n m : ℕ) (from : Node) (bytes : List ℕ) → RejectionStays ctx route (Pharmacy n) (Take from bytes) → Heard ctx packets n m bytes → Heard (rerouted ctx route) packets n m bytes
+heard_over : (ctx : Context) (route : ℕ → RouteKey → Option ℕ) (packets : List Packet) (n m : ℕ) (from : Node) (bytes : List ℕ) → RejectionStays ctx route (Pharmacy n) (Take from bytes) → Heard ctx packets n m bytes → Heard (rerouted ctx route) packets n m bytes
 heard_over ctx route packets n m from bytes stays (Heard_answer payer a) = Heard_answer payer a
 heard_over ctx route packets n m from bytes stays (Heard_rejection request e h a reads asks readable_is none spelled) =
     Heard_rejection request e h a reads asks (reads_same ctx route e.payload ∙ readable_is) (stays e h spelled asks readable_is none) spelled
 
-call_over : (ctx : Context) (route : RouteKey → Option ℕ) (packets : List Packet) (node : Node) (call : Call) → RejectionStays ctx route node call → IsExplained ctx packets node call → IsExplained (rerouted ctx route) packets node call
+call_over : (ctx : Context) (route : ℕ → RouteKey → Option ℕ) (packets : List Packet) (node : Node) (call : Call) → RejectionStays ctx route node call → IsExplained ctx packets node call → IsExplained (rerouted ctx route) packets node call
 call_over ctx route packets (Pharmacy n) (Take from bytes) stays x = (x.0, x.1, heard_over ctx route packets n x.0 from bytes stays x.2)
 call_over ctx route packets (Pharmacy n) (Submit text) stays x = x
 call_over ctx route packets (Pharmacy n) Tick stays x = x
@@ -176,7 +176,7 @@ call_over ctx route packets (Payer n) (Reprice product price) stays x = x
 call_over ctx route packets (Payer n) (Adjudicate from bytes advice) stays x = x
 call_over ctx route packets (Switch m) call stays x = x
 
-pub goes_over : (ctx : Context) (route : RouteKey → Option ℕ) (packets : List Packet) (turns : List Turn) → AllByRecursion (λ (t : Turn). RejectionStays ctx route t.node t.logged.call) turns
+pub goes_over : (ctx : Context) (route : ℕ → RouteKey → Option ℕ) (packets : List Packet) (turns : List Turn) → AllByRecursion (λ (t : Turn). RejectionStays ctx route t.node t.logged.call) turns
     → Explained ctx packets turns → Explained (rerouted ctx route) packets turns
 goes_over ctx route packets [] stays x = tt
 goes_over ctx route packets (t ∷ turns) stays x = (call_over ctx route packets t.node t.logged.call stays.0 x.0, goes_over ctx route (packets ++ sent_in t) turns stays.1 x.1)

@@ -258,7 +258,7 @@ leading ctx s moves more w h =
     ]
 
 -- the row's answer comes again
-row_again : (ctx : Context) (s : WorldSettings) (v : World) (id : TxnId) (a request : List ℕ) (h : RequestHeader) (n : ℕ) (row : Row) → Sound ctx s v → submitted_under v id ≡ Some request → readable ctx request ≡ Some h → payer_for ctx h ≡ Some n
+row_again : (ctx : Context) (s : WorldSettings) (v : World) (id : TxnId) (a request : List ℕ) (h : RequestHeader) (n : ℕ) (row : Row) → Sound ctx s v → submitted_under v id ≡ Some request → readable ctx request ≡ Some h → payer_for ctx id h ≡ Some n
     → row_at v n id ≡ Some row → decided ctx v id ≡ Some a → ComesAgain ctx v id a
 unfolding answered
 row_again ctx s v id a request h n row x asks reads route at d =
@@ -267,11 +267,11 @@ row_again ctx s v id a request h n row x asks reads route at d =
     let t = row_there ctx s v n id row x at in
     let same : row.request ≡ request = same_some row.request request (sym t.sound.asks ∙ (ap (submitted_under v) t.same ∙ asks)) in
     let text : answer_text ctx h row.rulings ≡ a = same_some (answer_text ctx h row.rulings) a (sym (decided_routed ctx v id request h n row asks reads route at same) ∙ d) in
-    let ours : is_payer b.0.payer (payer_for ctx h) ≡ true = ap (is_payer b.0.payer) (route ∙ ap (λ (k : ℕ). Some k) (sym sb.payer)) ∙ payer_self b.0.payer in
+    let ours : is_payer b.0.payer (payer_for ctx id h) ≡ true = ap (is_payer b.0.payer) (route ∙ ap (λ (k : ℕ). Some k) (sym sb.payer)) ∙ payer_self b.0.payer in
     let known : Rattle.std.specs.Prelude.bytes_eq row.request request ≡ true = ap (λ (q : List ℕ). Rattle.std.specs.Prelude.bytes_eq q request) same ∙ bytes_self request in
     From_row request h n b.0 asks reads route b.1
     (λ advice. ap (answered_readable ctx b.0 advice id request) reads
-    ∙ (cond-true (is_payer b.0.payer (payer_for ctx h)) (answered_by ctx b.0 advice id request h (row_of id b.0.rows)) (Err Refusal.NotOurs) ours
+    ∙ (cond-true (is_payer b.0.payer (payer_for ctx id h)) (answered_by ctx b.0 advice id request h (row_of id b.0.rows)) (Err Refusal.NotOurs) ours
     ∙ (ap (answered_by ctx b.0 advice id request h) b.2
     ∙ (cond-true (Rattle.std.specs.Prelude.bytes_eq row.request request) (Ok (record { book = b.0; bytes = answer_text ctx h row.rulings; kept = true })) (Err Refusal.NumberReused) known
     ∙ ap (λ (y : List ℕ). Ok (record { book = b.0; bytes = y; kept = true })) text))))
@@ -324,21 +324,21 @@ told_for_good_here = λ ctx s moves more id a w laws accepts told h.
 -- ---- routes that grow
 
 -- other routes read the same
-pub reads_same : (ctx : Context) (route : RouteKey → Option ℕ) (text : List ℕ) → readable (rerouted ctx route) text ≡ readable ctx text
+pub reads_same : (ctx : Context) (route : ℕ → RouteKey → Option ℕ) (text : List ℕ) → readable (rerouted ctx route) text ≡ readable ctx text
 unfolding readable
 reads_same ctx route text = refl
 
-decided_by_same : (ctx : Context) (route : RouteKey → Option ℕ) (w : World) (id : TxnId) (h : RequestHeader) (payer : ℕ) → decided_by (rerouted ctx route) w id h (Some payer) ≡ decided_by ctx w id h (Some payer)
+decided_by_same : (ctx : Context) (route : ℕ → RouteKey → Option ℕ) (w : World) (id : TxnId) (h : RequestHeader) (payer : ℕ) → decided_by (rerouted ctx route) w id h (Some payer) ≡ decided_by ctx w id h (Some payer)
 unfolding readable
 decided_by_same ctx route w id h payer = refl
 
-decided_is : (ctx : Context) (w : World) (id : TxnId) (request : List ℕ) (h : RequestHeader) → submitted_under w id ≡ Some request → readable ctx request ≡ Some h → decided ctx w id ≡ decided_by ctx w id h (payer_for ctx h)
+decided_is : (ctx : Context) (w : World) (id : TxnId) (request : List ℕ) (h : RequestHeader) → submitted_under w id ≡ Some request → readable ctx request ≡ Some h → decided ctx w id ≡ decided_by ctx w id h (payer_for ctx id h)
 unfolding decided
 decided_is ctx w id request h asks reads =
     ap (λ (o : Option (List ℕ)). decided_for ctx w id (option_and_then (readable ctx) o)) asks ∙ ap (decided_for ctx w id) reads
 
-pub answers_outlive : (ctx : Context) (route : RouteKey → Option ℕ) (w : World) (id : TxnId) (request a : List ℕ) (h : RequestHeader) (payer : ℕ) → IsAsked ctx w id request h → payer_for ctx h ≡ Some payer
-    → route (route_key h) ≡ Some payer → decided ctx w id ≡ Some a → decided (rerouted ctx route) w id ≡ Some a
+pub answers_outlive : (ctx : Context) (route : ℕ → RouteKey → Option ℕ) (w : World) (id : TxnId) (request a : List ℕ) (h : RequestHeader) (payer : ℕ) → IsAsked ctx w id request h → payer_for ctx id h ≡ Some payer
+    → route id.number (route_key h) ≡ Some payer → decided ctx w id ≡ Some a → decided (rerouted ctx route) w id ≡ Some a
 answers_outlive ctx route w id request a h payer x old new d =
     let wider = rerouted ctx route in
     decided_is wider w id request h x.submitted (reads_same ctx route request ∙ x.reads)
@@ -347,14 +347,14 @@ answers_outlive ctx route w id request a h payer x old new d =
     ∙ (sym (ap (decided_by ctx w id h) old)
     ∙ (sym (decided_is ctx w id request h x.submitted x.reads) ∙ d))))
 
-pub rejections_outlive : (ctx : Context) (route : RouteKey → Option ℕ) (w : World) (id : TxnId) (request : List ℕ) (h : RequestHeader) → IsAsked ctx w id request h → payer_for ctx h ≡ None
-    → route (route_key h) ≡ None → decided (rerouted ctx route) w id ≡ Some (rejection ctx h)
+pub rejections_outlive : (ctx : Context) (route : ℕ → RouteKey → Option ℕ) (w : World) (id : TxnId) (request : List ℕ) (h : RequestHeader) → IsAsked ctx w id request h → payer_for ctx id h ≡ None
+    → route id.number (route_key h) ≡ None → decided (rerouted ctx route) w id ≡ Some (rejection ctx h)
 rejections_outlive ctx route w id request h x old new =
     let wider = rerouted ctx route in
     decided_is wider w id request h x.submitted (reads_same ctx route request ∙ x.reads) ∙ ap (decided_by wider w id h) new
 
-pub rejections_undone : (ctx : Context) (route : RouteKey → Option ℕ) (w : World) (id : TxnId) (request : List ℕ) (h : RequestHeader) (payer : ℕ) → IsAsked ctx w id request h → payer_for ctx h ≡ None
-    → route (route_key h) ≡ Some payer → row_at w payer id ≡ None → (decided ctx w id ≡ Some (rejection ctx h)) × (decided (rerouted ctx route) w id ≡ None)
+pub rejections_undone : (ctx : Context) (route : ℕ → RouteKey → Option ℕ) (w : World) (id : TxnId) (request : List ℕ) (h : RequestHeader) (payer : ℕ) → IsAsked ctx w id request h → payer_for ctx id h ≡ None
+    → route id.number (route_key h) ≡ Some payer → row_at w payer id ≡ None → (decided ctx w id ≡ Some (rejection ctx h)) × (decided (rerouted ctx route) w id ≡ None)
 rejections_undone ctx route w id request h payer x old new none =
     let wider = rerouted ctx route in (
       decided_unrouted ctx w id request h x.submitted x.reads old,
@@ -379,7 +379,7 @@ new_answer ctx s w id request h b advice a well reached reads none at r (New fre
     let fixed = rejection_spells ctx request h reached.laws reads in
     other (other_rulings ctx r.header h row.rulings (bad_bins h) (answer_text ctx r.header row.rulings) (rejection ctx h) spells fixed (sym text ∙ e))
 
-pub another_answer : (ctx : Context) (s : WorldSettings) (route : RouteKey → Option ℕ) (w : World) (id : TxnId) (request : List ℕ) (h : RequestHeader) (b : Book) (advice : List Ruling) (a : Answered) → AdvisesWell advice → Reached (rerouted ctx route) s w
+pub another_answer : (ctx : Context) (s : WorldSettings) (route : ℕ → RouteKey → Option ℕ) (w : World) (id : TxnId) (request : List ℕ) (h : RequestHeader) (b : Book) (advice : List Ruling) (a : Answered) → AdvisesWell advice → Reached (rerouted ctx route) s w
     → IsAsked ctx w id request h → row_of id b.rows ≡ None → book_at w b.payer ≡ Some b → answered (rerouted ctx route) b advice id request ≡ Ok a
     → ((new_row (rerouted ctx route) b advice id request).rulings ≡ bad_bins h → ⊥) → a.bytes ≡ rejection ctx h → ⊥
 another_answer ctx s route w id request h b advice a well reached x none at is other e =

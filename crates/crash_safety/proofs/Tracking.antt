@@ -298,14 +298,14 @@ module _ (ctx : Context) (packets : List Packet) (m k : ℕ) (bytes : List ℕ) 
   RoutedTracked : Routed → Type 0
   RoutedTracked r = SentTracked ctx packets (Switch m) (to_payer_or_back (Pharmacy e.id.pharmacy) r)
 
-  routed_tracked : (h : RequestHeader) (o : Option ℕ) → readable ctx e.payload ≡ Some h → payer_for ctx h ≡ o → SentTracked ctx packets (Switch m) (to_payer_or_back (Pharmacy e.id.pharmacy) (routed_by ctx e h o))
+  routed_tracked : (h : RequestHeader) (o : Option ℕ) → readable ctx e.payload ≡ Some h → payer_for ctx e.id h ≡ o → SentTracked ctx packets (Switch m) (to_payer_or_back (Pharmacy e.id.pharmacy) (routed_by ctx e h o))
   routed_tracked h None r route = Heard_rejection bytes e h (subst (λ (n : ℕ). IsAmong packets (packet (Pharmacy n) (Switch m) bytes)) (sym own) among) reads asks r route refl
   routed_tracked h (Some n) r route = (k, subst (λ (b : List ℕ). IsAmong packets (packet (Pharmacy k) (Switch m) b)) spells among)
 
   again_tracked : (t : Table) (h : RequestHeader) (o : Option (List ℕ)) → readable ctx e.payload ≡ Some h → ((a : List ℕ) → o ≡ Some a → (n : ℕ) × IsAmong packets (packet (Payer n) (Switch m) (ctx.envelope (answer_envelope e.id a))))
       → SentTracked ctx packets (Switch m) (to_payer_or_back (Pharmacy e.id.pharmacy) (requested_again ctx t e h o).routed)
   again_tracked t h (Some a) r f = let x = f a refl in Heard_answer x.0 x.1
-  again_tracked t h None r f = routed_tracked h (payer_for ctx h) r refl
+  again_tracked t h None r f = routed_tracked h (payer_for ctx e.id h) r refl
 
   same_table : (t : Table) (h : RequestHeader) (o : Option (List ℕ)) → (requested_again ctx t e h o).table ≡ t
   same_table t h (Some a) = refl
@@ -327,7 +327,7 @@ module _ (ctx : Context) (packets : List Packet) (m k : ℕ) (bytes : List ℕ) 
   slot_tracked : (t : Table) (h : RequestHeader) (o : Option Slot) (next : Power Table ℕ) (sent : List Sent) → AllByRecursion (SlotSource ctx packets m) t.entries → readable ctx e.payload ≡ Some h → slot_of e.id t.entries ≡ o
       → after_request e.id (requested_by ctx t e h o) ≡ Done next sent → SwitchTracked ctx packets m next sent
   slot_tracked t h None next sent all r is d =
-      request_after t (record { table = entered_where t e (payer_for ctx h); routed = routed_by ctx e h (payer_for ctx h) }) next sent (entered_tracked t (payer_for ctx h) all) (routed_tracked h (payer_for ctx h) r refl) d
+      request_after t (record { table = entered_where t e (payer_for ctx e.id h); routed = routed_by ctx e h (payer_for ctx e.id h) }) next sent (entered_tracked t (payer_for ctx e.id h) all) (routed_tracked h (payer_for ctx e.id h) r refl) d
   slot_tracked t h (Some slot) next sent all r is d = by_test (bytes_eq slot.request e.payload) d
     where
       by_test : (b : Bool) → after_request e.id (cond b (Ok (requested_again ctx t e h slot.answer)) (Err Refusal.NumberReused)) ≡ Done next sent → SwitchTracked ctx packets m next sent

@@ -131,7 +131,7 @@ nothing_dropped false = refl
 abbrev empty_table : ℕ → Table
 empty_table c = record { cap = c; entries = [] }
 
-forward_step : (ctx : Context) (c : ℕ) (from : Node) (bytes : List ℕ) (e : Envelope) (h : RequestHeader) (n : ℕ) → ctx.read_envelope bytes ≡ Ok e → is_request e ≡ true → readable ctx e.payload ≡ Some h → payer_for ctx h ≡ Some n
+forward_step : (ctx : Context) (c : ℕ) (from : Node) (bytes : List ℕ) (e : Envelope) (h : RequestHeader) (n : ℕ) → ctx.read_envelope bytes ≡ Ok e → is_request e ≡ true → readable ctx e.payload ≡ Some h → payer_for ctx e.id h ≡ Some n
     → node_step ctx (empty_switch c) (Take from bytes) ≡ Done (OfSwitch (Up (waiting c e))) (record { to = Payer n; bytes = ctx.envelope e } ∷ [])
 unfolding requested
 forward_step ctx c from bytes e h n reads is r route =
@@ -141,7 +141,7 @@ forward_step ctx c from bytes e h n reads is r route =
     ∙ (ap (λ (o : Option ℕ). as_node OfSwitch (after_request e.id (Ok (record { table = entered_where (empty_table c) e o; routed = routed_by ctx e h o })))) route
     ∙ ap (λ (es : List (TxnId × Slot)). Done (OfSwitch (Up (record { cap = c; entries = es ++ (e.id, record { request = e.payload; answer = None }) ∷ [] }))) (record { to = Payer n; bytes = ctx.envelope e } ∷ [])) (nothing_dropped (nat_lt 0 c)))))
 
-reject_step : (ctx : Context) (c : ℕ) (from : Node) (bytes : List ℕ) (e : Envelope) (h : RequestHeader) → ctx.read_envelope bytes ≡ Ok e → is_request e ≡ true → readable ctx e.payload ≡ Some h → payer_for ctx h ≡ None
+reject_step : (ctx : Context) (c : ℕ) (from : Node) (bytes : List ℕ) (e : Envelope) (h : RequestHeader) → ctx.read_envelope bytes ≡ Ok e → is_request e ≡ true → readable ctx e.payload ≡ Some h → payer_for ctx e.id h ≡ None
     → node_step ctx (empty_switch c) (Take from bytes) ≡ Done (empty_switch c) (record { to = Pharmacy e.id.pharmacy; bytes = ctx.envelope (answer_envelope e.id (rejection ctx h)) } ∷ [])
 unfolding requested
 reject_step ctx c from bytes e h reads is r route =
@@ -183,7 +183,7 @@ delivers : (packets : List Packet) (from to : Node) (bytes : List ℕ) → (a : 
 delivers packets from to bytes a = ap (option_map taking) a.is
 
 pub forwards : (ctx : Context) (s : WorldSettings) (w : World) (m : ℕ) (t : Table) (from : Node) (bytes : List ℕ) (e : Envelope) (h : RequestHeader) (n : ℕ) → Reached ctx s w → node_at w (Switch m) ≡ Some (OfSwitch (Up t))
-    → IsAmong w.packets (packet from (Switch m) bytes) → ctx.read_envelope bytes ≡ Ok e → is_request e ≡ true → readable ctx e.payload ≡ Some h → payer_for ctx h ≡ Some n → Forwards ctx s w m t.cap n e
+    → IsAmong w.packets (packet from (Switch m) bytes) → ctx.read_envelope bytes ≡ Ok e → is_request e ≡ true → readable ctx e.payload ≡ Some h → payer_for ctx e.id h ≡ Some n → Forwards ctx s w m t.cap n e
 forwards ctx s w m t from bytes e h n r is among reads request readable_is route =
     let a = emptied ctx s w m t r is in
     let there = a.way.grows (packet from (Switch m) bytes) among in
@@ -193,7 +193,7 @@ forwards ctx s w m t from bytes e h n r is among reads request readable_is route
     record { v = b.v; way = way_then ctx s w a.v b.v m a.way b.way; at = b.at; sent = b.new (packet (Switch m) (Payer n) (ctx.envelope e)) (first_among (packet (Switch m) (Payer n) (ctx.envelope e))) }
 
 pub rejects : (ctx : Context) (s : WorldSettings) (w : World) (m : ℕ) (t : Table) (from : Node) (bytes : List ℕ) (e : Envelope) (h : RequestHeader) → Reached ctx s w → node_at w (Switch m) ≡ Some (OfSwitch (Up t))
-    → IsAmong w.packets (packet from (Switch m) bytes) → ctx.read_envelope bytes ≡ Ok e → is_request e ≡ true → readable ctx e.payload ≡ Some h → payer_for ctx h ≡ None
+    → IsAmong w.packets (packet from (Switch m) bytes) → ctx.read_envelope bytes ≡ Ok e → is_request e ≡ true → readable ctx e.payload ≡ Some h → payer_for ctx e.id h ≡ None
     → Relays ctx s w m (packet (Switch m) (Pharmacy e.id.pharmacy) (ctx.envelope (answer_envelope e.id (rejection ctx h))))
 rejects ctx s w m t from bytes e h r is among reads request readable_is route =
     let a = emptied ctx s w m t r is in

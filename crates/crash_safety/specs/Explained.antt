@@ -33,7 +33,7 @@ packet from to bytes = record { from = from; to = to; bytes = bytes }
 pub data Heard (ctx : Context) (packets : List Packet) (pharmacy switch : ℕ) (bytes : List ℕ) : Type 0 where
   Answer : (payer : ℕ) → IsAmong packets (packet (Payer payer) (Switch switch) bytes) → Heard ctx packets pharmacy switch bytes
   Rejection : (request : List ℕ) → (e : Envelope) → (h : RequestHeader) → IsAmong packets (packet (Pharmacy pharmacy) (Switch switch) request) → ctx.read_envelope request ≡ Ok e → is_request e ≡ true
-      → readable ctx e.payload ≡ Some h → payer_for ctx h ≡ None → bytes ≡ ctx.envelope (answer_envelope e.id (rejection ctx h)) → Heard ctx packets pharmacy switch bytes
+      → readable ctx e.payload ≡ Some h → payer_for ctx e.id h ≡ None → bytes ≡ ctx.envelope (answer_envelope e.id (rejection ctx h)) → Heard ctx packets pharmacy switch bytes
 
 -- a call of a pharmacy or a payer is explained by these packets: what it takes from a switch, with an advice or without, was sent to that switch; other
 -- calls of its kind need no explanation, and an advice needs none: the payer's own system gave it

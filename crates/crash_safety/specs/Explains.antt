@@ -28,7 +28,7 @@ asks_so m bytes q = names_pharmacy q.from && (same_node q.to (Switch m) && bytes
 
 abbrev pub rejected_by : Context → List ℕ → Envelope → Option RequestHeader → Bool
 rejected_by ctx bytes e None = false
-rejected_by ctx bytes e (Some h) = is_none (payer_for ctx h) && bytes_eq bytes (ctx.envelope (answer_envelope e.id (rejection ctx h)))
+rejected_by ctx bytes e (Some h) = is_none (payer_for ctx e.id h) && bytes_eq bytes (ctx.envelope (answer_envelope e.id (rejection ctx h)))
 
 abbrev pub rejected_in : Context → List ℕ → Result Envelope EnvelopeFault → Bool
 rejected_in ctx bytes (Err fault) = false

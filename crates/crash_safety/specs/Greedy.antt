@@ -38,9 +38,9 @@ pub record HasOrder (ctx : Context) (s : WorldSettings) (logs : Node → List Lo
   pub payers : (k : ℕ) → log_among turns (Payer k) ≡ logs (Payer k)
 
 -- what this turn heard as a rejection for want of a route has none by the other routes either
-abbrev pub RejectionStays : Context → (RouteKey → Option ℕ) → Node → Call → Type 0
+abbrev pub RejectionStays : Context → (ℕ → RouteKey → Option ℕ) → Node → Call → Type 0
 RejectionStays ctx route (Pharmacy n) (Take from bytes) =
-    (e : Envelope) (h : RequestHeader) → bytes ≡ ctx.envelope (answer_envelope e.id (rejection ctx h)) → is_request e ≡ true → readable ctx e.payload ≡ Some h → payer_for ctx h ≡ None → route (route_key h) ≡ None
+    (e : Envelope) (h : RequestHeader) → bytes ≡ ctx.envelope (answer_envelope e.id (rejection ctx h)) → is_request e ≡ true → readable ctx e.payload ≡ Some h → payer_for ctx e.id h ≡ None → route e.id.number (route_key h) ≡ None
 RejectionStays ctx route (Pharmacy n) (Submit text) = ⊤
 RejectionStays ctx route (Pharmacy n) Tick = ⊤
 RejectionStays ctx route (Pharmacy n) Stop = ⊤

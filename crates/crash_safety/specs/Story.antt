@@ -39,7 +39,7 @@ abbrev pub small : Option ℕ → Context
 small route = record {
   header = λ text. Some small_header;
   orders = λ text. Err (NotCovered ∷ []) ∷ [];
-  route = λ key. route;
+  route = λ number key. route;
   price = λ plan claim. None;
   reprice = λ plan product price. Ok plan;
   answer = λ h status rulings. letter status;

@@ -29,9 +29,9 @@ pub record IsTold (n : Network) (id : TxnId) (a : List ℕ) : Type 0 where
 -- whatever an advice says, and changes nothing;
 -- or it is the fixed rejection of a request without a route, which any switch gives
 pub data ComesAgain (ctx : Context) (w : World) (id : TxnId) (a : List ℕ) : Type 0 where
-  From_row : (request : List ℕ) → (h : RequestHeader) → (payer : ℕ) → (b : Book) → asked w id ≡ Some request → readable ctx request ≡ Some h → payer_for ctx h ≡ Some payer → book_at w payer ≡ Some b
+  From_row : (request : List ℕ) → (h : RequestHeader) → (payer : ℕ) → (b : Book) → asked w id ≡ Some request → readable ctx request ≡ Some h → payer_for ctx id h ≡ Some payer → book_at w payer ≡ Some b
       → ((advice : List Ruling) → answered ctx b advice id request ≡ Ok (record { book = b; bytes = a; kept = true })) → ComesAgain ctx w id a
-  Fixed : (request : List ℕ) → (h : RequestHeader) → asked w id ≡ Some request → readable ctx request ≡ Some h → payer_for ctx h ≡ None → a ≡ rejection ctx h → ComesAgain ctx w id a
+  Fixed : (request : List ℕ) → (h : RequestHeader) → asked w id ≡ Some request → readable ctx request ≡ Some h → payer_for ctx id h ≡ None → a ≡ rejection ctx h → ComesAgain ctx w id a
 
 -- this is the answer for good
 pub record IsFinal (ctx : Context) (w : World) (id : TxnId) (a : List ℕ) : Type 0 where
@@ -56,7 +56,7 @@ pub record IsAsked (ctx : Context) (w : World) (id : TxnId) (request : List ℕ)
   pub reads : readable ctx request ≡ Some h
 
 -- the reading of bytes with other routes
-abbrev pub rerouted : Context → (RouteKey → Option ℕ) → Context
+abbrev pub rerouted : Context → (ℕ → RouteKey → Option ℕ) → Context
 rerouted ctx route = record ctx { route = route }
 
 -- all of the fixed rejection's rulings

@@ -60,7 +60,7 @@ pub fn disks_have_orders()
 /// An order that is explained by some routes is explained by others, where no rejection that a pharmacy has on its disk is for
 /// a request that they give a route.
 pub fn explained_orders_go_over()
-    ensures { (ctx : Context) (route : RouteKey → Option ℕ) (packets : List Packet) (turns : List Turn)
+    ensures { (ctx : Context) (route : ℕ → RouteKey → Option ℕ) (packets : List Packet) (turns : List Turn)
         → AllByRecursion (λ (t : Turn). RejectionStays ctx route t.node t.logged.call) turns
         → Explained ctx packets turns → Explained (rerouted ctx route) packets turns }
 {}

@@ -24,23 +24,23 @@ pub fn told_answers_are_final()
 
 /// Where routes grow, an answer of a payer stays decided, and so does the rejection of a request that has no route still.
 pub fn told_answers_outlive_growth()
-    ensures answers { (ctx : Context) (route : RouteKey → Option ℕ) (w : World) (id : TxnId) (request a : List ℕ)
-        (h : RequestHeader) (payer : ℕ) → IsAsked ctx w id request h → payer_for ctx h ≡ Some payer
-        → route (route_key h) ≡ Some payer → decided ctx w id ≡ Some a → decided (rerouted ctx route) w id ≡ Some a }
-    ensures rejections { (ctx : Context) (route : RouteKey → Option ℕ) (w : World) (id : TxnId) (request : List ℕ)
-        (h : RequestHeader) → IsAsked ctx w id request h → payer_for ctx h ≡ None
-        → route (route_key h) ≡ None → decided (rerouted ctx route) w id ≡ Some (rejection ctx h) }
+    ensures answers { (ctx : Context) (route : ℕ → RouteKey → Option ℕ) (w : World) (id : TxnId) (request a : List ℕ)
+        (h : RequestHeader) (payer : ℕ) → IsAsked ctx w id request h → payer_for ctx id h ≡ Some payer
+        → route id.number (route_key h) ≡ Some payer → decided ctx w id ≡ Some a → decided (rerouted ctx route) w id ≡ Some a }
+    ensures rejections { (ctx : Context) (route : ℕ → RouteKey → Option ℕ) (w : World) (id : TxnId) (request : List ℕ)
+        (h : RequestHeader) → IsAsked ctx w id request h → payer_for ctx id h ≡ None
+        → route id.number (route_key h) ≡ None → decided (rerouted ctx route) w id ≡ Some (rejection ctx h) }
 {}
 
 /// But the rejection of a request that gets a route is decided no more: the payer that has no row for it rules on it, and
 /// unless it rejects each transaction with the same code, what it answers is not what was told. So a rejection is to be kept
 /// before it is told, or no such route may ever be given.
 pub fn told_rejections_do_not()
-    ensures undecided { (ctx : Context) (route : RouteKey → Option ℕ) (w : World) (id : TxnId) (request : List ℕ)
-        (h : RequestHeader) (payer : ℕ) → IsAsked ctx w id request h → payer_for ctx h ≡ None
-        → route (route_key h) ≡ Some payer → row_at w payer id ≡ None
+    ensures undecided { (ctx : Context) (route : ℕ → RouteKey → Option ℕ) (w : World) (id : TxnId) (request : List ℕ)
+        (h : RequestHeader) (payer : ℕ) → IsAsked ctx w id request h → payer_for ctx id h ≡ None
+        → route id.number (route_key h) ≡ Some payer → row_at w payer id ≡ None
         → (decided ctx w id ≡ Some (rejection ctx h)) × (decided (rerouted ctx route) w id ≡ None) }
-    ensures another { (ctx : Context) (s : WorldSettings) (route : RouteKey → Option ℕ) (w : World) (id : TxnId)
+    ensures another { (ctx : Context) (s : WorldSettings) (route : ℕ → RouteKey → Option ℕ) (w : World) (id : TxnId)
         (request : List ℕ) (h : RequestHeader) (b : Book) (advice : List Ruling) (a : Answered) → AdvisesWell advice
         → Reached (rerouted ctx route) s w
         → IsAsked ctx w id request h → Rattle.claim_model.specs.Book.row_of id b.rows ≡ None

@@ -25,13 +25,13 @@ module _ (routes : RouteMaps) (b : Book) (advice : List Ruling) (id : TxnId) (re
     unfolding answered
     read = ap (answered_readable (bytes_with routes) b advice id request) (readable_alike routes request ∙ reads)
 
-    pub not_ours : is_payer b.payer (payer_for (bytes_with routes) h) ≡ false → answered (bytes_with routes) b advice id request ≡ Err Refusal.NotOurs
-    not_ours e = read ∙ cond-false (is_payer b.payer (payer_for (bytes_with routes) h)) (answered_by (bytes_with routes) b advice id request h (row_of id b.rows)) (Err Refusal.NotOurs) e
+    pub not_ours : is_payer b.payer (payer_for (bytes_with routes) id h) ≡ false → answered (bytes_with routes) b advice id request ≡ Err Refusal.NotOurs
+    not_ours e = read ∙ cond-false (is_payer b.payer (payer_for (bytes_with routes) id h)) (answered_by (bytes_with routes) b advice id request h (row_of id b.rows)) (Err Refusal.NotOurs) e
 
-    module _ (ours : is_payer b.payer (payer_for (bytes_with routes) h) ≡ true) where
+    module _ (ours : is_payer b.payer (payer_for (bytes_with routes) id h) ≡ true) where
       pub at_rows : (o : Option Row) → row_of id b.rows ≡ o → answered (bytes_with routes) b advice id request ≡ answered_by (bytes_with routes) b advice id request h o
       at_rows o e =
-          read ∙ (cond-true (is_payer b.payer (payer_for (bytes_with routes) h)) (answered_by (bytes_with routes) b advice id request h (row_of id b.rows)) (Err Refusal.NotOurs) ours
+          read ∙ (cond-true (is_payer b.payer (payer_for (bytes_with routes) id h)) (answered_by (bytes_with routes) b advice id request h (row_of id b.rows)) (Err Refusal.NotOurs) ours
           ∙ ap (answered_by (bytes_with routes) b advice id request h) e)
 
       pub reused : (row : Row) → row_of id b.rows ≡ Some row → bytes_eq row.request request ≡ false → answered (bytes_with routes) b advice id request ≡ Err Refusal.NumberReused
@@ -55,7 +55,7 @@ new_text row id request rulings h reads is bytes text = ap (λ (o : Option Reque
 -- what the code finds
 
 module _ (routes : RouteMaps) (b : Book) (advice : List Ruling) (id : TxnId) (request : List ℕ) where
-  module _ (h : RequestHeader) (reads : readable_header request ≡ Some h) (ours : is_payer b.payer (payer_for (bytes_with routes) h) ≡ true) where
+  module _ (h : RequestHeader) (reads : readable_header request ≡ Some h) (ours : is_payer b.payer (payer_for (bytes_with routes) id h) ≡ true) where
     -- the row's answer again
     pub answered_again : (row : Row) → row_of id b.rows ≡ Some row → bytes_eq row.request request ≡ true
         → answered (bytes_with routes) b advice id request ≡ Ok (record { book = b; bytes = kept_answer row; kept = true })

@@ -10,14 +10,17 @@ use bin_routes::{RouteKey, Routes};
 use claim_model::readable_requests;
 use claim_profile::check_readable;
 use d0_header::RequestHeader;
+use envelope::TxnId;
 
-/// Whether a request is one that this product carries, and has a route.
-pub fn is_routed(routes: &Routes, request: &[u8]) -> bool
-    ensures { result ≡ is_routed (bytes_with routes.now) request.now }
+/// Whether the request of an id is one that this product carries, and has a route.
+pub fn is_routed(routes: &Routes, id: TxnId, request: &[u8]) -> bool
+    ensures { result ≡ is_routed (bytes_with routes.now) id request.now }
 {
     readable_requests();
     match check_readable(request) {
-        Some(framed) => routes.payer(&key_of(framed.header())).is_some(),
+        Some(framed) => routes
+            .payer_under(id.number(), &key_of(framed.header()))
+            .is_some(),
         None => false,
     }
 }

@@ -29,7 +29,7 @@ grows_on ctx wider widest s t u f g =
     record {
       widens = record {
         reading = g.widens.reading ∙ ap (λ (x : Context). record x { route = widest.route }) f.widens.reading;
-        routes = λ key payer e. g.widens.routes key payer (f.widens.routes key payer e);
+        routes = λ number key payer e. g.widens.routes number key payer (f.widens.routes number key payer e);
       };
       pharmacies = extends_on PharmacyGrows pharmacy_on s.pharmacies t.pharmacies u.pharmacies f.pharmacies g.pharmacies;
       switches = extends_on (λ (a b : ℕ). b ≡ a) (λ a b c e h. h ∙ e) s.switches t.switches u.switches f.switches g.switches;
@@ -39,7 +39,7 @@ grows_on ctx wider widest s t u f g =
 pub grows_itself : (ctx : Context) (s : WorldSettings) → Grows ctx ctx s s
 grows_itself ctx s =
     record {
-      widens = record { reading = refl; routes = λ key payer e. e };
+      widens = record { reading = refl; routes = λ number key payer e. e };
       pharmacies = extends_itself PharmacyGrows (λ a. record { same = refl; cap = omega arith }) s.pharmacies;
       switches = extends_itself (λ (a b : ℕ). b ≡ a) (λ a. refl) s.switches;
       payers = extends_itself PayerGrows (λ a. record { same = refl; cap = omega arith }) s.payers;
@@ -48,7 +48,7 @@ grows_itself ctx s =
 pub for_all : (ctx wider : Context) (s t : WorldSettings) → Grows ctx wider s t → GrowsFor ctx wider s t
 for_all ctx wider s t g =
     record {
-      widens = record { reading = g.widens.reading; routes = λ key payer own e. g.widens.routes key payer e };
+      widens = record { reading = g.widens.reading; routes = λ number key payer own e. g.widens.routes number key payer e };
       nodes = record { pharmacies = g.pharmacies; switches = g.switches; payers = g.payers };
     }
 
@@ -80,7 +80,7 @@ for_twice ctx wider widest s t u f g =
     record {
       widens = record {
         reading = g.widens.reading ∙ ap (λ (x : Context). record x { route = widest.route }) f.widens.reading;
-        routes = λ key payer own e. g.widens.routes key payer (of_pharmacy_on s t key.qualifier key.provider f.nodes.pharmacies own) (f.widens.routes key payer own e);
+        routes = λ number key payer own e. g.widens.routes number key payer (of_pharmacy_on s t key.qualifier key.provider f.nodes.pharmacies own) (f.widens.routes number key payer own e);
       };
       nodes = record {
         pharmacies = extends_on PharmacyGrows pharmacy_on s.pharmacies t.pharmacies u.pharmacies f.nodes.pharmacies g.nodes.pharmacies;

@@ -20,20 +20,20 @@ capped cap b = record b { settings = record b.settings { cap = cap } }
 
 -- a ruling hangs on no cap and on no route
 
-ruled_alike : (ctx : Context) (route : RouteKey → Option ℕ) (b : Book) (advice : List Ruling) (cap : ℕ) (before : List Ruled) (id : TxnId) (place : ℕ) (orders : List (Result Order (List Code)))
+ruled_alike : (ctx : Context) (route : ℕ → RouteKey → Option ℕ) (b : Book) (advice : List Ruling) (cap : ℕ) (before : List Ruled) (id : TxnId) (place : ℕ) (orders : List (Result Order (List Code)))
     → rulings_from (rerouted ctx route) (capped cap b) advice before id place orders ≡ rulings_from ctx b advice before id place orders
 unfolding ruling
 ruled_alike ctx route b advice cap before id place [] = refl
 ruled_alike ctx route b advice cap before id place (order ∷ orders) =
     ap (λ (rs : List Ruling). ruling ctx b advice before place order ∷ rs) (ruled_alike ctx route b advice cap (before ++ ruled id place order (ruling ctx b advice before place order) ∷ []) id (place + 1) orders)
 
-row_alike : (ctx : Context) (route : RouteKey → Option ℕ) (b : Book) (advice : List Ruling) (cap : ℕ) (id : TxnId) (request : List ℕ) → new_row (rerouted ctx route) (capped cap b) advice id request ≡ new_row ctx b advice id request
+row_alike : (ctx : Context) (route : ℕ → RouteKey → Option ℕ) (b : Book) (advice : List Ruling) (cap : ℕ) (id : TxnId) (request : List ℕ) → new_row (rerouted ctx route) (capped cap b) advice id request ≡ new_row ctx b advice id request
 row_alike ctx route b advice cap id request =
     ap (λ (rs : List Ruling). record { id = id; request = request; rulings = rs }) (ruled_alike ctx route b advice cap (ruled_rows ctx b.rows) id 1 (ctx.orders request))
 
 -- and so it is with whether it has its verdicts
 
-advised_alike : (ctx : Context) (route : RouteKey → Option ℕ) (b : Book) (advice : List Ruling) (cap : ℕ) (before : List Ruled) (id : TxnId) (place : ℕ) (orders : List (Result Order (List Code)))
+advised_alike : (ctx : Context) (route : ℕ → RouteKey → Option ℕ) (b : Book) (advice : List Ruling) (cap : ℕ) (before : List Ruled) (id : TxnId) (place : ℕ) (orders : List (Result Order (List Code)))
     → all_advised (rerouted ctx route) (capped cap b) advice before id place orders ≡ all_advised ctx b advice before id place orders
 unfolding ruling
 advised_alike ctx route b advice cap before id place [] = refl
@@ -56,7 +56,7 @@ enters ctx b cap h row true true from id next sent e = ap (leading (book_with_ca
 enters ctx b cap h row true false from id next sent e = absurd cc
 enters ctx b cap h row false advised from id next sent e = absurd cc
 
-has_room : (ctx : Context) (route : RouteKey → Option ℕ) (b : Book) (advice : List Ruling) (cap : ℕ) (h : RequestHeader) (id : TxnId) (request : List ℕ) (from : Node) (room more : Bool) (next : Power Book Book) (sent : List Sent) → (room ≡ true → more ≡ true)
+has_room : (ctx : Context) (route : ℕ → RouteKey → Option ℕ) (b : Book) (advice : List Ruling) (cap : ℕ) (h : RequestHeader) (id : TxnId) (request : List ℕ) (from : Node) (room more : Bool) (next : Power Book Book) (sent : List Sent) → (room ≡ true → more ≡ true)
     → after_answer ctx from id (cond room (entered_row ctx b h (has_verdicts ctx b advice id request) (new_row ctx b advice id request)) (Err Refusal.BookFull)) ≡ Done next sent
     → after_answer ctx from id (cond more (entered_row (rerouted ctx route) (capped cap b) h (has_verdicts (rerouted ctx route) (capped cap b) advice id request) (new_row (rerouted ctx route) (capped cap b) advice id request)) (Err Refusal.BookFull)) ≡ Done (book_with_cap cap next) sent
 has_room ctx route b advice cap h id request from false more next sent le e = absurd cc
@@ -72,7 +72,7 @@ known : (ctx : Context) (b : Book) (cap : ℕ) (bytes : List ℕ) (same : Bool) 
 known ctx b cap bytes true from id next sent e = ap (leading (book_with_cap cap)) e
 known ctx b cap bytes false from id next sent e = absurd cc
 
-by_row : (ctx : Context) (route : RouteKey → Option ℕ) (b : Book) (advice : List Ruling) (cap : ℕ) (h : RequestHeader) (id : TxnId) (request : List ℕ) (from : Node) (o : Option Row) (next : Power Book Book) (sent : List Sent) → b.settings.cap ≤ cap
+by_row : (ctx : Context) (route : ℕ → RouteKey → Option ℕ) (b : Book) (advice : List Ruling) (cap : ℕ) (h : RequestHeader) (id : TxnId) (request : List ℕ) (from : Node) (o : Option Row) (next : Power Book Book) (sent : List Sent) → b.settings.cap ≤ cap
     → after_answer ctx from id (answered_by ctx b advice id request h o) ≡ Done next sent
     → after_answer ctx from id (answered_by (rerouted ctx route) (capped cap b) advice id request h o) ≡ Done (book_with_cap cap next) sent
 by_row ctx route b advice cap h id request from (Some row) next sent le e = known ctx b cap (answer_text ctx h row.rulings) (bytes_eq row.request request) from id next sent e
@@ -81,11 +81,11 @@ by_row ctx route b advice cap h id request from None next sent le e =
 
 -- a payer that is the request's is so still
 
-still_ours : (ctx : Context) (route : RouteKey → Option ℕ) (h : RequestHeader) (payer : ℕ) (o : Option ℕ) → ((p : ℕ) → payer_for ctx h ≡ Some p → route (route_key h) ≡ Some p) → payer_for ctx h ≡ o → is_payer payer o ≡ true → is_payer payer (route (route_key h)) ≡ true
-still_ours ctx route h payer None wide is e = absurd cc
-still_ours ctx route h payer (Some p) wide is e = ap (is_payer payer) (wide p is) ∙ e
+still_ours : (ctx : Context) (route : ℕ → RouteKey → Option ℕ) (id : TxnId) (h : RequestHeader) (payer : ℕ) (o : Option ℕ) → ((p : ℕ) → payer_for ctx id h ≡ Some p → route id.number (route_key h) ≡ Some p) → payer_for ctx id h ≡ o → is_payer payer o ≡ true → is_payer payer (route id.number (route_key h)) ≡ true
+still_ours ctx route id h payer None wide is e = absurd cc
+still_ours ctx route id h payer (Some p) wide is e = ap (is_payer payer) (wide p is) ∙ e
 
-ours : (ctx : Context) (route : RouteKey → Option ℕ) (b : Book) (advice : List Ruling) (cap : ℕ) (h : RequestHeader) (id : TxnId) (request : List ℕ) (from : Node) (own more : Bool) (next : Power Book Book) (sent : List Sent) → b.settings.cap ≤ cap → (own ≡ true → more ≡ true)
+ours : (ctx : Context) (route : ℕ → RouteKey → Option ℕ) (b : Book) (advice : List Ruling) (cap : ℕ) (h : RequestHeader) (id : TxnId) (request : List ℕ) (from : Node) (own more : Bool) (next : Power Book Book) (sent : List Sent) → b.settings.cap ≤ cap → (own ≡ true → more ≡ true)
     → after_answer ctx from id (cond own (answered_by ctx b advice id request h (row_of id b.rows)) (Err Refusal.NotOurs)) ≡ Done next sent
     → after_answer ctx from id (cond more (answered_by (rerouted ctx route) (capped cap b) advice id request h (row_of id b.rows)) (Err Refusal.NotOurs)) ≡ Done (book_with_cap cap next) sent
 ours ctx route b advice cap h id request from false more next sent le still e = absurd cc
@@ -93,23 +93,23 @@ ours ctx route b advice cap h id request from true more next sent le still e =
     ap (λ (m : Bool). after_answer ctx from id (cond m (answered_by (rerouted ctx route) (capped cap b) advice id request h (row_of id b.rows)) (Err Refusal.NotOurs))) (still refl)
     ∙ by_row ctx route b advice cap h id request from (row_of id b.rows) next sent le e
 
-by_header : (ctx : Context) (route : RouteKey → Option ℕ) (b : Book) (advice : List Ruling) (cap : ℕ) (id : TxnId) (request : List ℕ) (from : Node) (o : Option RequestHeader) (next : Power Book Book) (sent : List Sent) → ((h : RequestHeader) (p : ℕ) → o ≡ Some h → payer_for ctx h ≡ Some p → route (route_key h) ≡ Some p) → b.settings.cap ≤ cap
+by_header : (ctx : Context) (route : ℕ → RouteKey → Option ℕ) (b : Book) (advice : List Ruling) (cap : ℕ) (id : TxnId) (request : List ℕ) (from : Node) (o : Option RequestHeader) (next : Power Book Book) (sent : List Sent) → ((h : RequestHeader) (p : ℕ) → o ≡ Some h → payer_for ctx id h ≡ Some p → route id.number (route_key h) ≡ Some p) → b.settings.cap ≤ cap
     → after_answer ctx from id (answered_readable ctx b advice id request o) ≡ Done next sent
     → after_answer ctx from id (answered_readable (rerouted ctx route) (capped cap b) advice id request o) ≡ Done (book_with_cap cap next) sent
 by_header ctx route b advice cap id request from None next sent wide le e = absurd cc
 by_header ctx route b advice cap id request from (Some h) next sent wide le e =
-    ours ctx route b advice cap h id request from (is_payer b.payer (payer_for ctx h)) (is_payer b.payer (route (route_key h))) next sent le (still_ours ctx route h b.payer (payer_for ctx h) (λ p. wide h p refl) refl) e
+    ours ctx route b advice cap h id request from (is_payer b.payer (payer_for ctx id h)) (is_payer b.payer (route id.number (route_key h))) next sent le (still_ours ctx route id h b.payer (payer_for ctx id h) (λ p. wide h p refl) refl) e
 
-by_kind : (ctx : Context) (route : RouteKey → Option ℕ) (b : Book) (advice : List Ruling) (cap : ℕ) (e : Envelope) (from : Node) (is : Bool) (next : Power Book Book) (sent : List Sent)
-    → ((h : RequestHeader) (p : ℕ) → is ≡ true → readable ctx e.payload ≡ Some h → payer_for ctx h ≡ Some p → route (route_key h) ≡ Some p) → b.settings.cap ≤ cap
+by_kind : (ctx : Context) (route : ℕ → RouteKey → Option ℕ) (b : Book) (advice : List Ruling) (cap : ℕ) (e : Envelope) (from : Node) (is : Bool) (next : Power Book Book) (sent : List Sent)
+    → ((h : RequestHeader) (p : ℕ) → is ≡ true → readable ctx e.payload ≡ Some h → payer_for ctx e.id h ≡ Some p → route e.id.number (route_key h) ≡ Some p) → b.settings.cap ≤ cap
     → cond is (after_answer ctx from e.id (answered ctx b advice e.id e.payload)) (Refused Refusal.Unreadable) ≡ Done next sent
     → cond is (after_answer ctx from e.id (answered (rerouted ctx route) (capped cap b) advice e.id e.payload)) (Refused Refusal.Unreadable) ≡ Done (book_with_cap cap next) sent
 unfolding answered readable
 by_kind ctx route b advice cap e from true next sent wide le is = by_header ctx route b advice cap e.id e.payload from (readable ctx e.payload) next sent (λ h p. wide h p refl) le is
 by_kind ctx route b advice cap e from false next sent wide le is = absurd cc
 
-takes : (ctx : Context) (route : RouteKey → Option ℕ) (b : Book) (advice : List Ruling) (cap : ℕ) (from : Node) (o : Result Envelope EnvelopeFault) (next : Power Book Book) (sent : List Sent)
-    → ((e : Envelope) (h : RequestHeader) (p : ℕ) → o ≡ Ok e → is_request e ≡ true → readable ctx e.payload ≡ Some h → payer_for ctx h ≡ Some p → route (route_key h) ≡ Some p) → b.settings.cap ≤ cap
+takes : (ctx : Context) (route : ℕ → RouteKey → Option ℕ) (b : Book) (advice : List Ruling) (cap : ℕ) (from : Node) (o : Result Envelope EnvelopeFault) (next : Power Book Book) (sent : List Sent)
+    → ((e : Envelope) (h : RequestHeader) (p : ℕ) → o ≡ Ok e → is_request e ≡ true → readable ctx e.payload ≡ Some h → payer_for ctx e.id h ≡ Some p → route e.id.number (route_key h) ≡ Some p) → b.settings.cap ≤ cap
     → payer_takes ctx b advice from o ≡ Done next sent → payer_takes (rerouted ctx route) (capped cap b) advice from o ≡ Done (book_with_cap cap next) sent
 takes ctx route b advice cap from (Err why) next sent wide le e = absurd cc
 takes ctx route b advice cap from (Ok x) next sent wide le e = by_kind ctx route b advice cap x from (is_request x) next sent (λ h p. wide x h p refl) le e
@@ -118,13 +118,13 @@ reprices : (b : Book) (cap : ℕ) (r : Result Plan PlanFault) (next : Power Book
 reprices b cap (Err why) next sent e = absurd cc
 reprices b cap (Ok plan) next sent e = ap (leading (book_with_cap cap)) e
 
-advised_over : (ctx : Context) (route : RouteKey → Option ℕ) (b : Book) (cap : ℕ) (from : Node) (bytes advice : List ℕ) (asks : Bool) (next : Power Book Book) (sent : List Sent) → RouteLasts ctx (rerouted ctx route) (Adjudicate from bytes advice) → b.settings.cap ≤ cap
+advised_over : (ctx : Context) (route : ℕ → RouteKey → Option ℕ) (b : Book) (cap : ℕ) (from : Node) (bytes advice : List ℕ) (asks : Bool) (next : Power Book Book) (sent : List Sent) → RouteLasts ctx (rerouted ctx route) (Adjudicate from bytes advice) → b.settings.cap ≤ cap
     → cond asks (payer_takes ctx b (advice_in ctx advice) from (ctx.read_envelope bytes)) (Refused Refusal.NotAsked) ≡ Done next sent
     → cond asks (payer_takes (rerouted ctx route) (capped cap b) (advice_in ctx advice) from (ctx.read_envelope bytes)) (Refused Refusal.NotAsked) ≡ Done (book_with_cap cap next) sent
 advised_over ctx route b cap from bytes advice true next sent wide le e = takes ctx route b (advice_in ctx advice) cap from (ctx.read_envelope bytes) next sent wide le e
 advised_over ctx route b cap from bytes advice false next sent wide le e = absurd cc
 
-step_up : (ctx : Context) (route : RouteKey → Option ℕ) (b : Book) (cap : ℕ) (call : Call) (next : Power Book Book) (sent : List Sent) → RouteLasts ctx (rerouted ctx route) call → b.settings.cap ≤ cap
+step_up : (ctx : Context) (route : ℕ → RouteKey → Option ℕ) (b : Book) (cap : ℕ) (call : Call) (next : Power Book Book) (sent : List Sent) → RouteLasts ctx (rerouted ctx route) call → b.settings.cap ≤ cap
     → payer_up ctx b call ≡ Done next sent → payer_up (rerouted ctx route) (capped cap b) call ≡ Done (book_with_cap cap next) sent
 step_up ctx route b cap (Submit text) next sent wide le e = absurd cc
 step_up ctx route b cap Tick next sent wide le e = absurd cc
@@ -147,7 +147,7 @@ abbrev pub book_cap : Power Book Book → ℕ
 book_cap (Up b) = b.settings.cap
 book_cap (AtRest b) = b.settings.cap
 
-pub payer_over : (ctx : Context) (route : RouteKey → Option ℕ) (node : Power Book Book) (cap : ℕ) (call : Call) (next : Power Book Book) (sent : List Sent) → RouteLasts ctx (rerouted ctx route) call → book_cap node ≤ cap
+pub payer_over : (ctx : Context) (route : ℕ → RouteKey → Option ℕ) (node : Power Book Book) (cap : ℕ) (call : Call) (next : Power Book Book) (sent : List Sent) → RouteLasts ctx (rerouted ctx route) call → book_cap node ≤ cap
     → payer_step ctx node call ≡ Done next sent → payer_step (rerouted ctx route) (book_with_cap cap node) call ≡ Done (book_with_cap cap next) sent
 payer_over ctx route (Up b) cap call next sent wide le e = step_up ctx route b cap call next sent wide le e
 payer_over ctx route (AtRest b) cap call next sent wide le e = step_at_rest b cap call next sent e
@@ -181,7 +181,7 @@ header_capped : (ctx : Context) (b : Book) (advice : List Ruling) (id : TxnId) (
     → cond is (after_answer ctx from id (answered_readable ctx b advice id request o)) (Refused Refusal.Unreadable) ≡ Done next sent → book_cap next ≡ b.settings.cap
 header_capped ctx b advice id request from false o next sent e = absurd cc
 header_capped ctx b advice id request from true None next sent e = absurd cc
-header_capped ctx b advice id request from true (Some h) next sent e = row_capped ctx b advice h id request from (is_payer b.payer (payer_for ctx h)) (row_of id b.rows) next sent e
+header_capped ctx b advice id request from true (Some h) next sent e = row_capped ctx b advice h id request from (is_payer b.payer (payer_for ctx id h)) (row_of id b.rows) next sent e
 
 takes_capped : (ctx : Context) (b : Book) (advice : List Ruling) (from : Node) (o : Result Envelope EnvelopeFault) (next : Power Book Book) (sent : List Sent) → payer_takes ctx b advice from o ≡ Done next sent → book_cap next ≡ b.settings.cap
 unfolding answered

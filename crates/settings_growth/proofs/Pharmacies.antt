@@ -42,7 +42,7 @@ submits ctx j cap text None p next sent none e = ap (λ (q : Option Refusal). af
 
 -- what is due hangs on no cap
 
-due_with : (ctx : Context) (route : RouteKey → Option ℕ) (j : Journal) (cap number : ℕ) (entries : List Entry) → due_from (rerouted ctx route) (capped cap j) number entries ≡ due_from ctx j number entries
+due_with : (ctx : Context) (route : ℕ → RouteKey → Option ℕ) (j : Journal) (cap number : ℕ) (entries : List Entry) → due_from (rerouted ctx route) (capped cap j) number entries ≡ due_from ctx j number entries
 due_with ctx route j cap number [] = refl
 due_with ctx route j cap number (e ∷ more) = ap (λ (xs : List Sending). due_by ctx j number e.request e.state ++ xs) (due_with ctx route j cap (number + 1) more)
 
@@ -78,7 +78,7 @@ takes ctx j cap (Ok e) next sent is = hears_own ctx j cap e (e.id.pharmacy == j.
 
 -- every call
 
-step_up : (ctx : Context) (route : RouteKey → Option ℕ) (j : Journal) (cap : ℕ) (call : Call) (next : Power Journal JournalAtRest) (sent : List Sent) → j.settings.cap ≤ cap
+step_up : (ctx : Context) (route : ℕ → RouteKey → Option ℕ) (j : Journal) (cap : ℕ) (call : Call) (next : Power Journal JournalAtRest) (sent : List Sent) → j.settings.cap ≤ cap
     → pharmacy_up ctx j call ≡ Done next sent → pharmacy_up (rerouted ctx route) (capped cap j) call ≡ Done (journal_with_cap cap next) sent
 unfolding submitted ticked due heard stopped
 step_up ctx route j cap (Submit text) next sent le e =
@@ -106,7 +106,7 @@ abbrev pub journal_cap : Power Journal JournalAtRest → ℕ
 journal_cap (Up j) = j.settings.cap
 journal_cap (AtRest j) = j.settings.cap
 
-pub pharmacy_over : (ctx : Context) (route : RouteKey → Option ℕ) (node : Power Journal JournalAtRest) (cap : ℕ) (call : Call) (next : Power Journal JournalAtRest) (sent : List Sent) → journal_cap node ≤ cap
+pub pharmacy_over : (ctx : Context) (route : ℕ → RouteKey → Option ℕ) (node : Power Journal JournalAtRest) (cap : ℕ) (call : Call) (next : Power Journal JournalAtRest) (sent : List Sent) → journal_cap node ≤ cap
     → pharmacy_step ctx node call ≡ Done next sent → pharmacy_step (rerouted ctx route) (journal_with_cap cap node) call ≡ Done (journal_with_cap cap next) sent
 pharmacy_over ctx route (Up j) cap call next sent le e = step_up ctx route j cap call next sent le e
 pharmacy_over ctx route (AtRest j) cap call next sent le e = step_at_rest j cap call next sent e

@@ -55,21 +55,21 @@ both : (P Q : Logged → Type 0) (log : List Logged) → AllByRecursion P log �
 both P Q [] p q = tt
 both P Q (l ∷ log) p q = ((p.0, q.0), both P Q log p.1 q.1)
 
-pharmacy_log : (ctx : Context) (route : RouteKey → Option ℕ) (cap : ℕ) (node : Power Journal JournalAtRest) (log : List Logged) → journal_cap node ≤ cap → Makes ctx (OfPharmacy node) log
+pharmacy_log : (ctx : Context) (route : ℕ → RouteKey → Option ℕ) (cap : ℕ) (node : Power Journal JournalAtRest) (log : List Logged) → journal_cap node ≤ cap → Makes ctx (OfPharmacy node) log
     → Alike (rerouted ctx route) (OfPharmacy (journal_with_cap cap node)) log (with_cap cap (replay ctx (OfPharmacy node) log))
 pharmacy_log ctx route cap node log le m =
     alike OfPharmacy pharmacy_step (λ c a call. refl) ctx (rerouted ctx route) (journal_with_cap cap) (with_cap cap) (λ a. refl) (λ (a : Power Journal JournalAtRest). journal_cap a ≤ cap) (λ (l : Logged). ⊤)
     (λ a l next p q e. (pharmacy_over ctx route a cap l.call next l.sent p e, subst (λ (n : ℕ). n ≤ cap) (sym (journal_cap_stays ctx a l.call next l.sent e)) p))
     node log le (nothing_asked log) m
 
-switch_log : (ctx : Context) (route : RouteKey → Option ℕ) (node : Power Table ℕ) (log : List Logged) → RoutesLast ctx (rerouted ctx route) log → AllByRecursion (λ (l : Logged). RejectionStays ctx (rerouted ctx route) l.call) log → Makes ctx (OfSwitch node) log
+switch_log : (ctx : Context) (route : ℕ → RouteKey → Option ℕ) (node : Power Table ℕ) (log : List Logged) → RoutesLast ctx (rerouted ctx route) log → AllByRecursion (λ (l : Logged). RejectionStays ctx (rerouted ctx route) l.call) log → Makes ctx (OfSwitch node) log
     → Alike (rerouted ctx route) (OfSwitch node) log (replay ctx (OfSwitch node) log)
 switch_log ctx route node log last stays m =
     alike OfSwitch switch_step (λ c a call. refl) ctx (rerouted ctx route) (λ (a : Power Table ℕ). a) (λ (n : AnyNode). n) (λ a. refl) (λ (a : Power Table ℕ). ⊤) (λ (l : Logged). RouteLasts ctx (rerouted ctx route) l.call × RejectionStays ctx (rerouted ctx route) l.call)
     (λ a l next p q e. (switch_over ctx route a l.call q.0 q.1 ∙ e, tt))
     node log tt (both (λ (l : Logged). RouteLasts ctx (rerouted ctx route) l.call) (λ (l : Logged). RejectionStays ctx (rerouted ctx route) l.call) log last stays) m
 
-payer_log : (ctx : Context) (route : RouteKey → Option ℕ) (cap : ℕ) (node : Power Book Book) (log : List Logged) → RoutesLast ctx (rerouted ctx route) log → book_cap node ≤ cap → Makes ctx (OfPayer node) log
+payer_log : (ctx : Context) (route : ℕ → RouteKey → Option ℕ) (cap : ℕ) (node : Power Book Book) (log : List Logged) → RoutesLast ctx (rerouted ctx route) log → book_cap node ≤ cap → Makes ctx (OfPayer node) log
     → Alike (rerouted ctx route) (OfPayer (book_with_cap cap node)) log (with_cap cap (replay ctx (OfPayer node) log))
 payer_log ctx route cap node log last le m =
     alike OfPayer payer_step (λ c a call. refl) ctx (rerouted ctx route) (book_with_cap cap) (with_cap cap) (λ a. refl) (λ (a : Power Book Book). book_cap a ≤ cap) (λ (l : Logged). RouteLasts ctx (rerouted ctx route) l.call)
@@ -83,7 +83,7 @@ switch_end ctx cap node (l ∷ log) m =
     let k = of_kind OfSwitch (switch_step ctx node l.call) (node_after (OfSwitch node) (node_step ctx (OfSwitch node) l.call)) l.sent m.0 in
     subst (λ (x : AnyNode). replay ctx x log ≡ with_cap cap (replay ctx x log)) k.same (switch_end ctx cap k.after log (subst (λ (x : AnyNode). Makes ctx x log) (sym k.same) m.1))
 
-over_by_kind : (ctx : Context) (route : RouteKey → Option ℕ) (s t : WorldSettings) (node : Node) (before : AnyNode) (log : List Logged) → NodesGrow s t → node_at (opening s) node ≡ Some before
+over_by_kind : (ctx : Context) (route : ℕ → RouteKey → Option ℕ) (s t : WorldSettings) (node : Node) (before : AnyNode) (log : List Logged) → NodesGrow s t → node_at (opening s) node ≡ Some before
     → RoutesLast ctx (rerouted ctx route) log → RejectionsStay ctx (rerouted ctx route) node log → Makes ctx before log → GoesOver ctx (rerouted ctx route) t node before log
 over_by_kind ctx route s t (Pharmacy n) before log g is last stays m =
     let p = pharmacy_there s t n before g.pharmacies is in
@@ -120,13 +120,13 @@ goes_over ctx wider s t node before log g is stays m =
 
 -- what was of the old pharmacies has the route that it had
 own_lasts : (ctx wider : Context) (s : WorldSettings) (call : Call) → WidensFor s ctx wider → IsOwnCall ctx s call → RouteLasts ctx wider call
-own_lasts ctx wider s (Take from bytes) w own = λ e h payer opened is reads. w.routes (route_key h) payer (own e h opened is reads)
+own_lasts ctx wider s (Take from bytes) w own = λ e h payer opened is reads. w.routes e.id.number (route_key h) payer (own e h opened is reads)
 own_lasts ctx wider s (Submit text) w own = tt
 own_lasts ctx wider s Tick w own = tt
 own_lasts ctx wider s Stop w own = tt
 own_lasts ctx wider s Start w own = tt
 own_lasts ctx wider s (Reprice product price) w own = tt
-own_lasts ctx wider s (Adjudicate from bytes advice) w own = λ e h payer opened is reads. w.routes (route_key h) payer (own e h opened is reads)
+own_lasts ctx wider s (Adjudicate from bytes advice) w own = λ e h payer opened is reads. w.routes e.id.number (route_key h) payer (own e h opened is reads)
 
 own_last : (ctx wider : Context) (s : WorldSettings) (log : List Logged) → WidensFor s ctx wider → HasOwnCalls ctx s log → RoutesLast ctx wider log
 own_last ctx wider s [] w own = tt

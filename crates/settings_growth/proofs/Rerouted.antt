@@ -5,7 +5,7 @@ use Rattle.claim_model.specs.Context.{Context}
 use Rattle.claim_model.specs.Node.{Sent, Outcome, Done, Refused}
 use Rattle.claim_model.specs.Nodes.{AnyNode, as_node}
 
-abbrev pub rerouted : Context → (RouteKey → Option ℕ) → Context
+abbrev pub rerouted : Context → (ℕ → RouteKey → Option ℕ) → Context
 rerouted ctx route = record ctx { route = route }
 
 -- an outcome with another node

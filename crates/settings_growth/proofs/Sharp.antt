@@ -13,7 +13,7 @@ use Rattle.claim_model.specs.Nodes.{AnyNode, OfSwitch, node_step, node_at}
 use Rattle.claim_model.specs.Logs.{Logged, node_after, Makes}
 use Rattle.claim_model.proofs.Lists.{all_append, all_cond, all_drop, all_map}
 use Rattle.claim_model.proofs.Options.{same_some, same_ok, cond_ok, map_some}
-use Rattle.claim_model.proofs.Tests.{bytes_same}
+use Rattle.claim_model.proofs.Tests.{bytes_same, id_same}
 use Rattle.settings_growth.specs.Growth.{Grows, RejectionStays, RejectionsStay}
 use Rattle.settings_growth.proofs.Rerouted.{rerouted, of_kind}
 use Rattle.settings_growth.proofs.Switches.{lasts, switch_over}
@@ -22,30 +22,31 @@ use Rattle.settings_growth.proofs.Opening.{switch_there}
 -- each slot has a request that has a route
 
 abbrev IsRouted : Context → TxnId × Slot → Type 0
-IsRouted ctx x = (h : RequestHeader) → readable ctx x.1.request ≡ Some h → payer_for ctx h ≡ None → ⊥
+IsRouted ctx x = (h : RequestHeader) → readable ctx x.1.request ≡ Some h → payer_for ctx x.0 h ≡ None → ⊥
 
 abbrev Routed : Context → Power Table ℕ → Type 0
 Routed ctx (Up t) = AllByRecursion (IsRouted ctx) t.entries
 Routed ctx (AtRest cap) = Unit {0}
 
-slot_first : (ctx : Context) (b : Bool) (x slot : Slot) (rest : Option Slot) (h : RequestHeader) → ((h : RequestHeader) → readable ctx x.request ≡ Some h → payer_for ctx h ≡ None → ⊥) → (rest ≡ Some slot → readable ctx slot.request ≡ Some h → payer_for ctx h ≡ None → ⊥)
-    → cond b (Some x) rest ≡ Some slot → readable ctx slot.request ≡ Some h → payer_for ctx h ≡ None → ⊥
-slot_first ctx true x slot rest h here later e r p = here h (ap (λ (s : Slot). readable ctx s.request) (same_some x slot e) ∙ r) p
-slot_first ctx false x slot rest h here later e r p = later e r p
+slot_first : (ctx : Context) (b : Bool) (x : TxnId × Slot) (id : TxnId) (slot : Slot) (rest : Option Slot) (h : RequestHeader) → (b ≡ true → id ≡ x.0) → IsRouted ctx x
+    → (rest ≡ Some slot → readable ctx slot.request ≡ Some h → payer_for ctx id h ≡ None → ⊥)
+    → cond b (Some x.1) rest ≡ Some slot → readable ctx slot.request ≡ Some h → payer_for ctx id h ≡ None → ⊥
+slot_first ctx true x id slot rest h same here later e r p = here h (ap (λ (s : Slot). readable ctx s.request) (same_some x.1 slot e) ∙ r) (ap (λ (i : TxnId). payer_for ctx i h) (sym (same refl)) ∙ p)
+slot_first ctx false x id slot rest h same here later e r p = later e r p
 
-slot_routed : (ctx : Context) (es : List (TxnId × Slot)) (id : TxnId) (slot : Slot) (h : RequestHeader) → AllByRecursion (IsRouted ctx) es → slot_of id es ≡ Some slot → readable ctx slot.request ≡ Some h → payer_for ctx h ≡ None → ⊥
+slot_routed : (ctx : Context) (es : List (TxnId × Slot)) (id : TxnId) (slot : Slot) (h : RequestHeader) → AllByRecursion (IsRouted ctx) es → slot_of id es ≡ Some slot → readable ctx slot.request ≡ Some h → payer_for ctx id h ≡ None → ⊥
 slot_routed ctx [] id slot h all e r p = absurd cc
-slot_routed ctx (x ∷ es) id slot h all e r p = slot_first ctx (same_id id x.0) x.1 slot (slot_of id es) h all.0 (slot_routed ctx es id slot h all.1) e r p
+slot_routed ctx (x ∷ es) id slot h all e r p = slot_first ctx (same_id id x.0) x id slot (slot_of id es) h (id_same id x.0) all.0 (slot_routed ctx es id slot h all.1) e r p
 
 -- a request
 
-is_some_payer : (ctx : Context) (h : RequestHeader) (payer : ℕ) (A : Type 0) → payer_for ctx h ≡ Some payer → payer_for ctx h ≡ None → A
-is_some_payer ctx h payer A e n = let wrong : ◌≡◌ {A = Option ℕ} (Some payer) None = sym e ∙ n in absurd cc
+is_some_payer : (ctx : Context) (id : TxnId) (h : RequestHeader) (payer : ℕ) (A : Type 0) → payer_for ctx id h ≡ Some payer → payer_for ctx id h ≡ None → A
+is_some_payer ctx id h payer A e n = let wrong : ◌≡◌ {A = Option ℕ} (Some payer) None = sym e ∙ n in absurd cc
 
-new_slot : (ctx : Context) (e : Envelope) (h : RequestHeader) (payer : ℕ) → readable ctx e.payload ≡ Some h → payer_for ctx h ≡ Some payer → IsRouted ctx (e.id, record { request = e.payload; answer = None })
-new_slot ctx e h payer reads is g again none = let same : g ≡ h = same_some g h (sym again ∙ reads) in is_some_payer ctx h payer ⊥ is (ap (payer_for ctx) (sym same) ∙ none)
+new_slot : (ctx : Context) (e : Envelope) (h : RequestHeader) (payer : ℕ) → readable ctx e.payload ≡ Some h → payer_for ctx e.id h ≡ Some payer → IsRouted ctx (e.id, record { request = e.payload; answer = None })
+new_slot ctx e h payer reads is g again none = let same : g ≡ h = same_some g h (sym again ∙ reads) in is_some_payer ctx e.id h payer ⊥ is (ap (payer_for ctx e.id) (sym same) ∙ none)
 
-entered_routed : (ctx : Context) (t : Table) (e : Envelope) (h : RequestHeader) (o : Option ℕ) → AllByRecursion (IsRouted ctx) t.entries → readable ctx e.payload ≡ Some h → payer_for ctx h ≡ o → AllByRecursion (IsRouted ctx) (entered_where t e o).entries
+entered_routed : (ctx : Context) (t : Table) (e : Envelope) (h : RequestHeader) (o : Option ℕ) → AllByRecursion (IsRouted ctx) t.entries → readable ctx e.payload ≡ Some h → payer_for ctx e.id h ≡ o → AllByRecursion (IsRouted ctx) (entered_where t e o).entries
 entered_routed ctx t e h None all reads is = all
 entered_routed ctx t e h (Some payer) all reads is =
     all_append (IsRouted ctx) (cond (nat_lt (length t.entries) t.cap) t.entries (drop 1 t.entries)) ((e.id, record { request = e.payload; answer = None }) ∷ [])
@@ -57,7 +58,7 @@ again_same ctx t e h (Some answer) = refl
 again_same ctx t e h None = refl
 
 asked_routed : (ctx : Context) (t : Table) (e : Envelope) (h : RequestHeader) (o : Option Slot) (r : Requested) → AllByRecursion (IsRouted ctx) t.entries → readable ctx e.payload ≡ Some h → requested_by ctx t e h o ≡ Ok r → AllByRecursion (IsRouted ctx) r.table.entries
-asked_routed ctx t e h None r all reads ok = subst (λ (q : Requested). AllByRecursion (IsRouted ctx) q.table.entries) (same_ok _ r ok) (entered_routed ctx t e h (payer_for ctx h) all reads refl)
+asked_routed ctx t e h None r all reads ok = subst (λ (q : Requested). AllByRecursion (IsRouted ctx) q.table.entries) (same_ok _ r ok) (entered_routed ctx t e h (payer_for ctx e.id h) all reads refl)
 asked_routed ctx t e h (Some s) r all reads ok =
     let p = cond_ok (bytes_eq s.request e.payload) (Ok (requested_again ctx t e h s.answer)) Refusal.NumberReused r ok in
     subst (λ (q : Requested). AllByRecursion (IsRouted ctx) q.table.entries) (same_ok _ r p.1) (subst (λ (u : Table). AllByRecursion (IsRouted ctx) u.entries) (sym (again_same ctx t e h s.answer)) all)
@@ -160,8 +161,8 @@ two_ways ctx t e h payer next after sent a b =
     let wrong : true ≡ false = back ∙ sym on in
     absurd cc
 
-by_slot : (ctx : Context) (route : RouteKey → Option ℕ) (t : Table) (e : Envelope) (h : RequestHeader) (payer : ℕ) (o : Option Slot) (next after : Power Table ℕ) (sent : List Sent) → slot_of e.id t.entries ≡ o → AllByRecursion (IsRouted ctx) t.entries
-    → readable ctx e.payload ≡ Some h → payer_for ctx h ≡ None → route (route_key h) ≡ Some payer
+by_slot : (ctx : Context) (route : ℕ → RouteKey → Option ℕ) (t : Table) (e : Envelope) (h : RequestHeader) (payer : ℕ) (o : Option Slot) (next after : Power Table ℕ) (sent : List Sent) → slot_of e.id t.entries ≡ o → AllByRecursion (IsRouted ctx) t.entries
+    → readable ctx e.payload ≡ Some h → payer_for ctx e.id h ≡ None → route e.id.number (route_key h) ≡ Some payer
     → after_request e.id (requested_by ctx t e h o) ≡ Done next sent → after_request e.id (requested_by (rerouted ctx route) t e h o) ≡ Done after sent → ⊥
 unfolding sent_by
 by_slot ctx route t e h payer None next after sent slot all reads none some a b =
@@ -172,7 +173,7 @@ by_slot ctx route t e h payer (Some s) next after sent slot all reads none some 
     by_test true same is = slot_routed ctx t.entries e.id s h all slot (ap (readable ctx) (bytes_same s.request e.payload same) ∙ reads) none
     by_test false same is = absurd cc
 
-reads_alike : (ctx : Context) (route : RouteKey → Option ℕ) (text : List ℕ) → readable (rerouted ctx route) text ≡ readable ctx text
+reads_alike : (ctx : Context) (route : ℕ → RouteKey → Option ℕ) (text : List ℕ) → readable (rerouted ctx route) text ≡ readable ctx text
 unfolding readable
 reads_alike ctx route text = refl
 
@@ -182,21 +183,21 @@ asks ctx t e h is reads =
     ap (λ (b : Bool). cond b (after_request e.id (cond b (requested_readable ctx t e (readable ctx e.payload)) (Err Refusal.Unreadable))) (after_response e.id (responded ctx t e))) is
     ∙ ap (λ (o : Option RequestHeader). after_request e.id (requested_readable ctx t e o)) reads
 
-forwarded : (ctx : Context) (route : RouteKey → Option ℕ) (t : Table) (o : Result Envelope EnvelopeFault) (e : Envelope) (h : RequestHeader) (payer : ℕ) (next after : Power Table ℕ) (sent : List Sent) → AllByRecursion (IsRouted ctx) t.entries → o ≡ Ok e → is_request e ≡ true → readable ctx e.payload ≡ Some h
-    → payer_for ctx h ≡ None → route (route_key h) ≡ Some payer → switch_takes ctx t o ≡ Done next sent → switch_takes (rerouted ctx route) t o ≡ Done after sent → ⊥
+forwarded : (ctx : Context) (route : ℕ → RouteKey → Option ℕ) (t : Table) (o : Result Envelope EnvelopeFault) (e : Envelope) (h : RequestHeader) (payer : ℕ) (next after : Power Table ℕ) (sent : List Sent) → AllByRecursion (IsRouted ctx) t.entries → o ≡ Ok e → is_request e ≡ true → readable ctx e.payload ≡ Some h
+    → payer_for ctx e.id h ≡ None → route e.id.number (route_key h) ≡ Some payer → switch_takes ctx t o ≡ Done next sent → switch_takes (rerouted ctx route) t o ≡ Done after sent → ⊥
 forwarded ctx route t o e h payer next after sent all opened is reads none some a b =
     by_slot ctx route t e h payer (slot_of e.id t.entries) next after sent refl all reads none some
     (sym (asks ctx t e h is reads) ∙ (ap (switch_takes ctx t) (sym opened) ∙ a))
     (sym (asks (rerouted ctx route) t e h is (reads_alike ctx route e.payload ∙ reads)) ∙ (ap (switch_takes (rerouted ctx route) t) (sym opened) ∙ b))
 
-by_route : (ctx : Context) (route : RouteKey → Option ℕ) (t : Table) (e : Envelope) (h : RequestHeader) (bytes : List ℕ) (o : Option ℕ) (next after : Power Table ℕ) (sent : List Sent) → AllByRecursion (IsRouted ctx) t.entries → ctx.read_envelope bytes ≡ Ok e → is_request e ≡ true → readable ctx e.payload ≡ Some h
-    → payer_for ctx h ≡ None → route (route_key h) ≡ o → switch_takes ctx t (ctx.read_envelope bytes) ≡ Done next sent → switch_takes (rerouted ctx route) t (ctx.read_envelope bytes) ≡ Done after sent → route (route_key h) ≡ None
+by_route : (ctx : Context) (route : ℕ → RouteKey → Option ℕ) (t : Table) (e : Envelope) (h : RequestHeader) (bytes : List ℕ) (o : Option ℕ) (next after : Power Table ℕ) (sent : List Sent) → AllByRecursion (IsRouted ctx) t.entries → ctx.read_envelope bytes ≡ Ok e → is_request e ≡ true → readable ctx e.payload ≡ Some h
+    → payer_for ctx e.id h ≡ None → route e.id.number (route_key h) ≡ o → switch_takes ctx t (ctx.read_envelope bytes) ≡ Done next sent → switch_takes (rerouted ctx route) t (ctx.read_envelope bytes) ≡ Done after sent → route e.id.number (route_key h) ≡ None
 by_route ctx route t e h bytes None next after sent all opened is reads none some a b = some
 by_route ctx route t e h bytes (Some payer) next after sent all opened is reads none some a b =
     absurd (forwarded ctx route t (ctx.read_envelope bytes) e h payer next after sent all opened is reads none some a b)
 
-one_stays : (ctx : Context) (route : RouteKey → Option ℕ) (node : Power Table ℕ) (call : Call) (next after : Power Table ℕ) (sent : List Sent) → Routed ctx node → switch_step ctx node call ≡ Done next sent → switch_step (rerouted ctx route) node call ≡ Done after sent → RejectionStays ctx (rerouted ctx route) call
-one_stays ctx route (Up t) (Take from bytes) next after sent all a b = λ e h opened is reads none. by_route ctx route t e h bytes (route (route_key h)) next after sent all opened is reads none refl a b
+one_stays : (ctx : Context) (route : ℕ → RouteKey → Option ℕ) (node : Power Table ℕ) (call : Call) (next after : Power Table ℕ) (sent : List Sent) → Routed ctx node → switch_step ctx node call ≡ Done next sent → switch_step (rerouted ctx route) node call ≡ Done after sent → RejectionStays ctx (rerouted ctx route) call
+one_stays ctx route (Up t) (Take from bytes) next after sent all a b = λ e h opened is reads none. by_route ctx route t e h bytes (route e.id.number (route_key h)) next after sent all opened is reads none refl a b
 one_stays ctx route (AtRest cap) (Take from bytes) next after sent all a b = absurd cc
 one_stays ctx route node (Submit text) next after sent all a b = tt
 one_stays ctx route node Tick next after sent all a b = tt
@@ -210,7 +211,7 @@ one_stays ctx route node (Adjudicate from bytes advice) next after sent all a b 
 same_after : (x y : Power Table ℕ) (sent other : List Sent) → ◌≡◌ {A = Outcome (Power Table ℕ)} (Done x sent) (Done y other) → x ≡ y
 same_after x y sent other e = cc
 
-all_stay : (ctx : Context) (route : RouteKey → Option ℕ) (node : Power Table ℕ) (log : List Logged) → ((key : RouteKey) (payer : ℕ) → ctx.route key ≡ Some payer → route key ≡ Some payer) → Routed ctx node
+all_stay : (ctx : Context) (route : ℕ → RouteKey → Option ℕ) (node : Power Table ℕ) (log : List Logged) → ((number : ℕ) (key : RouteKey) (payer : ℕ) → ctx.route number key ≡ Some payer → route number key ≡ Some payer) → Routed ctx node
     → Makes ctx (OfSwitch node) log → Makes (rerouted ctx route) (OfSwitch node) log → AllByRecursion (λ (l : Logged). RejectionStays ctx (rerouted ctx route) l.call) log
 all_stay ctx route node [] wide routed m n = tt
 all_stay ctx route node (l ∷ log) wide routed m n =
@@ -239,7 +240,7 @@ switch_routed ctx s (suc k) node e =
     same_switch : (x y : Power Table ℕ) → OfSwitch x ≡ OfSwitch y → x ≡ y
     same_switch x y q = cc
 
-by_kind : (ctx : Context) (route : RouteKey → Option ℕ) (s t : WorldSettings) (node : Node) (before after : AnyNode) (log : List Logged) → Grows ctx (rerouted ctx route) s t → node_at (opening s) node ≡ Some before → node_at (opening t) node ≡ Some after
+by_kind : (ctx : Context) (route : ℕ → RouteKey → Option ℕ) (s t : WorldSettings) (node : Node) (before after : AnyNode) (log : List Logged) → Grows ctx (rerouted ctx route) s t → node_at (opening s) node ≡ Some before → node_at (opening t) node ≡ Some after
     → Makes ctx before log → Makes (rerouted ctx route) after log → RejectionsStay ctx (rerouted ctx route) node log
 by_kind ctx route s t (Pharmacy n) before after log g is there m k = tt
 by_kind ctx route s t (Payer n) before after log g is there m k = tt

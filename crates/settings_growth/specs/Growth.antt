@@ -15,7 +15,7 @@ use Rattle.claim_model.specs.Logs.{Logged}
 -- the same reading of bytes, under which all that had a route has it still, to the same payer
 pub record Widens (ctx wider : Context) : Type 0 where
   pub reading : wider ≡ record ctx { route = wider.route }
-  pub routes : (key : RouteKey) (payer : ℕ) → ctx.route key ≡ Some payer → wider.route key ≡ Some payer
+  pub routes : (number : ℕ) (key : RouteKey) (payer : ℕ) → ctx.route number key ≡ Some payer → wider.route number key ≡ Some payer
 
 -- a pharmacy's settings are the same, but that the journal may have more entries
 pub record PharmacyGrows (old new : PharmacySettings) : Type 0 where
@@ -55,7 +55,7 @@ pub record IsOfPharmacy (s : WorldSettings) (qualifier provider : List ℕ) : Ty
 -- Of other providers nothing is asked: they may get another book than the one that they would have had
 pub record WidensFor (s : WorldSettings) (ctx wider : Context) : Type 0 where
   pub reading : wider ≡ record ctx { route = wider.route }
-  pub routes : (key : RouteKey) (payer : ℕ) → IsOfPharmacy s key.qualifier key.provider → ctx.route key ≡ Some payer → wider.route key ≡ Some payer
+  pub routes : (number : ℕ) (key : RouteKey) (payer : ℕ) → IsOfPharmacy s key.qualifier key.provider → ctx.route number key ≡ Some payer → wider.route number key ≡ Some payer
 
 -- nodes grow: each is there under its number, as it was or with a larger cap, a switch's cap excepted; after them there may be more
 pub record NodesGrow (s t : WorldSettings) : Type 0 where
@@ -90,7 +90,7 @@ with_cap cap (OfPayer node) = OfPayer (book_with_cap cap node)
 abbrev pub PayerLasts : Context → Context → List ℕ → Type 0
 PayerLasts ctx wider bytes =
     (e : Envelope) (h : RequestHeader) (payer : ℕ) → ctx.read_envelope bytes ≡ Ok e → is_request e ≡ true → readable ctx e.payload ≡ Some h
-    → payer_for ctx h ≡ Some payer → payer_for wider h ≡ Some payer
+    → payer_for ctx e.id h ≡ Some payer → payer_for wider e.id h ≡ Some payer
 
 abbrev pub RouteLasts : Context → Context → Call → Type 0
 RouteLasts ctx wider (Take from bytes) = PayerLasts ctx wider bytes
@@ -129,7 +129,7 @@ HasOwnCalls ctx s log = AllByRecursion (λ (l : Logged). IsOwnCall ctx s l.call)
 abbrev pub RejectionStays : Context → Context → Call → Type 0
 RejectionStays ctx wider (Take from bytes) =
     (e : Envelope) (h : RequestHeader) → ctx.read_envelope bytes ≡ Ok e → is_request e ≡ true → readable ctx e.payload ≡ Some h
-    → payer_for ctx h ≡ None → payer_for wider h ≡ None
+    → payer_for ctx e.id h ≡ None → payer_for wider e.id h ≡ None
 RejectionStays ctx wider (Submit text) = ⊤
 RejectionStays ctx wider Tick = ⊤
 RejectionStays ctx wider Stop = ⊤

@@ -33,9 +33,9 @@ pub fn expect_request(envelope: &Envelope<'_>) -> Result<(), Fault>
 #[tactic(auto, unfolding(crate::specs::Sent::header_in))]
 pub fn route_of(routes: &Routes, envelope: &Envelope<'_>) -> Option<PayerNo>
     requires { HasRequest envelope.now }
-    ensures { result ≡ payer_for (bytes_with routes.now) (header_in envelope.now) }
+    ensures { result ≡ payer_for (bytes_with routes.now) envelope.now.id (header_in envelope.now) }
 {
-    routes.payer(&key_of(envelope.payload()))
+    routes.payer_under(envelope.id().number(), &key_of(envelope.payload()))
 }
 
 /// What a route may look at in a readable request.

@@ -62,7 +62,7 @@ impl Book {
             Some(framed) => framed,
             None => return Err(Fault::Refused(Refusal::Unreadable)),
         };
-        if !leads_to(routes, framed.header(), self.payer()) {
+        if !leads_to(routes, id, framed.header(), self.payer()) {
             return Err(Fault::Refused(Refusal::NotOurs));
         }
         Err(Fault::Refused(Refusal::NumberReused))
@@ -83,7 +83,7 @@ impl Book {
         ensures fault { Refuses routes.now self.now _advice.now id row.now.request result }
     {
         let key = row.route_key();
-        if !is_routed(routes, &key, self.payer()) {
+        if !is_routed(routes, id, &key, self.payer()) {
             return Err(Fault::Refused(Refusal::NotOurs));
         }
         Ok(())
@@ -110,7 +110,7 @@ impl Book {
             Some(framed) => framed,
             None => return Err(Fault::Refused(Refusal::Unreadable)),
         };
-        if !leads_to(routes, framed.header(), self.payer) {
+        if !leads_to(routes, id, framed.header(), self.payer) {
             return Err(Fault::Refused(Refusal::NotOurs));
         }
         if self.rows.len() >= self.settings.cap() as usize {
@@ -143,11 +143,11 @@ impl Book {
     }
 }
 
-/// Whether a request of this header is routed to the payer.
-fn leads_to(routes: &Routes, header: &RequestHeader, payer: PayerNo) -> bool
-    ensures { (result ≡ is_payer payer (payer_for (bytes_with routes.now) header.now)) }
+/// Whether the request of an id and this header is routed to the payer.
+fn leads_to(routes: &Routes, id: TxnId, header: &RequestHeader, payer: PayerNo) -> bool
+    ensures { (result ≡ is_payer payer (payer_for (bytes_with routes.now) id header.now)) }
 {
-    is_routed(routes, &key_of(header), payer)
+    is_routed(routes, id, &key_of(header), payer)
 }
 
 /// What a route may look at in a header.
@@ -162,11 +162,11 @@ fn key_of(header: &RequestHeader) -> RouteKey
     }
 }
 
-/// Whether what a route may look at is routed to the payer.
-fn is_routed(routes: &Routes, key: &RouteKey, payer: PayerNo) -> bool
-    ensures { (result ≡ is_payer payer ((bytes_with routes.now).route key.now)) }
+/// Whether what a route may look at is routed to the payer, for the request of an id.
+fn is_routed(routes: &Routes, id: TxnId, key: &RouteKey, payer: PayerNo) -> bool
+    ensures { (result ≡ is_payer payer ((bytes_with routes.now).route id.number key.now)) }
 {
-    match routes.payer(key) {
+    match routes.payer_under(id.number(), key) {
         Some(other) => other.get() == payer.get(),
         None => false,
     }

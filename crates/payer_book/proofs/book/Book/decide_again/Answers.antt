@@ -8,7 +8,7 @@ use Rattle.payer_book.proofs.book.Book.decide_again.Goals as goal
 use Rattle.payer_book.proofs.book.Book.decide_again.Goals.{After-is_routed}
 
 -- whether the request is for this payer
-routed : (c : After-is_routed) (b : Bool) → c.is_routed.result ≡ b → is_payer c.args.self.now.payer (payer_for (bytes_with c.args.routes.now) (request_of c.args.row.now.request)) ≡ b
+routed : (c : After-is_routed) (b : Bool) → c.is_routed.result ≡ b → is_payer c.args.self.now.payer (payer_for (bytes_with c.args.routes.now) c.args.id (request_of c.args.row.now.request)) ≡ b
 routed c b e = rw (← c.payer.ensures, ← c.route_key-key.ensures.key) (sym c.is_routed.ensures ∙ e)
 
 pub returns-then-not-is_routed-clause-fault : goal.returns-then-not-is_routed-clause-fault

@@ -29,8 +29,8 @@ abbrev opened : (c : After-leads_to) → Book
 opened c = record { payer = c.self.inside.payer; settings = c.self.inside.settings; plan = c.self.inside.plan; rows = c.self.inside.rows }
 
 -- whether the request is for this payer
-routed : (c : After-leads_to) (b : Bool) → c.leads_to.result ≡ b → is_payer c.self.inside.payer (payer_for (bytes_with c.args.routes.now) c.in-Some.framed.header) ≡ b
-routed c b e = ap (λ (h : RequestHeader). is_payer c.self.inside.payer (payer_for (bytes_with c.args.routes.now) h)) (sym c.header.ensures) ∙ (sym c.leads_to.ensures ∙ e)
+routed : (c : After-leads_to) (b : Bool) → c.leads_to.result ≡ b → is_payer c.self.inside.payer (payer_for (bytes_with c.args.routes.now) c.args.id c.in-Some.framed.header) ≡ b
+routed c b e = ap (λ (h : RequestHeader). is_payer c.self.inside.payer (payer_for (bytes_with c.args.routes.now) c.args.id h)) (sym c.header.ensures) ∙ (sym c.leads_to.ensures ∙ e)
 
 -- no row has the id
 fresh : (c : After-leads_to) → row_of c.args.id (opened c).rows ≡ None
